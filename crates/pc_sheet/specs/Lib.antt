@@ -1,0 +1,13 @@
+pub mod Codes
+pub mod Nodes
+pub mod Sheet
+pub mod Views
+pub mod Truth
+pub mod Entailment
+pub mod MaximalSets
+pub mod Reads
+pub mod Cells
+pub mod WellSorted
+pub mod Nesting
+pub mod WellFormed
+pub mod Meanings
