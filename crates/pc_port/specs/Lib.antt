@@ -1,0 +1,4 @@
+pub mod Port
+pub mod Shelf
+pub mod Memory
+pub mod Files
