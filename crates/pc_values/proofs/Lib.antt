@@ -1,0 +1,4 @@
+pub mod StampLemmas
+pub mod AgreeLemmas
+pub mod ScanLemmas
+pub mod StepLemmas

@@ -1,0 +1,4 @@
+pub mod Stamped
+pub mod Values
+pub mod Scan
+pub mod Hints

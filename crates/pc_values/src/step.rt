@@ -1,0 +1,92 @@
+//! Whether a clause is a good step by its hints.
+
+ghost use Rattle.std.specs.Prelude.{◌≡◌, List, All, IsTrue, ◌↔◌, length, replicate, None};
+ghost use Rattle.std.specs.Bool.{OnTrue, OnFalse};
+ghost use Rattle.pc_lits.specs.declared.literal.Lit.{Lit};
+ghost use Rattle.pc_lits.specs.Literals.{negated};
+ghost use Rattle.pc_lits.specs.Steps.{IsTautology, Refutes, IsGoodStep};
+ghost use Rattle.pc_values.specs.Values.{IsInRange, Agrees};
+
+use crate::hints::Hints;
+use crate::scan::{Left, left_of};
+use crate::values::Values;
+use pc_lits::Lit;
+
+/// Whether the clause is a good step by the hints. It takes no memory and looks at each literal of the clause
+/// and of the hints once. The values serve as scratch: what they hold before doesn't matter.
+pub fn is_good_step<H: Hints>(clause: &[Lit], hints: &H, values: &mut Values) -> bool
+    requires clause { All (IsInRange values.old) clause.now }
+    requires hints { All (All (IsInRange values.old)) (H.clauses hints.now) }
+    ensures good { IsTrue result ↔ IsGoodStep negated clause.now (H.clauses hints.now) }
+    ensures room { length values.new ≡ length values.old }
+{
+    values.clear();
+    if deny_all(clause, values) {
+        refutes(hints, values)
+    } else {
+        hints.count() == 0
+    }
+}
+
+// Makes the clause's literals false, unless one of them is another's negation.
+fn deny_all(clause: &[Lit], values: &mut Values) -> bool
+    requires blank { values.old ≡ replicate (length values.old) None }
+    requires in_range { All (IsInRange values.old) clause.now }
+    ensures tautology { IsTrue result ↔ ¬ IsTautology negated clause.now }
+    ensures denied { OnTrue result (Agrees values.new clause.now) }
+    ensures found { OnFalse result (IsTautology negated clause.now) }
+    ensures room { length values.new ≡ length values.old }
+{
+    for lit in clause {
+        if values.is_true(*lit) {
+            return false;
+        }
+        values.deny(*lit);
+    }
+    true
+}
+
+// Takes the hints in order, with the literals false that are so at the start.
+fn refutes<H: Hints>(hints: &H, values: &mut Values) -> bool
+    requires hints { All (All (IsInRange values.old)) (H.clauses hints.now) }
+    ensures answer { (falses : List Lit) → Agrees values.old falses → (IsTrue result ↔ Refutes negated falses (H.clauses hints.now)) }
+    ensures room { length values.new ≡ length values.old }
+{
+    let count = hints.count();
+    for place in 0..count {
+        match left_of(hints.clause(place), values) {
+            Left::Nothing => return place + 1 == count,
+            Left::Last(lit) => values.assign(lit),
+            Left::More => return false,
+        }
+    }
+    false
+}
+
+#[cfg(test)]
+mod tests {
+    use super::*;
+    use crate::hints::HintsAt;
+    use pc_lits::{ClauseStore, Var};
+    use std::test::Fail;
+
+    #[test]
+    fn tells_good_steps_from_others(rt: HostRuntime) -> Result<(), Fail> {
+        let p = Lit::positive(Var(0));
+        let q = Lit::positive(Var(1));
+        let mut store = ClauseStore::new(rt.alloc());
+        store.push(&[p.negated(), q, q])?;
+        store.push(&[q.negated()])?;
+        let mut values = Values::new(rt.alloc(), 2)?;
+        // The store's clauses refute `p`, one of them alone doesn't.
+        assert!(rt; is_good_step(&[p.negated()], &store, &mut values));
+        assert!(rt; !is_good_step(&[q], &store, &mut values));
+        let second = HintsAt {
+            store: &store,
+            places: &[1],
+        };
+        assert!(rt; is_good_step(&[q.negated()], &second, &mut values));
+        assert!(rt; !is_good_step(&[], &second, &mut values));
+        Ok(())
+    }
+}
