@@ -1,0 +1,4 @@
+pub mod Line
+pub mod Piece
+pub mod Told
+pub mod Token
