@@ -1,0 +1,35 @@
+-- The parts of a sheet, and which lines may stand in each.
+use Rattle.std.specs.Prelude.{◌≡◌, ℕ, Option, Some, None, List, [], ◌∷◌, ◌++◌, map, if◌then◌else◌}
+use Rattle.pc_syntax.specs.declared.sheet.Part.{Part}
+use Rattle.pc_syntax.specs.declared.sheet.Part.TheVariants.{Heading, Universe, Rules, End}
+use Rattle.pc_syntax.specs.declared.tree.Declaration.{Declaration}
+use Rattle.pc_syntax.specs.Tree.{Declared, declared_of}
+use Rattle.pc_syntax.specs.Line.{LineForm, nothing, heading, declares, begins, IsLine}
+use Rattle.pc_syntax.specs.Sheet.{is_rule, is_of_universe, declared_from}
+
+-- the part behind a declaration: once a rule stood, no more of the universe follows
+abbrev pub part_after : Part → Declared → Option Part
+part_after Universe d = if is_rule d then Some Rules else Some Universe
+part_after Rules d = if is_of_universe d then None else Some Rules
+part_after p d = None
+
+-- the part behind a line, where the line may stand
+abbrev pub next_part : Part → LineForm → Option Part
+next_part p nothing = Some p
+next_part Heading heading = Some Universe
+next_part p heading = None
+next_part Universe begins = Some End
+next_part Rules begins = Some End
+next_part p begins = None
+next_part p (declares d) = part_after p d
+
+-- what declarations stand for, each with its line's number
+abbrev pub declared : List (ℕ × Declaration) → List (ℕ × Declared)
+declared items = map (λ p. (p.0, declared_of p.1)) items
+
+-- the line may stand in the part, and leads to the next one and to these declarations
+pub record Takes (part : Part) (number : ℕ) (line : List ℕ) (next : Part) (old new : List (ℕ × Declared)) : Type 0 where
+  pub form : LineForm
+  pub is : IsLine line form
+  pub goes : next_part part form ≡ Some next
+  pub adds : new ≡ old ++ declared_from number (form ∷ [])
