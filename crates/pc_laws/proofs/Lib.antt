@@ -1,0 +1,14 @@
+pub mod Decide
+pub mod Contained
+pub mod Assignments
+pub mod Order
+pub mod Least
+pub mod Maximal
+pub mod Minimal
+pub mod ExamplesHold
+pub mod EachEntry
+pub mod Counting
+pub mod Evaluating
+pub mod Finding
+pub mod DisplaysRight
+pub mod TruthsWorked
