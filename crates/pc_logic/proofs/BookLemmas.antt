@@ -1,0 +1,82 @@
+-- What a book's sheet says of the parts that stand for it.
+use Rattle.std.proofs.Common.{◌≡◌, ℕ, zero, suc, ◌+◌, ◌≤◌, List, [], ◌∷◌, ◌++◌, map, length, get_or, slice_get, All, arith, subst}
+use Rattle.std.proofs.Math.ListN.{get_or-map}
+use Rattle.std.proofs.lemmas.List.{length-map, length-append}
+use Rattle.std.proofs.lemmas.List.Elements.{All-head, All-tail}
+use Rattle.pc_sheet.specs.Sheet.{Values, listed, range, Universe, Statement, Statements, no_statements, statement, compare, in_table, negation, all_of, some_of, implies, iff, for_all, exists, Sheet}
+use Rattle.pc_sheet.specs.Truth.{count_of, depth_of, greatest_depth, size_of, values_of_sort}
+use Rattle.pc_sheet.specs.Entailment.{cell_sizes}
+use Rattle.pc_sheet.specs.Views.{rule_of}
+use Rattle.pc_sheet.specs.WellFormed.{IsWellFormed, IsWellFormedUniverse, AreWellFormedRules, AreWellFormedEntries, AreWellFormedValues}
+use Rattle.pc_sheet.specs.WellSorted.{Variables, IsWellSorted, AreWellSorted}
+use Rattle.pc_sheet.specs.declared.formula.Rule.{Rule}
+use Rattle.pc_sheet.specs.declared.ids.Entry.{Entry}
+use Rattle.pc_logic.specs.SchemeView.{universe_of, family_of, sort_of, values_of}
+use Rattle.pc_logic.specs.Sound.{IsSound, AreCounted, AreShallow}
+use Rattle.pc_sheet.specs.declared.ids.SortId.{SortId}
+use Rattle.pc_logic.specs.declared.scheme.Scheme.{Scheme}
+use Rattle.pc_logic.specs.declared.scheme.SortDecl.{SortDecl}
+use Rattle.pc_logic.proofs.CountLemmas.{total_is, sizes_count}
+
+All-unmap : {X Y : Type 0} (P : Y → Type 0) (f : X → Y) (xs : List X) → All P (map f xs) → All (λ x. P (f x)) xs
+All-unmap P f xs h k d l = subst P (get_or-map f xs k d) (h k (f d) (omega (arith, length-map xs f)))
+
+few_values : (v : Values) → AreWellFormedValues v → count_of v ≤ 256
+few_values (listed names) h = h.1
+few_values (range low high) h = h.3
+
+pub sound_of : (s : Scheme) → IsWellFormedUniverse (universe_of s) → AreCounted (universe_of s) 0 s.families.items s.cells → IsSound s
+sound_of s h counted =
+    let total = total_is (universe_of s) 0 s.families.items s.cells counted in
+    record {
+      arities = All-unmap (λ f. length f.sorts ≤ 4) family_of s.families.items (λ k d l. (h.families k d l).arity);
+      sizes = All-unmap (λ t. count_of t.values ≤ 256) sort_of s.sorts.items (λ k d l. few_values _ (h.sorts k d l));
+      counted = counted;
+      few_cells = omega (arith, total, h.cell_limit);
+    }
+
+-- a well-sorted statement has a place for each of its quantifiers
+mutual
+  pub depth_within : (u : Universe) (vs : Variables) (s : Statement) → length vs ≤ 16 → IsWellSorted u vs s → length vs + depth_of s ≤ 16
+  depth_within u vs (compare left op right) l h = omega arith
+  depth_within u vs (in_table t xs) l h = omega arith
+  depth_within u vs (negation s) l h = depth_within u vs s l h
+  depth_within u vs (all_of ss) l h = depths_within u vs ss l h.1
+  depth_within u vs (some_of ss) l h = depths_within u vs ss l h.1
+  depth_within u vs (implies s t) l h = let a = depth_within u vs s l h.0 in let b = depth_within u vs t l h.1 in omega (arith, a, b)
+  depth_within u vs (iff s t) l h = let a = depth_within u vs s l h.0 in let b = depth_within u vs t l h.1 in omega (arith, a, b)
+  depth_within u vs (for_all name s body) l h =
+      let more = length-append vs ((name, s) ∷ []) in
+      let rest = depth_within u (vs ++ (name, s) ∷ []) body (omega (arith, more, h.0.depth)) h.1 in
+      omega (arith, more, rest)
+  depth_within u vs (exists name s body) l h =
+      let more = length-append vs ((name, s) ∷ []) in
+      let rest = depth_within u (vs ++ (name, s) ∷ []) body (omega (arith, more, h.0.depth)) h.1 in
+      omega (arith, more, rest)
+
+  depths_within : (u : Universe) (vs : Variables) (ss : Statements) → length vs ≤ 16 → AreWellSorted u vs ss → length vs + greatest_depth ss ≤ 16
+  depths_within u vs no_statements l h = omega arith
+  depths_within u vs (statement s ss) l h = let a = depth_within u vs s l h.0 in let b = depths_within u vs ss l h.1 in omega (arith, a, b)
+
+pub shallow_of : (u : Universe) (rs : List Rule) → AreWellFormedRules u (map rule_of rs) → AreShallow rs
+shallow_of u rs h = All-unmap (λ r. depth_of r.states ≤ 16) rule_of rs (λ k d l. let deep = depth_within u [] (get_or (map rule_of rs) k d).states (omega arith) (h.each k d l).sorted in omega (arith, deep))
+
+-- entries that are in order keep a sheet well formed
+pub with_entries : (s : Sheet) (es : List Entry) → IsWellFormed s → AreWellFormedEntries s.universe es → IsWellFormed (record s { entries = es })
+with_entries s es h k = record { universe = h.universe; rules = h.rules; entries = k }
+
+-- the kept count is the number of cells
+pub count_is : (s : Scheme) → AreCounted (universe_of s) 0 s.families.items s.cells → s.cells ≡ length (cell_sizes (universe_of s))
+count_is s counted =
+    let total = total_is (universe_of s) 0 s.families.items s.cells counted in
+    let sizes = sizes_count (universe_of s) (universe_of s).families in
+    omega (arith, total, sizes)
+
+small_at : (ds : List SortDecl) (i : ℕ) → All (λ t. count_of (values_of t.values) ≤ 256) ds → count_of (values_of_sort (slice_get (map sort_of ds) i)) ≤ 256
+small_at [] i h = omega arith
+small_at (d ∷ ds) zero h = All-head (λ t. count_of (values_of t.values) ≤ 256) d ds h
+small_at (d ∷ ds) (suc i) h = small_at ds i (All-tail (λ t. count_of (values_of t.values) ≤ 256) d ds h)
+
+-- no sort has more than 256 values
+pub size_small : (s : Scheme) (id : SortId) → IsSound s → size_of (universe_of s) id ≤ 256
+size_small s id sound = small_at s.sorts.items id.0 sound.sizes

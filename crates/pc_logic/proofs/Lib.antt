@@ -1,0 +1,11 @@
+pub mod CountLemmas
+pub mod Parts
+pub mod Rules
+pub mod Sizes
+pub mod TableLemmas
+pub mod BookLemmas
+pub mod EntryLemmas
+pub mod NamesLemmas
+pub mod EditLemmas
+pub mod RankLemmas
+pub mod TupleLemmas

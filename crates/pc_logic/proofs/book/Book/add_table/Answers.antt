@@ -1,0 +1,46 @@
+use Rattle.std.proofs.Common.{◌≡◌, ℕ, length, map, arith, ap, ◌∙◌, sym, subst, ◌++◌, ◌∷◌, []}
+use Rattle.std.specs.Map.{keys_of}
+use Rattle.std.proofs.lemmas.List.{length-map}
+use Rattle.pc_sheet.specs.Sheet.{Universe}
+use Rattle.pc_sheet.specs.WellFormed.{IsWellFormed, AreDifferent}
+use Rattle.pc_logic.specs.BookView.{sheet_of, IsTableOf}
+use Rattle.pc_logic.specs.Edits.{table_from, with_table}
+use Rattle.pc_logic.specs.NameTable.{named_texts}
+use Rattle.pc_logic.specs.SchemeView.{universe_of, row_of, table_of}
+use Rattle.pc_logic.specs.Sound.{AreCounted}
+use Rattle.pc_logic.specs.declared.scheme.TableDecl.{TableDecl}
+use Rattle.pc_logic.specs.declared.names.Named.TheVariants as named
+use Rattle.pc_logic.proofs.EditLemmas.{counts_beside, table_added}
+use Rattle.pc_logic.proofs.NamesLemmas.{distinct_from, more_tables, table_key, table_adds, table_grows}
+use Rattle.pc_logic.proofs.book.Book.add_table.Goals as goal
+
+pub add_all-requires : goal.add_all-requires
+add_all-requires c =
+    let b = c.self.inside in
+    let u = universe_of b.scheme in
+    let table = table_from c.args.name c.args.sorts.items in
+    let formed = subst (λ sheet. IsWellFormed (with_table sheet table)) (sym c.self.view_is) c.requires in
+    let place : c.len.result ≡ length u.tables = omega (arith, c.len.ensures, length-map b.scheme.tables.items table_of) in
+    let keys : named_texts c.in_ok-keys.keys.items ≡ table_key u table = c.in_ok-keys.ensures ∙ ap (λ (k : ℕ). (c.args.name, named.Table (record { 0 = k })) ∷ []) place in
+    let grown = table_grows u (more_tables u table) b.names _ (table_adds u table) c.self.invariant.named formed.universe.different in
+    distinct_from _ (subst (λ k. AreDifferent (keys_of (b.names ++ k))) (sym keys) grown.different)
+
+pub invariant_of-self-2 : goal.invariant_of-self-2
+invariant_of-self-2 c =
+    let b = c.self.inside in
+    let u = universe_of b.scheme in
+    let table = table_from c.args.name c.args.sorts.items in
+    let formed = subst (λ sheet. IsWellFormed (with_table sheet table)) (sym c.self.view_is) c.requires in
+    let place : c.len.result ≡ length u.tables = omega (arith, c.len.ensures, length-map b.scheme.tables.items table_of) in
+    let keys : named_texts c.in_ok-keys.keys.items ≡ table_key u table = c.in_ok-keys.ensures ∙ ap (λ (k : ℕ). (c.args.name, named.Table (record { 0 = k })) ∷ []) place in
+    let grown = table_grows u (more_tables u table) b.names _ (table_adds u table) c.self.invariant.named formed.universe.different in
+    let names = c.in_ok-add_all.ensures.ok ∙ ap (λ k. b.names ++ k) keys in
+    let declared : TableDecl = record { name = c.args.name; sorts = c.args.sorts; rows = c.new-rows.result } in
+    let pushed : c.push.new.self.items ≡ b.scheme.tables.items ++ declared ∷ [] = (rw c.unwrap.ensures at c.push.ensures.items) ∙ ap (λ xs. xs ++ declared ∷ []) c.in_ok-reserve.ensures.items in
+    let seen : table_of declared ≡ table = λ i. record { name = c.args.name; sorts = c.args.sorts.items; rows = map row_of (c.new-rows.ensures.items i) } in
+    let universe = table_added b.scheme c.push.new.self declared pushed ∙ ap (more_tables u) seen in
+    record {
+      well_formed = subst (λ (v : Universe). IsWellFormed (record (sheet_of b) { universe = v })) (sym universe) formed;
+      counted = subst (λ v. AreCounted v 0 b.scheme.families.items b.scheme.cells) (sym universe) (counts_beside u table 0 b.scheme.families.items b.scheme.cells c.self.invariant.counted);
+      named = subst (λ v. IsTableOf v c.add_all.new.self) (sym universe) (subst (IsTableOf (more_tables u table)) (sym names) grown);
+    }

@@ -1,0 +1,33 @@
+-- What the code keeps of its declarations: bounds, and counts of cells that are right.
+use Rattle.std.specs.Prelude.{◌≡◌, ◌≤◌, ◌+◌, ℕ, ℤ, pos, neg_ℤ, ◌≤ℤ◌, List, [], ◌∷◌, All, length}
+use Rattle.pc_sheet.specs.Sheet.{Universe, Family}
+use Rattle.pc_sheet.specs.Truth.{count_of, cells_in, depth_of}
+use Rattle.pc_sheet.specs.Views.{statement_of}
+use Rattle.pc_sheet.specs.declared.formula.Rule.{Rule}
+use Rattle.pc_logic.specs.SchemeView.{values_of, family_of, universe_of}
+use Rattle.pc_logic.specs.declared.scheme.FamilyDecl.{FamilyDecl}
+use Rattle.pc_logic.specs.declared.scheme.Scheme.{Scheme}
+
+-- a family with its counts
+abbrev pub counted_of : FamilyDecl → Family × ℕ × ℕ
+counted_of d = (family_of d, d.first, d.cells)
+
+-- where n cells stand before these families, each has its count, the counts of those before it are right, and all together are the last number
+abbrev pub AreCounted : Universe → ℕ → List FamilyDecl → ℕ → Type 0
+AreCounted u n [] total = total ≡ n
+AreCounted u n (d ∷ ds) total = (d.first ≡ n) × (d.cells ≡ cells_in u (family_of d)) × AreCounted u (n + d.cells) ds total
+
+-- within the limits, with right counts
+pub record IsSound (s : Scheme) : Type 0 where
+  pub arities : All (λ f. length f.sorts.items ≤ 4) s.families.items
+  pub sizes : All (λ t. count_of (values_of t.values) ≤ 256) s.sorts.items
+  pub counted : AreCounted (universe_of s) 0 s.families.items s.cells
+  pub few_cells : s.cells ≤ 4096
+
+-- no rule has more than 16 quantifiers around one place
+abbrev pub AreShallow : List Rule → Type 0
+AreShallow rules = All (λ r. depth_of (statement_of r.formula) ≤ 16) rules
+
+-- at most n away from 0
+abbrev pub IsWithin : ℕ → ℤ → Type 0
+IsWithin n z = (neg_ℤ (pos n) ≤ℤ z) × (z ≤ℤ pos n)

@@ -1,0 +1,19 @@
+//! Books: universes, rules and entries of a sheet, and the truth of their rules.
+#![tactic(auto)]
+
+mod assignment;
+mod book;
+mod copies;
+mod entries;
+mod names;
+mod scheme;
+mod truth;
+mod universe;
+
+pub use assignment::Assignment;
+pub use book::{Book, eval, satisfies};
+pub use names::Named;
+pub use pc_sheet::{
+    CellId, Entry, FamilyId, Formula, Name, Op, Rule, Side, Sign, SortId, TableId, Target, Term,
+    ValueId,
+};

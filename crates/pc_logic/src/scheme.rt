@@ -1,0 +1,221 @@
+//! The declarations that a book keeps, with counts of cells beside the families.
+ghost use Rattle.std.specs.Prelude.{◌≡◌, ◌+◌, ◌^◌, ◌<◌, ◌≤◌, IfSome, IsSomeAnd, Some, length, map, slice_get, take, sum_by};
+ghost use Rattle.std.specs.Option.{SomeIff};
+ghost use Rattle.pc_sheet.specs.Cells.{IsApplication, cells};
+ghost use Rattle.pc_sheet.specs.Entailment.{AreWithin, cell_sizes};
+ghost use Rattle.pc_sheet.specs.Truth.{size_of, argument_sorts, result_sort_of, cell_number, cells_in, product, rank_from};
+ghost use Rattle.pc_logic.specs.SchemeView.{universe_of};
+ghost use Rattle.pc_logic.specs.Sound.{IsSound};
+ghost use Rattle.pc_logic.specs.Tuples.{tuple_at};
+
+use pc_sheet::{FamilyId, Name, SortId, ValueId, cells_are_numbered_in_order};
+
+/// The values of a sort: names, or the whole numbers from the low one to the high one.
+#[derive(Drop)]
+pub(crate) enum SortValues {
+    Listed(Vec<Name>),
+    Range { low: i32, high: i32 },
+}
+
+#[derive(Drop)]
+pub(crate) struct SortDecl {
+    pub(crate) name: Name,
+    pub(crate) values: SortValues,
+}
+
+#[derive(Drop)]
+pub(crate) struct TableDecl {
+    pub(crate) name: Name,
+    pub(crate) sorts: Vec<SortId>,
+    pub(crate) rows: Vec<Vec<ValueId>>,
+}
+
+#[derive(Drop)]
+pub(crate) struct FamilyDecl {
+    pub(crate) name: Name,
+    pub(crate) sorts: Vec<SortId>,
+    pub(crate) result_sort: SortId,
+    /// How many cells the families before this one have.
+    pub(crate) first: usize,
+    /// How many cells this one has.
+    pub(crate) cells: usize,
+}
+
+/// The sorts, tables and families of a book.
+#[derive(Drop)]
+pub(crate) struct Scheme {
+    pub(crate) sorts: Vec<SortDecl>,
+    pub(crate) tables: Vec<TableDecl>,
+    pub(crate) families: Vec<FamilyDecl>,
+    /// How many cells all families have.
+    pub(crate) cells: usize,
+}
+
+/// How many values a sort has.
+pub(crate) fn size_of(scheme: &Scheme, sort: SortId) -> usize
+    requires { IsSound scheme.now }
+    ensures exact { result ≡ size_of (universe_of scheme.now) sort }
+    ensures small { result ≤ 256 }
+{
+    match scheme.sorts.get(usize::from(sort.0)) {
+        None => 0,
+        Some(decl) => match &decl.values {
+            SortValues::Listed(names) => names.len(),
+            SortValues::Range { low, high } => high.abs_diff(*low) as usize + 1,
+        },
+    }
+}
+
+pub(crate) fn argument_sorts(scheme: &Scheme, family: FamilyId) -> &[SortId]
+    requires { IsSound scheme.now }
+    ensures small { length result.now ≤ 4 }
+    ensures exact { result.now ≡ argument_sorts (slice_get (universe_of scheme.now).families family.0) }
+{
+    match scheme.families.get(usize::from(family.0)) {
+        None => &[],
+        Some(decl) => decl.sorts.as_slice(),
+    }
+}
+
+pub(crate) fn result_sort(scheme: &Scheme, family: FamilyId) -> SortId
+    ensures { result ≡ result_sort_of (slice_get (universe_of scheme.now).families family.0) }
+{
+    match scheme.families.get(usize::from(family.0)) {
+        None => SortId(0),
+        Some(decl) => decl.result_sort,
+    }
+}
+
+/// How many cells the families before this one have.
+pub(crate) fn first_cell(scheme: &Scheme, family: FamilyId) -> usize
+    requires { IsSound scheme.now }
+    ensures exact { result ≡ sum_by (cells_in (universe_of scheme.now)) (take family.0 (universe_of scheme.now).families) }
+    ensures small { result ≤ 4096 }
+{
+    match scheme.families.get(usize::from(family.0)) {
+        None => scheme.cells,
+        Some(decl) => decl.first,
+    }
+}
+
+/// The place of the family that has the cell, by halving.
+pub(crate) fn family_at(scheme: &Scheme, cell: usize) -> usize
+    requires sound { IsSound scheme.now }
+    requires cell { cell < scheme.now.cells }
+    ensures within { result < length scheme.now.families.items }
+    ensures after { sum_by (cells_in (universe_of scheme.now)) (take result (universe_of scheme.now).families) ≤ cell }
+    ensures before { cell < sum_by (cells_in (universe_of scheme.now)) (take (result + 1) (universe_of scheme.now).families) }
+{
+    let mut low = 0;
+    let mut high = scheme.families.len();
+    while high - low > 1 {
+        let middle = low + (high - low) / 2;
+        if scheme.families[middle].first <= cell {
+            low = middle;
+        } else {
+            high = middle;
+        }
+    }
+    low
+}
+
+/// How many values a cell may have.
+pub(crate) fn values_of_cell(scheme: &Scheme, cell: usize) -> usize
+    requires sound { IsSound scheme.now }
+    requires cell { cell < scheme.now.cells }
+    ensures exact { slice_get (cell_sizes (universe_of scheme.now)) cell ≡ Some result }
+    ensures small { result ≤ 256 }
+{
+    let family = family_at(scheme, cell);
+    size_of(scheme, scheme.families[family].result_sort)
+}
+
+/// How many tuples of arguments of these sorts there are.
+pub(crate) fn count_tuples(scheme: &Scheme, sorts: &[SortId]) -> usize
+    requires sound { IsSound scheme.now }
+    requires arity { length sorts.now ≤ 4 }
+    ensures exact { result ≡ product (map (size_of (universe_of scheme.now)) sorts.now) }
+    ensures small { result ≤ 2 ^ 32 }
+{
+    let mut tuples = 1;
+    for sort in sorts {
+        tuples *= size_of(scheme, *sort);
+    }
+    tuples
+}
+
+/// The place of a tuple among all tuples of values of these sorts, the first part slowest, if it is one of them.
+pub(crate) fn rank_of(scheme: &Scheme, sorts: &[SortId], args: &[ValueId]) -> Option<usize>
+    requires sound { IsSound scheme.now }
+    requires arity { length sorts.now ≤ 4 }
+    ensures exact { SomeIff result (AreWithin (map (size_of (universe_of scheme.now)) sorts.now) args.now) (rank_from 0 (map (size_of (universe_of scheme.now)) sorts.now) args.now) }
+{
+    if args.len() != sorts.len() {
+        return None;
+    }
+    let mut rank = 0;
+    for (i, arg) in args.iter().enumerate() {
+        let size = size_of(scheme, sorts[i]);
+        let place = usize::from(arg.0);
+        if place >= size {
+            return None;
+        }
+        rank = rank * size + place;
+    }
+    Some(rank)
+}
+
+/// The number of the family's cell at these arguments, if they fit.
+pub(crate) fn cell_at(scheme: &Scheme, family: FamilyId, args: &[ValueId]) -> Option<usize>
+    requires sound { IsSound scheme.now }
+    ensures exact { SomeIff result (IsApplication (universe_of scheme.now) (record { family = family; arguments = args.now })) (cell_number (universe_of scheme.now) family args.now) }
+    ensures within { IfSome result (λ cell. cell < scheme.now.cells) }
+{
+    let Some(decl) = scheme.families.get(usize::from(family.0)) else {
+        return None;
+    };
+    match rank_of(scheme, &decl.sorts, args) {
+        None => None,
+        Some(rank) => Some(decl.first + rank),
+    }
+}
+
+/// A part of the tuple at a place among all tuples of values of these sorts.
+pub(crate) fn part_at(scheme: &Scheme, sorts: &[SortId], place: usize, i: usize) -> ValueId
+    requires sound { IsSound scheme.now }
+    requires arity { length sorts.now ≤ 4 }
+    requires place { place < product (map (size_of (universe_of scheme.now)) sorts.now) }
+    requires part { i < length sorts.now }
+    ensures { slice_get (tuple_at (map (size_of (universe_of scheme.now)) sorts.now) place) i ≡ Some result }
+{
+    let mut rest = place;
+    for j in 0..i {
+        let later = count_tuples(scheme, &sorts[j + 1..]);
+        rest %= later;
+    }
+    let later = count_tuples(scheme, &sorts[i + 1..]);
+    ValueId((rest / later) as u16)
+}
+
+/// An argument of a cell, counted from 0.
+pub(crate) fn argument_of(scheme: &Scheme, cell: usize, i: usize) -> ValueId
+    requires sound { IsSound scheme.now }
+    requires cell { cell < scheme.now.cells }
+    requires argument { IsSomeAnd (slice_get (cells (universe_of scheme.now)) cell) (λ c. i < length c.arguments) }
+    ensures { IsSomeAnd (slice_get (cells (universe_of scheme.now)) cell) (λ c. slice_get c.arguments i ≡ Some result) }
+{
+    cells_are_numbered_in_order();
+    let family = &scheme.families[family_at(scheme, cell)];
+    part_at(scheme, &family.sorts, cell - family.first, i)
+}
+
+/// The number of the family that has the cell.
+pub(crate) fn family_of_cell(scheme: &Scheme, cell: usize) -> FamilyId
+    requires sound { IsSound scheme.now }
+    requires cell { cell < scheme.now.cells }
+    requires few { length scheme.now.families.items ≤ 256 }
+    ensures { IsSomeAnd (slice_get (cells (universe_of scheme.now)) cell) (λ c. result ≡ c.family) }
+{
+    cells_are_numbered_in_order();
+    FamilyId(family_at(scheme, cell) as u16)
+}
