@@ -1,0 +1,48 @@
+-- What declarations make of a sheet, one after another.
+use Rattle.std.specs.Prelude.{◌≡◌, ℕ, List, [], ◌∷◌}
+use Rattle.pc_syntax.specs.Tree as tree
+use Rattle.pc_syntax.specs.Tree.{list_sort, range_sort, table, row, cell, rule, enter}
+use Rattle.pc_sheet.specs.Sheet.{Sheet, Universe, NamedStatement, empty_sheet, with_rule}
+use Rattle.pc_sheet.specs.Sheet as plain
+use Rattle.pc_sheet.specs.WellFormed.{IsWellFormed}
+use Rattle.pc_sheet.specs.declared.ids.SortId.{SortId}
+use Rattle.pc_sheet.specs.declared.ids.Entry.{Entry}
+use Rattle.pc_logic.specs.Edits.{listed_sort, family_from, with_sort, with_family, entered}
+use Rattle.pc_sortcheck.specs.Elaboration.{IsSortNamed, IsValueOf, IsCell, IsStatement}
+
+-- the sorts of these names
+abbrev pub AreSortsNamed : Universe → List (List ℕ) → List SortId → Type 0
+AreSortsNamed u [] [] = Unit {0}
+AreSortsNamed u [] (s ∷ ss) = ⊥
+AreSortsNamed u (n ∷ ns) [] = ⊥
+AreSortsNamed u (n ∷ ns) (s ∷ ss) = IsSortNamed u n s × AreSortsNamed u ns ss
+
+-- the entry that a cell and a value name
+pub record IsEntryNamed (u : Universe) (c : tree.Cell) (v : tree.Value) (e : Entry) : Type 0 where
+  pub sort : SortId
+  pub cell : IsCell u c e.cell sort
+  pub value : IsValueOf u sort v e.value
+
+-- the new sheet is the old one with what is declared; ranges, tables and rows aren't built yet
+abbrev pub Makes : Sheet → tree.Declared → Sheet → Type 0
+Makes old (list_sort n values) new = new ≡ with_sort old (listed_sort n values)
+Makes old (range_sort n low high) new = ⊥
+Makes old (table n sorts) new = ⊥
+Makes old (row n values) new = ⊥
+Makes old (cell n sorts result) new =
+    (ss : List SortId) × (r : SortId) × AreSortsNamed old.universe sorts ss × IsSortNamed old.universe result r × (new ≡ with_family old (family_from n ss r))
+Makes old (rule n f) new = (s : plain.Statement) × IsStatement old.universe [] f s × (new ≡ with_rule old (record { name = n; states = s }))
+Makes old (enter c v) new = (e : Entry) × IsEntryNamed old.universe c v e × (new ≡ entered old e)
+
+-- and that is well sorted, within the limits, with names of their own
+abbrev pub Declares : Sheet → tree.Declared → Sheet → Type 0
+Declares old d new = Makes old d new × IsWellFormed new
+
+-- one declaration after another
+abbrev pub DeclareAll : Sheet → List (ℕ × tree.Declared) → Sheet → Type 0
+DeclareAll old [] new = new ≡ old
+DeclareAll old (d ∷ ds) new = (mid : Sheet) × Declares old d.1 mid × DeclareAll mid ds new
+
+-- what the declarations of a text give
+abbrev pub IsSheetOf : List (ℕ × tree.Declared) → Sheet → Type 0
+IsSheetOf ds sheet = DeclareAll empty_sheet ds sheet

@@ -1,0 +1,5 @@
+pub mod Elaboration
+pub mod Declaring
+pub mod Small
+pub mod Told
+pub mod Fits
