@@ -1,0 +1,224 @@
+-- Each cell is an application of a declared family to values of its argument sorts, and its values are those of the family's result sort.
+use Rattle.std.proofs.Common.{◌≡◌, ℕ, zero, suc, ◌+◌, ◌<◌, ◌≤◌, List, [], ◌∷◌, ◌++◌, length, map, Option, None, Some, slice_get, slice_index_or, IsSomeAnd, All, replicate, Bool, false, nat_eq, codes, arith, zero-add, ap, sym, ◌∙◌, subst, refl}
+use Rattle.std.specs.List.{flat_map}
+use Rattle.std.specs.Option.{option_map}
+use Rattle.std.proofs.lemmas.Grind.{flat_map-append}
+use Rattle.std.proofs.lemmas.List.{map-append, length-map}
+use Rattle.std.proofs.lemmas.List.Elements.{All-nil, All-cons, All-append, All-map, All-weaker}
+use Rattle.std.proofs.lemmas.Option.{slice_get_within, slice_get-get_or, get_or_from_slice_get, slice_get-map, unwrap_or-slice_get}
+use Rattle.pc_sheet.proofs.Cells.{all_tuples, cells_are_numbered, some_same}
+use Rattle.pc_sheet.specs.Sheet.{Universe, Family, Sort}
+use Rattle.pc_sheet.specs.Truth.{count_of, size_of, values_of_sort, cells_in, argument_sorts, result_sort_of}
+use Rattle.pc_sheet.specs.Entailment.{AreWithin, cell_sizes}
+use Rattle.pc_sheet.specs.Cells.{Application, values_below, tuples, applications, cells_from, cells, IsApplication}
+use Rattle.pc_sheet.specs.declared.ids.SortId.{SortId}
+use Rattle.pc_sheet.specs.declared.ids.CellId.{CellId}
+use Rattle.pc_sheet.specs.declared.ids.FamilyId.{FamilyId}
+use Rattle.pc_sheet.specs.declared.ids.ValueId.{ValueId}
+use Rattle.pc_sheet.specs.WellFormed.{IsEntryOf}
+use Rattle.pc_sheet.specs.declared.ids.Entry.{Entry}
+use Rattle.pc_writer.specs.Spelling.{joined, no_application, application_of, arguments_text, family_of, name_of, sort_of, value_text, value_texts}
+
+-- ---- tuples
+
+tuples_below : (n : ℕ) (ns : List ℕ) → All (AreWithin ns) (tuples ns) → (m : ℕ) → m ≤ n → All (AreWithin (n ∷ ns)) (flat_map (λ v. map (λ vs. v ∷ vs) (tuples ns)) (values_below m))
+tuples_below n ns each zero le = All-nil (AreWithin (n ∷ ns))
+tuples_below n ns each (suc m) le =
+    let P : List ValueId → Type 0 = AreWithin (n ∷ ns) in
+    let last : ValueId = record { 0 = m } in
+    let pieces : ValueId → List (List ValueId) = λ v. map (λ vs. v ∷ vs) (tuples ns) in
+    let below : m < n = omega arith in
+    let here : All P (pieces last) = All-map P (λ vs. last ∷ vs) (tuples ns) (All-weaker (AreWithin ns) (λ vs. P (last ∷ vs)) (λ vs w. (below, w)) (tuples ns) each) in
+    subst (All P) (sym (flat_map-append pieces (values_below m) (last ∷ [])))
+    (All-append P (flat_map pieces (values_below m)) (pieces last ++ []) (tuples_below n ns each m (omega arith)) (All-append P (pieces last) [] here (All-nil P)))
+
+tuples_within : (ns : List ℕ) → All (AreWithin ns) (tuples ns)
+tuples_within [] = All-cons (AreWithin []) [] [] tt (All-nil (AreWithin []))
+tuples_within (n ∷ ns) = tuples_below n ns (tuples_within ns) n (omega arith)
+
+-- ---- arguments
+
+found_within : {A : Type 0} (xs : List A) (k : ℕ) (P : A → Type 0) → IsSomeAnd (slice_get xs k) P → k < length xs
+found_within [] k P there = absurd there
+found_within (x ∷ xs) zero P there = omega arith
+found_within (x ∷ xs) (suc k) P there = let below = found_within xs k P there in omega arith
+
+fit_sorts : (u : Universe) (found : Option Family) (vs : List ValueId) → IsSomeAnd found (λ f. AreWithin (map (size_of u) f.sorts) vs) → AreWithin (map (size_of u) (argument_sorts found)) vs
+fit_sorts u None vs w = absurd w
+fit_sorts u (Some f) vs w = w
+
+within_as_many : (ns : List ℕ) (vs : List ValueId) → AreWithin ns vs → length vs ≡ length ns
+within_as_many [] [] w = refl
+within_as_many [] (v ∷ vs) w = absurd w
+within_as_many (n ∷ ns) [] w = absurd w
+within_as_many (n ∷ ns) (v ∷ vs) w = ap suc (within_as_many ns vs w.1)
+
+module _ (u : Universe) where
+  pub argument_within : (ss : List SortId) (vs : List ValueId) (i : ℕ) (s : SortId) (v : ValueId) → AreWithin (map (size_of u) ss) vs → slice_get ss i ≡ Some s → slice_get vs i ≡ Some v → v.0 < size_of u s
+  argument_within [] vs i s v w sort value = absurd (cc)
+  argument_within (t ∷ ss) [] i s v w sort value = absurd w
+  argument_within (t ∷ ss) (x ∷ vs) zero s v w sort value = let P : SortId → ValueId → Type 0 = λ a b. b.0 < size_of u a in subst (λ b. P s b) (some_same value) (subst (λ a. P a x) (some_same sort) w.0)
+  argument_within (t ∷ ss) (x ∷ vs) (suc i) s v w sort value = argument_within ss vs i s v w.1 sort value
+
+  pub value_texts-at : (ss : List SortId) (vs : List ValueId) (i : ℕ) (s : SortId) (v : ValueId) → slice_get ss i ≡ Some s → slice_get vs i ≡ Some v → slice_get (value_texts u ss vs) i ≡ Some (value_text u s v)
+  value_texts-at [] vs i s v sort value = absurd (cc)
+  value_texts-at (t ∷ ss) [] i s v sort value = absurd (cc)
+  value_texts-at (t ∷ ss) (x ∷ vs) zero s v sort value = ap Some (ap (λ a. value_text u a x) (some_same sort) ∙ ap (value_text u s) (some_same value))
+  value_texts-at (t ∷ ss) (x ∷ vs) (suc i) s v sort value = value_texts-at ss vs i s v sort value
+
+  pub length-value_texts : (ss : List SortId) (vs : List ValueId) → length (value_texts u ss vs) ≤ length ss
+  length-value_texts [] vs = omega arith
+  length-value_texts (t ∷ ss) [] = omega arith
+  length-value_texts (t ∷ ss) (x ∷ vs) = let rest = length-value_texts ss vs in omega arith
+
+-- what a book answers about a declared family
+
+name_is : (found : Option Family) (text : List ℕ) → IsSomeAnd found (λ f. text ≡ f.name) → text ≡ name_of found
+name_is None text answer = absurd answer
+name_is (Some f) text answer = answer
+
+sorts_are : (found : Option Family) (ss : List SortId) → IsSomeAnd found (λ f. ss ≡ f.sorts) → ss ≡ argument_sorts found
+sorts_are None ss answer = absurd answer
+sorts_are (Some f) ss answer = answer
+
+sort_is : (found : Option Family) (s : SortId) → IsSomeAnd found (λ f. s ≡ f.result_sort) → s ≡ result_sort_of found
+sort_is None s answer = absurd answer
+sort_is (Some f) s answer = answer
+
+-- ---- families
+
+-- these families are the universe's from that number on
+abbrev AreFrom : Universe → ℕ → List Family → Type 0
+AreFrom u k fs = (j : ℕ) (f : Family) → slice_get fs j ≡ Some f → slice_get u.families (k + j) ≡ Some f
+
+module _ (u : Universe) where
+  next_from : (k : ℕ) (f : Family) (fs : List Family) → AreFrom u k (f ∷ fs) → AreFrom u (k + 1) fs
+  next_from k f fs from j g is = let P : ℕ → Type 0 = λ n. slice_get u.families n ≡ Some g in subst P (omega arith) (from (suc j) g is)
+
+  first_from : (k : ℕ) (f : Family) (fs : List Family) → AreFrom u k (f ∷ fs) → slice_get u.families k ≡ Some f
+  first_from k f fs from = let P : ℕ → Type 0 = λ n. slice_get u.families n ≡ Some f in subst P (omega arith) (from zero f refl)
+
+  each_from : (fs : List Family) (k : ℕ) → AreFrom u k fs → All (IsApplication u) (cells_from u k fs)
+  each_from [] k from = All-nil (IsApplication u)
+  each_from (f ∷ fs) k from =
+      let applied : List ValueId → Application = λ vs. record { family = record { 0 = k }; arguments = vs } in
+      let ns = map (size_of u) f.sorts in
+      let Q : List ValueId → Option Family → Type 0 = λ vs found. IsSomeAnd found (λ g. AreWithin (map (size_of u) g.sorts) vs) in
+      let one : (vs : List ValueId) → AreWithin ns vs → IsApplication u (applied vs) = λ vs w. subst (Q vs) (sym (first_from k f fs from)) w in
+      All-append (IsApplication u) (applications u k f) (cells_from u (k + 1) fs)
+      (All-map (IsApplication u) applied (tuples ns) (All-weaker (AreWithin ns) (λ vs. IsApplication u (applied vs)) one (tuples ns) (tuples_within ns)))
+      (each_from fs (k + 1) (next_from k f fs from))
+
+  -- how many values the application's cell may have
+  abbrev size_at : Application → ℕ
+  size_at a = size_of u (result_sort_of (slice_get u.families a.family.0))
+
+  all_alike : (applied : List ValueId → Application) (n : ℕ) → ((vs : List ValueId) → size_at (applied vs) ≡ n) → (ts : List (List ValueId)) → map size_at (map applied ts) ≡ replicate (length ts) n
+  all_alike applied n same [] = refl
+  all_alike applied n same (vs ∷ ts) = ap (λ m. m ∷ map size_at (map applied ts)) (same vs) ∙ ap (λ ms. n ∷ ms) (all_alike applied n same ts)
+
+  sizes_from : (fs : List Family) (k : ℕ) → AreFrom u k fs → map size_at (cells_from u k fs) ≡ flat_map (λ f. replicate (cells_in u f) (size_of u f.result_sort)) fs
+  sizes_from [] k from = refl
+  sizes_from (f ∷ fs) k from =
+      let applied : List ValueId → Application = λ vs. record { family = record { 0 = k }; arguments = vs } in
+      let ns = map (size_of u) f.sorts in
+      let n = size_of u f.result_sort in
+      let same : (vs : List ValueId) → size_at (applied vs) ≡ n = λ vs. ap (λ found. size_of u (result_sort_of found)) (first_from k f fs from) in
+      map-append size_at (applications u k f) (cells_from u (k + 1) fs)
+      ∙ ap (λ ms. ms ++ map size_at (cells_from u (k + 1) fs)) (all_alike applied n same (tuples ns) ∙ ap (λ m. replicate m n) (all_tuples ns))
+      ∙ ap (λ ms. replicate (cells_in u f) n ++ ms) (sizes_from fs (k + 1) (next_from k f fs from))
+
+  whole : AreFrom u 0 u.families
+  whole j f is = let P : ℕ → Type 0 = λ n. slice_get u.families n ≡ Some f in subst P (sym (zero-add j)) is
+
+  -- ---- a cell in range
+
+  module _ (c : CellId) (within : c.0 < length (cell_sizes u)) where
+    pub cell_is : slice_get (cells u) c.0 ≡ Some (application_of u c)
+    cell_is =
+        slice_get-get_or (cells u) c.0 no_application (omega (arith, within, (cells_are_numbered u).count))
+        ∙ ap Some (sym (unwrap_or-slice_get (cells u) c.0 no_application))
+
+    pub cell_is_application : IsApplication u (application_of u c)
+    cell_is_application =
+        let P : Application → Type 0 = IsApplication u in
+        subst P (get_or_from_slice_get (cells u) c.0 (application_of u c) (application_of u c) cell_is)
+        (each_from u.families 0 whole c.0 (application_of u c) (slice_get_within (cells u) c.0 (application_of u c) cell_is))
+
+    pub cell_size : slice_get (cell_sizes u) c.0 ≡ Some (size_of u (sort_of u c))
+    cell_size =
+        ap (λ ns. slice_get ns c.0) (sym (sizes_from u.families 0 whole))
+        ∙ slice_get-map size_at (cells u) c.0
+        ∙ ap (option_map size_at) cell_is
+
+    pub family_within : (application_of u c).family.0 < length u.families
+    family_within = found_within u.families (application_of u c).family.0 (λ f. AreWithin (map (size_of u) f.sorts) (application_of u c).arguments) cell_is_application
+
+    pub arguments_within : AreWithin (map (size_of u) (argument_sorts (family_of u c))) (application_of u c).arguments
+    arguments_within = fit_sorts u (family_of u c) (application_of u c).arguments cell_is_application
+
+    -- ---- what a book answers about it
+
+    pub family_is : (f : FamilyId) → IsSomeAnd (slice_get (cells u) c.0) (λ a. f ≡ a.family) → f ≡ (application_of u c).family
+    family_is f answer = let P : Option Application → Type 0 = λ found. IsSomeAnd found (λ a. f ≡ a.family) in subst P cell_is answer
+
+    pub argument_is : (i : ℕ) (v : ValueId) → IsSomeAnd (slice_get (cells u) c.0) (λ a. slice_get a.arguments i ≡ Some v) → slice_get (application_of u c).arguments i ≡ Some v
+    argument_is i v answer = let P : Option Application → Type 0 = λ found. IsSomeAnd found (λ a. slice_get a.arguments i ≡ Some v) in subst P cell_is answer
+
+    pub argument_there : (ss : List SortId) (i : ℕ) → ss ≡ argument_sorts (family_of u c) → i < length ss → IsSomeAnd (slice_get (cells u) c.0) (λ a. i < length a.arguments)
+    argument_there ss i same below =
+        let P : Option Application → Type 0 = λ found. IsSomeAnd found (λ a. i < length a.arguments) in
+        let as_many = within_as_many (map (size_of u) (argument_sorts (family_of u c))) (application_of u c).arguments arguments_within in
+        let there : i < length (application_of u c).arguments = omega (arith, below, ap length same, as_many, length-map (argument_sorts (family_of u c)) (size_of u)) in
+        subst P (sym cell_is) there
+
+    -- its argument's text is the text of that number
+    pub argument_text_is : (ss : List SortId) (i : ℕ) (v : ValueId) → i < length ss → IsSomeAnd (slice_get (cells u) c.0) (λ a. slice_get a.arguments i ≡ Some v)
+        → slice_get (value_texts u ss (application_of u c).arguments) i ≡ Some (value_text u (slice_index_or ss i (record { 0 = 0 })) v)
+    argument_text_is ss i v below answer =
+        value_texts-at u ss (application_of u c).arguments i (slice_index_or ss i (record { 0 = 0 })) v (slice_get-get_or ss i (record { 0 = 0 }) below) (argument_is i v answer)
+
+    pub argument_fits : (ss : List SortId) (i : ℕ) (v : ValueId) → ss ≡ argument_sorts (family_of u c) → i < length ss → IsSomeAnd (slice_get (cells u) c.0) (λ a. slice_get a.arguments i ≡ Some v)
+        → v.0 < size_of u (slice_index_or ss i (record { 0 = 0 }))
+    argument_fits ss i v same below answer =
+        argument_within u (argument_sorts (family_of u c)) (application_of u c).arguments i (slice_index_or ss i (record { 0 = 0 })) v arguments_within
+        (ap (λ ts. slice_get ts i) (sym same) ∙ slice_get-get_or ss i (record { 0 = 0 }) below) (argument_is i v answer)
+
+    -- ---- what a book answers about its family
+
+    module _ (f : FamilyId) (answer : IsSomeAnd (slice_get (cells u) c.0) (λ a. f ≡ a.family)) where
+      family_found : slice_get u.families f.0 ≡ family_of u c
+      family_found = ap (λ h. slice_get u.families h.0) (family_is f answer)
+
+      pub family_there : f.0 < length u.families
+      family_there = let P : FamilyId → Type 0 = λ h. h.0 < length u.families in subst P (sym (family_is f answer)) family_within
+
+      pub cell_name_is : (text : List ℕ) → IsSomeAnd (slice_get u.families f.0) (λ declared. text ≡ declared.name) → text ≡ name_of (family_of u c)
+      cell_name_is text name = name_is (slice_get u.families f.0) text name ∙ ap name_of family_found
+
+      pub cell_sorts_are : (ss : List SortId) → IsSomeAnd (slice_get u.families f.0) (λ declared. ss ≡ declared.sorts) → ss ≡ argument_sorts (family_of u c)
+      cell_sorts_are ss are = sorts_are (slice_get u.families f.0) ss are ∙ ap argument_sorts family_found
+
+      pub cell_sort_is : (s : SortId) → IsSomeAnd (slice_get u.families f.0) (λ declared. s ≡ declared.result_sort) → s ≡ sort_of u c
+      cell_sort_is s sort = sort_is (slice_get u.families f.0) s sort ∙ ap result_sort_of family_found
+
+module _ (u : Universe) (e : Entry) (entered : IsEntryOf u e) where
+  pub entered_cell : e.cell.0 < length (cell_sizes u)
+  entered_cell = found_within (cell_sizes u) e.cell.0 (λ n. e.value.0 < n) entered
+
+  pub entered_value : (s : SortId) → s ≡ sort_of u e.cell → e.value.0 < size_of u s
+  entered_value s same =
+      let P : Option ℕ → Type 0 = λ found. IsSomeAnd found (λ n. e.value.0 < n) in
+      let Q : SortId → Type 0 = λ t. e.value.0 < size_of u t in
+      subst Q (sym same) (subst P (cell_size u e.cell entered_cell) entered)
+
+pub in_parentheses : (u : Universe) (ss : List SortId) (vs : List ValueId) (none : Bool) → none ≡ nat_eq (length ss) 0 → none ≡ false → arguments_text u ss vs ≡ codes "(" ++ (joined (codes ", ") (value_texts u ss vs) ++ codes ")")
+in_parentheses u [] vs none is not = absurd (cc)
+in_parentheses u (s ∷ ss) vs none is not = refl
+
+pub sort_there : (u : Universe) (s : SortId) (v : ValueId) → v.0 < size_of u s → s.0 < length u.sorts
+sort_there u s v below = declared (slice_get u.sorts s.0) refl below
+  where
+    declared : (found : Option Sort) → slice_get u.sorts s.0 ≡ found → v.0 < count_of (values_of_sort found) → s.0 < length u.sorts
+    declared None is lt = absurd (omega (arith, lt))
+    declared (Some sort) is lt = slice_get_within u.sorts s.0 sort is
