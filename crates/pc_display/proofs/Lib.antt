@@ -1,0 +1,4 @@
+pub mod Below
+pub mod LineLemmas
+pub mod SameDisplay
+pub mod SheetLemmas

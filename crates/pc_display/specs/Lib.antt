@@ -1,0 +1,4 @@
+pub mod Examples
+pub mod OneDisplay
+pub mod Reasons
+pub mod Show
