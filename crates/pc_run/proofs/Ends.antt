@@ -1,0 +1,194 @@
+-- How the answering of command lines ends.
+use Rattle.std.proofs.Common.{◌≡◌, ℕ, ◌<◌, ◌≤◌, Bool, true, false, List, [], ◌∷◌, ◌++◌, length, refl, sym, ◌∙◌, ap, subst, arith, inl, inr, ◌⊎◌, Option, Some, None, All, append_assoc}
+use Rattle.std.specs.List.{list_any, AllByRecursion}
+use Rattle.std.specs.Io.KnownBytes.{Consumes, Appends, IsAtEnd, prepend_known}
+use Rattle.std.proofs.KnownBytes.{Consumes-trans, Appends-trans}
+use Rattle.std.proofs.lemmas.List.{append-nil, length_push}
+use Rattle.std.proofs.lemmas.List.Elements.{All-push, All-weaker, recursion_from_All}
+use Rattle.pc_port.specs.Port.{AppendsFront}
+use Rattle.pc_port.proofs.Told.{front_of_second}
+use Rattle.pc_lines.specs.Lines.{lines_of, IsWholeLine, IsOpenLine}
+use Rattle.pc_lines.specs.Lines as a_line
+use Rattle.pc_lines.proofs.First.{lines_of-whole, lines_of-open}
+use Rattle.pc_run.specs.declared.TheConstants.{LINE_LIMIT, MAX_LINES}
+use Rattle.pc_run.specs.declared.serve.Marks.{Marks}
+use Rattle.pc_run.specs.declared.status.Status.{Status}
+use Rattle.pc_run.specs.declared.status.Status.TheVariants.{Done, SomeRefused, ReadFault, WriteFault, Memory, TooLong}
+use Rattle.pc_run.specs.Answer.{Answer, Serves, ServesInPart, text_of, is_refused, is_no_memory}
+use Rattle.pc_run.specs.Transcript.{Transcript, lines, input_of, output_of, worse_of, too_long_text, IsLine, PassesLimit, AnswersAll, AnswersTaken, StopsAtLimit}
+use Rattle.pc_run.specs.Run.{Answers, AnswersBy, Tells, IsWritten}
+use Rattle.pc_run.proofs.Progress.{Progress, Legal-push, any-push, input_of-push, output_of-push, lines-push}
+
+-- ---- what a reader holds
+
+front_nil : (xs ys : List ℕ) → xs ++ ys ≡ [] → ys ≡ []
+front_nil [] ys none = none
+front_nil (x ∷ xs) ys none = absurd (cc none)
+
+pub left_at_end : (held : List ℕ) (left : Option (List ℕ)) → IsAtEnd (prepend_known held left) → IsAtEnd left
+left_at_end held None end = tt
+left_at_end held (Some xs) end = front_nil held xs end
+
+-- what a reader holds was taken from its source
+pub held_taken : (held : List ℕ) (left : Option (List ℕ)) → Consumes (prepend_known held left) left held
+held_taken held None = tt
+held_taken held (Some xs) = refl
+
+-- at the end nothing is held
+pub taken_to_end : (source : Option (List ℕ)) (held : List ℕ) (left : Option (List ℕ)) (xs : List ℕ) → Consumes source (prepend_known held left) xs → IsAtEnd (prepend_known held left) → Consumes source left xs
+taken_to_end None held left xs taken end = tt
+taken_to_end (Some s) held None xs taken end = absurd taken
+taken_to_end (Some s) held (Some l) xs taken end = taken ∙ ap (λ (r : List ℕ). xs ++ r) (end ∙ sym (front_nil held l end))
+
+pub taken_with_held : (source : Option (List ℕ)) (held : List ℕ) (left : Option (List ℕ)) (xs : List ℕ) → Consumes source (prepend_known held left) xs → Consumes source left (xs ++ held)
+taken_with_held source held left xs taken = Consumes-trans source (prepend_known held left) left xs held taken (held_taken held left)
+
+pub taken_with_none : (source : Option (List ℕ)) (held : List ℕ) (left : Option (List ℕ)) (xs : List ℕ) → held ≡ [] → Consumes source (prepend_known held left) xs → Consumes source left xs
+taken_with_none source held left xs none taken =
+    subst (λ (l : List ℕ). Consumes source left l) (ap (λ (l : List ℕ). xs ++ l) none ∙ append-nil xs) (taken_with_held source held left xs taken)
+
+-- ---- lines
+
+lines_of-input : (transcript : Transcript) (rest : List ℕ) → AllByRecursion (IsWholeLine LINE_LIMIT) (lines transcript) → lines_of (input_of transcript ++ rest) ≡ lines transcript ++ lines_of rest
+lines_of-input [] rest whole = refl
+lines_of-input (pair ∷ more) rest whole =
+    ap lines_of (append_assoc pair.0 (input_of more) rest)
+    ∙ lines_of-whole LINE_LIMIT pair.0 (input_of more ++ rest) whole.0
+    ∙ ap (λ (ls : List (List ℕ)). pair.0 ∷ ls) (lines_of-input more rest whole.1)
+
+each_line : (t : Transcript) → All (IsWholeLine LINE_LIMIT) (lines t) → All IsLine (lines t)
+each_line t whole = All-weaker (IsWholeLine LINE_LIMIT) IsLine (λ line is. inl is) (lines t) whole
+
+-- ---- at the end of the input
+
+written_all : (no_memory refused : Bool) (sink sink' : Option (List ℕ)) (text : List ℕ) → Appends sink sink' text → IsWritten (worse_of no_memory refused) sink sink' text
+written_all true refused sink sink' text written = written
+written_all false true sink sink' text written = written
+written_all false false sink sink' text written = written
+
+by_all : {S : Type 0} (Allows : S → List ℕ → Answer → S → Type 0) (start : S) (no_memory refused : Bool) (text : List ℕ) (source source' : Option (List ℕ))
+    → AnswersAll Allows start (worse_of no_memory refused) text source source' → AnswersBy Allows start (worse_of no_memory refused) text source source'
+by_all Allows start true refused text source source' answers = answers
+by_all Allows start false true text source source' answers = answers
+by_all Allows start false false text source source' answers = answers
+
+answers_all : {S : Type 0} (Allows : S → List ℕ → Answer → S → Type 0) (start : S) (no_memory refused : Bool) (status : Status) (text : List ℕ) (source source' sink sink' : Option (List ℕ))
+    → status ≡ worse_of no_memory refused → AnswersAll Allows start (worse_of no_memory refused) text source source' → Appends sink sink' text → Answers Allows start status source source' sink sink'
+answers_all Allows start no_memory refused status text source source' sink sink' is answers written =
+    subst (λ (s : Status). Answers Allows start s source source' sink sink') (sym is) record {
+      text = text;
+      course = by_all Allows start no_memory refused text source source' answers;
+      written = written_all no_memory refused sink sink' text written;
+    }
+
+pub ends : {S : Type 0} (Allows : S → List ℕ → Answer → S → Type 0) (start state : S) (marks : Marks) (source mid sink sink' : Option (List ℕ)) (count : ℕ) (held : List ℕ) (left : Option (List ℕ)) (line : List ℕ) (status : Status)
+    → Progress Allows start state marks source mid sink sink' count → count ≤ MAX_LINES → line ≡ [] → Consumes mid (prepend_known held left) line → IsAtEnd (prepend_known held left)
+    → status ≡ worse_of marks.no_memory marks.refused → Answers Allows start status source left sink sink'
+ends Allows start state marks source mid sink sink' count held left line status p few none taken end is =
+    let t = p.transcript in
+    let both = Consumes-trans source mid (prepend_known held left) (input_of t) line p.taken taken in
+    answers_all Allows start marks.no_memory marks.refused status (output_of t) source left sink sink' is record {
+      transcript = t;
+      state = state;
+      legal = p.legal;
+      commands = input_of t ++ line;
+      taken = taken_to_end source held left (input_of t ++ line) both end;
+      end = left_at_end held left end;
+      all = sym (lines_of-input t line (recursion_from_All (IsWholeLine LINE_LIMIT) (lines t) p.whole) ∙ ap (λ (l : List ℕ). lines t ++ lines_of l) none ∙ append-nil (lines t));
+      each = each_line t p.whole;
+      count = omega (arith, p.count_is);
+      text_is = refl;
+      status_is = ap (λ (b : Bool). worse_of b marks.refused) p.no_memory ∙ ap (λ (b : Bool). worse_of (list_any (λ pair. is_no_memory pair.1) t) b) p.refused;
+    } p.written
+
+-- at a last line without a line feed
+pub ends_last : {S : Type 0} (Allows : S → List ℕ → Answer → S → Type 0) (start old new : S) (marks marks' : Marks) (source mid sink sink' sink'' : Option (List ℕ)) (count : ℕ) (held : List ℕ) (left : Option (List ℕ)) (line : List ℕ) (status : Status)
+    → Progress Allows start old marks source mid sink sink' count → count < MAX_LINES → IsOpenLine LINE_LIMIT line → 0 < length line → Consumes mid (prepend_known held left) line → IsAtEnd (prepend_known held left)
+    → Serves Allows old new (a_line.text_of line) marks marks' sink' sink'' → status ≡ worse_of marks'.no_memory marks'.refused → Answers Allows start status source left sink sink''
+ends_last Allows start old new marks marks' source mid sink sink' sink'' count held left line status p few open_line some taken end serves is =
+    let t = p.transcript in
+    let both = Consumes-trans source mid (prepend_known held left) (input_of t) line p.taken taken in
+    let no_memory = any-push (λ (pair : List ℕ × Answer). is_no_memory pair.1) t (line, serves.answer) marks.no_memory marks'.no_memory p.no_memory serves.marked.no_memory in
+    let refused = any-push (λ (pair : List ℕ × Answer). is_refused pair.1) t (line, serves.answer) marks.refused marks'.refused p.refused serves.marked.refused in
+    answers_all Allows start marks'.no_memory marks'.refused status (output_of (t ++ (line, serves.answer) ∷ [])) source left sink sink'' is record {
+      transcript = t ++ (line, serves.answer) ∷ [];
+      state = new;
+      legal = Legal-push Allows start old new t line serves.answer p.legal serves.allowed;
+      commands = input_of t ++ line;
+      taken = taken_to_end source held left (input_of t ++ line) both end;
+      end = left_at_end held left end;
+      all = lines-push t line serves.answer ∙ sym (lines_of-input t line (recursion_from_All (IsWholeLine LINE_LIMIT) (lines t) p.whole) ∙ ap (λ (ls : List (List ℕ)). lines t ++ ls) (lines_of-open line open_line.no_end some));
+      each = rw lines-push (All-push IsLine (lines t) line (each_line t p.whole) (inr open_line));
+      count = omega (arith, p.count_is, length_push t (line, serves.answer));
+      text_is = refl;
+      status_is = ap (λ (b : Bool). worse_of b marks'.refused) no_memory
+          ∙ ap (λ (b : Bool). worse_of (list_any (λ pair. is_no_memory pair.1) (t ++ (line, serves.answer) ∷ [])) b) refused;
+    } (rw output_of-push (Appends-trans sink sink' sink'' (output_of t) (text_of serves.answer) p.written serves.written))
+
+-- ---- at a fault of the source
+
+pub read_fails : {S : Type 0} (Allows : S → List ℕ → Answer → S → Type 0) (start state : S) (marks : Marks) (source mid sink sink' : Option (List ℕ)) (count : ℕ) (held : List ℕ) (left : Option (List ℕ)) (line : List ℕ)
+    → Progress Allows start state marks source mid sink sink' count → Consumes mid (prepend_known held left) line → IsOpenLine LINE_LIMIT line → held ≡ [] → Answers Allows start ReadFault source left sink sink'
+read_fails Allows start state marks source mid sink sink' count held left line p taken open_line none =
+    let t = p.transcript in
+    let both = Consumes-trans source mid (prepend_known held left) (input_of t) line p.taken taken in
+    record {
+      text = output_of t;
+      course = record {
+        transcript = t;
+        state = state;
+        legal = p.legal;
+        whole = p.whole;
+        begun = line;
+        no_end = open_line.no_end;
+        taken = taken_with_none source held left (input_of t ++ line) none both;
+        text_is = refl;
+      };
+      written = p.written;
+    }
+
+-- ---- at a line past a limit
+
+pub past_limit : {S : Type 0} (Allows : S → List ℕ → Answer → S → Type 0) (start state : S) (marks : Marks) (source mid sink sink' sink'' : Option (List ℕ)) (count : ℕ) (held : List ℕ) (left : Option (List ℕ)) (line : List ℕ) (status : Status)
+    → Progress Allows start state marks source mid sink sink' count → Consumes mid (prepend_known held left) line → PassesLimit count line
+    → Tells TooLong too_long_text status sink' sink'' → Answers Allows start status source left sink sink''
+past_limit Allows start state marks source mid sink sink' sink'' count held left line status p taken passes told =
+    let t = p.transcript in
+    let both = Consumes-trans source mid (prepend_known held left) (input_of t) line p.taken taken in
+    let stops : StopsAtLimit Allows start (output_of t ++ too_long_text) source left = record {
+      transcript = t;
+      state = state;
+      legal = p.legal;
+      whole = p.whole;
+      begun = line;
+      passes = subst (λ (n : ℕ). PassesLimit n line) (sym p.count_is) passes;
+      held = held;
+      taken = taken_with_held source held left (input_of t ++ line) both;
+      text_is = refl;
+    } in
+    elim told [
+      | inl w ↦ subst (λ (s : Status). Answers Allows start s source left sink sink'') (sym w.0) record { text = output_of t ++ too_long_text; course = stops; written = Appends-trans sink sink' sink'' (output_of t) too_long_text p.written w.1 }
+      | inr w ↦ subst (λ (s : Status). Answers Allows start s source left sink sink'') (sym w.0) record { text = output_of t ++ too_long_text; course = inl stops; written = front_of_second sink sink' sink'' (output_of t) too_long_text p.written w.1 }
+    ]
+
+-- ---- at a fault of the sink
+
+pub write_fails : {S : Type 0} (Allows : S → List ℕ → Answer → S → Type 0) (start old new : S) (marks : Marks) (source mid sink sink' sink'' : Option (List ℕ)) (count : ℕ) (held : List ℕ) (left : Option (List ℕ)) (line : List ℕ)
+    → Progress Allows start old marks source mid sink sink' count → IsLine line → Consumes mid (prepend_known held left) line → ServesInPart Allows old new (a_line.text_of line) sink' sink'' → Answers Allows start WriteFault source left sink sink''
+write_fails Allows start old new marks source mid sink sink' sink'' count held left line p is_line taken serves =
+    let t = p.transcript in
+    let both = Consumes-trans source mid (prepend_known held left) (input_of t) line p.taken taken in
+    let part : AppendsFront sink sink'' (output_of t ++ text_of serves.answer) = front_of_second sink sink' sink'' (output_of t) (text_of serves.answer) p.written serves.written in
+    record {
+      text = output_of (t ++ (line, serves.answer) ∷ []);
+      course = inr record {
+        transcript = t ++ (line, serves.answer) ∷ [];
+        state = new;
+        legal = Legal-push Allows start old new t line serves.answer p.legal serves.allowed;
+        each = rw lines-push (All-push IsLine (lines t) line (each_line t p.whole) is_line);
+        held = held;
+        taken = rw input_of-push (taken_with_held source held left (input_of t ++ line) both);
+        text_is = refl;
+      };
+      written = subst (λ (l : List ℕ). AppendsFront sink sink'' l) (sym (output_of-push t line serves.answer)) part;
+    }

@@ -1,0 +1,4 @@
+pub mod Progress
+pub mod Ends
+pub mod SheetLines
+pub mod Courses

@@ -1,0 +1,110 @@
+use Rattle.std.proofs.Common.{◌≡◌, ℕ, List, ◌≤◌, ◌<◌, ◌+◌, length, ap, subst, arith, inl, inr, ◌∙◌}
+use Rattle.std.proofs.lemmas.List.{length_push}
+use Rattle.pc_lines.specs.Lines.{before_end}
+use Rattle.pc_lines.proofs.Ends.{text_of-open}
+use Rattle.pc_run.specs.declared.TheConstants.{MAX_LINES}
+use Rattle.pc_run.specs.Answer.{Serves, ServesInPart}
+use Rattle.pc_run.proofs.Progress.{starts, goes_on}
+use Rattle.pc_run.proofs.Ends.{ends, ends_last, read_fails, past_limit, write_fails}
+use Rattle.pc_run.proofs.commands.answer_all.Goals as goal
+
+pub loop-init : goal.loop-init
+loop-init g c = record {
+  progress = starts g.M.Machine.Allows c.args.machine.now c.new-marks.result _ _ c.new-marks.ensures.refused c.new-marks.ensures.no_memory;
+  room = c.requires;
+  read_later = omega arith;
+  write_later = omega arith;
+}
+
+pub next-requires : goal.next-requires
+next-requires g c = c.loop.invariant.room
+
+pub returns-in-Err-clause-answers : goal.returns-in-Err-clause-answers
+returns-in-Err-clause-answers g c =
+    read_fails g.M.Machine.Allows c.args.machine.now c.loop.machine c.loop.marks _ _ _ _ c.loop.counter c.next.new.self.held (g.I.Source.left c.next.new.source) c.next.new.self.line c.loop.invariant.progress c.next.ensures.takes c.in-Err.ensures.taken c.in-Err.ensures.fault
+
+pub returns-in-Ok-End-clause-answers : goal.returns-in-Ok-End-clause-answers
+returns-in-Ok-End-clause-answers g c =
+    let got = rw c.in-Ok-End.field-0-is at c.in-Ok-End.ensures.taken in
+    let few : c.loop.counter ≤ MAX_LINES = omega arith in
+    ends g.M.Machine.Allows c.args.machine.now c.loop.machine c.loop.marks _ _ _ _ c.loop.counter c.next.new.self.held (g.I.Source.left c.next.new.source) c.next.new.self.line c.status.result c.loop.invariant.progress few got.0 c.next.ensures.takes got.1 c.status.ensures
+
+pub returns-in-Ok-TooLong-clause-answers : goal.returns-in-Ok-TooLong-clause-answers
+returns-in-Ok-TooLong-clause-answers g c =
+    let got = rw c.in-Ok-TooLong.field-0-is at c.in-Ok-TooLong.ensures.taken in
+    past_limit g.M.Machine.Allows c.args.machine.now c.loop.machine c.loop.marks _ _ _ _ _ c.loop.counter c.next.new.self.held (g.I.Source.left c.next.new.source) c.next.new.self.line c.end_with.result c.loop.invariant.progress c.next.ensures.takes (inl got) c.end_with.ensures.told
+
+pub serve-requires : goal.serve-requires
+serve-requires g c =
+    let got = rw c.in-Ok-Line.field-0-is at c.in-Ok-Line.ensures.taken in
+    omega (arith, c.text.ensures.short, got.short)
+
+pub returns-in-Err-serve-clause-answers : goal.returns-in-Err-serve-clause-answers
+returns-in-Err-serve-clause-answers g c =
+    let got = rw c.in-Ok-Line.field-0-is at c.in-Ok-Line.ensures.taken in
+    let serves = subst (λ (line : List ℕ). ServesInPart g.M.Machine.Allows c.loop.machine c.serve.new.machine line (g.O.Sink.given c.loop.out) (g.O.Sink.given c.serve.new.out)) c.text.ensures.text c.in-Err-serve.ensures.err in
+    write_fails g.M.Machine.Allows c.args.machine.now c.loop.machine c.serve.new.machine c.loop.marks _ _ _ _ _ c.loop.counter c.next.new.self.held (g.I.Source.left c.next.new.source) c.next.new.self.line c.loop.invariant.progress (inl got) c.next.ensures.takes serves
+
+pub loop-preserved : goal.loop-preserved
+loop-preserved g c =
+    let got = rw c.in-Ok-Line.field-0-is at c.in-Ok-Line.ensures.taken in
+    let serves = subst (λ (line : List ℕ). Serves g.M.Machine.Allows c.loop.machine c.serve.new.machine line c.loop.marks c.serve.new.marks (g.O.Sink.given c.loop.out) (g.O.Sink.given c.serve.new.out)) c.text.ensures.text c.in-Ok.ensures.ok in
+    record {
+      progress = goes_on g.M.Machine.Allows c.args.machine.now c.loop.machine c.serve.new.machine c.loop.marks c.serve.new.marks _ _ _ _ _ _ c.loop.counter c.next.new.self.line c.loop.invariant.progress got c.next.ensures.takes serves;
+      room = omega (arith, c.next.ensures.longest, c.loop.invariant.room);
+      read_later = omega (arith, c.next.ensures.cause.later);
+      write_later = omega (arith, c.serve.ensures.cause.later);
+    }
+
+pub serve-requires-in-Ok-Last : goal.serve-requires-in-Ok-Last
+serve-requires-in-Ok-Last g c =
+    let got = rw c.in-Ok-Last.field-0-is at c.in-Ok-Last.ensures.taken in
+    omega (arith, ap length (c.text-in-Ok-Last.ensures.text ∙ text_of-open c.next.new.self.line got.0.no_end), got.0.short)
+
+pub returns-in-Ok-serve-clause-answers : goal.returns-in-Ok-serve-clause-answers
+returns-in-Ok-serve-clause-answers g c =
+    let got = rw c.in-Ok-Last.field-0-is at c.in-Ok-Last.ensures.taken in
+    let serves = subst (λ (line : List ℕ). Serves g.M.Machine.Allows c.loop.machine c.serve-in-Ok-Last.new.machine line c.loop.marks c.serve-in-Ok-Last.new.marks (g.O.Sink.given c.loop.out) (g.O.Sink.given c.serve-in-Ok-Last.new.out)) c.text-in-Ok-Last.ensures.text c.in-Ok-serve.ensures.ok in
+    let few : c.loop.counter < MAX_LINES = omega arith in
+    ends_last g.M.Machine.Allows c.args.machine.now c.loop.machine c.serve-in-Ok-Last.new.machine c.loop.marks c.serve-in-Ok-Last.new.marks _ _ _ _ _ c.loop.counter c.next.new.self.held (g.I.Source.left c.next.new.source) c.next.new.self.line c.status-in-Ok-serve.result
+    c.loop.invariant.progress few got.0 got.1 c.next.ensures.takes got.2 serves c.status-in-Ok-serve.ensures
+
+pub returns-in-Err-serve-2-clause-answers : goal.returns-in-Err-serve-2-clause-answers
+returns-in-Err-serve-2-clause-answers g c =
+    let got = rw c.in-Ok-Last.field-0-is at c.in-Ok-Last.ensures.taken in
+    let serves = subst (λ (line : List ℕ). ServesInPart g.M.Machine.Allows c.loop.machine c.serve-in-Ok-Last.new.machine line (g.O.Sink.given c.loop.out) (g.O.Sink.given c.serve-in-Ok-Last.new.out)) c.text-in-Ok-Last.ensures.text c.in-Err-serve-2.ensures.err in
+    write_fails g.M.Machine.Allows c.args.machine.now c.loop.machine c.serve-in-Ok-Last.new.machine c.loop.marks _ _ _ _ _ c.loop.counter c.next.new.self.held (g.I.Source.left c.next.new.source) c.next.new.self.line c.loop.invariant.progress (inr got.0) c.next.ensures.takes serves
+
+pub next-requires-2 : goal.next-requires-2
+next-requires-2 g c = c.loop.invariant.room
+
+pub returns-in-Err-next-clause-answers : goal.returns-in-Err-next-clause-answers
+returns-in-Err-next-clause-answers g c =
+    read_fails g.M.Machine.Allows c.args.machine.now c.loop.machine c.loop.marks _ _ _ _ c.loop.counter c.next-2.new.self.held (g.I.Source.left c.next-2.new.source) c.next-2.new.self.line c.loop.invariant.progress c.next-2.ensures.takes c.in-Err-next.ensures.taken c.in-Err-next.ensures.fault
+
+pub returns-in-Ok-End-next-clause-answers : goal.returns-in-Ok-End-next-clause-answers
+returns-in-Ok-End-next-clause-answers g c =
+    let got = rw c.in-Ok-End-next.field-0-is at c.in-Ok-End-next.ensures.taken in
+    let few : c.loop.counter ≤ MAX_LINES = omega arith in
+    ends g.M.Machine.Allows c.args.machine.now c.loop.machine c.loop.marks _ _ _ _ c.loop.counter c.next-2.new.self.held (g.I.Source.left c.next-2.new.source) c.next-2.new.self.line c.status-in-Ok-End-next.result c.loop.invariant.progress few got.0 c.next-2.ensures.takes got.1 c.status-in-Ok-End-next.ensures
+
+pub returns-in-Ok-TooLong-next-clause-answers : goal.returns-in-Ok-TooLong-next-clause-answers
+returns-in-Ok-TooLong-next-clause-answers g c =
+    let got = rw c.in-Ok-TooLong-next.field-0-is at c.in-Ok-TooLong-next.ensures.taken in
+    past_limit g.M.Machine.Allows c.args.machine.now c.loop.machine c.loop.marks _ _ _ _ _ c.loop.counter c.next-2.new.self.held (g.I.Source.left c.next-2.new.source) c.next-2.new.self.line c.end_with-in-Ok-TooLong-next.result c.loop.invariant.progress c.next-2.ensures.takes (inl got)
+    c.end_with-in-Ok-TooLong-next.ensures.told
+
+pub returns-in-Ok-Line-next-clause-answers : goal.returns-in-Ok-Line-next-clause-answers
+returns-in-Ok-Line-next-clause-answers g c =
+    let got = rw c.in-Ok-Line-next.field-0-is at c.in-Ok-Line-next.ensures.taken in
+    let all : c.loop.counter ≡ MAX_LINES = omega arith in
+    let some : 0 < length c.next-2.new.self.line = omega (arith, ap length got.ends, length_push (before_end c.next-2.new.self.line) 10) in
+    past_limit g.M.Machine.Allows c.args.machine.now c.loop.machine c.loop.marks _ _ _ _ _ c.loop.counter c.next-2.new.self.held (g.I.Source.left c.next-2.new.source) c.next-2.new.self.line c.end_with-in-Ok-Line-next.result c.loop.invariant.progress c.next-2.ensures.takes (inr (all, some))
+    c.end_with-in-Ok-Line-next.ensures.told
+
+pub returns-in-Ok-Last-next-clause-answers : goal.returns-in-Ok-Last-next-clause-answers
+returns-in-Ok-Last-next-clause-answers g c =
+    let got = rw c.in-Ok-Last-next.field-0-is at c.in-Ok-Last-next.ensures.taken in
+    let all : c.loop.counter ≡ MAX_LINES = omega arith in
+    past_limit g.M.Machine.Allows c.args.machine.now c.loop.machine c.loop.marks _ _ _ _ _ c.loop.counter c.next-2.new.self.held (g.I.Source.left c.next-2.new.source) c.next-2.new.self.line c.end_with-in-Ok-Last-next.result c.loop.invariant.progress c.next-2.ensures.takes (inr (all, got.1))
+    c.end_with-in-Ok-Last-next.ensures.told

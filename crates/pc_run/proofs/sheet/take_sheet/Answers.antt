@@ -1,0 +1,17 @@
+use Rattle.std.proofs.Common.{arith, ◌∙◌}
+use Rattle.pc_lines.specs.Reader.{coming}
+use Rattle.pc_run.proofs.SheetLines.{collects_more, stops}
+use Rattle.pc_run.proofs.sheet.take_sheet.Goals as goal
+
+pub loop-text-preserved : goal.loop-text-preserved
+loop-text-preserved g c =
+    let got = rw c.in-Ok-More.field-0-is at c.in-Ok-More.ensures.gives in
+    record {
+      collected = collects_more c.loop-text.text.items c.take_line.new.text.items _ _ (coming c.take_line.new.reader (g.I.Source.left c.take_line.new.input)) c.loop-text.invariant.collected got;
+      longest = c.take_line.ensures.longest ∙ c.loop-text.invariant.longest;
+      later = omega (arith, c.take_line.ensures.later, c.loop-text.invariant.later);
+    }
+
+pub returns-in-Err-clause-gives : goal.returns-in-Err-clause-gives
+returns-in-Err-clause-gives g c =
+    stops c.in-Err.stop c.loop-text.text.items c.take_line.new.text.items _ _ (coming c.take_line.new.reader (g.I.Source.left c.take_line.new.input)) (g.I.Source.left c.take_line.new.input) c.loop-text.invariant.collected c.in-Err.ensures.gives

@@ -1,0 +1,68 @@
+-- The answers that a command line may have, and how they are written.
+use Rattle.std.specs.Prelude.{◌≡◌, ℕ, Bool, true, false, ◌||◌, List, [], ◌∷◌, ◌++◌, codes}
+use Rattle.std.specs.declared.option.Option.{Option}
+use Rattle.std.specs.Io.KnownBytes.{Appends}
+use Rattle.pc_port.specs.Port.{AppendsFront}
+use Rattle.pc_run.specs.declared.machine.Refusal.{Refusal}
+use Rattle.pc_run.specs.declared.machine.Refusal.TheVariants.{NotYet}
+use Rattle.pc_run.specs.declared.machine.Reply.{Reply}
+use Rattle.pc_run.specs.declared.machine.Reply.TheVariants.{Silent, Accepted, Shown, Refused, Memory}
+use Rattle.pc_run.specs.declared.serve.Marks.{Marks}
+
+-- no answer, `ok`, a display, a refusal, or want of memory
+pub data Answer : Type 0 where
+  silent : Answer
+  accepted : Answer
+  shown : List ℕ → Answer
+  refused : Refusal → Answer
+  no_memory : Answer
+
+-- a line with its line feed
+abbrev pub ended : List ℕ → List ℕ
+ended line = line ++ 10 ∷ []
+
+-- the number and the word of a refusal
+abbrev pub refusal_text : Refusal → List ℕ
+refusal_text NotYet = codes "20 not-yet"
+
+-- how an answer is written
+abbrev pub text_of : Answer → List ℕ
+text_of silent = []
+text_of accepted = ended (codes "ok")
+text_of (shown text) = text
+text_of (refused r) = ended (codes "refused " ++ refusal_text r)
+text_of no_memory = ended (codes "refused 15 memory")
+
+abbrev pub is_refused : Answer → Bool
+is_refused (refused r) = true
+is_refused answer = false
+
+abbrev pub is_no_memory : Answer → Bool
+is_no_memory no_memory = true
+is_no_memory answer = false
+
+-- the answer that a reply stands for in a state, of which this is the display
+abbrev pub IsAnswer : {S : Type 0} → (S → List ℕ → Type 0) → S → Reply → Answer → Type 0
+IsAnswer IsDisplay state Silent answer = answer ≡ silent
+IsAnswer IsDisplay state Accepted answer = answer ≡ accepted
+IsAnswer IsDisplay state Shown answer = (text : List ℕ) × IsDisplay state text × (answer ≡ shown text)
+IsAnswer IsDisplay state (Refused r) answer = answer ≡ refused r
+IsAnswer IsDisplay state Memory answer = answer ≡ no_memory
+
+-- whether some line was refused and some wanted memory, after one answer more
+pub record IsMarked (old : Marks) (answer : Answer) (new : Marks) : Type 0 where
+  pub refused : new.refused ≡ (is_refused answer || old.refused)
+  pub no_memory : new.no_memory ≡ (is_no_memory answer || old.no_memory)
+
+-- the line has an answer, all of which was written
+pub record Serves {S : Type 0} (Allows : S → List ℕ → Answer → S → Type 0) (old new : S) (line : List ℕ) (marks marks' : Marks) (sink sink' : Option (List ℕ)) : Type 0 where
+  pub answer : Answer
+  pub allowed : Allows old line answer new
+  pub marked : IsMarked marks answer marks'
+  pub written : Appends sink sink' (text_of answer)
+
+-- the line has an answer, a front of which was written
+pub record ServesInPart {S : Type 0} (Allows : S → List ℕ → Answer → S → Type 0) (old new : S) (line : List ℕ) (sink sink' : Option (List ℕ)) : Type 0 where
+  pub answer : Answer
+  pub allowed : Allows old line answer new
+  pub written : AppendsFront sink sink' (text_of answer)

@@ -1,0 +1,4 @@
+pub mod Answer
+pub mod Transcript
+pub mod SheetPart
+pub mod Run

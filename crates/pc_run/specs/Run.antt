@@ -1,0 +1,147 @@
+-- What a run says by its status: what was to be printed, and how much of it was.
+use Rattle.std.specs.Prelude.{◌≡◌, ℕ, ◌⊎◌, List, [], ◌∷◌, ◌++◌, codes, String, string_bytes, map}
+use Rattle.std.specs.declared.alloc.Global.{Global}
+use Rattle.std.specs.declared.option.Option.{Option}
+use Rattle.std.specs.Io.KnownBytes.{Consumes, Appends}
+use Rattle.pc_port.specs.Port.{AppendsFront}
+use Rattle.pc_run.specs.declared.status.Status.{Status}
+use Rattle.pc_run.specs.declared.status.Status.TheVariants.{Done, SomeRefused, Usage, SheetRefused, ReadFault, WriteFault, Memory, TooLong}
+use Rattle.pc_run.specs.Answer.{Answer, ended, refusal_text}
+use Rattle.pc_run.specs.declared.machine.Refusal.TheVariants.{NotYet}
+use Rattle.pc_run.specs.Transcript.{AnswersAll, AnswersTaken, StopsAtLimit, AnswersSome, too_long_text}
+use Rattle.pc_run.specs.SheetPart.{TakesSheet, StopsInSheet, PassesSheetLimit, HasTaken}
+
+-- the one word `replay`
+abbrev pub AreReplay : List (String Global) → Type 0
+AreReplay words = map string_bytes words ≡ codes "replay" ∷ []
+
+abbrev pub usage_text : List ℕ
+usage_text = ended (codes "usage: predicalc replay / edit FILE / check FILE / demo N [--budget K]")
+
+abbrev pub memory_text : List ℕ
+memory_text = ended (codes "refused 15 memory")
+
+abbrev pub sheet_memory_text : List ℕ
+sheet_memory_text = ended (codes "sheet refused 15 memory")
+
+abbrev pub sheet_refused_text : List ℕ
+sheet_refused_text = ended (codes "sheet refused " ++ refusal_text NotYet)
+
+-- There was no room for a line. Nothing was read.
+pub record LacksRoom (text : List ℕ) (source source' : Option (List ℕ)) : Type 0 where
+  pub unread : source' ≡ source
+  pub text_is : text ≡ memory_text
+
+-- There was no memory for the sheet, of which so much was read.
+pub record LacksMemoryForSheet (text : List ℕ) (source source' : Option (List ℕ)) : Type 0 where
+  pub taken : HasTaken source source'
+  pub text_is : text ≡ sheet_memory_text
+
+-- The sheet's part was taken, and no sheet is read from it. So much of what follows was read too.
+pub record RefusesSheet {S : Type 0} (IsSheet : List ℕ → S → Type 0) (text : List ℕ) (source source' : Option (List ℕ)) : Type 0 where
+  pub sheet : List ℕ
+  pub rest : Option (List ℕ)
+  pub takes : TakesSheet sheet source rest
+  pub none : (start : S) → ¬ IsSheet sheet start
+  pub held : List ℕ
+  pub more : Consumes rest source' held
+  pub text_is : text ≡ sheet_refused_text
+
+-- The sheet's part was taken, a sheet is read from it, and from its state the rest of the input goes on so.
+pub record Opens {S : Type 0} (IsSheet : List ℕ → S → Type 0) (GoesOn : S → Option (List ℕ) → Type 0) (source : Option (List ℕ)) : Type 0 where
+  pub sheet : List ℕ
+  pub rest : Option (List ℕ)
+  pub takes : TakesSheet sheet source rest
+  pub start : S
+  pub is : IsSheet sheet start
+  pub goes_on : GoesOn start rest
+
+-- the sheet's part is too long, and this is told
+pub record HasLongSheet (text : List ℕ) (source source' : Option (List ℕ)) : Type 0 where
+  pub passes : PassesSheetLimit source source'
+  pub text_is : text ≡ too_long_text
+
+-- reading the sheet failed, and nothing was to be printed
+pub record FailsInSheet (text : List ℕ) (source source' : Option (List ℕ)) : Type 0 where
+  pub stops : StopsInSheet source source'
+  pub text_is : text ≡ []
+
+-- the words don't fit: the input is left as it was
+pub record TellsUsage (text : List ℕ) (source source' : Option (List ℕ)) : Type 0 where
+  pub unread : source' ≡ source
+  pub text_is : text ≡ usage_text
+
+-- what was to be printed where a write failed
+pub data IsCut {S : Type 0} (IsSheet : List ℕ → S → Type 0) (Allows : S → List ℕ → Answer → S → Type 0) (text : List ℕ) (source source' : Option (List ℕ)) : Type 0 where
+  at_memory : LacksRoom text source source' → IsCut IsSheet Allows text source source'
+  at_sheet_memory : LacksMemoryForSheet text source source' → IsCut IsSheet Allows text source source'
+  at_sheet : RefusesSheet IsSheet text source source' → IsCut IsSheet Allows text source source'
+  at_long_sheet : HasLongSheet text source source' → IsCut IsSheet Allows text source source'
+  at_limit : Opens IsSheet (λ start rest. StopsAtLimit Allows start text rest source') source → IsCut IsSheet Allows text source source'
+  at_answer : Opens IsSheet (λ start rest. AnswersSome Allows start text rest source') source → IsCut IsSheet Allows text source source'
+
+-- With the word `replay`: what was taken from the input at this status, and the text that was to be printed.
+abbrev pub Replays : {S : Type 0} → (List ℕ → S → Type 0) → (S → List ℕ → Answer → S → Type 0) → Status → List ℕ → Option (List ℕ) → Option (List ℕ) → Type 0
+Replays IsSheet Allows Done text source source' = Opens IsSheet (λ start rest. AnswersAll Allows start Done text rest source') source
+Replays IsSheet Allows SomeRefused text source source' = Opens IsSheet (λ start rest. AnswersAll Allows start SomeRefused text rest source') source
+Replays IsSheet Allows Usage text source source' = ⊥
+Replays IsSheet Allows SheetRefused text source source' = RefusesSheet IsSheet text source source'
+Replays IsSheet Allows ReadFault text source source' = FailsInSheet text source source' ⊎ Opens IsSheet (λ start rest. AnswersTaken Allows start text rest source') source
+Replays IsSheet Allows WriteFault text source source' = IsCut IsSheet Allows text source source'
+Replays IsSheet Allows Memory text source source' =
+    LacksRoom text source source' ⊎ LacksMemoryForSheet text source source' ⊎ Opens IsSheet (λ start rest. AnswersAll Allows start Memory text rest source') source
+Replays IsSheet Allows TooLong text source source' = HasLongSheet text source source' ⊎ Opens IsSheet (λ start rest. StopsAtLimit Allows start text rest source') source
+
+-- With other words the usage line alone is printed.
+abbrev pub Declines : Status → List ℕ → Option (List ℕ) → Option (List ℕ) → Type 0
+Declines Usage text source source' = TellsUsage text source source'
+Declines WriteFault text source source' = TellsUsage text source source'
+Declines status text source source' = ⊥
+
+-- all of the text was written, but where a write failed a front of it
+abbrev pub IsWritten : Status → Option (List ℕ) → Option (List ℕ) → List ℕ → Type 0
+IsWritten WriteFault sink sink' text = AppendsFront sink sink' text
+IsWritten status sink sink' text = Appends sink sink' text
+
+-- what was to be printed with the word `replay`, and how much of it was
+pub record Replayed {S : Type 0} (IsSheet : List ℕ → S → Type 0) (Allows : S → List ℕ → Answer → S → Type 0) (status : Status) (source source' sink sink' : Option (List ℕ)) : Type 0 where
+  pub text : List ℕ
+  pub course : Replays IsSheet Allows status text source source'
+  pub written : IsWritten status sink sink' text
+
+-- what was to be printed with these words, and how much of it was
+pub record Runs {S : Type 0} (IsSheet : List ℕ → S → Type 0) (Allows : S → List ℕ → Answer → S → Type 0) (words : List (String Global)) (status : Status) (source source' sink sink' : Option (List ℕ)) : Type 0 where
+  pub text : List ℕ
+  pub course : (AreReplay words × Replays IsSheet Allows status text source source') ⊎ ((¬ AreReplay words) × Declines status text source source')
+  pub written : IsWritten status sink sink' text
+
+-- how the command lines were answered at this status, and the text that was to be printed
+abbrev pub AnswersBy : {S : Type 0} → (S → List ℕ → Answer → S → Type 0) → S → Status → List ℕ → Option (List ℕ) → Option (List ℕ) → Type 0
+AnswersBy Allows start Done text source source' = AnswersAll Allows start Done text source source'
+AnswersBy Allows start SomeRefused text source source' = AnswersAll Allows start SomeRefused text source source'
+AnswersBy Allows start Memory text source source' = AnswersAll Allows start Memory text source source'
+AnswersBy Allows start ReadFault text source source' = AnswersTaken Allows start text source source'
+AnswersBy Allows start TooLong text source source' = StopsAtLimit Allows start text source source'
+AnswersBy Allows start WriteFault text source source' = StopsAtLimit Allows start text source source' ⊎ AnswersSome Allows start text source source'
+AnswersBy Allows start status text source source' = ⊥
+
+-- what was to be printed for the command lines, and how much of it was
+pub record Answers {S : Type 0} (Allows : S → List ℕ → Answer → S → Type 0) (start : S) (status : Status) (source source' sink sink' : Option (List ℕ)) : Type 0 where
+  pub text : List ℕ
+  pub course : AnswersBy Allows start status text source source'
+  pub written : IsWritten status sink sink' text
+
+-- the text was written and this is the status, or a front of it was and a write failed
+abbrev pub Tells : Status → List ℕ → Status → Option (List ℕ) → Option (List ℕ) → Type 0
+Tells status text result sink sink' = ((result ≡ status) × Appends sink sink' text) ⊎ ((result ≡ WriteFault) × AppendsFront sink sink' text)
+
+-- the number that a process ends with
+abbrev pub number_of : Status → ℕ
+number_of Done = 0
+number_of SomeRefused = 1
+number_of Usage = 2
+number_of SheetRefused = 3
+number_of ReadFault = 4
+number_of WriteFault = 5
+number_of Memory = 6
+number_of TooLong = 7

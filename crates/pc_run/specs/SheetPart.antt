@@ -1,0 +1,115 @@
+-- The part of the input that is the sheet: the lines up to and with the first that is `begin`, or all of it.
+use Rattle.std.specs.Prelude.{◌≡◌, ℕ, ◌<◌, ◌≤◌, ◌⊎◌, List, ◌++◌, length, codes, All, Vec, Result, Ok, Err}
+use Rattle.std.specs.declared.alloc.Global.{Global}
+use Rattle.std.specs.declared.option.Option.{Option}
+use Rattle.std.specs.List.{flat_map}
+use Rattle.std.specs.Str.{IsUtf8}
+use Rattle.std.specs.Io.KnownBytes.{Consumes, IsAtEnd}
+use Rattle.pc_lines.specs.Lines.{HasNoEnd, IsWholeLine, text_of}
+use Rattle.pc_token.specs.Line.{IsOneName}
+use Rattle.pc_run.specs.declared.TheConstants.{SHEET_LIMIT}
+use Rattle.pc_run.specs.declared.sheet.Step.{Step}
+use Rattle.pc_run.specs.declared.sheet.Step.TheVariants.{More, Complete}
+use Rattle.pc_run.specs.declared.sheet.SheetStop.{SheetStop}
+use Rattle.pc_run.specs.declared.sheet.SheetStop.TheVariants.{Failed, TooLong, Memory}
+
+-- the line's one token is `begin`
+pub record IsBegin (line : List ℕ) : Type 0 where
+  pub utf8 : IsUtf8 (text_of line)
+  pub name : IsOneName (text_of line) (codes "begin")
+
+-- a complete line that isn't `begin`
+pub record IsEarlier (line : List ℕ) : Type 0 where
+  pub whole : IsWholeLine SHEET_LIMIT line
+  pub other : ¬ IsBegin line
+
+-- the lines one behind another
+abbrev pub joined : List (List ℕ) → List ℕ
+joined lines = flat_map (λ line. line) lines
+
+-- the last line is `begin`, or the input ends behind it, and then it may be empty
+abbrev pub EndsSheet : List ℕ → Option (List ℕ) → Type 0
+EndsSheet last rest = (IsWholeLine SHEET_LIMIT last × IsBegin last) ⊎ (HasNoEnd last × IsAtEnd rest)
+
+-- the text is a sheet's part of an input, of which this is the rest
+pub record IsSheetPart (text : List ℕ) (rest : Option (List ℕ)) : Type 0 where
+  pub earlier : List (List ℕ)
+  pub last : List ℕ
+  pub is : text ≡ joined earlier ++ last
+  pub others : All IsEarlier earlier
+  pub ends : EndsSheet last rest
+
+-- the sheet's part was taken, and it is within the limit
+pub record TakesSheet (text : List ℕ) (source rest : Option (List ℕ)) : Type 0 where
+  pub taken : Consumes source rest text
+  pub part : IsSheetPart text rest
+  pub small : length text ≤ SHEET_LIMIT
+
+-- what was taken is complete lines of the sheet and the start of another
+pub record StopsInSheet (source source' : Option (List ℕ)) : Type 0 where
+  pub earlier : List (List ℕ)
+  pub others : All IsEarlier earlier
+  pub begun : List ℕ
+  pub no_end : HasNoEnd begun
+  pub taken : Consumes source source' (joined earlier ++ begun)
+
+-- the sheet's part is longer than it may be. So much of what follows was read too.
+pub record PassesSheetLimit (source source' : Option (List ℕ)) : Type 0 where
+  pub earlier : List (List ℕ)
+  pub others : All IsEarlier earlier
+  pub begun : List ℕ
+  pub one_line : HasNoEnd begun ⊎ IsWholeLine SHEET_LIMIT begun
+  pub long : SHEET_LIMIT < length (joined earlier ++ begun)
+  pub held : List ℕ
+  pub taken : Consumes source source' ((joined earlier ++ begun) ++ held)
+
+-- a line of the sheet was taken and stands behind the text, within the limit
+pub record TakesLine (old new : List ℕ) (source rest : Option (List ℕ)) (P : List ℕ → Type 0) : Type 0 where
+  pub line : List ℕ
+  pub is : P line
+  pub text : new ≡ old ++ line
+  pub taken : Consumes source rest line
+  pub small : length new ≤ SHEET_LIMIT
+
+-- with the start of a further line the text is longer than it may be. So much of what follows was read too.
+pub record HasLongLine (old : List ℕ) (source source' : Option (List ℕ)) : Type 0 where
+  pub begun : List ℕ
+  pub one_line : HasNoEnd begun ⊎ IsWholeLine SHEET_LIMIT begun
+  pub long : SHEET_LIMIT < length (old ++ begun)
+  pub held : List ℕ
+  pub taken : Consumes source source' (begun ++ held)
+
+-- the start of a further line was taken
+pub record HasOpenLine (source source' : Option (List ℕ)) : Type 0 where
+  pub begun : List ℕ
+  pub no_end : HasNoEnd begun
+  pub taken : Consumes source source' begun
+
+-- so much was taken
+pub record HasTaken (source source' : Option (List ℕ)) : Type 0 where
+  pub bytes : List ℕ
+  pub taken : Consumes source source' bytes
+
+-- what taking a further line of the sheet does to its text. Rest is still to come, and of that the source has left source'.
+abbrev pub StepGives : Result Step SheetStop → List ℕ → List ℕ → Option (List ℕ) → Option (List ℕ) → Option (List ℕ) → Type 0
+StepGives (Ok More) old new source rest source' = TakesLine old new source rest IsEarlier
+StepGives (Ok Complete) old new source rest source' = TakesLine old new source rest (λ line. EndsSheet line rest)
+StepGives (Err Failed) old new source rest source' = HasOpenLine source source'
+StepGives (Err TooLong) old new source rest source' = HasLongLine old source source'
+StepGives (Err Memory) old new source rest source' = HasTaken source source'
+
+-- what was taken where the sheet's part was not
+abbrev pub StopsSheet : SheetStop → Option (List ℕ) → Option (List ℕ) → Type 0
+StopsSheet Failed source source' = StopsInSheet source source'
+StopsSheet TooLong source source' = PassesSheetLimit source source'
+StopsSheet Memory source source' = HasTaken source source'
+
+abbrev pub SheetGives : Result (Vec ℕ Global) SheetStop → Option (List ℕ) → Option (List ℕ) → Option (List ℕ) → Type 0
+SheetGives (Ok text) source rest source' = TakesSheet text.items source rest
+SheetGives (Err stop) source rest source' = StopsSheet stop source source'
+
+-- why a line was not put behind the text: there was no room, or no memory
+abbrev pub IsNotAppended : SheetStop → List ℕ → List ℕ → Type 0
+IsNotAppended Failed old line = ⊥
+IsNotAppended TooLong old line = SHEET_LIMIT < length (old ++ line)
+IsNotAppended Memory old line = Unit {0}

@@ -1,0 +1,95 @@
+-- Lists of command lines with their answers.
+use Rattle.std.specs.Prelude.{◌≡◌, ℕ, Bool, ◌<◌, ◌≤◌, ◌⊎◌, if◌then◌else◌, List, [], ◌∷◌, ◌++◌, length, map, codes, All}
+use Rattle.std.specs.declared.option.Option.{Option}
+use Rattle.std.specs.List.{flat_map, list_any}
+use Rattle.std.specs.Io.KnownBytes.{Consumes, IsAtEnd}
+use Rattle.pc_lines.specs.Lines.{lines_of, HasNoEnd, IsWholeLine, IsOpenLine, IsLongStart}
+use Rattle.pc_lines.specs.Lines as a_line
+use Rattle.pc_run.specs.declared.TheConstants.{LINE_LIMIT, MAX_LINES}
+use Rattle.pc_run.specs.declared.status.Status.{Status}
+use Rattle.pc_run.specs.declared.status.Status.TheVariants.{Done, SomeRefused, Memory}
+use Rattle.pc_run.specs.Answer.{Answer, ended, text_of, is_refused, is_no_memory}
+
+-- command lines as they stand in the input, each with its end and with its answer
+abbrev pub Transcript : Type 0
+Transcript = List (List ℕ × Answer)
+
+-- each line is answered by its text, in the state that the lines before it leave
+abbrev pub Legal : {S : Type 0} → (S → List ℕ → Answer → S → Type 0) → S → Transcript → S → Type 0
+Legal Allows old [] new = new ≡ old
+Legal {S = S} Allows old (pair ∷ more) new = (mid : S) × Allows old (a_line.text_of pair.0) pair.1 mid × Legal Allows mid more new
+
+abbrev pub lines : Transcript → List (List ℕ)
+lines transcript = map (λ pair. pair.0) transcript
+
+abbrev pub input_of : Transcript → List ℕ
+input_of transcript = flat_map (λ pair. pair.0) transcript
+
+-- the text of a transcript
+abbrev pub output_of : Transcript → List ℕ
+output_of transcript = flat_map (λ pair. text_of pair.1) transcript
+
+-- want of memory tells more than a refusal
+abbrev pub worse_of : Bool → Bool → Status
+worse_of no_memory refused = if no_memory then Memory else if refused then SomeRefused else Done
+
+abbrev pub status_of : Transcript → Status
+status_of transcript = worse_of (list_any (λ pair. is_no_memory pair.1) transcript) (list_any (λ pair. is_refused pair.1) transcript)
+
+abbrev pub too_long_text : List ℕ
+too_long_text = ended (codes "refused 19 too-long")
+
+-- a command line within the limit, the last of the input perhaps without its line feed
+abbrev pub IsLine : List ℕ → Type 0
+IsLine line = IsWholeLine LINE_LIMIT line ⊎ IsOpenLine LINE_LIMIT line
+
+-- Each line up to the end of the input was answered, and this was to be printed.
+pub record AnswersAll {S : Type 0} (Allows : S → List ℕ → Answer → S → Type 0) (start : S) (status : Status) (text : List ℕ) (source source' : Option (List ℕ)) : Type 0 where
+  pub transcript : Transcript
+  pub state : S
+  pub legal : Legal Allows start transcript state
+  pub commands : List ℕ
+  pub taken : Consumes source source' commands
+  pub end : IsAtEnd source'
+  pub all : lines transcript ≡ lines_of commands
+  pub each : All IsLine (lines transcript)
+  pub count : length transcript ≤ MAX_LINES
+  pub text_is : text ≡ output_of transcript
+  pub status_is : status ≡ status_of transcript
+
+-- The complete lines that were taken were answered, and the start of another was read.
+pub record AnswersTaken {S : Type 0} (Allows : S → List ℕ → Answer → S → Type 0) (start : S) (text : List ℕ) (source source' : Option (List ℕ)) : Type 0 where
+  pub transcript : Transcript
+  pub state : S
+  pub legal : Legal Allows start transcript state
+  pub whole : All (IsWholeLine LINE_LIMIT) (lines transcript)
+  pub begun : List ℕ
+  pub no_end : HasNoEnd begun
+  pub taken : Consumes source source' (input_of transcript ++ begun)
+  pub text_is : text ≡ output_of transcript
+
+-- the next line is longer than a line may be, or is one line more than there may be
+abbrev pub PassesLimit : ℕ → List ℕ → Type 0
+PassesLimit count begun = IsLongStart LINE_LIMIT begun ⊎ ((count ≡ MAX_LINES) × (0 < length begun))
+
+-- The lines before one that passes a limit were answered, and then that it does. So much of what follows was read too.
+pub record StopsAtLimit {S : Type 0} (Allows : S → List ℕ → Answer → S → Type 0) (start : S) (text : List ℕ) (source source' : Option (List ℕ)) : Type 0 where
+  pub transcript : Transcript
+  pub state : S
+  pub legal : Legal Allows start transcript state
+  pub whole : All (IsWholeLine LINE_LIMIT) (lines transcript)
+  pub begun : List ℕ
+  pub passes : PassesLimit (length transcript) begun
+  pub held : List ℕ
+  pub taken : Consumes source source' ((input_of transcript ++ begun) ++ held)
+  pub text_is : text ≡ output_of transcript ++ too_long_text
+
+-- The complete lines that were taken were to be answered. So much of what follows was read too.
+pub record AnswersSome {S : Type 0} (Allows : S → List ℕ → Answer → S → Type 0) (start : S) (text : List ℕ) (source source' : Option (List ℕ)) : Type 0 where
+  pub transcript : Transcript
+  pub state : S
+  pub legal : Legal Allows start transcript state
+  pub each : All IsLine (lines transcript)
+  pub held : List ℕ
+  pub taken : Consumes source source' (input_of transcript ++ held)
+  pub text_is : text ≡ output_of transcript

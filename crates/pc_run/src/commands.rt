@@ -1,0 +1,66 @@
+// The command lines of a run, each answered before the source is read again.
+ghost use Rattle.std.specs.Prelude.{◌≡◌, ◌≢◌, ◌≤◌};
+ghost use Rattle.pc_port.specs.Port.{Rose};
+ghost use Rattle.pc_lines.specs.Reader.{coming};
+ghost use Rattle.pc_run.specs.Run.{Answers, Tells};
+
+use crate::machine::Machine;
+use crate::serve::{Marks, serve};
+use crate::{LINE_LIMIT, MAX_LINES, Status};
+use pc_lines::{LineReader, Taken};
+use pc_port::{Failed, Sink, Source};
+use std::alloc::Global;
+
+/// What is printed where a limit is passed.
+pub(crate) const TOO_LONG: &[u8] = b"refused 19 too-long\n";
+
+// Ends a run by a line.
+pub(crate) fn end_with<O: Sink>(status: Status, line: &[u8], out: &mut O) -> Status
+    requires { status ≢ Status.WriteFault }
+    ensures told { Tells status line.now result (O.given out.old) (O.given out.new) }
+    ensures fault { result ≡ Status.WriteFault → Rose (O.faults out.old) (O.faults out.new) }
+{
+    match out.write(line) {
+        Ok(()) => status,
+        Err(Failed) => Status::WriteFault,
+    }
+}
+
+// Answers each command line that is still to come.
+pub(crate) fn answer_all<M: Machine, I: Source, O: Sink>(
+    alloc: Global,
+    reader: &mut LineReader,
+    machine: &mut M,
+    input: &mut I,
+    out: &mut O,
+) -> Status
+    requires { LINE_LIMIT ≤ reader.old.longest }
+    ensures answers { Answers M.Allows machine.old result (coming reader.old (I.left input.old)) (I.left input.new) (O.given out.old) (O.given out.new) }
+    ensures read_fault { result ≡ Status.ReadFault → Rose (I.faults input.old) (I.faults input.new) }
+    ensures write_fault { result ≡ Status.WriteFault → Rose (O.faults out.old) (O.faults out.new) }
+{
+    let mut marks = Marks::new();
+    for _ in 0..MAX_LINES {
+        match reader.next(input, LINE_LIMIT) {
+            Err(Failed) => return Status::ReadFault,
+            Ok(Taken::End) => return marks.status(),
+            Ok(Taken::TooLong) => return end_with(Status::TooLong, TOO_LONG, out),
+            Ok(Taken::Line) => match serve(machine, &mut marks, alloc, reader.text(), out) {
+                Ok(()) => {}
+                Err(Failed) => return Status::WriteFault,
+            },
+            Ok(Taken::Last) => match serve(machine, &mut marks, alloc, reader.text(), out) {
+                Ok(()) => return marks.status(),
+                Err(Failed) => return Status::WriteFault,
+            },
+        }
+    }
+    match reader.next(input, LINE_LIMIT) {
+        Err(Failed) => Status::ReadFault,
+        Ok(Taken::End) => marks.status(),
+        Ok(Taken::TooLong) => end_with(Status::TooLong, TOO_LONG, out),
+        // A line more than there may be.
+        Ok(Taken::Line) => end_with(Status::TooLong, TOO_LONG, out),
+        Ok(Taken::Last) => end_with(Status::TooLong, TOO_LONG, out),
+    }
+}

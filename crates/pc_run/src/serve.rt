@@ -1,0 +1,91 @@
+// The answer to one line.
+ghost use Rattle.std.specs.Prelude.{◌≡◌, ◌≤◌, length, false, OnOk, OnErr};
+ghost use Rattle.pc_port.specs.Port.{HasCause, WriteGives};
+ghost use Rattle.pc_run.specs.Answer.{Answer, IsAnswer, IsMarked, Serves, ServesInPart, text_of};
+ghost use Rattle.pc_run.specs.Transcript.{worse_of};
+
+use crate::machine::{Machine, Refusal, Reply};
+use crate::{LINE_LIMIT, Status};
+use pc_port::{Failed, Sink};
+use std::alloc::Global;
+
+/// What was told so far.
+#[derive(Clone, Copy)]
+pub(crate) struct Marks {
+    pub refused: bool,
+    pub no_memory: bool,
+}
+
+impl Marks {
+    pub(crate) fn new() -> Self
+        ensures refused { result.refused ≡ false }
+        ensures no_memory { result.no_memory ≡ false }
+    {
+        Marks {
+            refused: false,
+            no_memory: false,
+        }
+    }
+
+    // The status where the input ends here.
+    pub(crate) fn status(self) -> Status
+        ensures { result ≡ worse_of self.no_memory self.refused }
+    {
+        if self.no_memory {
+            Status::Memory
+        } else if self.refused {
+            Status::SomeRefused
+        } else {
+            Status::Done
+        }
+    }
+}
+
+// The marks after one reply more.
+fn marked<M: Machine>(machine: &M, marks: Marks, reply: Reply) -> Marks
+    ensures { (answer : Answer) → IsAnswer M.IsDisplay machine.now reply answer → IsMarked marks answer result }
+{
+    match reply {
+        Reply::Silent | Reply::Accepted | Reply::Shown => marks,
+        Reply::Refused(_) => Marks {
+            refused: true,
+            no_memory: marks.no_memory,
+        },
+        Reply::Memory => Marks {
+            refused: marks.refused,
+            no_memory: true,
+        },
+    }
+}
+
+// Writes what is to be told.
+fn print<M: Machine, O: Sink>(machine: &M, reply: Reply, out: &mut O) -> Result<(), Failed>
+    ensures bytes { (answer : Answer) × IsAnswer M.IsDisplay machine.now reply answer × WriteGives (O.given out.old) (O.given out.new) result (text_of answer) }
+    ensures cause { HasCause (O.faults out.old) (O.faults out.new) result }
+{
+    match reply {
+        Reply::Silent => Ok(()),
+        Reply::Accepted => out.write(b"ok\n"),
+        Reply::Shown => machine.show(out),
+        Reply::Refused(Refusal::NotYet) => out.write(b"refused 20 not-yet\n"),
+        Reply::Memory => out.write(b"refused 15 memory\n"),
+    }
+}
+
+// Answers a line's text. At a fault a front of the answer was written.
+pub(crate) fn serve<M: Machine, O: Sink>(
+    machine: &mut M,
+    marks: &mut Marks,
+    alloc: Global,
+    line: &[u8],
+    out: &mut O,
+) -> Result<(), Failed>
+    requires { length line.now ≤ LINE_LIMIT }
+    ensures ok { OnOk result (Serves M.Allows machine.old machine.new line.now marks.old marks.new (O.given out.old) (O.given out.new)) }
+    ensures err { OnErr result (ServesInPart M.Allows machine.old machine.new line.now (O.given out.old) (O.given out.new)) }
+    ensures cause { HasCause (O.faults out.old) (O.faults out.new) result }
+{
+    let reply = machine.decide(alloc, line);
+    *marks = marked(machine, *marks, reply);
+    print(machine, reply, out)
+}

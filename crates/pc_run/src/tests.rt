@@ -1,0 +1,233 @@
+// What no clause says: that runs end well with ample memory, what is printed, and that each line is answered before the
+// source is read again. The machine of these tests counts.
+ghost use Rattle.std.specs.Prelude.{◌<◌, length, None};
+
+use crate::{LINE_LIMIT, LoadFault, Machine, Refusal, Reply, SHEET_LIMIT, Status, run};
+use pc_port::{Failed, MemorySink, MemorySource, Sink, Source};
+use std::alloc::{AllocError, Global};
+use std::cell::Cell;
+use std::test::Fail;
+
+// Any text but the empty one is a sheet. The lines are `count`, `show` and blank ones.
+#[derive(Drop)]
+struct Counter {
+    count: u8,
+}
+
+impl Machine for Counter {
+    ghost IsSheet = { λ text _. 0 < length text };
+
+    ghost Allows = { λ _ _ _ _. Unit {0} };
+
+    ghost IsDisplay = { λ _ _. Unit {0} };
+
+    fn load(_: Global, text: &[u8]) -> Result<Self, LoadFault> {
+        if text.is_empty() {
+            return Err(LoadFault::NotYet);
+        }
+        Ok(Counter { count: 0 })
+    }
+
+    fn decide(&mut self, _: Global, line: &[u8]) -> Reply {
+        match line {
+            b"" => Reply::Silent,
+            b"count" => {
+                self.count = self.count.saturating_add(1);
+                Reply::Accepted
+            }
+            b"show" => Reply::Shown,
+            _ => Reply::Refused(Refusal::NotYet),
+        }
+    }
+
+    fn show<O: Sink>(&self, out: &mut O) -> Result<(), Failed> {
+        out.write(if self.count == 0 {
+            b"none\n"
+        } else {
+            b"some\n"
+        })
+    }
+}
+
+// The words, parted by spaces.
+fn words(alloc: Global, text: &str) -> Result<Vec<String>, AllocError> {
+    let mut all = Vec::new(alloc);
+    for word in text.split_ascii_whitespace() {
+        all.push(word.to_string(alloc)?)?;
+    }
+    Ok(all)
+}
+
+#[test]
+fn each_status(rt: HostRuntime) -> Result<(), Fail> {
+    let alloc = rt.alloc();
+    let usage = "usage: predicalc replay / edit FILE / check FILE / demo N [--budget K]\n";
+    for (text, input, want, status) in [
+        (
+            "replay",
+            "begin\nshow\r\ncount\n\nshow",
+            "none\nok\nsome\n",
+            Status::Done,
+        ),
+        ("replay", " begin\t\r\n", "", Status::Done),
+        ("replay", "a begin\n;begin\nshow\n", "", Status::Done),
+        (
+            "replay",
+            "begin\nfoo\nshow\n",
+            "refused 20 not-yet\nnone\n",
+            Status::SomeRefused,
+        ),
+        (
+            "replay",
+            "",
+            "sheet refused 20 not-yet\n",
+            Status::SheetRefused,
+        ),
+        ("", "begin\nshow\n", usage, Status::Usage),
+        ("replay x", "begin\nshow\n", usage, Status::Usage),
+        ("relay", "begin\nshow\n", usage, Status::Usage),
+    ] {
+        for most in [1, 7, 4096] {
+            let words = words(alloc, text)?;
+            let mut input = MemorySource::new(
+                input.as_bytes().to_vec(alloc)?,
+                most,
+                Vec::new(alloc),
+            );
+            let mut out = MemorySink::new(alloc, 4096, Vec::new(alloc))?;
+            let ended = run::<Counter, _, _>(alloc, &words, &mut input, &mut out);
+            assert_eq!(rt; ended, status, "{text} by {most}");
+            assert_eq!(rt; out.bytes(), want.as_bytes(), "{text} by {most}");
+        }
+    }
+    Ok(())
+}
+
+#[test]
+fn faults_stop_it(rt: HostRuntime) -> Result<(), Fail> {
+    let alloc = rt.alloc();
+    let words = words(alloc, "replay")?;
+    for (read, write, want, status) in [
+        (1, 9, "", Status::ReadFault),
+        (2, 9, "", Status::ReadFault),
+        (3, 9, "", Status::ReadFault),
+        (4, 9, "none\n", Status::ReadFault),
+        (9, 1, "", Status::WriteFault),
+        (9, 2, "none\n", Status::WriteFault),
+        (9, 9, "none\nok\n", Status::Done),
+    ] {
+        let bytes = b"begin\nshow\ncount".to_vec(alloc)?;
+        let mut input = MemorySource::new(bytes, 5, vec![in alloc; read]?);
+        let mut out = MemorySink::new(alloc, 4096, vec![in alloc; write]?)?;
+        let ended = run::<Counter, _, _>(alloc, &words, &mut input, &mut out);
+        assert_eq!(rt; ended, status, "{read} {write}");
+        assert_eq!(rt; out.bytes(), want.as_bytes(), "{read} {write}");
+    }
+    Ok(())
+}
+
+#[test]
+fn limits(rt: HostRuntime) -> Result<(), Fail> {
+    let alloc = rt.alloc();
+    let words = words(alloc, "replay")?;
+    for (sheet, line, want, status) in [
+        (10, LINE_LIMIT, "refused 20 not-yet\n", Status::SomeRefused),
+        (10, LINE_LIMIT + 1, "refused 19 too-long\n", Status::TooLong),
+        (
+            SHEET_LIMIT - 7,
+            1,
+            "refused 20 not-yet\n",
+            Status::SomeRefused,
+        ),
+        (SHEET_LIMIT - 6, 1, "refused 19 too-long\n", Status::TooLong),
+    ] {
+        let mut bytes = vec![in alloc; b'x'; sheet]?;
+        bytes.extend_from_slice(b"\nbegin\n")?;
+        bytes.extend_from_slice(&vec![in alloc; b'y'; line]?)?;
+        let mut input = MemorySource::new(bytes, 4096, Vec::new(alloc));
+        let mut out = MemorySink::new(alloc, 4096, Vec::new(alloc))?;
+        assert_eq!(rt;
+            run::<Counter, _, _>(alloc, &words, &mut input, &mut out),
+            status,
+            "{sheet} {line}"
+        );
+        assert_eq!(rt; out.bytes(), want.as_bytes(), "{sheet} {line}");
+    }
+    Ok(())
+}
+
+#[test]
+fn numbers(rt: HostRuntime) {
+    assert_eq!(rt; Status::Done.number(), 0);
+    assert_eq!(rt; Status::TooLong.number(), 7);
+}
+
+// Gives one line in each call, and notes a call that comes before the last line's answer.
+#[derive(Drop)]
+struct Asking<'a> {
+    lines: u64,
+    answers: &'a Cell<u64>,
+    early: &'a Cell<bool>,
+}
+
+impl Source for Asking<'_> {
+    ghost left = { λ _. None };
+
+    ghost faults = { λ _. 0 };
+
+    fn read(&mut self, into: &mut [u8]) -> Result<usize, Failed> {
+        if self.answers.get() != self.lines.saturating_sub(1) {
+            self.early.set(true);
+        }
+        if self.lines >= 9 || into.len() < 6 {
+            return Ok(0);
+        }
+        into[..6].copy_from_slice(if self.lines == 0 {
+            b"begin\n"
+        } else {
+            b"count\n"
+        });
+        self.lines += 1;
+        Ok(6)
+    }
+}
+
+// Counts the line feeds that are written.
+#[derive(Drop)]
+struct Counting<'a> {
+    answers: &'a Cell<u64>,
+}
+
+impl Sink for Counting<'_> {
+    ghost given = { λ _. None };
+
+    ghost faults = { λ _. 0 };
+
+    fn write(&mut self, piece: &[u8]) -> Result<(), Failed> {
+        if piece.ends_with(b"\n") {
+            self.answers.set(self.answers.get().saturating_add(1));
+        }
+        Ok(())
+    }
+}
+
+#[test]
+fn each_line_is_answered_before_the_next_read(rt: HostRuntime) -> Result<(), Fail> {
+    let alloc = rt.alloc();
+    let answers = Cell::new(0);
+    let early = Cell::new(false);
+    let mut input = Asking {
+        lines: 0,
+        answers: &answers,
+        early: &early,
+    };
+    let mut out = Counting { answers: &answers };
+    let words = words(alloc, "replay")?;
+    assert_eq!(rt;
+        run::<Counter, _, _>(alloc, &words, &mut input, &mut out),
+        Status::Done
+    );
+    assert_eq!(rt; answers.get(), 8);
+    assert!(rt; !early.get());
+    Ok(())
+}
