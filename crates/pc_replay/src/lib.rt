@@ -1,0 +1,15 @@
+//! The run of the program: a sheet and its commands, from bytes to bytes.
+//!
+//! A [`Session`] is what answers the command lines: it tries every assignment and every sublist of the entries, so its
+//! sheets are small. How lines are taken and answers written is `pc_run`.
+#![tactic(auto)]
+
+mod load;
+mod replay;
+mod session;
+#[cfg(test)]
+mod tests;
+
+pub use pc_run::Status;
+pub use replay::run;
+pub use session::Session;

@@ -1,0 +1,131 @@
+// Worked sheets from their bytes to the printed text, with ample memory.
+use crate::{Status, run};
+use pc_port::{MemorySink, MemorySource};
+use std::alloc::{AllocError, Global};
+use std::test::Fail;
+
+// Three cells that have to be equal.
+const EQUAL: &str =
+    "sheet 1\nsort color = red green\ncell a : color\ncell b : color\ncell c : color\nrule ab : a = b\nrule bc : b = c\nbegin\n";
+
+// Two pairs of cells, each pair equal.
+const PAIRS: &str =
+    "sheet 1\nsort color = red green\ncell a : color\ncell b : color\ncell c : color\ncell d : color\nrule ab : a = b\nrule cd : c = d\nbegin\n";
+
+// Two cells that decide a third.
+const BOTH: &str =
+    "sheet 1\nsort color = red green\ncell a : color\ncell b : color\ncell c : color\nrule both : a = red & b = red -> c = red\nbegin\n";
+
+fn replay_word(alloc: Global) -> Result<Vec<String>, AllocError> {
+    let mut words = Vec::new(alloc);
+    words.push("replay".to_string(alloc)?)?;
+    Ok(words)
+}
+
+#[test]
+fn worked_sheets(rt: HostRuntime) -> Result<(), Fail> {
+    let alloc = rt.alloc();
+    let words = replay_word(alloc)?;
+    for (sheet, commands, want, status) in [
+        ("sheet 1\nbegin\n", "show\n", "", Status::Done),
+        (
+            "sheet 1\nsort one = v\ncell a : one\nbegin\n",
+            "show\n",
+            "a : -\n  = v always\n",
+            Status::Done,
+        ),
+        (EQUAL, "show\n", "a : -\nb : -\nc : -\n", Status::Done),
+        (
+            EQUAL,
+            "enter a = red\nenter c = green\nshow\n",
+            "ok\nok\na : red !\n  = red because a = red\n  = green because c = green\n  ! against c = green\nb : -\n  = red because a = red\n  = green because c = green\nc : green !\n  = red because a = red\n  = green because c = green\n  ! against a = red\n",
+            Status::Done,
+        ),
+        (
+            "sheet 1\nsort color = red green\ncell a : color\nrule na : a != red\nbegin\n",
+            "enter a = red\nshow\n",
+            "ok\na : red !\n  = green always\n  ! against the rules\n",
+            Status::Done,
+        ),
+        (
+            PAIRS,
+            "enter a = red\nenter b = green\nenter c = red\nenter d = green\nshow\n",
+            "ok\nok\nok\nok\na : red !\n  = red because a = red\n  = green because b = green\n  ! against b = green\nb : green !\n  = red because a = red\n  = green because b = green\n  ! against a = red\nc : red !\n  = red because c = red\n  = green because d = green\n  ! against d = green\nd : green !\n  = red because c = red\n  = green because d = green\n  ! against c = red\n",
+            Status::Done,
+        ),
+        (
+            BOTH,
+            "enter a = red\nenter b = red\nshow\nenter c = green\nshow\n",
+            "ok\nok\na : red\n  = red because a = red\nb : red\n  = red because b = red\nc : -\n  = red because a = red, b = red\nok\na : red !\n  = red because a = red\n  = green because b = red, c = green\n  ! against b = red, c = green\nb : red !\n  = red because b = red\n  = green because a = red, c = green\n  ! against a = red, c = green\nc : green !\n  = red because a = red, b = red\n  = green because c = green\n  ! against a = red, b = red\n",
+            Status::Done,
+        ),
+        (
+            EQUAL,
+            "enter a = red\nenter c = red\nenter a = red\nshow\n",
+            "ok\nok\nok\na : red\n  = red because a = red\nb : -\n  = red because a = red\nc : red\n  = red because a = red\n",
+            Status::Done,
+        ),
+        (
+            EQUAL,
+            "enter a = red\nenter c = red\nenter a = green\nshow\n",
+            "ok\nok\nok\na : green !\n  = red because c = red\n  = green because a = green\n  ! against c = red\nb : -\n  = red because c = red\n  = green because a = green\nc : red !\n  = red because c = red\n  = green because a = green\n  ! against a = green\n",
+            Status::Done,
+        ),
+        (
+            EQUAL,
+            "\n; a comment\nenter a = blue\n",
+            "refused 20 not-yet\n",
+            Status::SomeRefused,
+        ),
+        (
+            "sheet 1\nsort color = red\n",
+            "",
+            "sheet refused 20 not-yet\n",
+            Status::SheetRefused,
+        ),
+        (
+            "sheet 1\nsort color = red\ncell a : color\nrule no : a != red\nbegin\n",
+            "show\n",
+            "sheet refused 20 not-yet\n",
+            Status::SheetRefused,
+        ),
+    ] {
+        let mut bytes = sheet.as_bytes().to_vec(alloc)?;
+        bytes.extend_from_slice(commands.as_bytes())?;
+        let mut input = MemorySource::new(bytes, 100, Vec::new(alloc));
+        let mut out = MemorySink::new(alloc, 4096, Vec::new(alloc))?;
+        assert_eq!(rt;
+            run(alloc, &words, &mut input, &mut out),
+            status,
+            "{sheet}{commands}"
+        );
+        assert_eq!(rt; out.bytes(), want.as_bytes(), "{sheet}{commands}");
+    }
+    Ok(())
+}
+
+// Twelve cells of two values can be tried without entries, and no more.
+#[test]
+fn the_largest_sheet_to_try(rt: HostRuntime) -> Result<(), Fail> {
+    let alloc = rt.alloc();
+    let words = replay_word(alloc)?;
+    for (cells, status) in [(12, Status::SomeRefused), (13, Status::SheetRefused)] {
+        let mut bytes = b"sheet 1\nsort t = y n\n".to_vec(alloc)?;
+        let mut want = Vec::new(alloc);
+        for number in 1..=cells {
+            bytes.extend_from_slice(format!(in alloc; "cell c{number} : t\n")?.as_bytes())?;
+            want.extend_from_slice(format!(in alloc; "c{number} : -\n")?.as_bytes())?;
+        }
+        bytes.extend_from_slice(b"begin\nshow\nenter c1 = y\n")?;
+        if cells == 12 {
+            want.extend_from_slice(b"refused 20 not-yet\n")?;
+        } else {
+            want = b"sheet refused 20 not-yet\n".to_vec(alloc)?;
+        }
+        let mut input = MemorySource::new(bytes, 4096, Vec::new(alloc));
+        let mut out = MemorySink::new(alloc, 4096, Vec::new(alloc))?;
+        assert_eq!(rt; run(alloc, &words, &mut input, &mut out), status);
+        assert_eq!(rt; out.bytes(), want.as_slice());
+    }
+    Ok(())
+}
