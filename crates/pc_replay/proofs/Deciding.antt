@@ -2,8 +2,8 @@
 use Rattle.std.proofs.Common.{◌≡◌, ℕ, List, Bool, true, false, Option, Some, refl, sym, ap, subst, inl, ◌∙◌}
 use Rattle.pc_syntax.specs.declared.tree.Command.{Command}
 use Rattle.pc_syntax.specs.declared.tree.Command.TheVariants.{Enter, Clear, AddRule, DropRule, Budget, Show, Grid, Json, Why, Dump}
-use Rattle.pc_syntax.specs.declared.tree.CellTree.{CellTree}
-use Rattle.pc_syntax.specs.declared.tree.ValueTree.{ValueTree}
+use Rattle.pc_formula.specs.declared.tree.CellTree.{CellTree}
+use Rattle.pc_formula.specs.declared.tree.ValueTree.{ValueTree}
 use Rattle.pc_syntax.specs.Tree.{Cell, Value, Asked, asks_enter, asks_clear, asks_rule, asks_drop, asks_budget, asks_show, asks_grid, asks_json, asks_why, asks_dump, asked_of}
 use Rattle.pc_syntax.specs.Line.{CommandReading, no_command, asks, IsCommandReading, empty_command, spelled_command, TakesNoMemory}
 use Rattle.pc_sheet.specs.Sheet.{Sheet}

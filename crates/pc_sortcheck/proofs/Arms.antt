@@ -4,8 +4,8 @@ use Rattle.std.proofs.Math.ListN.{get_or-map}
 use Rattle.std.proofs.lemmas.List.{length-map, map-append, take_more, take_all}
 use Rattle.pc_syntax.specs.Tree as tree
 use Rattle.pc_syntax.specs.Tree.{iff, implies, or, and, not, no_part, parts_of, formula_of}
-use Rattle.pc_syntax.specs.declared.tree.FormulaTree.{FormulaTree, the_lemmas}
-use Rattle.pc_syntax.specs.declared.tree.FormulaTree.TheVariants as trees
+use Rattle.pc_formula.specs.declared.tree.FormulaTree.{FormulaTree, the_lemmas}
+use Rattle.pc_formula.specs.declared.tree.FormulaTree.TheVariants as trees
 use Rattle.pc_sheet.specs.Sheet as plain
 use Rattle.pc_sheet.specs.Sheet.{Universe}
 use Rattle.pc_sheet.specs.Views.{statement_of, statements_of, sum_of}

@@ -1,13 +1,7 @@
-pub mod Joining
 pub mod Lines
 pub mod OneLine
 pub mod OneSheet
 pub mod Parts
 pub mod ReadLine
-pub mod Readings
 pub mod Sizes
 pub mod Splitting
-pub mod TokenWords
-pub mod Unambiguous
-pub mod Unaries
-pub mod Views

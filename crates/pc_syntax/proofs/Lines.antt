@@ -1,6 +1,6 @@
 -- The forms of a line.
 use Rattle.std.proofs.Common.{◌≡◌, ℕ, List, [], ◌∷◌, ◌++◌, map, refl, sym}
-use Rattle.pc_syntax.specs.Word.{Word, name}
+use Rattle.pc_formula.specs.Word.{Word, name}
 
 -- where no name is left, the names that were read are all
 pub names_end : (values found : List (List ℕ)) (rest : List Word) → map name values ≡ map name found ++ rest → ((text : List ℕ) (more : List Word) → rest ≡ name text ∷ more → ⊥) → (values ≡ found) × (rest ≡ [])

@@ -2,11 +2,11 @@
 use Rattle.std.proofs.Common.{◌≡◌, ℕ, List, [], ◌∷◌, map, refl, sym, ◌∙◌, ap, subst, arith}
 use Rattle.pc_token.specs.Token.{split}
 use Rattle.pc_token.proofs.Once.{one_reading}
-use Rattle.pc_syntax.specs.Word.{Word, name, words_of, HasWords}
+use Rattle.pc_formula.specs.Word.{Word, name, words_of, HasWords}
 use Rattle.pc_syntax.specs.Tree.{Formula, Cell, Value, list_sort, cell, rule, enter, Asked, asks_enter, asks_show}
-use Rattle.pc_syntax.specs.Grammar.{IsFormula}
+use Rattle.pc_formula.specs.Grammar.{IsFormula}
 use Rattle.pc_syntax.specs.Line.{LineForm, heading, declares, begins, keyword, command_keyword, Follows, FollowsCommand, IsEntry, IsList, IsRule, IsCell, IsForm, IsCommand, IsLine, empty_line, spelled_line, CommandReading, asks, IsCommandReading, empty_command, spelled_command}
-use Rattle.pc_syntax.proofs.Unambiguous as unambiguous
+use Rattle.pc_formula.proofs.Unambiguous as unambiguous
 
 -- a line splits into one list of words
 pub one_words : (line : List ℕ) (ws vs : List Word) → HasWords line ws → HasWords line vs → ws ≡ vs

@@ -7,8 +7,8 @@ use Rattle.pc_token.specs.declared.token.Kind.TheVariants.{Name}
 use Rattle.pc_token.specs.declared.token.Token.{Token}
 use Rattle.pc_token.specs.Token.{Splits}
 use Rattle.pc_token.specs.Line.{IsBlankLine, IsComment, IsOneName}
-use Rattle.pc_syntax.specs.Word.{Word, name, word, word_of, words_of, nests, HasWords}
-use Rattle.pc_syntax.proofs.TokenWords.{name_token}
+use Rattle.pc_formula.specs.Word.{Word, name, word, word_of, words_of, nests, HasWords}
+use Rattle.pc_formula.proofs.TokenWords.{name_token}
 use Rattle.pc_syntax.specs.Tree.{Asked, asks_show}
 use Rattle.pc_syntax.specs.Line.{LineForm, begins, IsForm, Spells, IsNothing, IsSpelled, IsLine, empty_line, spelled_line, CommandReading, asks, IsCommandReading, empty_command, spelled_command}
 

@@ -4,9 +4,9 @@ use Rattle.std.specs.Str.{IsUtf8}
 use Rattle.std.specs.Str.Parse.{digits_value}
 use Rattle.pc_token.specs.declared.token.Kind.TheVariants.{Equal, Colon}
 use Rattle.pc_token.specs.Line.{IsBlankLine, IsComment, IsOneName}
-use Rattle.pc_syntax.specs.Word.{Word, name, number, sign, HasWords}
+use Rattle.pc_formula.specs.Word.{Word, name, number, sign, HasWords}
 use Rattle.pc_syntax.specs.Tree.{Formula, Cell, Value, name_value, Declared, list_sort, range_sort, table, row, cell, rule, enter, Asked, asks_enter, asks_clear, asks_rule, asks_drop, asks_budget, asks_show, asks_grid, asks_json, asks_why, asks_dump}
-use Rattle.pc_syntax.specs.Grammar.{IsFormula}
+use Rattle.pc_formula.specs.Grammar.{IsFormula}
 
 -- what a line of a sheet is
 pub data LineForm : Type 0 where

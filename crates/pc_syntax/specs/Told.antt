@@ -1,7 +1,7 @@
 -- What the readers tell.
 use Rattle.std.specs.Prelude.{◌≡◌, ℕ, List, Result, Ok, Err, Option, Some, None}
-use Rattle.pc_syntax.specs.declared.formula.Refusal.{Refusal}
-use Rattle.pc_syntax.specs.declared.formula.Refusal.TheVariants as refusal
+use Rattle.pc_formula.specs.declared.formula.Refusal.{Refusal}
+use Rattle.pc_formula.specs.declared.formula.Refusal.TheVariants as refusal
 use Rattle.pc_syntax.specs.declared.line.LineTree.{LineTree}
 use Rattle.pc_syntax.specs.declared.line.LineTree.TheVariants as tree
 use Rattle.pc_syntax.specs.declared.tree.Command.{Command}

@@ -5,11 +5,10 @@ ghost use Rattle.pc_syntax.specs.Tree.{Asked, asked_of};
 ghost use Rattle.pc_syntax.specs.Line.{IsCommand, Spells, CommandReading, IsCommandReading, TakesNoMemory};
 ghost use Rattle.pc_syntax.specs.Told.{reading_of, TellsCommand};
 
-use crate::formula::Refusal;
 use crate::line::{end, entry, is_word};
 use crate::read::{is_nothing, tokens_within};
 use crate::tree::{Command, CommandFault};
-use crate::words::Words;
+use pc_formula::{Refusal, Words};
 use pc_token::is_one_name;
 use std::alloc::Global;
 use std::str;

@@ -1,8 +1,8 @@
 // Laws of the grammar.
 ghost use Rattle.std.specs.Prelude.{◌≡◌, ℕ, List};
-ghost use Rattle.pc_syntax.specs.Word.{Word};
+ghost use Rattle.pc_formula.specs.Word.{Word};
 ghost use Rattle.pc_syntax.specs.Tree.{Formula, Declared};
-ghost use Rattle.pc_syntax.specs.Grammar.{IsFormula};
+ghost use Rattle.pc_formula.specs.Grammar.{IsFormula};
 ghost use Rattle.pc_syntax.specs.Line.{LineForm, IsLine, CommandReading, IsCommandReading};
 ghost use Rattle.pc_syntax.specs.Sheet.{IsSheet};
 

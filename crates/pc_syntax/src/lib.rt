@@ -2,23 +2,18 @@
 #![tactic(auto)]
 
 mod command;
-mod formula;
 mod law;
 mod line;
 mod read;
 mod sheet;
 mod tree;
-mod words;
 
 pub use command::parse_command;
 pub use law::one_tree;
-pub use pc_name::{Name, Op, Sign};
+pub use pc_formula::{CellTree, FormulaTree, ItemTree, Name, Op, SideTree, Sign, ValueTree};
 pub use read::is_begin;
 pub use sheet::parse_sheet;
-pub use tree::{
-    CellTree, Command, CommandFault, Declaration, FormulaTree, ItemTree, RuleTree, SheetFault,
-    SheetTree, SideTree, ValueTree,
-};
+pub use tree::{Command, CommandFault, Declaration, RuleTree, SheetFault, SheetTree};
 
 #[cfg(test)]
 mod tests;

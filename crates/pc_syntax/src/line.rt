@@ -1,14 +1,13 @@
 // The readers of a line's forms, each behind the word that starts the line.
 ghost use Rattle.std.specs.Prelude.{◌≡◌, ◌↔◌, ◌<◌, ℕ, List, [], map, length, codes, IfOk, OnOk, IsTrue};
 ghost use Rattle.std.specs.Str.Parse.{IsNumeral, digits_value};
-ghost use Rattle.pc_syntax.specs.Word.{name};
+ghost use Rattle.pc_formula.specs.Word.{name};
 ghost use Rattle.pc_syntax.specs.Tree.{Formula, Cell, Value, Declared, formula_of, cell_of, value_of, declared_of};
 ghost use Rattle.pc_syntax.specs.Line.{LineForm, declares, keyword, Follows, IsVersion, IsEntry, IsList, IsRule, IsCell, IsForm};
 ghost use Rattle.pc_syntax.specs.Told.{form_of};
 
-use crate::formula::{Refusal, iff};
-use crate::tree::{CellTree, Declaration, RuleTree, ValueTree};
-use crate::words::Words;
+use crate::tree::{Declaration, RuleTree};
+use pc_formula::{CellTree, Refusal, ValueTree, Words, iff};
 use pc_name::Name;
 use pc_token::Kind;
 use std::alloc::Global;

@@ -4,13 +4,12 @@ ghost use Rattle.std.specs.List.{AllByRecursion};
 ghost use Rattle.pc_name.specs.Names.{most_name_bytes};
 ghost use Rattle.pc_token.specs.Token.{IsTokenOf};
 ghost use Rattle.pc_token.specs.Line.{IsBlankLine, IsComment};
-ghost use Rattle.pc_syntax.specs.Word.{Word, HasWords, nests, words_of};
+ghost use Rattle.pc_formula.specs.Word.{Word, HasWords, nests, words_of};
 ghost use Rattle.pc_syntax.specs.Line.{LineForm, begins, IsLine};
 ghost use Rattle.pc_syntax.specs.Told.{form_of};
 
-use crate::formula::Refusal;
 use crate::line::{LineTree, form};
-use crate::words::Words;
+use pc_formula::{Refusal, Words};
 use pc_token::{Kind, Token, TokenFault, is_blank_line, is_comment, is_one_name, tokens};
 use std::alloc::Global;
 use std::str;

@@ -1,7 +1,8 @@
 // What the lines of a sheet and the commands say, as trees.
 ghost use Rattle.std.specs.Prelude.{◌≡◌};
 
-use pc_name::{Name, Op, Sign};
+use pc_formula::{CellTree, FormulaTree, Refusal, ValueTree};
+use pc_name::Name;
 use std::alloc::AllocError;
 use thiserror::Error;
 
@@ -61,68 +62,11 @@ pub enum Command {
     Dump,
 }
 
-/// A cell as it is written: a family and its arguments.
-#[derive(Debug, Drop)]
-pub struct CellTree {
-    pub name: Name,
-    pub args: Vec<ValueTree>,
-}
-
-/// A value as it is written.
-#[derive(Debug, Drop)]
-pub enum ValueTree {
-    Name(Name),
-    Number(i64),
-}
-
 /// A rule as it is written.
 #[derive(Debug, Drop)]
 pub struct RuleTree {
     pub name: Name,
     pub formula: FormulaTree,
-}
-
-/// A formula as it is written. An `And` or `Or` has two or more parts, and parentheses leave no node.
-#[derive(Debug, Drop)]
-pub enum FormulaTree {
-    ForAll {
-        name: Name,
-        sort: Name,
-        body: Box<FormulaTree>,
-    },
-    Exists {
-        name: Name,
-        sort: Name,
-        body: Box<FormulaTree>,
-    },
-    Iff(Box<FormulaTree>, Box<FormulaTree>),
-    Implies(Box<FormulaTree>, Box<FormulaTree>),
-    Or(Vec<FormulaTree>),
-    And(Vec<FormulaTree>),
-    Not(Box<FormulaTree>),
-    Compare {
-        left: SideTree,
-        op: Op,
-        right: SideTree,
-    },
-    InTable {
-        table: Name,
-        args: Vec<ItemTree>,
-    },
-}
-
-/// A side of a comparison: its first item, and each further one with the sign before it.
-#[derive(Debug, Drop)]
-pub struct SideTree {
-    pub first: ItemTree,
-    pub rest: Vec<(Sign, ItemTree)>,
-}
-
-/// An integer, or a name with its arguments; a bare name has none.
-#[derive(Debug, Drop)]
-pub enum ItemTree {
-    Number(i64),
-    Named { name: Name, args: Vec<ItemTree> },
 }
 
 /// Why a text is no sheet.
@@ -141,6 +85,19 @@ impl From<AllocError> for SheetFault {
 
     fn from(_: AllocError) -> Self {
         SheetFault::Memory
+    }
+}
+
+impl From<Refusal> for SheetFault {
+    ghost use Rattle.pc_syntax.specs.Told.{sheet_fault_of};
+
+    ghost from_gives = { λ r e. e ≡ sheet_fault_of r };
+
+    fn from(refusal: Refusal) -> Self {
+        match refusal {
+            Refusal::Syntax => SheetFault::NotYet,
+            Refusal::Memory => SheetFault::Memory,
+        }
     }
 }
 

@@ -1,5 +1,5 @@
 use Rattle.std.proofs.Common.{◌≡◌, Err, ◌∙◌, ap}
-use Rattle.pc_syntax.specs.declared.formula.Refusal.TheVariants.{Syntax}
+use Rattle.pc_formula.specs.declared.formula.Refusal.TheVariants.{Syntax}
 use Rattle.pc_syntax.specs.Tree.{asked_of, asks_show}
 use Rattle.pc_syntax.specs.Line.{IsCommandReading, asks, empty_command}
 use Rattle.pc_syntax.proofs.ReadLine.{no_utf8_no_command, is_nothing, something, spelled_reading, no_spelling_no_reading, spells_show}

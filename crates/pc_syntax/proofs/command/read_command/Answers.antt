@@ -1,6 +1,6 @@
 use Rattle.std.proofs.Common.{◌≡◌, sym, ◌∙◌, ap, subst}
 use Rattle.std.proofs.lemmas.Result.{err_from_is_err_and}
-use Rattle.pc_syntax.specs.Word.{words_of}
+use Rattle.pc_formula.specs.Word.{words_of}
 use Rattle.pc_syntax.specs.Line.{IsCommand}
 use Rattle.pc_syntax.proofs.command.read_command.Goals as goal
 

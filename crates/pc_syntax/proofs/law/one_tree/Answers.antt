@@ -1,6 +1,6 @@
 use Rattle.pc_syntax.proofs.OneSheet.{one_sheet}
 use Rattle.pc_syntax.proofs.OneLine.{one_line, one_command_reading}
-use Rattle.pc_syntax.proofs.Unambiguous as unambiguous
+use Rattle.pc_formula.proofs.Unambiguous as unambiguous
 use Rattle.pc_syntax.proofs.law.one_tree.Goals as goal
 
 pub returns-clause-formula : goal.returns-clause-formula

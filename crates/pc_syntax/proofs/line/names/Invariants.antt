@@ -1,5 +1,5 @@
 use Rattle.std.proofs.Common.{◌≡◌, ◌++◌, length, map}
-use Rattle.pc_syntax.specs.Word.{name}
+use Rattle.pc_formula.specs.Word.{name}
 use Rattle.pc_syntax.proofs.line.names.Given as goal
 
 abbrev pub invariant-names : goal.invariant-names

@@ -1,7 +1,7 @@
 use Rattle.std.proofs.Common.{◌≡◌, sym, ◌∙◌, ap, subst}
 use Rattle.std.proofs.lemmas.Result.{IfOk-weaker, err_from_is_err_and}
 use Rattle.pc_syntax.specs.declared.line.LineTree.{LineTree}
-use Rattle.pc_syntax.specs.Word.{words_of, HasWords}
+use Rattle.pc_formula.specs.Word.{words_of, HasWords}
 use Rattle.pc_syntax.specs.Line.{IsForm, IsLine, empty_line, spelled_line}
 use Rattle.pc_syntax.specs.Told.{form_of}
 use Rattle.pc_syntax.proofs.ReadLine.{no_utf8_no_line, is_nothing, something, no_words_no_line, spelled, no_form_no_line}

@@ -1,6 +1,6 @@
 use Rattle.std.proofs.Common.{◌≡◌, count_by, sym, ◌∙◌, ap, arith}
 use Rattle.pc_token.specs.Token.{split}
-use Rattle.pc_syntax.specs.Word.{nests, words_of}
+use Rattle.pc_formula.specs.Word.{nests, words_of}
 use Rattle.pc_syntax.proofs.read.tokens_within.Goals as goal
 
 pub returns-in-Err-BadCharacter-clause-none : goal.returns-in-Err-BadCharacter-clause-none

@@ -1,9 +1,9 @@
 -- What each form reads, from what its parts read.
 use Rattle.std.proofs.Common.{◌≡◌, List, ◌∷◌, sym, ◌∙◌, subst}
 use Rattle.pc_token.specs.declared.token.Kind.TheVariants.{Arrow, DoubleArrow}
-use Rattle.pc_syntax.specs.Word.{Word, sign, NotFirst}
-use Rattle.pc_syntax.specs.Tree.{Formula, iff, implies}
-use Rattle.pc_syntax.specs.Grammar.{by_or, iffs, imps, joined, Derives, iff_one, iff_two, imp_one, imp_two, Stops, Reads, ReadsNone}
+use Rattle.pc_formula.specs.Word.{Word, sign, NotFirst}
+use Rattle.pc_formula.specs.Tree.{Formula, iff, implies}
+use Rattle.pc_formula.specs.Grammar.{by_or, iffs, imps, joined, Derives, iff_one, iff_two, imp_one, imp_two, Stops, Reads, ReadsNone}
 
 -- ---- IMP = OR [ -> IMP ]
 

@@ -1,9 +1,9 @@
 -- The formula of a tree, level by level.
 use Rattle.std.proofs.Common.{◌≡◌, ◌∙◌, ap₂, map, Box, Vec, Global, rules}
 use Rattle.pc_name.specs.declared.sign.Op.{Op}
-use Rattle.pc_syntax.specs.declared.tree.SideTree.{SideTree}
-use Rattle.pc_syntax.specs.declared.tree.FormulaTree.{FormulaTree, Iff, Implies, Or, And, Not, Compare, the_lemmas}
-use Rattle.pc_syntax.specs.Tree.{Side, side_of, formula_of, iff, implies, or, and, not, compare, parts_of}
+use Rattle.pc_formula.specs.declared.tree.SideTree.{SideTree}
+use Rattle.pc_formula.specs.declared.tree.FormulaTree.{FormulaTree, Iff, Implies, Or, And, Not, Compare, the_lemmas}
+use Rattle.pc_formula.specs.Tree.{Side, side_of, formula_of, iff, implies, or, and, not, compare, parts_of}
 
 pub formula_of-Iff : (a b : Box FormulaTree Global) (f g : FormulaTree) → a.value ≡ f → b.value ≡ g → formula_of (Iff a b) ≡ iff (formula_of f) (formula_of g)
 formula_of-Iff a b f g left right = search (rules, the_lemmas)

@@ -13,7 +13,7 @@ use Rattle.pc_token.specs.declared.token.Kind.{Kind}
 use Rattle.pc_token.specs.declared.token.Kind.TheVariants.{Name, Number}
 use Rattle.pc_token.specs.declared.token.Token.{Token}
 use Rattle.pc_token.specs.Token.{IsNameAt, IsNumberAt, IsOfKind, IsTokenOf}
-use Rattle.pc_syntax.specs.Word.{name, reserved, beyond_ascii, number, sign, name_word, word, word_of, IsSign}
+use Rattle.pc_formula.specs.Word.{name, reserved, beyond_ascii, number, sign, name_word, word, word_of, IsSign}
 
 -- ---- signs
 

@@ -1,5 +1,5 @@
-use Rattle.pc_syntax.proofs.TokenWords.{is_the_sign, has_the_kind}
-use Rattle.pc_syntax.proofs.words.is_sign.Goals as goal
+use Rattle.pc_formula.proofs.TokenWords.{is_the_sign, has_the_kind}
+use Rattle.pc_formula.proofs.words.is_sign.Goals as goal
 
 pub returns : goal.returns
 returns c = λ line.

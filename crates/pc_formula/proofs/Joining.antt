@@ -1,9 +1,9 @@
 -- Parts that a sign joins, read from left to right.
 use Rattle.std.proofs.Common.{◌≡◌, ◌≤◌, List, [], ◌∷◌, ◌++◌, length, refl, sym, ◌∙◌, ap, subst, arith}
 use Rattle.std.proofs.lemmas.List.{append-nil, append_assoc}
-use Rattle.pc_syntax.specs.Word.{Word, sign, NotFirst}
-use Rattle.pc_syntax.specs.Tree.{Formula}
-use Rattle.pc_syntax.specs.Grammar.{Joint, by_or, by_and, joined, part_form, joint_sign, joint, of_parts, Derives, join, Goes_on, no_more, one_more, Stops, Reads, ReadsNone}
+use Rattle.pc_formula.specs.Word.{Word, sign, NotFirst}
+use Rattle.pc_formula.specs.Tree.{Formula}
+use Rattle.pc_formula.specs.Grammar.{Joint, by_or, by_and, joined, part_form, joint_sign, joint, of_parts, Derives, join, Goes_on, no_more, one_more, Stops, Reads, ReadsNone}
 
 part_stops : (j : Joint) (ws : List Word) → Stops (joined j) ws → Stops (part_form j) ws
 part_stops by_or ws stops = stops.0

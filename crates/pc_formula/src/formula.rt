@@ -4,11 +4,11 @@
 // so the number of these bounds its depth, and parts that `&` or `|` join are read by a loop.
 ghost use Rattle.std.specs.Prelude.{◌≡◌, ◌<◌, ◌∷◌, length, IfOk, OnOk, MatchOption};
 ghost use Rattle.pc_name.specs.Names.{IsName};
-ghost use Rattle.pc_syntax.specs.Tree.{formula_of, side_of};
-ghost use Rattle.pc_syntax.specs.Word.{sign, NotFirst};
-ghost use Rattle.pc_syntax.specs.Grammar.{iffs, imps, joined, by_or, by_and, unary, op_sign, bare, IsEquality, Reads, ReadsNone};
+ghost use Rattle.pc_formula.specs.Tree.{formula_of, side_of};
+ghost use Rattle.pc_formula.specs.Word.{sign, NotFirst};
+ghost use Rattle.pc_formula.specs.Grammar.{iffs, imps, joined, by_or, by_and, unary, op_sign, bare, IsEquality, Reads, ReadsNone};
 
-use crate::tree::{FormulaTree, ItemTree, SheetFault, SideTree};
+use crate::tree::{FormulaTree, ItemTree, SideTree};
 use crate::words::Words;
 use pc_name::{Name, Op};
 use pc_token::Kind;
@@ -22,7 +22,7 @@ pub enum Refusal {
 }
 
 impl From<AllocError> for Refusal {
-    ghost use Rattle.pc_syntax.specs.declared.formula.Refusal.TheVariants.{Memory};
+    ghost use Rattle.pc_formula.specs.declared.formula.Refusal.TheVariants.{Memory};
 
     ghost from_gives = { λ _ e. e ≡ Memory };
 
@@ -32,7 +32,7 @@ impl From<AllocError> for Refusal {
 }
 
 impl<T: Drop> From<AllocFailed<T>> for Refusal {
-    ghost use Rattle.pc_syntax.specs.declared.formula.Refusal.TheVariants.{Memory};
+    ghost use Rattle.pc_formula.specs.declared.formula.Refusal.TheVariants.{Memory};
 
     ghost from_gives = { λ _ e. e ≡ Memory };
 
@@ -41,20 +41,7 @@ impl<T: Drop> From<AllocFailed<T>> for Refusal {
     }
 }
 
-impl From<Refusal> for SheetFault {
-    ghost use Rattle.pc_syntax.specs.Told.{sheet_fault_of};
-
-    ghost from_gives = { λ r e. e ≡ sheet_fault_of r };
-
-    fn from(refusal: Refusal) -> Self {
-        match refusal {
-            Refusal::Syntax => SheetFault::NotYet,
-            Refusal::Memory => SheetFault::Memory,
-        }
-    }
-}
-
-// Reads IFF = IMP [ <-> IMP ].
+/// Reads IFF = IMP [ <-> IMP ]: the longest front of the words that is one.
 #[cycle(formula)]
 pub fn iff(alloc: Global, words: &mut Words<'_>) -> Result<FormulaTree, Refusal>
     ensures ok { IfOk result (λ t. Reads iffs words.old (formula_of t) words.new) }

@@ -1,7 +1,7 @@
 use Rattle.std.proofs.Common.{◌≡◌, rules}
 use Rattle.pc_token.specs.declared.token.Kind.TheVariants.{Number}
-use Rattle.pc_syntax.proofs.TokenWords.{number_is, is_numeral}
-use Rattle.pc_syntax.proofs.words.number_of.Goals as goal
+use Rattle.pc_formula.proofs.TokenWords.{number_is, is_numeral}
+use Rattle.pc_formula.proofs.words.number_of.Goals as goal
 
 pub returns : goal.returns
 returns c =

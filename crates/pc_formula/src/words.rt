@@ -4,7 +4,7 @@ ghost use Rattle.std.specs.List.{AllByRecursion};
 ghost use Rattle.std.specs.Str.Parse.{IsNumeral};
 ghost use Rattle.pc_name.specs.Names.{IsName, most_name_bytes};
 ghost use Rattle.pc_token.specs.Token.{IsTokenOf};
-ghost use Rattle.pc_syntax.specs.Word.{name, number, sign, word_of, words_of, IsSign, TakesSign, HasNoName, HasNoNumber};
+ghost use Rattle.pc_formula.specs.Word.{name, number, sign, word_of, words_of, IsSign, TakesSign, HasNoName, HasNoNumber};
 
 use pc_name::is_reserved;
 use pc_token::{Kind, Token};
@@ -22,7 +22,7 @@ impl<'a> Model for Words<'a> {
     ghost use Rattle.std.specs.List.{AllByRecursion};
     ghost use Rattle.pc_name.specs.Names.{most_name_bytes};
     ghost use Rattle.pc_token.specs.Token.{IsTokenOf};
-    ghost use Rattle.pc_syntax.specs.Word.{Word, words_of};
+    ghost use Rattle.pc_formula.specs.Word.{Word, words_of};
 
     ghost Value = { List Word };
 

@@ -5,9 +5,9 @@ use Rattle.pc_name.specs.declared.sign.Op.{Op}
 use Rattle.pc_name.specs.declared.sign.Op.TheVariants as ops
 use Rattle.std.specs.Prelude.{Option, Some, None}
 use Rattle.pc_token.specs.declared.token.Kind.{Kind}
-use Rattle.pc_syntax.specs.Word.{Word, name, sign, NotFirst}
-use Rattle.pc_syntax.specs.Tree.{Formula, not, compare}
-use Rattle.pc_syntax.specs.Grammar.{iffs, unary, op_sign, IsEquality, bare, Derives, negation, group, atom, Stops, Reads, ReadsNone}
+use Rattle.pc_formula.specs.Word.{Word, name, sign, NotFirst}
+use Rattle.pc_formula.specs.Tree.{Formula, not, compare}
+use Rattle.pc_formula.specs.Grammar.{iffs, unary, op_sign, IsEquality, bare, Derives, negation, group, atom, Stops, Reads, ReadsNone}
 
 pub close_stops : (ws : List Word) → Stops iffs (sign Close ∷ ws)
 close_stops ws = ((λ more is. cc), (λ more is. cc), (λ more is. cc), (λ more is. cc))

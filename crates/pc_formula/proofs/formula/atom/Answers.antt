@@ -1,9 +1,9 @@
 use Rattle.std.proofs.Common.{◌∷◌, sym, ◌∙◌, ap, subst}
-use Rattle.pc_syntax.specs.Word.{name, sign}
-use Rattle.pc_syntax.specs.Grammar.{unary, op_sign, bare, Reads}
-use Rattle.pc_syntax.proofs.Unaries.{atom_reads}
-use Rattle.pc_syntax.proofs.Views.{formula_of-Compare}
-use Rattle.pc_syntax.proofs.formula.atom.Goals as goal
+use Rattle.pc_formula.specs.Word.{name, sign}
+use Rattle.pc_formula.specs.Grammar.{unary, op_sign, bare, Reads}
+use Rattle.pc_formula.proofs.Unaries.{atom_reads}
+use Rattle.pc_formula.proofs.Views.{formula_of-Compare}
+use Rattle.pc_formula.proofs.formula.atom.Goals as goal
 
 pub returns-clause-ok : goal.returns-clause-ok
 returns-clause-ok c =

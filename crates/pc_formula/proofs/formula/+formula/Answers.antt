@@ -3,14 +3,14 @@ use Rattle.std.proofs.Common.{subst₂}
 use Rattle.std.proofs.lemmas.Result.{err_from_is_err_and}
 use Rattle.std.proofs.lemmas.List.{length_push, map_push, length-map}
 use Rattle.pc_token.specs.declared.token.Kind.TheVariants.{Open}
-use Rattle.pc_syntax.specs.Word.{sign}
-use Rattle.pc_syntax.specs.Tree.{formula_of}
-use Rattle.pc_syntax.specs.Grammar.{iffs, imps, joined, by_or, by_and, unary, joint, of_parts, Reads}
-use Rattle.pc_syntax.proofs.Joining.{Joins, joins_next, joins_end, joins_none, join_one, joins_two, join_none, join_none_right, of_many}
-use Rattle.pc_syntax.proofs.Readings.{imp_reads_one, imp_reads_two, iff_reads_one, iff_reads_two, iff_none_third}
-use Rattle.pc_syntax.proofs.Unaries.{not_reads, group_reads}
-use Rattle.pc_syntax.proofs.Views.{formula_of-Iff, formula_of-Implies, formula_of-Or, formula_of-And, formula_of-Not}
-use Rattle.pc_syntax.proofs.formula.+formula.Goals as goal
+use Rattle.pc_formula.specs.Word.{sign}
+use Rattle.pc_formula.specs.Tree.{formula_of}
+use Rattle.pc_formula.specs.Grammar.{iffs, imps, joined, by_or, by_and, unary, joint, of_parts, Reads}
+use Rattle.pc_formula.proofs.Joining.{Joins, joins_next, joins_end, joins_none, join_one, joins_two, join_none, join_none_right, of_many}
+use Rattle.pc_formula.proofs.Readings.{imp_reads_one, imp_reads_two, iff_reads_one, iff_reads_two, iff_none_third}
+use Rattle.pc_formula.proofs.Unaries.{not_reads, group_reads}
+use Rattle.pc_formula.proofs.Views.{formula_of-Iff, formula_of-Implies, formula_of-Or, formula_of-And, formula_of-Not}
+use Rattle.pc_formula.proofs.formula.+formula.Goals as goal
 
 -- ---- iff
 

@@ -1,8 +1,8 @@
 use Rattle.std.proofs.Common.{◌+◌, ◌*◌, ◌<◌, ◌≤◌, length, map}
-use Rattle.pc_syntax.specs.Tree.{formula_of}
-use Rattle.pc_syntax.specs.Grammar.{by_or, by_and}
-use Rattle.pc_syntax.proofs.Joining.{Joins}
-use Rattle.pc_syntax.proofs.formula.+formula.Given as goal
+use Rattle.pc_formula.specs.Tree.{formula_of}
+use Rattle.pc_formula.specs.Grammar.{by_or, by_and}
+use Rattle.pc_formula.proofs.Joining.{Joins}
+use Rattle.pc_formula.proofs.formula.+formula.Given as goal
 
 -- each form calls the next one at the same words, and goes back to the first behind a parenthesis
 abbrev pub decreases-iff : goal.decreases-iff

@@ -4,8 +4,8 @@ use Rattle.pc_name.specs.declared.sign.Op.{Op}
 use Rattle.pc_name.specs.declared.sign.Op.TheVariants as ops
 use Rattle.pc_token.specs.declared.token.Kind.{Kind}
 use Rattle.pc_token.specs.declared.token.Kind.TheVariants.{Equal, NotEqual, Less, LessEqual, Greater, GreaterEqual, Not, And, Or, Arrow, DoubleArrow, Open, Close}
-use Rattle.pc_syntax.specs.Word.{Word, name, sign, NotFirst}
-use Rattle.pc_syntax.specs.Tree.{Side, named, no_item, Formula, iff, implies, or, and, not, compare, parts_of}
+use Rattle.pc_formula.specs.Word.{Word, name, sign, NotFirst}
+use Rattle.pc_formula.specs.Tree.{Side, named, no_item, Formula, iff, implies, or, and, not, compare, parts_of}
 
 -- the two forms that join parts by a sign
 pub data Joint : Type 0 where

@@ -2,9 +2,9 @@ use Rattle.std.proofs.Common.{◌≡◌, rules, sym, ◌∙◌, ap, subst}
 use Rattle.std.specs.Str.{IsAscii, IsNotAscii}
 use Rattle.pc_name.specs.Names.{is_reserved}
 use Rattle.pc_token.specs.declared.token.Kind.TheVariants.{Name}
-use Rattle.pc_syntax.proofs.TokenWords.{reserved_name, wide_name, name_is, text_is_name}
-use Rattle.pc_syntax.proofs.words.name_of.Goals as goal
-use Rattle.pc_syntax.proofs.words.name_of.Goals.{then-is_reserved-via-then-is_reserved, then-is_reserved-via-else-is_reserved+then-not-is_ascii}
+use Rattle.pc_formula.proofs.TokenWords.{reserved_name, wide_name, name_is, text_is_name}
+use Rattle.pc_formula.proofs.words.name_of.Goals as goal
+use Rattle.pc_formula.proofs.words.name_of.Goals.{then-is_reserved-via-then-is_reserved, then-is_reserved-via-else-is_reserved+then-not-is_ascii}
 
 pub returns-then-is_reserved : goal.returns-then-is_reserved
 returns-then-is_reserved c = λ text is.

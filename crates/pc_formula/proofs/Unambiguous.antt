@@ -1,12 +1,12 @@
 -- Words derive at most one formula.
 use Rattle.std.proofs.Common.{◌≡◌, List, [], ◌∷◌, ◌++◌, refl, sym, subst}
 use Rattle.std.proofs.lemmas.List.{append-nil, append_assoc}
-use Rattle.pc_syntax.specs.Word.{Word, sign}
-use Rattle.pc_syntax.specs.Tree.{Formula}
-use Rattle.pc_syntax.specs.Grammar.{Joint, by_or, Form, iffs, imps, joined, unary, part_form, IsFormula, Derives, iff_one, iff_two, imp_one, imp_two, join, negation, group, atom, Goes_on, no_more, one_more, Stops, Reads}
-use Rattle.pc_syntax.proofs.Joining.{Joins, joins_first, joins_next, joins_end, mid_stops, no_sign}
-use Rattle.pc_syntax.proofs.Readings.{or_stops, imp_stops, imp_reads_one, imp_reads_two, iff_reads_one, iff_reads_two}
-use Rattle.pc_syntax.proofs.Unaries.{close_stops, not_reads, group_reads, atom_reads}
+use Rattle.pc_formula.specs.Word.{Word, sign}
+use Rattle.pc_formula.specs.Tree.{Formula}
+use Rattle.pc_formula.specs.Grammar.{Joint, by_or, Form, iffs, imps, joined, unary, part_form, IsFormula, Derives, iff_one, iff_two, imp_one, imp_two, join, negation, group, atom, Goes_on, no_more, one_more, Stops, Reads}
+use Rattle.pc_formula.proofs.Joining.{Joins, joins_first, joins_next, joins_end, mid_stops, no_sign}
+use Rattle.pc_formula.proofs.Readings.{or_stops, imp_stops, imp_reads_one, imp_reads_two, iff_reads_one, iff_reads_two}
+use Rattle.pc_formula.proofs.Unaries.{close_stops, not_reads, group_reads, atom_reads}
 
 -- what is derived, where the form doesn't go on, is what is read
 mutual

@@ -1,0 +1,4 @@
+pub mod Grammar
+pub mod Sized
+pub mod Tree
+pub mod Word
