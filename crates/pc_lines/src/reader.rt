@@ -2,14 +2,14 @@
 ghost use Rattle.std.specs.Prelude.{◌≡◌, ◌+◌, ◌-◌, ◌^◌, ◌<◌, ◌≤◌, [], ◌∷◌, ◌++◌, length, take, drop, vec_capacity, slice_range, IfOk, IfSome, IfNone, MatchResult, OnErr, MatchBool, Contains};
 ghost use Rattle.std.specs.Io.KnownBytes.{Keeps, IsAtEnd, Consumes};
 ghost use Rattle.pc_port.specs.Port.{HasCause};
+ghost use Rattle.pc_lines.specs.declared.TheConstants.{CHUNK};
 ghost use Rattle.pc_lines.specs.Lines.{HasNoEnd, IsOpenLine, text_of, length_of};
 ghost use Rattle.pc_lines.specs.Reader.{ReaderState, IsNewReader, coming, Moves, IsPart, IsCut, IsTaken, IsNextLine};
 
+use crate::CHUNK;
 use pc_port::{Failed, Source};
 use std::alloc::{AllocError, Global};
 use std::marker::Model;
-
-const CHUNK: usize = 4096;
 
 /// What stands in the reader's line after a call.
 #[derive(Clone, Copy, Debug, PartialEq, Eq)]
@@ -51,7 +51,7 @@ impl Model for LineReader {
       longest = r.longest;
     } };
 
-    ghost invariant = { λ r. (r.from ≤ r.to) × (r.to ≤ length r.chunk.items) × (0 < length r.chunk.items) × (r.longest + 1 ≤ vec_capacity r.line) };
+    ghost invariant = { λ r. (r.from ≤ r.to) × (r.to ≤ length r.chunk.items) × (length r.chunk.items ≡ CHUNK) × (r.longest + 1 ≤ vec_capacity r.line) };
 }
 
 // The index of the first line feed.
@@ -129,6 +129,7 @@ impl LineReader {
         ensures bytes { Keeps (coming self.old (S.left source.old)) (coming self.new (S.left source.new)) }
         ensures some { IfOk result (λ more. MatchBool more (0 < length self.new.held) (IsAtEnd (coming self.new (S.left source.new)))) }
         ensures fault { OnErr result (self.new.held ≡ []) }
+        ensures few { length self.new.held ≤ CHUNK }
         ensures waits { 0 < length self.old.held → (self.new.held ≡ self.old.held) × (source.new ≡ source.old) }
         ensures cause { HasCause (S.faults source.old) (S.faults source.new) result }
     {
@@ -150,7 +151,8 @@ impl LineReader {
         ensures lines { IfOk result (λ taken. IsNextLine taken limit self.new.line (coming self.old (S.left source.old)) (coming self.new (S.left source.new))) }
         ensures longest { self.new.longest ≡ self.old.longest }
 
-        // At a fault all that was read before it has been taken.
+        // No more is held than one read gives, and at a fault all that was read before it has been taken.
+        ensures few { length self.new.held ≤ CHUNK }
         ensures fault { OnErr result (self.new.held ≡ []) }
 
         // The source is not read while a whole line is held.
