@@ -1,60 +1,66 @@
 -- How a run ends before its command lines, and how it goes on with them.
-use Rattle.std.proofs.Common.{◌≡◌, ℕ, List, [], ◌++◌, refl, sym, subst, inl, inr, ◌⊎◌, Option, Some, None, String, ap}
+use Rattle.std.proofs.Common.{◌≡◌, ℕ, List, [], ◌≤◌, ◌++◌, length, refl, sym, subst, inl, inr, Option, Some, None, String, ap}
 use Rattle.std.specs.declared.alloc.Global.{Global}
-use Rattle.std.specs.Io.KnownBytes.{Consumes, Appends, prepend_known}
-use Rattle.std.proofs.KnownBytes.{Appends-nil, Consumes-trans}
+use Rattle.std.specs.Io.KnownBytes.{Appends, prepend_known}
+use Rattle.std.proofs.KnownBytes.{Appends-nil}
 use Rattle.pc_run.specs.declared.status.Status.{Status}
 use Rattle.pc_run.specs.declared.status.Status.TheVariants.{Done, SomeRefused, Usage, SheetRefused, ReadFault, WriteFault, Memory, TooLong}
-use Rattle.pc_run.specs.Answer.{Answer}
-use Rattle.pc_run.specs.Transcript.{AnswersAll, AnswersTaken, StopsAtLimit, AnswersSome, too_long_text}
+use Rattle.pc_port.specs.Port.{AppendsFront}
+use Rattle.pc_lines.specs.declared.TheConstants.{CHUNK}
+use Rattle.pc_run.specs.Answer.{Answer, Printing, printed}
+use Rattle.pc_run.specs.Transcript.{too_long_text}
 use Rattle.pc_run.specs.SheetPart.{TakesSheet, StopsInSheet, PassesSheetLimit, HasTaken}
-use Rattle.pc_run.specs.Run.{AreReplay, Answers, AnswersBy, IsWritten, LacksRoom, LacksMemoryForSheet, RefusesSheet, Opens, HasLongSheet, TellsUsage, IsCut, at_memory, at_sheet_memory, at_sheet, at_long_sheet, at_limit, at_answer, Replays, Replayed, Runs, Tells, usage_text, memory_text, sheet_memory_text, sheet_refused_text}
-use Rattle.pc_run.proofs.Ends.{held_taken}
+use Rattle.pc_run.specs.Run.{AreReplay, Answers, AnswersBy, IsWritten, LacksRoom, LacksMemoryForSheet, RefusesSheet, HasLongSheet, TellsUsage, IsCut, at_memory, at_sheet_memory, at_sheet, at_long_sheet, at_limit, at_answer, Replays, Replayed, Runs, Tells, AppendsPart, usage_text, memory_text, sheet_memory_text, sheet_refused_text}
+use Rattle.pc_run.proofs.Ends.{read_ahead}
+use Rattle.pc_run.proofs.SheetLines.{has_taken}
+
+-- a front of a text that has no other piece
+cut_short : {sink sink' : Option (List ℕ)} {text : List ℕ} → AppendsFront sink sink' text → AppendsPart sink sink' (printed [] text)
+cut_short part = record { count = part.count; written = part.front }
 
 -- a text was told at a status, or a front of it where a write failed
 told : {S : Type 0} (IsSheet : List ℕ → S → Type 0) (Allows : S → List ℕ → Answer → S → Type 0) (status result : Status) (text : List ℕ) (source source' sink sink' : Option (List ℕ))
-    → Replays IsSheet Allows status text source source' → IsCut IsSheet Allows text source source' → (Appends sink sink' text → IsWritten status sink sink' text) → Tells status text result sink sink'
+    → Replays IsSheet Allows status (printed [] text) source source' → IsCut IsSheet Allows (printed [] text) source source' → (Appends sink sink' text → IsWritten status sink sink' (printed [] text)) → Tells status text result sink sink'
     → Replayed IsSheet Allows result source source' sink sink'
 told IsSheet Allows status result text source source' sink sink' course cut written tells =
     elim tells [
-      | inl w ↦ subst (λ (s : Status). Replayed IsSheet Allows s source source' sink sink') (sym w.0) record { text = text; course = course; written = written w.1 }
-      | inr w ↦ subst (λ (s : Status). Replayed IsSheet Allows s source source' sink sink') (sym w.0) record { text = text; course = cut; written = w.1 }
+      | inl w ↦ subst (λ (s : Status). Replayed IsSheet Allows s source source' sink sink') (sym w.0) record { text = printed [] text; course = course; written = written w.1 }
+      | inr w ↦ subst (λ (s : Status). Replayed IsSheet Allows s source source' sink sink') (sym w.0) record { text = printed [] text; course = cut; written = cut_short w.1 }
     ]
 
 pub lacks_room : {S : Type 0} (IsSheet : List ℕ → S → Type 0) (Allows : S → List ℕ → Answer → S → Type 0) (result : Status) (source sink sink' : Option (List ℕ))
     → Tells Memory memory_text result sink sink' → Replayed IsSheet Allows result source source sink sink'
 lacks_room IsSheet Allows result source sink sink' tells =
-    let lacks : LacksRoom memory_text source source = record { unread = refl; text_is = refl } in
+    let lacks : LacksRoom (printed [] memory_text) source source = record { unread = refl; text_is = refl } in
     told IsSheet Allows Memory result memory_text source source sink sink' (inl lacks) (at_memory lacks) (λ w. w) tells
 
 pub lacks_memory : {S : Type 0} (IsSheet : List ℕ → S → Type 0) (Allows : S → List ℕ → Answer → S → Type 0) (result : Status) (source source' sink sink' : Option (List ℕ))
     → HasTaken source source' → Tells Memory sheet_memory_text result sink sink' → Replayed IsSheet Allows result source source' sink sink'
 lacks_memory IsSheet Allows result source source' sink sink' taken tells =
-    let lacks : LacksMemoryForSheet sheet_memory_text source source' = record { taken = taken; text_is = refl } in
+    let lacks : LacksMemoryForSheet (printed [] sheet_memory_text) source source' = record { taken = taken; text_is = refl } in
     told IsSheet Allows Memory result sheet_memory_text source source' sink sink' (inr (inl lacks)) (at_sheet_memory lacks) (λ w. w) tells
 
 pub long_sheet : {S : Type 0} (IsSheet : List ℕ → S → Type 0) (Allows : S → List ℕ → Answer → S → Type 0) (result : Status) (source source' sink sink' : Option (List ℕ))
     → PassesSheetLimit source source' → Tells TooLong too_long_text result sink sink' → Replayed IsSheet Allows result source source' sink sink'
 long_sheet IsSheet Allows result source source' sink sink' passes tells =
-    let long : HasLongSheet too_long_text source source' = record { passes = passes; text_is = refl } in
+    let long : HasLongSheet (printed [] too_long_text) source source' = record { passes = passes; text_is = refl } in
     told IsSheet Allows TooLong result too_long_text source source' sink sink' (inl long) (at_long_sheet long) (λ w. w) tells
 
 pub fails_in_sheet : {S : Type 0} (IsSheet : List ℕ → S → Type 0) (Allows : S → List ℕ → Answer → S → Type 0) (source source' sink : Option (List ℕ)) → StopsInSheet source source' → Replayed IsSheet Allows ReadFault source source' sink sink
-fails_in_sheet IsSheet Allows source source' sink fails = record { text = []; course = inl record { stops = fails; text_is = refl }; written = Appends-nil sink }
+fails_in_sheet IsSheet Allows source source' sink fails = record { text = printed [] []; course = inl record { stops = fails; text_is = refl }; written = Appends-nil sink }
 
 pub memory_for_sheet : {S : Type 0} (IsSheet : List ℕ → S → Type 0) (Allows : S → List ℕ → Answer → S → Type 0) (result : Status) (sheet : List ℕ) (source : Option (List ℕ)) (held : List ℕ) (left sink sink' : Option (List ℕ))
-    → TakesSheet sheet source (prepend_known held left) → Tells Memory sheet_memory_text result sink sink' → Replayed IsSheet Allows result source left sink sink'
-memory_for_sheet IsSheet Allows result sheet source held left sink sink' takes tells =
-    lacks_memory IsSheet Allows result source left sink sink' record { bytes = _; taken = Consumes-trans source (prepend_known held left) left sheet held takes.taken (held_taken held left) } tells
+    → TakesSheet sheet source (prepend_known held left) → length held ≤ CHUNK → Tells Memory sheet_memory_text result sink sink' → Replayed IsSheet Allows result source left sink sink'
+memory_for_sheet IsSheet Allows result sheet source held left sink sink' takes few tells = lacks_memory IsSheet Allows result source left sink sink' (has_taken sheet source held left takes few) tells
 
 pub refuses : {S : Type 0} (IsSheet : List ℕ → S → Type 0) (Allows : S → List ℕ → Answer → S → Type 0) (result : Status) (sheet : List ℕ) (source : Option (List ℕ)) (held : List ℕ) (left sink sink' : Option (List ℕ))
-    → ((state : S) → ¬ IsSheet sheet state) → TakesSheet sheet source (prepend_known held left) → Tells SheetRefused sheet_refused_text result sink sink' → Replayed IsSheet Allows result source left sink sink'
-refuses IsSheet Allows result sheet source held left sink sink' none takes tells =
-    let refused : RefusesSheet IsSheet sheet_refused_text source left = record { sheet = sheet; rest = prepend_known held left; takes = takes; none = none; held = held; more = held_taken held left; text_is = refl } in
+    → ((state : S) → ¬ IsSheet sheet state) → TakesSheet sheet source (prepend_known held left) → length held ≤ CHUNK → Tells SheetRefused sheet_refused_text result sink sink' → Replayed IsSheet Allows result source left sink sink'
+refuses IsSheet Allows result sheet source held left sink sink' none takes few tells =
+    let refused : RefusesSheet IsSheet (printed [] sheet_refused_text) source left = record { sheet = sheet; rest = prepend_known held left; takes = takes; none = none; ahead = read_ahead held left few; text_is = refl } in
     told IsSheet Allows SheetRefused result sheet_refused_text source left sink sink' refused (at_sheet refused) (λ w. w) tells
 
 -- from the sheet's state the rest was answered
-answered : {S : Type 0} (IsSheet : List ℕ → S → Type 0) (Allows : S → List ℕ → Answer → S → Type 0) (start : S) (status : Status) (sheet text : List ℕ) (source rest source' : Option (List ℕ))
+answered : {S : Type 0} (IsSheet : List ℕ → S → Type 0) (Allows : S → List ℕ → Answer → S → Type 0) (start : S) (status : Status) (sheet : List ℕ) (text : Printing) (source rest source' : Option (List ℕ))
     → IsSheet sheet start → TakesSheet sheet source rest → AnswersBy Allows start status text rest source' → Replays IsSheet Allows status text source source'
 answered IsSheet Allows start Done sheet text source rest source' is takes by = record { sheet = sheet; rest = rest; takes = takes; start = start; is = is; goes_on = by }
 answered IsSheet Allows start SomeRefused sheet text source rest source' is takes by = record { sheet = sheet; rest = rest; takes = takes; start = start; is = is; goes_on = by }
@@ -82,10 +88,10 @@ opens IsSheet Allows start status sheet source rest source' sink sink' is takes 
 pub declines : {S : Type 0} (IsSheet : List ℕ → S → Type 0) (Allows : S → List ℕ → Answer → S → Type 0) (words : List (String Global)) (result : Status) (source sink sink' : Option (List ℕ))
     → ¬ AreReplay words → Tells Usage usage_text result sink sink' → Runs IsSheet Allows words result source source sink sink'
 declines IsSheet Allows words result source sink sink' other tells =
-    let usage : TellsUsage usage_text source source = record { unread = refl; text_is = refl } in
+    let usage : TellsUsage (printed [] usage_text) source source = record { unread = refl; text_is = refl } in
     elim tells [
-      | inl w ↦ subst (λ (s : Status). Runs IsSheet Allows words s source source sink sink') (sym w.0) record { text = usage_text; course = inr (other, usage); written = w.1 }
-      | inr w ↦ subst (λ (s : Status). Runs IsSheet Allows words s source source sink sink') (sym w.0) record { text = usage_text; course = inr (other, usage); written = w.1 }
+      | inl w ↦ subst (λ (s : Status). Runs IsSheet Allows words s source source sink sink') (sym w.0) record { text = printed [] usage_text; course = inr (other, usage); written = w.1 }
+      | inr w ↦ subst (λ (s : Status). Runs IsSheet Allows words s source source sink sink') (sym w.0) record { text = printed [] usage_text; course = inr (other, usage); written = cut_short w.1 }
     ]
 
 pub replays : {S : Type 0} (IsSheet : List ℕ → S → Type 0) (Allows : S → List ℕ → Answer → S → Type 0) (words : List (String Global)) (status : Status) (source source' sink sink' : Option (List ℕ))

@@ -1,23 +1,24 @@
 -- How the answering of command lines ends.
-use Rattle.std.proofs.Common.{◌≡◌, ℕ, ◌<◌, ◌≤◌, Bool, true, false, List, [], ◌∷◌, ◌++◌, length, refl, sym, ◌∙◌, ap, subst, arith, inl, inr, ◌⊎◌, Option, Some, None, All, append_assoc}
+use Rattle.std.proofs.Common.{◌≡◌, ℕ, ◌<◌, ◌≤◌, Bool, true, false, List, [], ◌∷◌, ◌++◌, length, refl, sym, ◌∙◌, ap, subst, arith, inl, inr, Option, Some, None, All, append_assoc, take}
 use Rattle.std.specs.List.{list_any, AllByRecursion}
 use Rattle.std.specs.Io.KnownBytes.{Consumes, Appends, IsAtEnd, prepend_known}
 use Rattle.std.proofs.KnownBytes.{Consumes-trans, Appends-trans}
 use Rattle.std.proofs.lemmas.List.{append-nil, length_push}
 use Rattle.std.proofs.lemmas.List.Elements.{All-push, All-weaker, recursion_from_All}
 use Rattle.pc_port.specs.Port.{AppendsFront}
-use Rattle.pc_port.proofs.Told.{front_of_second}
 use Rattle.pc_lines.specs.Lines.{lines_of, IsWholeLine, IsOpenLine}
 use Rattle.pc_lines.specs.Lines as a_line
+use Rattle.pc_lines.specs.declared.TheConstants.{CHUNK}
 use Rattle.pc_lines.proofs.First.{lines_of-whole, lines_of-open}
 use Rattle.pc_run.specs.declared.TheConstants.{LINE_LIMIT, MAX_LINES}
 use Rattle.pc_run.specs.declared.serve.Marks.{Marks}
 use Rattle.pc_run.specs.declared.status.Status.{Status}
-use Rattle.pc_run.specs.declared.status.Status.TheVariants.{Done, SomeRefused, ReadFault, WriteFault, Memory, TooLong}
-use Rattle.pc_run.specs.Answer.{Answer, Serves, ServesInPart, text_of, is_refused, is_no_memory}
-use Rattle.pc_run.specs.Transcript.{Transcript, lines, input_of, output_of, worse_of, too_long_text, IsLine, PassesLimit, AnswersAll, AnswersTaken, StopsAtLimit}
-use Rattle.pc_run.specs.Run.{Answers, AnswersBy, Tells, IsWritten}
-use Rattle.pc_run.proofs.Progress.{Progress, Legal-push, any-push, input_of-push, output_of-push, lines-push}
+use Rattle.pc_run.specs.declared.status.Status.TheVariants.{ReadFault, WriteFault, TooLong}
+use Rattle.pc_run.specs.SheetPart.{IsReadAhead}
+use Rattle.pc_run.specs.Answer.{Answer, Printing, printed, Serves, ServesInPart, text_of, is_refused, is_no_memory}
+use Rattle.pc_run.specs.Transcript.{Transcript, lines, input_of, output_of, worse_of, too_long_text, IsLine, PassesLimit, IsCompleteLine, AnswersAll, StopsAtLimit}
+use Rattle.pc_run.specs.Run.{Answers, AnswersBy, Tells, IsWritten, AppendsPart}
+use Rattle.pc_run.proofs.Progress.{Progress, Legal-push, any-push, output_of-push, lines-push}
 
 -- ---- what a reader holds
 
@@ -33,6 +34,9 @@ left_at_end held (Some xs) end = front_nil held xs end
 pub held_taken : (held : List ℕ) (left : Option (List ℕ)) → Consumes (prepend_known held left) left held
 held_taken held None = tt
 held_taken held (Some xs) = refl
+
+pub read_ahead : (held : List ℕ) (left : Option (List ℕ)) → length held ≤ CHUNK → IsReadAhead (prepend_known held left) left
+read_ahead held left few = record { held = held; more = held_taken held left; few = few }
 
 -- at the end nothing is held
 pub taken_to_end : (source : Option (List ℕ)) (held : List ℕ) (left : Option (List ℕ)) (xs : List ℕ) → Consumes source (prepend_known held left) xs → IsAtEnd (prepend_known held left) → Consumes source left xs
@@ -61,24 +65,28 @@ each_line t whole = All-weaker (IsWholeLine LINE_LIMIT) IsLine (λ line is. inl 
 
 -- ---- at the end of the input
 
-written_all : (no_memory refused : Bool) (sink sink' : Option (List ℕ)) (text : List ℕ) → Appends sink sink' text → IsWritten (worse_of no_memory refused) sink sink' text
+written_all : (no_memory refused : Bool) (sink sink' : Option (List ℕ)) (text : Printing) → Appends sink sink' (text.before ++ text.last) → IsWritten (worse_of no_memory refused) sink sink' text
 written_all true refused sink sink' text written = written
 written_all false true sink sink' text written = written
 written_all false false sink sink' text written = written
 
-by_all : {S : Type 0} (Allows : S → List ℕ → Answer → S → Type 0) (start : S) (no_memory refused : Bool) (text : List ℕ) (source source' : Option (List ℕ))
+by_all : {S : Type 0} (Allows : S → List ℕ → Answer → S → Type 0) (start : S) (no_memory refused : Bool) (text : Printing) (source source' : Option (List ℕ))
     → AnswersAll Allows start (worse_of no_memory refused) text source source' → AnswersBy Allows start (worse_of no_memory refused) text source source'
 by_all Allows start true refused text source source' answers = answers
 by_all Allows start false true text source source' answers = answers
 by_all Allows start false false text source source' answers = answers
 
+-- all was written, and no last piece is left
+written_whole : (sink sink' : Option (List ℕ)) (text : List ℕ) → Appends sink sink' text → Appends sink sink' (text ++ [])
+written_whole sink sink' text written = subst (λ (l : List ℕ). Appends sink sink' l) (sym (append-nil text)) written
+
 answers_all : {S : Type 0} (Allows : S → List ℕ → Answer → S → Type 0) (start : S) (no_memory refused : Bool) (status : Status) (text : List ℕ) (source source' sink sink' : Option (List ℕ))
-    → status ≡ worse_of no_memory refused → AnswersAll Allows start (worse_of no_memory refused) text source source' → Appends sink sink' text → Answers Allows start status source source' sink sink'
+    → status ≡ worse_of no_memory refused → AnswersAll Allows start (worse_of no_memory refused) (printed text []) source source' → Appends sink sink' text → Answers Allows start status source source' sink sink'
 answers_all Allows start no_memory refused status text source source' sink sink' is answers written =
     subst (λ (s : Status). Answers Allows start s source source' sink sink') (sym is) record {
-      text = text;
-      course = by_all Allows start no_memory refused text source source' answers;
-      written = written_all no_memory refused sink sink' text written;
+      text = printed text [];
+      course = by_all Allows start no_memory refused (printed text []) source source' answers;
+      written = written_all no_memory refused sink sink' (printed text []) (written_whole sink sink' text written);
     }
 
 pub ends : {S : Type 0} (Allows : S → List ℕ → Answer → S → Type 0) (start state : S) (marks : Marks) (source mid sink sink' : Option (List ℕ)) (count : ℕ) (held : List ℕ) (left : Option (List ℕ)) (line : List ℕ) (status : Status)
@@ -128,67 +136,87 @@ ends_last Allows start old new marks marks' source mid sink sink' sink'' count h
 -- ---- at a fault of the source
 
 pub read_fails : {S : Type 0} (Allows : S → List ℕ → Answer → S → Type 0) (start state : S) (marks : Marks) (source mid sink sink' : Option (List ℕ)) (count : ℕ) (held : List ℕ) (left : Option (List ℕ)) (line : List ℕ)
-    → Progress Allows start state marks source mid sink sink' count → Consumes mid (prepend_known held left) line → IsOpenLine LINE_LIMIT line → held ≡ [] → Answers Allows start ReadFault source left sink sink'
-read_fails Allows start state marks source mid sink sink' count held left line p taken open_line none =
+    → Progress Allows start state marks source mid sink sink' count → count ≤ MAX_LINES → Consumes mid (prepend_known held left) line → IsOpenLine LINE_LIMIT line → held ≡ [] → Answers Allows start ReadFault source left sink sink'
+read_fails Allows start state marks source mid sink sink' count held left line p few taken open_line none =
     let t = p.transcript in
     let both = Consumes-trans source mid (prepend_known held left) (input_of t) line p.taken taken in
     record {
-      text = output_of t;
+      text = printed (output_of t) [];
       course = record {
         transcript = t;
         state = state;
         legal = p.legal;
         whole = p.whole;
+        count = omega (arith, p.count_is, few);
         begun = line;
-        no_end = open_line.no_end;
+        open_line = open_line;
         taken = taken_with_none source held left (input_of t ++ line) none both;
         text_is = refl;
       };
-      written = p.written;
+      written = written_whole sink sink' (output_of t) p.written;
+    }
+
+-- ---- at a fault of the sink
+
+-- what was written before, and then a front of the last piece
+cut_at : (a b c : Option (List ℕ)) (before last : List ℕ) → Appends a b before → AppendsFront b c last → AppendsPart a c (printed before last)
+cut_at a b c before last written part = record { count = part.count; written = Appends-trans a b c before (take part.count last) written part.front }
+
+pub write_fails : {S : Type 0} (Allows : S → List ℕ → Answer → S → Type 0) (start old new : S) (marks : Marks) (source mid sink sink' sink'' : Option (List ℕ)) (count : ℕ) (held : List ℕ) (left : Option (List ℕ)) (line : List ℕ)
+    → Progress Allows start old marks source mid sink sink' count → count < MAX_LINES → IsCompleteLine line (prepend_known held left) → Consumes mid (prepend_known held left) line → length held ≤ CHUNK
+    → ServesInPart Allows old new (a_line.text_of line) sink' sink'' → Answers Allows start WriteFault source left sink sink''
+write_fails Allows start old new marks source mid sink sink' sink'' count held left line p few complete taken small serves =
+    let t = p.transcript in
+    record {
+      text = printed (output_of t) (text_of serves.answer);
+      course = inr record {
+        transcript = t;
+        state = old;
+        legal = p.legal;
+        whole = p.whole;
+        count = omega (arith, p.count_is, few);
+        line = line;
+        rest = prepend_known held left;
+        complete = complete;
+        answer = serves.answer;
+        after = new;
+        allowed = serves.allowed;
+        taken = Consumes-trans source mid (prepend_known held left) (input_of t) line p.taken taken;
+        ahead = read_ahead held left small;
+        text_is = refl;
+      };
+      written = cut_at sink sink' sink'' (output_of t) (text_of serves.answer) p.written serves.written;
     }
 
 -- ---- at a line past a limit
 
 pub past_limit : {S : Type 0} (Allows : S → List ℕ → Answer → S → Type 0) (start state : S) (marks : Marks) (source mid sink sink' sink'' : Option (List ℕ)) (count : ℕ) (held : List ℕ) (left : Option (List ℕ)) (line : List ℕ) (status : Status)
-    → Progress Allows start state marks source mid sink sink' count → Consumes mid (prepend_known held left) line → PassesLimit count line
+    → Progress Allows start state marks source mid sink sink' count → count ≤ MAX_LINES → Consumes mid (prepend_known held left) line → PassesLimit count line → length held ≤ CHUNK
     → Tells TooLong too_long_text status sink' sink'' → Answers Allows start status source left sink sink''
-past_limit Allows start state marks source mid sink sink' sink'' count held left line status p taken passes told =
+past_limit Allows start state marks source mid sink sink' sink'' count held left line status p few taken passes small told =
     let t = p.transcript in
-    let both = Consumes-trans source mid (prepend_known held left) (input_of t) line p.taken taken in
-    let stops : StopsAtLimit Allows start (output_of t ++ too_long_text) source left = record {
+    let stops : StopsAtLimit Allows start (printed (output_of t) too_long_text) source left = record {
       transcript = t;
       state = state;
       legal = p.legal;
       whole = p.whole;
+      count = omega (arith, p.count_is, few);
       begun = line;
       passes = subst (λ (n : ℕ). PassesLimit n line) (sym p.count_is) passes;
-      held = held;
-      taken = taken_with_held source held left (input_of t ++ line) both;
+      rest = prepend_known held left;
+      taken = Consumes-trans source mid (prepend_known held left) (input_of t) line p.taken taken;
+      ahead = read_ahead held left small;
       text_is = refl;
     } in
     elim told [
-      | inl w ↦ subst (λ (s : Status). Answers Allows start s source left sink sink'') (sym w.0) record { text = output_of t ++ too_long_text; course = stops; written = Appends-trans sink sink' sink'' (output_of t) too_long_text p.written w.1 }
-      | inr w ↦ subst (λ (s : Status). Answers Allows start s source left sink sink'') (sym w.0) record { text = output_of t ++ too_long_text; course = inl stops; written = front_of_second sink sink' sink'' (output_of t) too_long_text p.written w.1 }
+      | inl w ↦ subst (λ (s : Status). Answers Allows start s source left sink sink'') (sym w.0) record {
+        text = printed (output_of t) too_long_text;
+        course = stops;
+        written = Appends-trans sink sink' sink'' (output_of t) too_long_text p.written w.1;
+      }
+      | inr w ↦ subst (λ (s : Status). Answers Allows start s source left sink sink'') (sym w.0) record {
+        text = printed (output_of t) too_long_text;
+        course = inl stops;
+        written = cut_at sink sink' sink'' (output_of t) too_long_text p.written w.1;
+      }
     ]
-
--- ---- at a fault of the sink
-
-pub write_fails : {S : Type 0} (Allows : S → List ℕ → Answer → S → Type 0) (start old new : S) (marks : Marks) (source mid sink sink' sink'' : Option (List ℕ)) (count : ℕ) (held : List ℕ) (left : Option (List ℕ)) (line : List ℕ)
-    → Progress Allows start old marks source mid sink sink' count → IsLine line → Consumes mid (prepend_known held left) line → ServesInPart Allows old new (a_line.text_of line) sink' sink'' → Answers Allows start WriteFault source left sink sink''
-write_fails Allows start old new marks source mid sink sink' sink'' count held left line p is_line taken serves =
-    let t = p.transcript in
-    let both = Consumes-trans source mid (prepend_known held left) (input_of t) line p.taken taken in
-    let part : AppendsFront sink sink'' (output_of t ++ text_of serves.answer) = front_of_second sink sink' sink'' (output_of t) (text_of serves.answer) p.written serves.written in
-    record {
-      text = output_of (t ++ (line, serves.answer) ∷ []);
-      course = inr record {
-        transcript = t ++ (line, serves.answer) ∷ [];
-        state = new;
-        legal = Legal-push Allows start old new t line serves.answer p.legal serves.allowed;
-        each = rw lines-push (All-push IsLine (lines t) line (each_line t p.whole) is_line);
-        held = held;
-        taken = rw input_of-push (taken_with_held source held left (input_of t ++ line) both);
-        text_is = refl;
-      };
-      written = subst (λ (l : List ℕ). AppendsFront sink sink'' l) (sym (output_of-push t line serves.answer)) part;
-    }

@@ -17,6 +17,14 @@ pub data Answer : Type 0 where
   refused : Refusal → Answer
   no_memory : Answer
 
+-- what is printed: one text, and then a last piece, of which a failed write leaves a front
+pub record Printing : Type 0 where
+  pub before : List ℕ
+  pub last : List ℕ
+
+abbrev pub printed : List ℕ → List ℕ → Printing
+printed before last = record { before = before; last = last }
+
 -- a line with its line feed
 abbrev pub ended : List ℕ → List ℕ
 ended line = line ++ 10 ∷ []

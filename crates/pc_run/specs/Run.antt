@@ -1,15 +1,15 @@
 -- What a run says by its status: what was to be printed, and how much of it was.
-use Rattle.std.specs.Prelude.{◌≡◌, ℕ, ◌⊎◌, List, [], ◌∷◌, ◌++◌, codes, String, string_bytes, map}
+use Rattle.std.specs.Prelude.{◌≡◌, ℕ, ◌⊎◌, List, [], ◌∷◌, ◌++◌, codes, String, string_bytes, map, take}
 use Rattle.std.specs.declared.alloc.Global.{Global}
 use Rattle.std.specs.declared.option.Option.{Option}
-use Rattle.std.specs.Io.KnownBytes.{Consumes, Appends}
+use Rattle.std.specs.Io.KnownBytes.{Appends}
 use Rattle.pc_port.specs.Port.{AppendsFront}
 use Rattle.pc_run.specs.declared.status.Status.{Status}
 use Rattle.pc_run.specs.declared.status.Status.TheVariants.{Done, SomeRefused, Usage, SheetRefused, ReadFault, WriteFault, Memory, TooLong}
-use Rattle.pc_run.specs.Answer.{Answer, ended, refusal_text}
+use Rattle.pc_run.specs.Answer.{Answer, Printing, printed, ended, refusal_text}
 use Rattle.pc_run.specs.declared.machine.Refusal.TheVariants.{NotYet}
 use Rattle.pc_run.specs.Transcript.{AnswersAll, AnswersTaken, StopsAtLimit, AnswersSome, too_long_text}
-use Rattle.pc_run.specs.SheetPart.{TakesSheet, StopsInSheet, PassesSheetLimit, HasTaken}
+use Rattle.pc_run.specs.SheetPart.{IsReadAhead, TakesSheet, StopsInSheet, PassesSheetLimit, HasTaken}
 
 -- the one word `replay`
 abbrev pub AreReplay : List (String Global) → Type 0
@@ -28,24 +28,23 @@ abbrev pub sheet_refused_text : List ℕ
 sheet_refused_text = ended (codes "sheet refused " ++ refusal_text NotYet)
 
 -- There was no room for a line. Nothing was read.
-pub record LacksRoom (text : List ℕ) (source source' : Option (List ℕ)) : Type 0 where
+pub record LacksRoom (text : Printing) (source source' : Option (List ℕ)) : Type 0 where
   pub unread : source' ≡ source
-  pub text_is : text ≡ memory_text
+  pub text_is : text ≡ printed [] memory_text
 
--- There was no memory for the sheet, of which so much was read.
-pub record LacksMemoryForSheet (text : List ℕ) (source source' : Option (List ℕ)) : Type 0 where
+-- There was no memory for the sheet, of which so much was taken.
+pub record LacksMemoryForSheet (text : Printing) (source source' : Option (List ℕ)) : Type 0 where
   pub taken : HasTaken source source'
-  pub text_is : text ≡ sheet_memory_text
+  pub text_is : text ≡ printed [] sheet_memory_text
 
--- The sheet's part was taken, and no sheet is read from it. So much of what follows was read too.
-pub record RefusesSheet {S : Type 0} (IsSheet : List ℕ → S → Type 0) (text : List ℕ) (source source' : Option (List ℕ)) : Type 0 where
+-- The sheet's part was taken, and no sheet is read from it. Nothing more is.
+pub record RefusesSheet {S : Type 0} (IsSheet : List ℕ → S → Type 0) (text : Printing) (source source' : Option (List ℕ)) : Type 0 where
   pub sheet : List ℕ
   pub rest : Option (List ℕ)
   pub takes : TakesSheet sheet source rest
   pub none : (start : S) → ¬ IsSheet sheet start
-  pub held : List ℕ
-  pub more : Consumes rest source' held
-  pub text_is : text ≡ sheet_refused_text
+  pub ahead : IsReadAhead rest source'
+  pub text_is : text ≡ printed [] sheet_refused_text
 
 -- The sheet's part was taken, a sheet is read from it, and from its state the rest of the input goes on so.
 pub record Opens {S : Type 0} (IsSheet : List ℕ → S → Type 0) (GoesOn : S → Option (List ℕ) → Type 0) (source : Option (List ℕ)) : Type 0 where
@@ -57,22 +56,22 @@ pub record Opens {S : Type 0} (IsSheet : List ℕ → S → Type 0) (GoesOn : S 
   pub goes_on : GoesOn start rest
 
 -- the sheet's part is too long, and this is told
-pub record HasLongSheet (text : List ℕ) (source source' : Option (List ℕ)) : Type 0 where
+pub record HasLongSheet (text : Printing) (source source' : Option (List ℕ)) : Type 0 where
   pub passes : PassesSheetLimit source source'
-  pub text_is : text ≡ too_long_text
+  pub text_is : text ≡ printed [] too_long_text
 
 -- reading the sheet failed, and nothing was to be printed
-pub record FailsInSheet (text : List ℕ) (source source' : Option (List ℕ)) : Type 0 where
+pub record FailsInSheet (text : Printing) (source source' : Option (List ℕ)) : Type 0 where
   pub stops : StopsInSheet source source'
-  pub text_is : text ≡ []
+  pub text_is : text ≡ printed [] []
 
 -- the words don't fit: the input is left as it was
-pub record TellsUsage (text : List ℕ) (source source' : Option (List ℕ)) : Type 0 where
+pub record TellsUsage (text : Printing) (source source' : Option (List ℕ)) : Type 0 where
   pub unread : source' ≡ source
-  pub text_is : text ≡ usage_text
+  pub text_is : text ≡ printed [] usage_text
 
 -- what was to be printed where a write failed
-pub data IsCut {S : Type 0} (IsSheet : List ℕ → S → Type 0) (Allows : S → List ℕ → Answer → S → Type 0) (text : List ℕ) (source source' : Option (List ℕ)) : Type 0 where
+pub data IsCut {S : Type 0} (IsSheet : List ℕ → S → Type 0) (Allows : S → List ℕ → Answer → S → Type 0) (text : Printing) (source source' : Option (List ℕ)) : Type 0 where
   at_memory : LacksRoom text source source' → IsCut IsSheet Allows text source source'
   at_sheet_memory : LacksMemoryForSheet text source source' → IsCut IsSheet Allows text source source'
   at_sheet : RefusesSheet IsSheet text source source' → IsCut IsSheet Allows text source source'
@@ -81,7 +80,7 @@ pub data IsCut {S : Type 0} (IsSheet : List ℕ → S → Type 0) (Allows : S �
   at_answer : Opens IsSheet (λ start rest. AnswersSome Allows start text rest source') source → IsCut IsSheet Allows text source source'
 
 -- With the word `replay`: what was taken from the input at this status, and the text that was to be printed.
-abbrev pub Replays : {S : Type 0} → (List ℕ → S → Type 0) → (S → List ℕ → Answer → S → Type 0) → Status → List ℕ → Option (List ℕ) → Option (List ℕ) → Type 0
+abbrev pub Replays : {S : Type 0} → (List ℕ → S → Type 0) → (S → List ℕ → Answer → S → Type 0) → Status → Printing → Option (List ℕ) → Option (List ℕ) → Type 0
 Replays IsSheet Allows Done text source source' = Opens IsSheet (λ start rest. AnswersAll Allows start Done text rest source') source
 Replays IsSheet Allows SomeRefused text source source' = Opens IsSheet (λ start rest. AnswersAll Allows start SomeRefused text rest source') source
 Replays IsSheet Allows Usage text source source' = ⊥
@@ -93,30 +92,35 @@ Replays IsSheet Allows Memory text source source' =
 Replays IsSheet Allows TooLong text source source' = HasLongSheet text source source' ⊎ Opens IsSheet (λ start rest. StopsAtLimit Allows start text rest source') source
 
 -- With other words the usage line alone is printed.
-abbrev pub Declines : Status → List ℕ → Option (List ℕ) → Option (List ℕ) → Type 0
+abbrev pub Declines : Status → Printing → Option (List ℕ) → Option (List ℕ) → Type 0
 Declines Usage text source source' = TellsUsage text source source'
 Declines WriteFault text source source' = TellsUsage text source source'
 Declines status text source source' = ⊥
 
--- all of the text was written, but where a write failed a front of it
-abbrev pub IsWritten : Status → Option (List ℕ) → Option (List ℕ) → List ℕ → Type 0
-IsWritten WriteFault sink sink' text = AppendsFront sink sink' text
-IsWritten status sink sink' text = Appends sink sink' text
+-- the text was written but for the last piece, of which a front was
+pub record AppendsPart (sink sink' : Option (List ℕ)) (text : Printing) : Type 0 where
+  pub count : ℕ
+  pub written : Appends sink sink' (text.before ++ take count text.last)
+
+-- all of the text was written, but where a write failed a front of its last piece
+abbrev pub IsWritten : Status → Option (List ℕ) → Option (List ℕ) → Printing → Type 0
+IsWritten WriteFault sink sink' text = AppendsPart sink sink' text
+IsWritten status sink sink' text = Appends sink sink' (text.before ++ text.last)
 
 -- what was to be printed with the word `replay`, and how much of it was
 pub record Replayed {S : Type 0} (IsSheet : List ℕ → S → Type 0) (Allows : S → List ℕ → Answer → S → Type 0) (status : Status) (source source' sink sink' : Option (List ℕ)) : Type 0 where
-  pub text : List ℕ
+  pub text : Printing
   pub course : Replays IsSheet Allows status text source source'
   pub written : IsWritten status sink sink' text
 
 -- what was to be printed with these words, and how much of it was
 pub record Runs {S : Type 0} (IsSheet : List ℕ → S → Type 0) (Allows : S → List ℕ → Answer → S → Type 0) (words : List (String Global)) (status : Status) (source source' sink sink' : Option (List ℕ)) : Type 0 where
-  pub text : List ℕ
+  pub text : Printing
   pub course : (AreReplay words × Replays IsSheet Allows status text source source') ⊎ ((¬ AreReplay words) × Declines status text source source')
   pub written : IsWritten status sink sink' text
 
 -- how the command lines were answered at this status, and the text that was to be printed
-abbrev pub AnswersBy : {S : Type 0} → (S → List ℕ → Answer → S → Type 0) → S → Status → List ℕ → Option (List ℕ) → Option (List ℕ) → Type 0
+abbrev pub AnswersBy : {S : Type 0} → (S → List ℕ → Answer → S → Type 0) → S → Status → Printing → Option (List ℕ) → Option (List ℕ) → Type 0
 AnswersBy Allows start Done text source source' = AnswersAll Allows start Done text source source'
 AnswersBy Allows start SomeRefused text source source' = AnswersAll Allows start SomeRefused text source source'
 AnswersBy Allows start Memory text source source' = AnswersAll Allows start Memory text source source'
@@ -127,7 +131,7 @@ AnswersBy Allows start status text source source' = ⊥
 
 -- what was to be printed for the command lines, and how much of it was
 pub record Answers {S : Type 0} (Allows : S → List ℕ → Answer → S → Type 0) (start : S) (status : Status) (source source' sink sink' : Option (List ℕ)) : Type 0 where
-  pub text : List ℕ
+  pub text : Printing
   pub course : AnswersBy Allows start status text source source'
   pub written : IsWritten status sink sink' text
 

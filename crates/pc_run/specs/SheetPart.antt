@@ -1,11 +1,12 @@
 -- The part of the input that is the sheet: the lines up to and with the first that is `begin`, or all of it.
-use Rattle.std.specs.Prelude.{◌≡◌, ℕ, ◌<◌, ◌≤◌, ◌⊎◌, List, ◌++◌, length, codes, All, Vec, Result, Ok, Err}
+use Rattle.std.specs.Prelude.{◌≡◌, ℕ, ◌+◌, ◌<◌, ◌≤◌, ◌⊎◌, List, ◌++◌, length, codes, All, Vec, Result, Ok, Err}
 use Rattle.std.specs.declared.alloc.Global.{Global}
 use Rattle.std.specs.declared.option.Option.{Option}
 use Rattle.std.specs.List.{flat_map}
 use Rattle.std.specs.Str.{IsUtf8}
 use Rattle.std.specs.Io.KnownBytes.{Consumes, IsAtEnd}
 use Rattle.pc_lines.specs.Lines.{HasNoEnd, IsWholeLine, text_of}
+use Rattle.pc_lines.specs.declared.TheConstants.{CHUNK}
 use Rattle.pc_token.specs.Line.{IsOneName}
 use Rattle.pc_run.specs.declared.TheConstants.{SHEET_LIMIT}
 use Rattle.pc_run.specs.declared.sheet.Step.{Step}
@@ -45,23 +46,50 @@ pub record TakesSheet (text : List ℕ) (source rest : Option (List ℕ)) : Type
   pub part : IsSheetPart text rest
   pub small : length text ≤ SHEET_LIMIT
 
--- what was taken is complete lines of the sheet and the start of another
+-- Nothing more was taken. Of what was still to come a reader holds so much, no more than one read gives.
+pub record IsReadAhead (rest source' : Option (List ℕ)) : Type 0 where
+  pub held : List ℕ
+  pub more : Consumes rest source' held
+  pub few : length held ≤ CHUNK
+
+-- a line of the sheet, or its start
+abbrev pub IsLineFront : List ℕ → Type 0
+IsLineFront line = HasNoEnd line ⊎ IsWholeLine SHEET_LIMIT line
+
+-- the text is complete lines before `begin`, and one line more or its start
+pub record IsSheetFront (text : List ℕ) : Type 0 where
+  pub earlier : List (List ℕ)
+  pub last : List ℕ
+  pub is : text ≡ joined earlier ++ last
+  pub others : All IsEarlier earlier
+  pub one_line : IsLineFront last
+
+-- what was taken is complete lines of the sheet and the start of another, within the limit
 pub record StopsInSheet (source source' : Option (List ℕ)) : Type 0 where
   pub earlier : List (List ℕ)
   pub others : All IsEarlier earlier
   pub begun : List ℕ
   pub no_end : HasNoEnd begun
+  pub small : length (joined earlier ++ begun) ≤ SHEET_LIMIT
   pub taken : Consumes source source' (joined earlier ++ begun)
 
--- the sheet's part is longer than it may be. So much of what follows was read too.
+-- what was taken of the sheet's part is one byte longer than it may be
 pub record PassesSheetLimit (source source' : Option (List ℕ)) : Type 0 where
-  pub earlier : List (List ℕ)
-  pub others : All IsEarlier earlier
-  pub begun : List ℕ
-  pub one_line : HasNoEnd begun ⊎ IsWholeLine SHEET_LIMIT begun
-  pub long : SHEET_LIMIT < length (joined earlier ++ begun)
-  pub held : List ℕ
-  pub taken : Consumes source source' ((joined earlier ++ begun) ++ held)
+  pub text : List ℕ
+  pub front : IsSheetFront text
+  pub long : length text ≡ SHEET_LIMIT + 1
+  pub rest : Option (List ℕ)
+  pub taken : Consumes source rest text
+  pub ahead : IsReadAhead rest source'
+
+-- so much of the sheet's part was taken, within the limit
+pub record HasTaken (source source' : Option (List ℕ)) : Type 0 where
+  pub text : List ℕ
+  pub front : IsSheetFront text
+  pub small : length text ≤ SHEET_LIMIT
+  pub rest : Option (List ℕ)
+  pub taken : Consumes source rest text
+  pub ahead : IsReadAhead rest source'
 
 -- a line of the sheet was taken and stands behind the text, within the limit
 pub record TakesLine (old new : List ℕ) (source rest : Option (List ℕ)) (P : List ℕ → Type 0) : Type 0 where
@@ -71,32 +99,27 @@ pub record TakesLine (old new : List ℕ) (source rest : Option (List ℕ)) (P :
   pub taken : Consumes source rest line
   pub small : length new ≤ SHEET_LIMIT
 
--- with the start of a further line the text is longer than it may be. So much of what follows was read too.
-pub record HasLongLine (old : List ℕ) (source source' : Option (List ℕ)) : Type 0 where
-  pub begun : List ℕ
-  pub one_line : HasNoEnd begun ⊎ IsWholeLine SHEET_LIMIT begun
-  pub long : SHEET_LIMIT < length (old ++ begun)
-  pub held : List ℕ
-  pub taken : Consumes source source' (begun ++ held)
-
--- the start of a further line was taken
-pub record HasOpenLine (source source' : Option (List ℕ)) : Type 0 where
+-- the start of a further line was taken, and with it the text is within the limit
+pub record HasOpenLine (old : List ℕ) (source source' : Option (List ℕ)) : Type 0 where
   pub begun : List ℕ
   pub no_end : HasNoEnd begun
+  pub small : length (old ++ begun) ≤ SHEET_LIMIT
   pub taken : Consumes source source' begun
 
--- so much was taken
-pub record HasTaken (source source' : Option (List ℕ)) : Type 0 where
-  pub bytes : List ℕ
-  pub taken : Consumes source source' bytes
+-- a further line or its start was taken, and with it the text has such a length
+pub record HasLineOf (P : ℕ → Type 0) (old : List ℕ) (source rest : Option (List ℕ)) : Type 0 where
+  pub line : List ℕ
+  pub one_line : IsLineFront line
+  pub size : P (length (old ++ line))
+  pub taken : Consumes source rest line
 
 -- what taking a further line of the sheet does to its text. Rest is still to come, and of that the source has left source'.
 abbrev pub StepGives : Result Step SheetStop → List ℕ → List ℕ → Option (List ℕ) → Option (List ℕ) → Option (List ℕ) → Type 0
 StepGives (Ok More) old new source rest source' = TakesLine old new source rest IsEarlier
 StepGives (Ok Complete) old new source rest source' = TakesLine old new source rest (λ line. EndsSheet line rest)
-StepGives (Err Failed) old new source rest source' = HasOpenLine source source'
-StepGives (Err TooLong) old new source rest source' = HasLongLine old source source'
-StepGives (Err Memory) old new source rest source' = HasTaken source source'
+StepGives (Err Failed) old new source rest source' = HasOpenLine old source source'
+StepGives (Err TooLong) old new source rest source' = HasLineOf (λ size. size ≡ SHEET_LIMIT + 1) old source rest
+StepGives (Err Memory) old new source rest source' = HasLineOf (λ size. size ≤ SHEET_LIMIT) old source rest
 
 -- what was taken where the sheet's part was not
 abbrev pub StopsSheet : SheetStop → Option (List ℕ) → Option (List ℕ) → Type 0
@@ -112,4 +135,4 @@ SheetGives (Err stop) source rest source' = StopsSheet stop source source'
 abbrev pub IsNotAppended : SheetStop → List ℕ → List ℕ → Type 0
 IsNotAppended Failed old line = ⊥
 IsNotAppended TooLong old line = SHEET_LIMIT < length (old ++ line)
-IsNotAppended Memory old line = Unit {0}
+IsNotAppended Memory old line = length (old ++ line) ≤ SHEET_LIMIT

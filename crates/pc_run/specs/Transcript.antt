@@ -3,12 +3,13 @@ use Rattle.std.specs.Prelude.{◌≡◌, ℕ, Bool, ◌<◌, ◌≤◌, ◌⊎�
 use Rattle.std.specs.declared.option.Option.{Option}
 use Rattle.std.specs.List.{flat_map, list_any}
 use Rattle.std.specs.Io.KnownBytes.{Consumes, IsAtEnd}
-use Rattle.pc_lines.specs.Lines.{lines_of, HasNoEnd, IsWholeLine, IsOpenLine, IsLongStart}
+use Rattle.pc_lines.specs.Lines.{lines_of, IsWholeLine, IsOpenLine, IsLongStart}
 use Rattle.pc_lines.specs.Lines as a_line
 use Rattle.pc_run.specs.declared.TheConstants.{LINE_LIMIT, MAX_LINES}
 use Rattle.pc_run.specs.declared.status.Status.{Status}
 use Rattle.pc_run.specs.declared.status.Status.TheVariants.{Done, SomeRefused, Memory}
-use Rattle.pc_run.specs.Answer.{Answer, ended, text_of, is_refused, is_no_memory}
+use Rattle.pc_run.specs.Answer.{Answer, Printing, printed, ended, text_of, is_refused, is_no_memory}
+use Rattle.pc_run.specs.SheetPart.{IsReadAhead}
 
 -- command lines as they stand in the input, each with its end and with its answer
 abbrev pub Transcript : Type 0
@@ -44,7 +45,7 @@ abbrev pub IsLine : List ℕ → Type 0
 IsLine line = IsWholeLine LINE_LIMIT line ⊎ IsOpenLine LINE_LIMIT line
 
 -- Each line up to the end of the input was answered, and this was to be printed.
-pub record AnswersAll {S : Type 0} (Allows : S → List ℕ → Answer → S → Type 0) (start : S) (status : Status) (text : List ℕ) (source source' : Option (List ℕ)) : Type 0 where
+pub record AnswersAll {S : Type 0} (Allows : S → List ℕ → Answer → S → Type 0) (start : S) (status : Status) (text : Printing) (source source' : Option (List ℕ)) : Type 0 where
   pub transcript : Transcript
   pub state : S
   pub legal : Legal Allows start transcript state
@@ -54,42 +55,56 @@ pub record AnswersAll {S : Type 0} (Allows : S → List ℕ → Answer → S →
   pub all : lines transcript ≡ lines_of commands
   pub each : All IsLine (lines transcript)
   pub count : length transcript ≤ MAX_LINES
-  pub text_is : text ≡ output_of transcript
+  pub text_is : text ≡ printed (output_of transcript) []
   pub status_is : status ≡ status_of transcript
 
 -- The complete lines that were taken were answered, and the start of another was read.
-pub record AnswersTaken {S : Type 0} (Allows : S → List ℕ → Answer → S → Type 0) (start : S) (text : List ℕ) (source source' : Option (List ℕ)) : Type 0 where
+pub record AnswersTaken {S : Type 0} (Allows : S → List ℕ → Answer → S → Type 0) (start : S) (text : Printing) (source source' : Option (List ℕ)) : Type 0 where
   pub transcript : Transcript
   pub state : S
   pub legal : Legal Allows start transcript state
   pub whole : All (IsWholeLine LINE_LIMIT) (lines transcript)
+  pub count : length transcript ≤ MAX_LINES
   pub begun : List ℕ
-  pub no_end : HasNoEnd begun
+  pub open_line : IsOpenLine LINE_LIMIT begun
   pub taken : Consumes source source' (input_of transcript ++ begun)
-  pub text_is : text ≡ output_of transcript
+  pub text_is : text ≡ printed (output_of transcript) []
 
 -- the next line is longer than a line may be, or is one line more than there may be
 abbrev pub PassesLimit : ℕ → List ℕ → Type 0
-PassesLimit count begun = IsLongStart LINE_LIMIT begun ⊎ ((count ≡ MAX_LINES) × (0 < length begun))
+PassesLimit count begun = IsLongStart LINE_LIMIT begun ⊎ ((count ≡ MAX_LINES) × IsLine begun × (0 < length begun))
 
--- The lines before one that passes a limit were answered, and then that it does. So much of what follows was read too.
-pub record StopsAtLimit {S : Type 0} (Allows : S → List ℕ → Answer → S → Type 0) (start : S) (text : List ℕ) (source source' : Option (List ℕ)) : Type 0 where
+-- The lines before one that passes a limit were answered, and then that it does.
+pub record StopsAtLimit {S : Type 0} (Allows : S → List ℕ → Answer → S → Type 0) (start : S) (text : Printing) (source source' : Option (List ℕ)) : Type 0 where
   pub transcript : Transcript
   pub state : S
   pub legal : Legal Allows start transcript state
   pub whole : All (IsWholeLine LINE_LIMIT) (lines transcript)
+  pub count : length transcript ≤ MAX_LINES
   pub begun : List ℕ
   pub passes : PassesLimit (length transcript) begun
-  pub held : List ℕ
-  pub taken : Consumes source source' ((input_of transcript ++ begun) ++ held)
-  pub text_is : text ≡ output_of transcript ++ too_long_text
+  pub rest : Option (List ℕ)
+  pub taken : Consumes source rest (input_of transcript ++ begun)
+  pub ahead : IsReadAhead rest source'
+  pub text_is : text ≡ printed (output_of transcript) too_long_text
 
--- The complete lines that were taken were to be answered. So much of what follows was read too.
-pub record AnswersSome {S : Type 0} (Allows : S → List ℕ → Answer → S → Type 0) (start : S) (text : List ℕ) (source source' : Option (List ℕ)) : Type 0 where
+-- a line with its line feed, or the last of the input, behind which nothing follows
+abbrev pub IsCompleteLine : List ℕ → Option (List ℕ) → Type 0
+IsCompleteLine line rest = IsWholeLine LINE_LIMIT line ⊎ (IsOpenLine LINE_LIMIT line × (0 < length line) × IsAtEnd rest)
+
+-- The lines before one were answered, and then that one was to be.
+pub record AnswersSome {S : Type 0} (Allows : S → List ℕ → Answer → S → Type 0) (start : S) (text : Printing) (source source' : Option (List ℕ)) : Type 0 where
   pub transcript : Transcript
   pub state : S
   pub legal : Legal Allows start transcript state
-  pub each : All IsLine (lines transcript)
-  pub held : List ℕ
-  pub taken : Consumes source source' (input_of transcript ++ held)
-  pub text_is : text ≡ output_of transcript
+  pub whole : All (IsWholeLine LINE_LIMIT) (lines transcript)
+  pub count : length transcript < MAX_LINES
+  pub line : List ℕ
+  pub rest : Option (List ℕ)
+  pub complete : IsCompleteLine line rest
+  pub answer : Answer
+  pub after : S
+  pub allowed : Allows state (a_line.text_of line) answer after
+  pub taken : Consumes source rest (input_of transcript ++ line)
+  pub ahead : IsReadAhead rest source'
+  pub text_is : text ≡ printed (output_of transcript) (text_of answer)

@@ -2,6 +2,7 @@
 ghost use Rattle.std.specs.Prelude.{◌≡◌, ◌≤◌, ◌↔◌, ℕ, List, Option, length, IsTrue};
 ghost use Rattle.pc_port.specs.Port.{Rose};
 ghost use Rattle.pc_lines.specs.Reader.{coming};
+ghost use Rattle.pc_lines.specs.declared.TheConstants.{CHUNK};
 ghost use Rattle.pc_run.specs.SheetPart.{TakesSheet};
 ghost use Rattle.pc_run.specs.Run.{AreReplay, Replayed, Runs};
 
@@ -41,6 +42,7 @@ fn open<M: Machine, I: Source, O: Sink>(
 ) -> Status
     requires longest { reader.old.longest ≡ SHEET_LIMIT }
     requires small { length sheet.now ≤ SHEET_LIMIT }
+    requires few { length reader.old.held ≤ CHUNK }
     ensures replayed { (source : Option (List ℕ)) → TakesSheet sheet.now source (coming reader.old (I.left input.old))
         → Replayed M.IsSheet M.Allows result source (I.left input.new) (O.given out.old) (O.given out.new) }
     ensures read_fault { result ≡ Status.ReadFault → Rose (I.faults input.old) (I.faults input.new) }

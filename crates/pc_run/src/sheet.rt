@@ -2,6 +2,7 @@
 ghost use Rattle.std.specs.Prelude.{◌≡◌, ◌≤◌, ◌↔◌, ◌++◌, length, IsTrue, IfErr, OnOk};
 ghost use Rattle.pc_port.specs.Port.{Rose};
 ghost use Rattle.pc_lines.specs.Reader.{coming};
+ghost use Rattle.pc_lines.specs.declared.TheConstants.{CHUNK};
 ghost use Rattle.pc_run.specs.SheetPart.{IsBegin, IsNotAppended, SheetGives, StepGives};
 
 use crate::SHEET_LIMIT;
@@ -72,6 +73,7 @@ fn take_line<I: Source>(
     requires small { length text.old.items ≤ SHEET_LIMIT }
     ensures gives { StepGives result text.old.items text.new.items (coming reader.old (I.left input.old)) (coming reader.new (I.left input.new)) (I.left input.new) }
     ensures longest { reader.new.longest ≡ reader.old.longest }
+    ensures few { length reader.new.held ≤ CHUNK }
     ensures later { I.faults input.old ≤ I.faults input.new }
     ensures cause { result ≡ Err SheetStop.Failed → Rose (I.faults input.old) (I.faults input.new) }
 {
@@ -100,6 +102,7 @@ pub(crate) fn take_sheet<I: Source>(
     requires { reader.old.longest ≡ SHEET_LIMIT }
     ensures gives { SheetGives result (coming reader.old (I.left input.old)) (coming reader.new (I.left input.new)) (I.left input.new) }
     ensures longest { reader.new.longest ≡ reader.old.longest }
+    ensures few { length reader.new.held ≤ CHUNK }
     ensures later { I.faults input.old ≤ I.faults input.new }
     ensures cause { result ≡ Err SheetStop.Failed → Rose (I.faults input.old) (I.faults input.new) }
 {

@@ -1,4 +1,4 @@
-use Rattle.std.proofs.Common.{◌≡◌, ℕ, List, ◌≤◌, ◌<◌, ◌+◌, length, ap, subst, arith, inl, inr, ◌∙◌}
+use Rattle.std.proofs.Common.{◌≡◌, ℕ, List, ◌≤◌, ◌<◌, length, ap, subst, arith, inl, inr, ◌∙◌}
 use Rattle.std.proofs.lemmas.List.{length_push}
 use Rattle.pc_lines.specs.Lines.{before_end}
 use Rattle.pc_lines.proofs.Ends.{text_of-open}
@@ -21,7 +21,8 @@ next-requires g c = c.loop.invariant.room
 
 pub returns-in-Err-clause-answers : goal.returns-in-Err-clause-answers
 returns-in-Err-clause-answers g c =
-    read_fails g.M.Machine.Allows c.args.machine.now c.loop.machine c.loop.marks _ _ _ _ c.loop.counter c.next.new.self.held (g.I.Source.left c.next.new.source) c.next.new.self.line c.loop.invariant.progress c.next.ensures.takes c.in-Err.ensures.taken c.in-Err.ensures.fault
+    let few : c.loop.counter ≤ MAX_LINES = omega arith in
+    read_fails g.M.Machine.Allows c.args.machine.now c.loop.machine c.loop.marks _ _ _ _ c.loop.counter c.next.new.self.held (g.I.Source.left c.next.new.source) c.next.new.self.line c.loop.invariant.progress few c.next.ensures.takes c.in-Err.ensures.taken c.in-Err.ensures.fault
 
 pub returns-in-Ok-End-clause-answers : goal.returns-in-Ok-End-clause-answers
 returns-in-Ok-End-clause-answers g c =
@@ -32,7 +33,8 @@ returns-in-Ok-End-clause-answers g c =
 pub returns-in-Ok-TooLong-clause-answers : goal.returns-in-Ok-TooLong-clause-answers
 returns-in-Ok-TooLong-clause-answers g c =
     let got = rw c.in-Ok-TooLong.field-0-is at c.in-Ok-TooLong.ensures.taken in
-    past_limit g.M.Machine.Allows c.args.machine.now c.loop.machine c.loop.marks _ _ _ _ _ c.loop.counter c.next.new.self.held (g.I.Source.left c.next.new.source) c.next.new.self.line c.end_with.result c.loop.invariant.progress c.next.ensures.takes (inl got) c.end_with.ensures.told
+    let within : c.loop.counter ≤ MAX_LINES = omega arith in
+    past_limit g.M.Machine.Allows c.args.machine.now c.loop.machine c.loop.marks _ _ _ _ _ c.loop.counter c.next.new.self.held (g.I.Source.left c.next.new.source) c.next.new.self.line c.end_with.result c.loop.invariant.progress within c.next.ensures.takes (inl got) c.next.ensures.few c.end_with.ensures.told
 
 pub serve-requires : goal.serve-requires
 serve-requires g c =
@@ -43,7 +45,8 @@ pub returns-in-Err-serve-clause-answers : goal.returns-in-Err-serve-clause-answe
 returns-in-Err-serve-clause-answers g c =
     let got = rw c.in-Ok-Line.field-0-is at c.in-Ok-Line.ensures.taken in
     let serves = subst (λ (line : List ℕ). ServesInPart g.M.Machine.Allows c.loop.machine c.serve.new.machine line (g.O.Sink.given c.loop.out) (g.O.Sink.given c.serve.new.out)) c.text.ensures.text c.in-Err-serve.ensures.err in
-    write_fails g.M.Machine.Allows c.args.machine.now c.loop.machine c.serve.new.machine c.loop.marks _ _ _ _ _ c.loop.counter c.next.new.self.held (g.I.Source.left c.next.new.source) c.next.new.self.line c.loop.invariant.progress (inl got) c.next.ensures.takes serves
+    let few : c.loop.counter < MAX_LINES = omega arith in
+    write_fails g.M.Machine.Allows c.args.machine.now c.loop.machine c.serve.new.machine c.loop.marks _ _ _ _ _ c.loop.counter c.next.new.self.held (g.I.Source.left c.next.new.source) c.next.new.self.line c.loop.invariant.progress few (inl got) c.next.ensures.takes c.next.ensures.few serves
 
 pub loop-preserved : goal.loop-preserved
 loop-preserved g c =
@@ -73,14 +76,16 @@ pub returns-in-Err-serve-2-clause-answers : goal.returns-in-Err-serve-2-clause-a
 returns-in-Err-serve-2-clause-answers g c =
     let got = rw c.in-Ok-Last.field-0-is at c.in-Ok-Last.ensures.taken in
     let serves = subst (λ (line : List ℕ). ServesInPart g.M.Machine.Allows c.loop.machine c.serve-in-Ok-Last.new.machine line (g.O.Sink.given c.loop.out) (g.O.Sink.given c.serve-in-Ok-Last.new.out)) c.text-in-Ok-Last.ensures.text c.in-Err-serve-2.ensures.err in
-    write_fails g.M.Machine.Allows c.args.machine.now c.loop.machine c.serve-in-Ok-Last.new.machine c.loop.marks _ _ _ _ _ c.loop.counter c.next.new.self.held (g.I.Source.left c.next.new.source) c.next.new.self.line c.loop.invariant.progress (inr got.0) c.next.ensures.takes serves
+    let few : c.loop.counter < MAX_LINES = omega arith in
+    write_fails g.M.Machine.Allows c.args.machine.now c.loop.machine c.serve-in-Ok-Last.new.machine c.loop.marks _ _ _ _ _ c.loop.counter c.next.new.self.held (g.I.Source.left c.next.new.source) c.next.new.self.line c.loop.invariant.progress few (inr got) c.next.ensures.takes c.next.ensures.few serves
 
 pub next-requires-2 : goal.next-requires-2
 next-requires-2 g c = c.loop.invariant.room
 
 pub returns-in-Err-next-clause-answers : goal.returns-in-Err-next-clause-answers
 returns-in-Err-next-clause-answers g c =
-    read_fails g.M.Machine.Allows c.args.machine.now c.loop.machine c.loop.marks _ _ _ _ c.loop.counter c.next-2.new.self.held (g.I.Source.left c.next-2.new.source) c.next-2.new.self.line c.loop.invariant.progress c.next-2.ensures.takes c.in-Err-next.ensures.taken c.in-Err-next.ensures.fault
+    let few : c.loop.counter ≤ MAX_LINES = omega arith in
+    read_fails g.M.Machine.Allows c.args.machine.now c.loop.machine c.loop.marks _ _ _ _ c.loop.counter c.next-2.new.self.held (g.I.Source.left c.next-2.new.source) c.next-2.new.self.line c.loop.invariant.progress few c.next-2.ensures.takes c.in-Err-next.ensures.taken c.in-Err-next.ensures.fault
 
 pub returns-in-Ok-End-next-clause-answers : goal.returns-in-Ok-End-next-clause-answers
 returns-in-Ok-End-next-clause-answers g c =
@@ -91,7 +96,8 @@ returns-in-Ok-End-next-clause-answers g c =
 pub returns-in-Ok-TooLong-next-clause-answers : goal.returns-in-Ok-TooLong-next-clause-answers
 returns-in-Ok-TooLong-next-clause-answers g c =
     let got = rw c.in-Ok-TooLong-next.field-0-is at c.in-Ok-TooLong-next.ensures.taken in
-    past_limit g.M.Machine.Allows c.args.machine.now c.loop.machine c.loop.marks _ _ _ _ _ c.loop.counter c.next-2.new.self.held (g.I.Source.left c.next-2.new.source) c.next-2.new.self.line c.end_with-in-Ok-TooLong-next.result c.loop.invariant.progress c.next-2.ensures.takes (inl got)
+    let within : c.loop.counter ≤ MAX_LINES = omega arith in
+    past_limit g.M.Machine.Allows c.args.machine.now c.loop.machine c.loop.marks _ _ _ _ _ c.loop.counter c.next-2.new.self.held (g.I.Source.left c.next-2.new.source) c.next-2.new.self.line c.end_with-in-Ok-TooLong-next.result c.loop.invariant.progress within c.next-2.ensures.takes (inl got) c.next-2.ensures.few
     c.end_with-in-Ok-TooLong-next.ensures.told
 
 pub returns-in-Ok-Line-next-clause-answers : goal.returns-in-Ok-Line-next-clause-answers
@@ -99,12 +105,14 @@ returns-in-Ok-Line-next-clause-answers g c =
     let got = rw c.in-Ok-Line-next.field-0-is at c.in-Ok-Line-next.ensures.taken in
     let all : c.loop.counter ≡ MAX_LINES = omega arith in
     let some : 0 < length c.next-2.new.self.line = omega (arith, ap length got.ends, length_push (before_end c.next-2.new.self.line) 10) in
-    past_limit g.M.Machine.Allows c.args.machine.now c.loop.machine c.loop.marks _ _ _ _ _ c.loop.counter c.next-2.new.self.held (g.I.Source.left c.next-2.new.source) c.next-2.new.self.line c.end_with-in-Ok-Line-next.result c.loop.invariant.progress c.next-2.ensures.takes (inr (all, some))
+    let within : c.loop.counter ≤ MAX_LINES = omega arith in
+    past_limit g.M.Machine.Allows c.args.machine.now c.loop.machine c.loop.marks _ _ _ _ _ c.loop.counter c.next-2.new.self.held (g.I.Source.left c.next-2.new.source) c.next-2.new.self.line c.end_with-in-Ok-Line-next.result c.loop.invariant.progress within c.next-2.ensures.takes (inr (all, inl got, some)) c.next-2.ensures.few
     c.end_with-in-Ok-Line-next.ensures.told
 
 pub returns-in-Ok-Last-next-clause-answers : goal.returns-in-Ok-Last-next-clause-answers
 returns-in-Ok-Last-next-clause-answers g c =
     let got = rw c.in-Ok-Last-next.field-0-is at c.in-Ok-Last-next.ensures.taken in
     let all : c.loop.counter ≡ MAX_LINES = omega arith in
-    past_limit g.M.Machine.Allows c.args.machine.now c.loop.machine c.loop.marks _ _ _ _ _ c.loop.counter c.next-2.new.self.held (g.I.Source.left c.next-2.new.source) c.next-2.new.self.line c.end_with-in-Ok-Last-next.result c.loop.invariant.progress c.next-2.ensures.takes (inr (all, got.1))
+    let within : c.loop.counter ≤ MAX_LINES = omega arith in
+    past_limit g.M.Machine.Allows c.args.machine.now c.loop.machine c.loop.marks _ _ _ _ _ c.loop.counter c.next-2.new.self.held (g.I.Source.left c.next-2.new.source) c.next-2.new.self.line c.end_with-in-Ok-Last-next.result c.loop.invariant.progress within c.next-2.ensures.takes (inr (all, inr got.0, got.1)) c.next-2.ensures.few
     c.end_with-in-Ok-Last-next.ensures.told

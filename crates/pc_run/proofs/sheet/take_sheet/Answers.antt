@@ -14,4 +14,4 @@ loop-text-preserved g c =
 
 pub returns-in-Err-clause-gives : goal.returns-in-Err-clause-gives
 returns-in-Err-clause-gives g c =
-    stops c.in-Err.stop c.loop-text.text.items c.take_line.new.text.items _ _ (coming c.take_line.new.reader (g.I.Source.left c.take_line.new.input)) (g.I.Source.left c.take_line.new.input) c.loop-text.invariant.collected c.in-Err.ensures.gives
+    stops c.in-Err.stop c.loop-text.text.items c.take_line.new.text.items _ _ c.take_line.new.reader.held (g.I.Source.left c.take_line.new.input) c.loop-text.invariant.collected c.take_line.ensures.few c.in-Err.ensures.gives
