@@ -1,11 +1,13 @@
 -- What the reading of a line shows of its answer.
-use Rattle.std.proofs.Common.{◌≡◌, ℕ, List, Bool, true, false, Option, Some, refl, sym, ap, subst, inl, ◌∙◌}
+use Rattle.std.proofs.Common.{◌≡◌, ℕ, List, Bool, true, false, Option, Some, refl, sym, ap, subst, inl, inr, ◌∙◌, codes}
 use Rattle.pc_syntax.specs.declared.tree.Command.{Command}
 use Rattle.pc_syntax.specs.declared.tree.Command.TheVariants.{Enter, Clear, AddRule, DropRule, Budget, Show, Grid, Json, Why, Dump}
 use Rattle.pc_formula.specs.declared.tree.CellTree.{CellTree}
 use Rattle.pc_formula.specs.declared.tree.ValueTree.{ValueTree}
 use Rattle.pc_syntax.specs.Tree.{Cell, Value, Asked, asks_enter, asks_clear, asks_rule, asks_drop, asks_budget, asks_show, asks_grid, asks_json, asks_why, asks_dump, asked_of}
 use Rattle.pc_syntax.specs.Line.{CommandReading, no_command, asks, IsCommandReading, empty_command, spelled_command, TakesNoMemory}
+use Rattle.pc_syntax.proofs.ReadLine.{spelled_reading, spells_show}
+use Rattle.pc_token.specs.Line.{IsOneName}
 use Rattle.pc_sheet.specs.Sheet.{Sheet}
 use Rattle.pc_sheet.specs.declared.ids.Entry.{Entry}
 use Rattle.pc_logic.specs.Edits.{entered}
@@ -26,9 +28,6 @@ small_cell line c v (spelled_command ws spelled is) = ap (λ x. x.args) is.follo
 pub small_value : (line : List ℕ) (c : Cell) (v : Value) → IsCommandReading line (asks (asks_enter c v)) → IsSmallValue v
 small_value line c v (spelled_command ws spelled is) = subst IsSmallValue (sym is.follows.value) tt
 
-pub nothing_takes_none : (line : List ℕ) → IsCommandReading line no_command → TakesNoMemory line
-nothing_takes_none line (empty_command n) = inl n
-
 -- ---- answers
 
 pub silent_line : (old : State) (line : List ℕ) (answer : Answer) → IsCommandReading line no_command → answer ≡ silent → Allows old line answer old
@@ -45,8 +44,8 @@ none_unread old line none shows = λ task. none (asks asks_show) task
 pub unread_line : (old : State) (line : List ℕ) (answer : Answer) → ((r : CommandReading) → IsCommandReading line r → ⊥) → answer ≡ refused NotYet → Allows old line answer old
 unread_line old line answer none is = rw is (none_unread old line none, refl)
 
-pub memory_line : (old : State) (line : List ℕ) (answer : Answer) → ¬ IsCommandReading line no_command → answer ≡ no_memory → Allows old line answer old
-memory_line old line answer something is = rw is (something, refl)
+pub memory_line : (old : State) (line : List ℕ) (answer : Answer) → ¬ TakesNoMemory line → answer ≡ no_memory → Allows old line answer old
+memory_line old line answer takes is = rw is (takes, refl)
 
 -- ---- a line that enters
 
@@ -69,11 +68,21 @@ none_enters old line c v only none (enters e) = λ task.
     none e (subst (λ w. IsSmallEntry old.sheet c w e) (ap (value_in v) same) (subst (λ d. IsSmallEntry old.sheet d task.1 e) (ap (cell_in c) same) task.3))
 none_enters old line c v only none shows = λ task. subst IsEnter (sym (only (asks asks_show) task)) tt
 
+-- a line with the one token `show`, among lines of which one enters
+show_reading : (line : List ℕ) (c : Cell) (v : Value) → IsCommandReading line (asks (asks_enter c v)) → IsOneName line (codes "show") → IsCommandReading line (asks asks_show)
+show_reading line c v (spelled_command ws spelled is) one = spelled_reading line line refl spelled.something spelled.utf8 asks_show (spells_show line one)
+
+enter_takes_memory : (line : List ℕ) (c : Cell) (v : Value) → IsCommandReading line (asks (asks_enter c v)) → ((r : CommandReading) → IsCommandReading line r → r ≡ asks (asks_enter c v)) → ¬ TakesNoMemory line
+enter_takes_memory line c v reading only takes = elim takes [
+  | inl n ↦ subst IsEnter (sym (only no_command (empty_command n))) tt
+  | inr one ↦ subst IsEnter (sym (only (asks asks_show) (show_reading line c v reading one))) tt
+]
+
 pub entered_line : (old new : State) (line : List ℕ) (c : Cell) (v : Value) (reply : Reply) (answer : Answer) → IsCommandReading line (asks (asks_enter c v)) → ((r : CommandReading) → IsCommandReading line r → r ≡ asks (asks_enter c v))
     → Enters old c v reply new → IsAnswer IsDisplay new reply answer → Allows old line answer new
 entered_line old new line c v Accepted answer reading only entered is = rw is (entered.0, (c, v, reading, entered.1), entered.2)
 entered_line old new line c v (Refused NotYet) answer reading only entered is = rw is (none_enters old line c v only entered.0, entered.1)
-entered_line old new line c v Memory answer reading only entered is = rw is (λ task. subst IsEnter (sym (only no_command task)) tt, entered)
+entered_line old new line c v Memory answer reading only entered is = rw is (enter_takes_memory line c v reading only, entered)
 entered_line old new line c v Silent answer reading only entered is = absurd entered
 entered_line old new line c v Shown answer reading only entered is = absurd entered
 

@@ -1,7 +1,7 @@
 -- Which sheets are small enough to be tried out, what a command line asks in a state, and what may answer it.
 use Rattle.std.specs.Prelude.{◌≡◌, ℕ, ◌≤◌, List}
 use Rattle.pc_syntax.specs.Tree.{Declared, Cell, Value, asks_enter, asks_show}
-use Rattle.pc_syntax.specs.Line.{IsCommandReading, no_command, asks}
+use Rattle.pc_syntax.specs.Line.{IsCommandReading, no_command, asks, TakesNoMemory}
 use Rattle.pc_syntax.specs.Sheet.{IsSheet}
 use Rattle.pc_sheet.specs.Sheet.{Sheet}
 use Rattle.pc_sheet.specs.MaximalSets.{AreRulesConsistent}
@@ -67,13 +67,13 @@ IsRefused state line NotYet = IsNotYet state line
 
 -- ---- answers
 
--- In the state, the line may have this answer, and the next state follows. A line that has an answer may want memory instead.
+-- In the state, the line may have this answer, and the next state follows. Any line but one that takes none may want memory instead.
 abbrev pub Allows : State → List ℕ → Answer → State → Type 0
 Allows old line silent new = IsTask old line nothing × (new ≡ old)
 Allows old line accepted new = (e : Entry) × IsTask old line (enters e) × (new ≡ record old { sheet = entered old.sheet e })
 Allows old line (shown text) new = IsTask old line shows × IsShown old.sheet text × (new ≡ old)
 Allows old line (refused r) new = IsRefused old line r × (new ≡ old)
-Allows old line no_memory new = (¬ IsTask old line nothing) × (new ≡ old)
+Allows old line no_memory new = (¬ TakesNoMemory line) × (new ≡ old)
 
 -- the display of a state
 abbrev pub IsDisplay : State → List ℕ → Type 0
