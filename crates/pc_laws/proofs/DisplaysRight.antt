@@ -1,6 +1,6 @@
 -- What the example sheets show, by computing it.
 use Rattle.std.proofs.Common.{refl}
-use Rattle.pc_laws.specs.Examples.{IsRight, chain_without_entries, chain_with_two_ends, chain_with_older_reason, chain_entered_again, effect_of_two, effect_denied, two_pairs, one_value, never_red}
+use Rattle.pc_laws.specs.Examples.{IsRight, chain_without_entries, chain_with_two_ends, chain_with_older_reason, chain_entered_again, effect_of_two, effect_denied, effect_confirmed, two_pairs, one_value, never_red}
 use Rattle.pc_laws.proofs.Finding.{computed}
 
 pub show-chain_without_entries : IsRight chain_without_entries
@@ -20,6 +20,9 @@ show-effect_of_two = computed effect_of_two.sheet effect_of_two.shown refl
 
 pub show-effect_denied : IsRight effect_denied
 show-effect_denied = computed effect_denied.sheet effect_denied.shown refl
+
+pub show-effect_confirmed : IsRight effect_confirmed
+show-effect_confirmed = computed effect_confirmed.sheet effect_confirmed.shown refl
 
 pub show-two_pairs : IsRight two_pairs
 show-two_pairs = computed two_pairs.sheet two_pairs.shown refl

@@ -12,3 +12,5 @@ pub mod Evaluating
 pub mod Finding
 pub mod DisplaysRight
 pub mod TruthsWorked
+pub mod SortingWorked
+pub mod WeightsWorked

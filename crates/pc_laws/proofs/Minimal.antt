@@ -2,8 +2,8 @@
 use Rattle.std.proofs.Common.{◌≡◌, ◌<◌, ◌⊎◌, inl, inr, List, [], ◌∷◌, ◌++◌, length, append_assoc, Contains, arith, ap, refl, sym, ◌∙◌, subst}
 use Rattle.std.proofs.lemmas.List.Elements.{All-cons, All-head, All-tail, All-contains}
 use Rattle.pc_sheet.specs.Sheet.{Sheet}
-use Rattle.pc_sheet.specs.Entailment.{HasEntry, HasAll, IsConsistent, IsSublist, IsImplied}
-use Rattle.pc_sheet.specs.MaximalSets.{IsContained, IsMinimalInconsistent, opposite_of}
+use Rattle.pc_sheet.specs.Entailment.{HasEntry, HasAll, IsConsistent, IsSublist, IsImplied, opposite_of}
+use Rattle.pc_sheet.specs.MaximalSets.{IsContained, IsMinimalInconsistent}
 use Rattle.pc_sheet.specs.declared.ids.Entry.{Entry}
 use Rattle.pc_sheet.specs.declared.ids.ValueId.{ValueId}
 use Rattle.pc_laws.specs.Laws.{ConflictIsInMinimalInconsistent}

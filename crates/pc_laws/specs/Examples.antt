@@ -156,6 +156,18 @@ effect_denied =
           ++ (against 0 red, Some (b ∷ c ∷ [])) ∷ (against 1 red, Some (a ∷ c ∷ [])) ∷ (against 2 green, Some (a ∷ b ∷ [])) ∷ [];
     }
 
+-- where the effect is entered too, as the newest, both causes are its reason: the least support lacks the newest entry, though it has more entries than the other one
+abbrev pub effect_confirmed : Display
+effect_confirmed =
+    let a = entry 0 red in
+    let b = entry 1 red in
+    let c = entry 2 red in
+    record {
+      sheet = effect (a ∷ b ∷ c ∷ []);
+      shown = of_cell 0 (Some (a ∷ [])) None ++ of_cell 1 (Some (b ∷ [])) None ++ of_cell 2 (Some (a ∷ b ∷ [])) None
+          ++ (against 0 red, None) ∷ (against 1 red, None) ∷ (against 2 red, None) ∷ [];
+    }
+
 -- ---- other sheets
 
 -- a = b and c = d, each entered with two values: each pair is for itself

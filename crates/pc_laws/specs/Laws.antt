@@ -2,8 +2,8 @@
 use Rattle.std.specs.Prelude.{◌≡◌, ◌⊎◌, ◌↔◌, ◌^◌, List, ◌∷◌, length, All, Contains}
 use Rattle.pc_sheet.specs.Sheet.{Universe, Statement, Sheet, with_newest}
 use Rattle.pc_sheet.specs.Truth.{Scope, Holds, product}
-use Rattle.pc_sheet.specs.Entailment.{cell_sizes, IsAssignment, IsConsistent, Entails, HaveDistinctCells, IsSublist, IsSupport, IsImplied, IsLess, IsLeastSupport}
-use Rattle.pc_sheet.specs.MaximalSets.{ListsExactly, IsContained, IsMaximalSet, IsMinimalInconsistent, opposite_of}
+use Rattle.pc_sheet.specs.Entailment.{cell_sizes, IsAssignment, IsConsistent, Entails, HaveDistinctCells, IsSublist, IsSupport, IsImplied, IsLess, IsLeastSupport, opposite_of}
+use Rattle.pc_sheet.specs.MaximalSets.{ListsExactly, IsContained, IsMaximalSet, IsMinimalInconsistent}
 use Rattle.pc_sheet.specs.declared.ids.ValueId.{ValueId}
 use Rattle.pc_sheet.specs.declared.ids.Entry.{Entry}
 use Rattle.pc_sheet.specs.declared.ids.Target.{Target}

@@ -1,3 +1,5 @@
 pub mod Laws
 pub mod Examples
 pub mod Truths
+pub mod Sorting
+pub mod Weights

@@ -5,7 +5,8 @@ mod examples;
 mod laws;
 
 pub use examples::{
-    chain_shows, conflicting_entries_carry, effect_shows, small_sheets_show, truths_are_worked,
+    chain_shows, conflicting_entries_carry, effect_shows, nesting_is_worked, small_sheets_show,
+    sorting_is_worked, truths_are_worked, weights_are_worked,
 };
 pub use laws::{
     assignments_are_counted, conflict_is_in_minimal_inconsistent, consistency_is_decided,

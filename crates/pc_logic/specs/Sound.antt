@@ -1,5 +1,5 @@
 -- What the code keeps of its declarations: bounds, and counts of cells that are right.
-use Rattle.std.specs.Prelude.{◌≡◌, ◌≤◌, ◌+◌, ℕ, ℤ, pos, neg_ℤ, ◌≤ℤ◌, List, [], ◌∷◌, All, length}
+use Rattle.std.specs.Prelude.{◌≡◌, ◌≤◌, ◌+◌, ℕ, List, [], ◌∷◌, All, length}
 use Rattle.pc_sheet.specs.Sheet.{Universe, Family}
 use Rattle.pc_sheet.specs.Truth.{count_of, cells_in, depth_of}
 use Rattle.pc_sheet.specs.Views.{statement_of}
@@ -27,7 +27,3 @@ pub record IsSound (s : Scheme) : Type 0 where
 -- no rule has more than 16 quantifiers around one place
 abbrev pub AreShallow : List Rule → Type 0
 AreShallow rules = All (λ r. depth_of (statement_of r.formula) ≤ 16) rules
-
--- at most n away from 0
-abbrev pub IsWithin : ℕ → ℤ → Type 0
-IsWithin n z = (neg_ℤ (pos n) ≤ℤ z) × (z ≤ℤ pos n)

@@ -1,9 +1,10 @@
 //! The truth of a formula under values of the cells, with no memory of its own.
-ghost use Rattle.std.specs.Prelude.{◌≡◌, ◌+◌, ◌*◌, ◌^◌, ◌<◌, ◌≤◌, ◌↔◌, [], ◌∷◌, ◌++◌, All, Contains, IfOk, IfSome, IsTrue, OnOk, replicate, length, map, slice_get, take, sum_by};
+ghost use Rattle.std.specs.Prelude.{◌≡◌, ◌+◌, ◌*◌, ◌^◌, ◌<◌, ◌≤◌, ◌↔◌, [], ◌∷◌, ◌++◌, All, Contains, IfOk, IsSomeAnd, IsTrue, OnOk, replicate, length, map, slice_get, take, sum_by};
 ghost use Rattle.pc_sheet.specs.Truth.{size_of, rows_of, argument_sorts, result_sort_of, cells_in, cell_number, rank_from, meaning_of_variable, value_or_first, meaning, places, place_of, settled, added, number_of, sum_meaning, Compares, Holds, AllHold, SomeHolds, depth_of, greatest_depth};
 ghost use Rattle.pc_sheet.specs.Views.{rule_of, item_of, items_of, sum_of, statement_of, statements_of};
 ghost use Rattle.pc_logic.specs.SchemeView.{universe_of, row_of};
-ghost use Rattle.pc_logic.specs.Sound.{IsSound, AreShallow, IsWithin};
+ghost use Rattle.pc_sheet.specs.WellSorted.{IsWithin};
+ghost use Rattle.pc_logic.specs.Sound.{IsSound, AreShallow};
 
 use crate::scheme::{Scheme, SortValues, argument_sorts, first_cell, result_sort, size_of};
 use pc_sheet::{Formula, Meaning, Op, Rule, Side, Sign, SortId, TableId, Term, ValueId};
@@ -335,7 +336,7 @@ pub(crate) fn rule_holds(scheme: &Scheme, rules: &[Rule], k: usize, values: &[Va
     requires small { IsSound scheme.now }
     requires depths { AreShallow rules.now }
     requires place { k < length rules.now }
-    ensures { IsTrue result ↔ IfSome (slice_get (map rule_of rules.now) k) (λ rule. Holds (universe_of scheme.now) values.now [] rule.states) }
+    ensures { IsTrue result ↔ IsSomeAnd (slice_get (map rule_of rules.now) k) (λ rule. Holds (universe_of scheme.now) values.now [] rule.states) }
 {
     holds(scheme, values, &[], &rules[k].formula)
 }

@@ -11,7 +11,7 @@ use Rattle.std.proofs.lemmas.Option.{slice_get_within, slice_get-get_or, get_or_
 use Rattle.pc_sheet.specs.Sheet.{Universe, Family}
 use Rattle.pc_sheet.specs.Truth.{size_of, cells_in, product, rank_from, argument_sorts}
 use Rattle.pc_sheet.specs.Entailment.{AreWithin}
-use Rattle.pc_sheet.specs.Cells.{Application, values_below, tuples, applications, cells_from, cells, AreNumberedInOrder, CellsAreNumberedInOrder}
+use Rattle.pc_sheet.specs.Cells.{Application, values_below, tuples, applications, cells_from, cells}
 use Rattle.pc_sheet.specs.declared.ids.ValueId.{ValueId}
 
 -- ---- lists end to end
@@ -121,15 +121,9 @@ module _ (u : Universe) where
       length-append (applications u k f) (cells_from u (k + 1) fs)
       ∙ omega (arith, all_applications k f, all_cells fs (k + 1), length-append (sizes f) (flat_map sizes fs), length-replicate (cells_in u f) (size_of u f.result_sort))
 
-  stands_by : (found : Option Family) (c : Application) → slice_get u.families c.family.0 ≡ found → IsSomeAnd found (λ f. AreWithin (map (size_of u) f.sorts) c.arguments)
+  pub stands_by : (found : Option Family) (c : Application) → slice_get u.families c.family.0 ≡ found → IsSomeAnd found (λ f. AreWithin (map (size_of u) f.sorts) c.arguments)
       → slice_get (cells u) (sum_by (cells_in u) (take c.family.0 u.families) + rank_from 0 (map (size_of u) (argument_sorts found)) c.arguments) ≡ Some c
   stands_by None c is w = absurd w
   stands_by (Some f) c is w =
       let P : ℕ → Type 0 = λ n. slice_get (cells u) (sum_by (cells_in u) (take c.family.0 u.families) + rank_from 0 (map (size_of u) f.sorts) c.arguments) ≡ Some (record { family = record { 0 = n }; arguments = c.arguments }) in
       subst P (zero-add c.family.0) (among_families u.families 0 c.family.0 f c.arguments is w)
-
-  pub numbered : AreNumberedInOrder u
-  numbered = record { stands = λ c w. stands_by (slice_get u.families c.family.0) c refl w; count = all_cells u.families 0 }
-
-pub cells_are_numbered : CellsAreNumberedInOrder
-cells_are_numbered u = numbered u

@@ -1,8 +1,8 @@
 -- The cells of a universe in their order: by family as declared, then by arguments, the first slowest, each in its sort's order.
-use Rattle.std.specs.Prelude.{◌≡◌, ℕ, zero, suc, ◌+◌, List, [], ◌∷◌, ◌++◌, map, length, Some, slice_get, IsSomeAnd}
+use Rattle.std.specs.Prelude.{◌≡◌, ℕ, zero, suc, ◌+◌, List, [], ◌∷◌, ◌++◌, map, length, Some, slice_get, IsSomeAnd, All}
 use Rattle.std.specs.List.{flat_map}
 use Rattle.pc_sheet.specs.Sheet.{Universe, Family}
-use Rattle.pc_sheet.specs.Truth.{size_of, cell_number}
+use Rattle.pc_sheet.specs.Truth.{size_of, result_sort_of, cell_number}
 use Rattle.pc_sheet.specs.Entailment.{AreWithin, cell_sizes}
 use Rattle.pc_sheet.specs.declared.ids.FamilyId.{FamilyId}
 use Rattle.pc_sheet.specs.declared.ids.ValueId.{ValueId}
@@ -38,9 +38,15 @@ cells u = cells_from u 0 u.families
 abbrev pub IsApplication : Universe → Application → Type 0
 IsApplication u c = IsSomeAnd (slice_get u.families c.family.0) (λ f. AreWithin (map (size_of u) f.sorts) c.arguments)
 
--- each application is the cell of its number, and there are as many cells as sizes of cells
+-- how many values the application's cell may have
+abbrev pub size_of_cell : Universe → Application → ℕ
+size_of_cell u c = size_of u (result_sort_of (slice_get u.families c.family.0))
+
+-- each application is the cell of its number, each cell is an application, and the sizes of cells are those of the listed ones
 pub record AreNumberedInOrder (u : Universe) : Type 0 where
   pub stands : (c : Application) → IsApplication u c → slice_get (cells u) (cell_number u c.family c.arguments) ≡ Some c
+  pub each : All (IsApplication u) (cells u)
+  pub sizes : map (size_of_cell u) (cells u) ≡ cell_sizes u
   pub count : length (cells u) ≡ length (cell_sizes u)
 
 -- of every universe

@@ -1,5 +1,5 @@
 -- Which entries, kept with the rules, entail what: assignments, consistency, supports and the least support.
-use Rattle.std.specs.Prelude.{◌≡◌, ◌≢◌, ℕ, ◌<◌, ◌⊎◌, ◌↔◌, List, [], ◌∷◌, ◌++◌, replicate, Some, slice_get, All, AllPairs, Contains, MatchBool, false, IfSome}
+use Rattle.std.specs.Prelude.{◌≡◌, ◌≢◌, ℕ, ◌<◌, ◌⊎◌, ◌↔◌, List, [], ◌∷◌, ◌++◌, replicate, Some, slice_get, All, AllPairs, Contains, MatchBool, false, IsSomeAnd}
 use Rattle.std.specs.List.{flat_map}
 use Rattle.pc_sheet.specs.Sheet.{Universe, Sheet}
 use Rattle.pc_sheet.specs.Truth.{size_of, cells_in, Holds}
@@ -21,9 +21,9 @@ AreWithin (n ∷ ns) (v ∷ vs) = (v.0 < n) × AreWithin ns vs
 abbrev pub IsAssignment : Universe → List ValueId → Type 0
 IsAssignment u a = AreWithin (cell_sizes u) a
 
--- the rule of that number is true
+-- there is a rule of that number, and it is true
 abbrev pub RuleHolds : Sheet → List ValueId → ℕ → Type 0
-RuleHolds sheet a k = IfSome (slice_get sheet.rules k) (λ rule. Holds sheet.universe a [] rule.states)
+RuleHolds sheet a k = IsSomeAnd (slice_get sheet.rules k) (λ rule. Holds sheet.universe a [] rule.states)
 
 -- every rule is true
 abbrev pub Fits : Sheet → List ValueId → Type 0
@@ -84,6 +84,10 @@ pub record IsLeastSupport (sheet : Sheet) (s : List Entry) (t : Target) : Type 0
   pub supports : IsSupport sheet s t
   pub least : (other : List Entry) → IsSupport sheet other t → (other ≡ s) ⊎ IsLess sheet.entries s other
 
+-- that the entry's cell has another value
+abbrev pub opposite_of : Entry → Target
+opposite_of e = record { cell = e.cell; value = e.value; holds = false }
+
 -- the least support of the entry's opposite
 abbrev pub IsConflict : Sheet → List Entry → Entry → Type 0
-IsConflict sheet s e = IsLeastSupport sheet s (record { cell = e.cell; value = e.value; holds = false })
+IsConflict sheet s e = IsLeastSupport sheet s (opposite_of e)

@@ -6,6 +6,8 @@ pub mod Truth
 pub mod Entailment
 pub mod MaximalSets
 pub mod Reads
+pub mod Readings
+pub mod Weight
 pub mod Cells
 pub mod WellSorted
 pub mod Nesting

@@ -1,8 +1,12 @@
 -- The nodes of a rule: its subformulas, under the values that a path picks.
-use Rattle.std.specs.Prelude.{ℕ, zero, suc, List, [], ◌∷◌, ◌++◌, Option, None, Some, nat_lt, cond, slice_get}
+use Rattle.std.specs.Prelude.{ℕ, zero, suc, ◌<◌, ◌↔◌, List, [], ◌∷◌, ◌++◌, Option, None, Some, IsSome, nat_lt, cond, slice_get}
+use Rattle.std.specs.Option.{option_map}
 use Rattle.pc_sheet.specs.Sheet.{Universe, Sheet, NamedStatement, Statement, Statements, no_statements, statement, compare, in_table, negation, all_of, some_of, implies, iff, for_all, exists}
 use Rattle.pc_sheet.specs.Truth.{Scope, size_of, Holds}
+use Rattle.pc_sheet.specs.WellSorted.{parts_in}
 use Rattle.pc_sheet.specs.declared.ids.ValueId.{ValueId}
+use Rattle.pc_sheet.specs.declared.nodes.NodeKind.{NodeKind}
+use Rattle.pc_sheet.specs.declared.nodes.NodeKind.TheVariants.{Atom, Not, And, Or, Implies, Iff, ForAll, Exists}
 
 -- a subformula and the values of the variables around it
 abbrev pub Node : Type 0
@@ -48,3 +52,47 @@ root_of (Some rule) = Some ([], rule.states)
 -- what a rule's path leads to
 abbrev pub node_at : Sheet → ℕ → List ℕ → Option Node
 node_at sheet rule path = node_from sheet.universe (root_of (slice_get sheet.rules rule)) path
+
+-- ---- paths
+
+-- a rule's number, and the numbers of the children on the way from its root
+pub record Path : Type 0 where
+  pub rule : ℕ
+  pub steps : List ℕ
+
+-- what that path leads to
+abbrev pub node_on : Sheet → Path → Option Node
+node_on sheet p = node_at sheet p.rule p.steps
+
+-- ---- kinds
+
+-- a statement's kind as a node, with how many children it has
+abbrev pub kind_of : Universe → Statement → NodeKind
+kind_of u (compare left op right) = Atom
+kind_of u (in_table t args) = Atom
+kind_of u (negation s) = Not
+kind_of u (all_of ss) = And (parts_in ss)
+kind_of u (some_of ss) = Or (parts_in ss)
+kind_of u (implies s t) = Implies
+kind_of u (iff s t) = Iff
+kind_of u (for_all name s body) = ForAll (size_of u s)
+kind_of u (exists name s body) = Exists (size_of u s)
+
+-- how many children a node of that kind has
+abbrev pub children_of : NodeKind → ℕ
+children_of Atom = 0
+children_of Not = 1
+children_of (And k) = k
+children_of (Or k) = k
+children_of Implies = 2
+children_of Iff = 2
+children_of (ForAll k) = k
+children_of (Exists k) = k
+
+-- the kind of what a rule's path leads to
+abbrev pub kind_at : Sheet → ℕ → List ℕ → Option NodeKind
+kind_at sheet rule path = option_map (λ node. kind_of sheet.universe node.1) (node_at sheet rule path)
+
+-- a node has a child of each number below that of its children, and no other
+abbrev pub ChildrenAreCounted : Type 0
+ChildrenAreCounted = (u : Universe) (node : Node) (k : ℕ) → IsSome (child u node k) ↔ (k < children_of (kind_of u node.1))

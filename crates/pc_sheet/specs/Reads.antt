@@ -1,8 +1,8 @@
 -- The cells that truth looks up in evaluating the terms of an atom, and when reads of cells are enough for its truth.
-use Rattle.std.specs.Prelude.{ℕ, List, [], ◌∷◌, ◌++◌, map, Contains}
+use Rattle.std.specs.Prelude.{◌≡◌, ℕ, ◌↔◌, Bool, ◌==◌, cond, IsTrue, List, [], ◌∷◌, ◌++◌, map, Contains, Option, None, Some}
 use Rattle.pc_sheet.specs.Sheet.{Universe, Item, Items, no_items, item, variable, constant, number, cell, Sum, Statement, compare, in_table, negation, all_of, some_of, implies, iff, for_all, exists}
-use Rattle.pc_sheet.specs.Truth.{Scope, cell_number, places}
-use Rattle.pc_sheet.specs.Entailment.{HasAll}
+use Rattle.pc_sheet.specs.Truth.{Scope, cell_number, places, Holds}
+use Rattle.pc_sheet.specs.Entailment.{HasAll, HaveDistinctCells}
 use Rattle.pc_sheet.specs.declared.ids.ValueId.{ValueId}
 use Rattle.pc_sheet.specs.declared.ids.Entry.{Entry}
 use Rattle.pc_name.specs.declared.sign.Sign.{Sign}
@@ -51,6 +51,13 @@ looked_up_in_atom u a scope (exists name s body) = []
 abbrev pub number_of_cell : Entry → ℕ
 number_of_cell e = e.cell.0
 
+-- ---- reads
+
+-- the value that the reads have for the cell
+abbrev pub value_in : List Entry → ℕ → Option ValueId
+value_in [] c = None
+value_in (r ∷ rs) c = cond (r.cell.0 == c) (Some r.value) (value_in rs c)
+
 -- each of the cells was read
 abbrev pub AreAmong : List Entry → List ℕ → Type 0
 AreAmong reads cells = (c : ℕ) → Contains cells c → Contains (map number_of_cell reads) c
@@ -63,3 +70,24 @@ Lacks reads cells = (c : ℕ) × Contains cells c × (¬ Contains (map number_of
 abbrev pub AreEnough : Universe → Scope → Statement → List Entry → Type 0
 AreEnough u scope states reads =
     (a : List ValueId) → HasAll a reads → AreAmong reads (looked_up_in_atom u a scope states)
+
+-- the reads give the atom's truth: their cells differ, each cell that is looked up is among them, and with them it is true or false as said
+pub record GiveTruth (u : Universe) (scope : Scope) (states : Statement) (reads : List Entry) (is : Bool) : Type 0 where
+  pub atom : IsAtom states
+  pub distinct : HaveDistinctCells reads
+  pub enough : AreEnough u scope states reads
+  pub truth : (a : List ValueId) → HasAll a reads → IsTrue is ↔ Holds u a scope states
+
+-- under all values of the cells that have the reads, some cell that is looked up is not among them
+abbrev pub AreTooFew : Universe → Scope → Statement → List Entry → Type 0
+AreTooFew u scope states reads =
+    (a : List ValueId) → HasAll a reads → Lacks reads (looked_up_in_atom u a scope states)
+
+-- reads give one truth at most, and none where they are too few
+pub record ReadsDecide (u : Universe) (scope : Scope) (states : Statement) (reads : List Entry) : Type 0 where
+  pub one : (is other : Bool) → GiveTruth u scope states reads is → GiveTruth u scope states reads other → is ≡ other
+  pub either : (is : Bool) → GiveTruth u scope states reads is → ¬ AreTooFew u scope states reads
+
+-- of every atom and all reads
+abbrev pub ReadsGiveOneTruth : Type 0
+ReadsGiveOneTruth = (u : Universe) (scope : Scope) (states : Statement) (reads : List Entry) → ReadsDecide u scope states reads

@@ -6,11 +6,12 @@ use Rattle.std.proofs.lemmas.Grind.{flat_map-append}
 use Rattle.std.proofs.lemmas.List.{map-append, length-map}
 use Rattle.std.proofs.lemmas.List.Elements.{All-nil, All-cons, All-append, All-map, All-weaker}
 use Rattle.std.proofs.lemmas.Option.{slice_get_within, slice_get-get_or, get_or_from_slice_get, slice_get-map, unwrap_or-slice_get}
-use Rattle.pc_sheet.proofs.Cells.{all_tuples, cells_are_numbered, some_same}
+use Rattle.pc_sheet.proofs.Cells.{some_same}
+use Rattle.pc_sheet.proofs.CellsListed.{cells_are_numbered}
 use Rattle.pc_sheet.specs.Sheet.{Universe, Family, Sort}
 use Rattle.pc_sheet.specs.Truth.{count_of, size_of, values_of_sort, cells_in, argument_sorts, result_sort_of}
 use Rattle.pc_sheet.specs.Entailment.{AreWithin, cell_sizes}
-use Rattle.pc_sheet.specs.Cells.{Application, values_below, tuples, applications, cells_from, cells, IsApplication}
+use Rattle.pc_sheet.specs.Cells.{Application, values_below, tuples, applications, cells_from, cells, IsApplication, size_of_cell}
 use Rattle.pc_sheet.specs.declared.ids.SortId.{SortId}
 use Rattle.pc_sheet.specs.declared.ids.CellId.{CellId}
 use Rattle.pc_sheet.specs.declared.ids.FamilyId.{FamilyId}
@@ -18,23 +19,6 @@ use Rattle.pc_sheet.specs.declared.ids.ValueId.{ValueId}
 use Rattle.pc_sheet.specs.WellFormed.{IsEntryOf}
 use Rattle.pc_sheet.specs.declared.ids.Entry.{Entry}
 use Rattle.pc_writer.specs.Spelling.{joined, no_application, application_of, arguments_text, family_of, name_of, sort_of, value_text, value_texts}
-
--- ---- tuples
-
-tuples_below : (n : ℕ) (ns : List ℕ) → All (AreWithin ns) (tuples ns) → (m : ℕ) → m ≤ n → All (AreWithin (n ∷ ns)) (flat_map (λ v. map (λ vs. v ∷ vs) (tuples ns)) (values_below m))
-tuples_below n ns each zero le = All-nil (AreWithin (n ∷ ns))
-tuples_below n ns each (suc m) le =
-    let P : List ValueId → Type 0 = AreWithin (n ∷ ns) in
-    let last : ValueId = record { 0 = m } in
-    let pieces : ValueId → List (List ValueId) = λ v. map (λ vs. v ∷ vs) (tuples ns) in
-    let below : m < n = omega arith in
-    let here : All P (pieces last) = All-map P (λ vs. last ∷ vs) (tuples ns) (All-weaker (AreWithin ns) (λ vs. P (last ∷ vs)) (λ vs w. (below, w)) (tuples ns) each) in
-    subst (All P) (sym (flat_map-append pieces (values_below m) (last ∷ [])))
-    (All-append P (flat_map pieces (values_below m)) (pieces last ++ []) (tuples_below n ns each m (omega arith)) (All-append P (pieces last) [] here (All-nil P)))
-
-tuples_within : (ns : List ℕ) → All (AreWithin ns) (tuples ns)
-tuples_within [] = All-cons (AreWithin []) [] [] tt (All-nil (AreWithin []))
-tuples_within (n ∷ ns) = tuples_below n ns (tuples_within ns) n (omega arith)
 
 -- ---- arguments
 
@@ -85,52 +69,7 @@ sort_is : (found : Option Family) (s : SortId) → IsSomeAnd found (λ f. s ≡ 
 sort_is None s answer = absurd answer
 sort_is (Some f) s answer = answer
 
--- ---- families
-
--- these families are the universe's from that number on
-abbrev AreFrom : Universe → ℕ → List Family → Type 0
-AreFrom u k fs = (j : ℕ) (f : Family) → slice_get fs j ≡ Some f → slice_get u.families (k + j) ≡ Some f
-
 module _ (u : Universe) where
-  next_from : (k : ℕ) (f : Family) (fs : List Family) → AreFrom u k (f ∷ fs) → AreFrom u (k + 1) fs
-  next_from k f fs from j g is = let P : ℕ → Type 0 = λ n. slice_get u.families n ≡ Some g in subst P (omega arith) (from (suc j) g is)
-
-  first_from : (k : ℕ) (f : Family) (fs : List Family) → AreFrom u k (f ∷ fs) → slice_get u.families k ≡ Some f
-  first_from k f fs from = let P : ℕ → Type 0 = λ n. slice_get u.families n ≡ Some f in subst P (omega arith) (from zero f refl)
-
-  each_from : (fs : List Family) (k : ℕ) → AreFrom u k fs → All (IsApplication u) (cells_from u k fs)
-  each_from [] k from = All-nil (IsApplication u)
-  each_from (f ∷ fs) k from =
-      let applied : List ValueId → Application = λ vs. record { family = record { 0 = k }; arguments = vs } in
-      let ns = map (size_of u) f.sorts in
-      let Q : List ValueId → Option Family → Type 0 = λ vs found. IsSomeAnd found (λ g. AreWithin (map (size_of u) g.sorts) vs) in
-      let one : (vs : List ValueId) → AreWithin ns vs → IsApplication u (applied vs) = λ vs w. subst (Q vs) (sym (first_from k f fs from)) w in
-      All-append (IsApplication u) (applications u k f) (cells_from u (k + 1) fs)
-      (All-map (IsApplication u) applied (tuples ns) (All-weaker (AreWithin ns) (λ vs. IsApplication u (applied vs)) one (tuples ns) (tuples_within ns)))
-      (each_from fs (k + 1) (next_from k f fs from))
-
-  -- how many values the application's cell may have
-  abbrev size_at : Application → ℕ
-  size_at a = size_of u (result_sort_of (slice_get u.families a.family.0))
-
-  all_alike : (applied : List ValueId → Application) (n : ℕ) → ((vs : List ValueId) → size_at (applied vs) ≡ n) → (ts : List (List ValueId)) → map size_at (map applied ts) ≡ replicate (length ts) n
-  all_alike applied n same [] = refl
-  all_alike applied n same (vs ∷ ts) = ap (λ m. m ∷ map size_at (map applied ts)) (same vs) ∙ ap (λ ms. n ∷ ms) (all_alike applied n same ts)
-
-  sizes_from : (fs : List Family) (k : ℕ) → AreFrom u k fs → map size_at (cells_from u k fs) ≡ flat_map (λ f. replicate (cells_in u f) (size_of u f.result_sort)) fs
-  sizes_from [] k from = refl
-  sizes_from (f ∷ fs) k from =
-      let applied : List ValueId → Application = λ vs. record { family = record { 0 = k }; arguments = vs } in
-      let ns = map (size_of u) f.sorts in
-      let n = size_of u f.result_sort in
-      let same : (vs : List ValueId) → size_at (applied vs) ≡ n = λ vs. ap (λ found. size_of u (result_sort_of found)) (first_from k f fs from) in
-      map-append size_at (applications u k f) (cells_from u (k + 1) fs)
-      ∙ ap (λ ms. ms ++ map size_at (cells_from u (k + 1) fs)) (all_alike applied n same (tuples ns) ∙ ap (λ m. replicate m n) (all_tuples ns))
-      ∙ ap (λ ms. replicate (cells_in u f) n ++ ms) (sizes_from fs (k + 1) (next_from k f fs from))
-
-  whole : AreFrom u 0 u.families
-  whole j f is = let P : ℕ → Type 0 = λ n. slice_get u.families n ≡ Some f in subst P (sym (zero-add j)) is
-
   -- ---- a cell in range
 
   module _ (c : CellId) (within : c.0 < length (cell_sizes u)) where
@@ -143,13 +82,13 @@ module _ (u : Universe) where
     cell_is_application =
         let P : Application → Type 0 = IsApplication u in
         subst P (get_or_from_slice_get (cells u) c.0 (application_of u c) (application_of u c) cell_is)
-        (each_from u.families 0 whole c.0 (application_of u c) (slice_get_within (cells u) c.0 (application_of u c) cell_is))
+        ((cells_are_numbered u).each c.0 (application_of u c) (slice_get_within (cells u) c.0 (application_of u c) cell_is))
 
     pub cell_size : slice_get (cell_sizes u) c.0 ≡ Some (size_of u (sort_of u c))
     cell_size =
-        ap (λ ns. slice_get ns c.0) (sym (sizes_from u.families 0 whole))
-        ∙ slice_get-map size_at (cells u) c.0
-        ∙ ap (option_map size_at) cell_is
+        ap (λ ns. slice_get ns c.0) (sym (cells_are_numbered u).sizes)
+        ∙ slice_get-map (size_of_cell u) (cells u) c.0
+        ∙ ap (option_map (size_of_cell u)) cell_is
 
     pub family_within : (application_of u c).family.0 < length u.families
     family_within = found_within u.families (application_of u c).family.0 (λ f. AreWithin (map (size_of u) f.sorts) (application_of u c).arguments) cell_is_application
