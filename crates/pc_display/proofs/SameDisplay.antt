@@ -4,7 +4,7 @@ use Rattle.std.specs.List.{flat_map}
 use Rattle.std.proofs.lemmas.List.Concat.{flat_map-append}
 use Rattle.pc_laws.proofs.Assignments.{implication_decided}
 use Rattle.pc_laws.proofs.Least.{one_least}
-use Rattle.pc_sheet.proofs.Cells.{cells_are_numbered}
+use Rattle.pc_sheet.proofs.CellsListed.{cells_are_numbered}
 use Rattle.pc_sheet.specs.Sheet.{Sheet}
 use Rattle.pc_sheet.specs.Truth.{size_of}
 use Rattle.pc_sheet.specs.Cells.{cells, values_below}

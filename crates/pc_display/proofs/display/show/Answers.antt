@@ -2,7 +2,7 @@ use Rattle.std.proofs.Common.{◌≡◌, length, refl, sym, ◌∙◌, ap, arith
 use Rattle.std.specs.List.{flat_map}
 use Rattle.pc_sheet.specs.Cells.{cells}
 use Rattle.pc_sheet.specs.Entailment.{cell_sizes}
-use Rattle.pc_sheet.proofs.Cells.{cells_are_numbered}
+use Rattle.pc_sheet.proofs.CellsListed.{cells_are_numbered}
 use Rattle.pc_writer.proofs.InTurn.{Writes-nil, Writes-same}
 use Rattle.pc_display.specs.Show.{cell_lines, cells_below}
 use Rattle.pc_display.proofs.Below.{cut_within, one_more_written}
