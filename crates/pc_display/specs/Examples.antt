@@ -1,7 +1,7 @@
 -- Small sheets with the reasons that they have, and their displays line by line.
-use Rattle.std.specs.Prelude.{◌≡◌, ℕ, Bool, true, false, ◌&&◌, List, [], ◌∷◌, codes, None, Some, nat_eq, if◌then◌else◌}
+use Rattle.std.specs.Prelude.{◌≡◌, ℕ, pos, negsuc, Bool, true, false, ◌&&◌, List, [], ◌∷◌, codes, None, Some, nat_eq, if◌then◌else◌}
 use Rattle.std.specs.List.{flat_map}
-use Rattle.pc_sheet.specs.Sheet.{listed, Sort, Family, Sheet}
+use Rattle.pc_sheet.specs.Sheet.{listed, range, Sort, Family, Sheet}
 use Rattle.pc_sheet.specs.declared.ids.Entry.{Entry}
 use Rattle.pc_sheet.specs.declared.ids.Target.{Target}
 use Rattle.pc_display.specs.Reasons.{Reasoning}
@@ -74,6 +74,18 @@ clash_reasons =
     ∷ (lacks 0 0, c_is_green) ∷ (lacks 2 1, a_is_red) ∷ []
     )
 
+-- a number of each person and each number from -1 to 1, where f(ann, 1) = -1 is entered
+abbrev pub numbers_of_persons : Sheet
+numbers_of_persons = record {
+  universe = record {
+    sorts = record { name = codes "person"; values = listed (codes "ann" ∷ codes "bob" ∷ []) } ∷ record { name = codes "n"; values = range (negsuc 0) (pos 1) } ∷ [];
+    tables = [];
+    families = record { name = codes "f"; sorts = record { 0 = 0 } ∷ record { 0 = 1 } ∷ []; result_sort = record { 0 = 1 } } ∷ [];
+  };
+  rules = [];
+  entries = entry 2 0 ∷ [];
+}
+
 pub record DisplaysAreThese : Type 0 where
   -- what has one value only is so always
   pub always : show_text one_value (listed_reasons ((has 0 0, []) ∷ [])) ≡ lines (codes "a : -" ∷ codes "  = v always" ∷ [])
@@ -91,4 +103,10 @@ pub record DisplaysAreThese : Type 0 where
   pub two_entries : show_text (colored (codes "a" ∷ codes "b" ∷ codes "c" ∷ []) (entry 0 0 ∷ entry 1 0 ∷ [])) (listed_reasons ((has 0 0, entry 0 0 ∷ []) ∷ (has 1 0, entry 1 0 ∷ []) ∷ (has 2 0, entry 0 0 ∷ entry 1 0 ∷ []) ∷ []))
       ≡ lines (
       codes "a : red" ∷ codes "  = red because a = red" ∷ codes "b : red" ∷ codes "  = red because b = red" ∷ codes "c : -" ∷ codes "  = red because a = red, b = red" ∷ []
+      )
+  -- cells by their arguments, the first slowest, and values of a range by their numbers
+  pub arguments : show_text numbers_of_persons (listed_reasons ((has 2 0, entry 2 0 ∷ []) ∷ (has 5 1, entry 2 0 ∷ []) ∷ []))
+      ≡ lines (
+      codes "f(ann, -1) : -" ∷ codes "f(ann, 0) : -" ∷ codes "f(ann, 1) : -1" ∷ codes "  = -1 because f(ann, 1) = -1"
+      ∷ codes "f(bob, -1) : -" ∷ codes "f(bob, 0) : -" ∷ codes "f(bob, 1) : -" ∷ codes "  = 0 because f(ann, 1) = -1" ∷ []
       )
