@@ -1,0 +1,12 @@
+pub mod Refs
+pub mod Entries
+pub mod Levels
+pub mod TrailView
+pub mod Over
+pub mod Counts
+pub mod Propagation
+pub mod Laws
+pub mod IsTrail
+pub mod Slots
+pub mod LeftOn
+pub mod Turns
