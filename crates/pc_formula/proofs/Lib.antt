@@ -1,7 +1,15 @@
+pub mod ItemViews
 pub mod Joining
+pub mod Lists
+pub mod Nests
+pub mod Numerals
+pub mod Quantifiers
 pub mod Readings
+pub mod Sides
 pub mod Sizes
+pub mod Stops
 pub mod TokenWords
 pub mod Unambiguous
 pub mod Unaries
+pub mod ValueForms
 pub mod Views

@@ -1,29 +1,33 @@
 -- The word of a token.
-use Rattle.std.proofs.Common.{◌≡◌, ℕ, ◌+◌, ◌-◌, ◌<◌, ◌≤◌, Bool, true, false, List, [], ◌∷◌, length, get_or, drop, arith, refl, sym, ◌∙◌, ap, subst, if◌then◌else◌}
+use Rattle.std.proofs.Common.{◌≡◌, ℕ, ◌+◌, ◌-◌, ◌<◌, ◌≤◌, Bool, true, false, ◌||◌, List, [], ◌∷◌, length, get_or, drop, Option, Some, None, is_some, MatchOption, arith, refl, sym, ◌∙◌, ap, ap₂, subst, if◌then◌else◌}
 use Rattle.std.proofs.lemmas.Bool.Decides.{nat_tests}
-use Rattle.std.proofs.lemmas.List.{get_or-take, get_or-drop, get_or_past, length-take-le, length-drop}
-use Rattle.std.proofs.lemmas.List.Folds.{list_all_at}
-use Rattle.std.specs.Prelude.{slice_range}
-use Rattle.std.specs.Char.{is_ascii, is_ascii_digit, digit_value}
-use Rattle.std.specs.List.{list_all}
-use Rattle.std.specs.Str.{IsAscii, IsNotAscii}
+use Rattle.std.proofs.lemmas.List.{get_or-take, get_or-drop, length-take-le, length-drop}
+use Rattle.std.proofs.lemmas.Slice.Eq.{bytes_eq-Decides}
+use Rattle.std.specs.Prelude.{slice_range, codes, bytes_eq}
+use Rattle.std.specs.Char.{is_ascii_digit, digit_value}
 use Rattle.std.specs.Str.Parse.{AllDigits, IsNumeral}
 use Rattle.pc_name.specs.Names.{is_reserved, most_name_bytes, HasNameCharacters, IsName}
 use Rattle.pc_token.specs.declared.token.Kind.{Kind}
 use Rattle.pc_token.specs.declared.token.Kind.TheVariants.{Name, Number}
 use Rattle.pc_token.specs.declared.token.Token.{Token}
 use Rattle.pc_token.specs.Token.{IsNameAt, IsNumberAt, IsOfKind, IsTokenOf}
-use Rattle.pc_formula.specs.Word.{name, reserved, beyond_ascii, number, sign, name_word, word, word_of, IsSign}
+use Rattle.pc_formula.specs.Word.{name, reserved, number, sign, name_word, word, word_of, nests, IsSign}
+use Rattle.pc_name.specs.declared.sign.Op.{Op}
+use Rattle.pc_name.specs.declared.sign.Op.TheVariants as ops
+use Rattle.pc_name.specs.declared.sign.Sign.{Sign}
+use Rattle.pc_name.specs.declared.sign.Sign.TheVariants as signs
+use Rattle.pc_formula.specs.declared.words.Quantifier.{Quantifier}
+use Rattle.pc_formula.specs.declared.words.Quantifier.TheVariants.{ForAll, Exists}
+use Rattle.pc_formula.specs.Sign.{op_sign, added_sign, quantifier_word}
 
 -- ---- signs
 
-name_of_choice : (a b : Bool) (text : List ℕ) (j : Kind) → (if a then reserved text else (if b then name text else beyond_ascii text)) ≡ sign j → ⊥
-name_of_choice true b text j e = cc
-name_of_choice false true text j e = cc
-name_of_choice false false text j e = cc
+name_no_sign : (a : Bool) (text : List ℕ) (j : Kind) → (if a then reserved text else name text) ≡ sign j → ⊥
+name_no_sign true text j e = cc
+name_no_sign false text j e = cc
 
 kind_of_sign : (k j : Kind) (text : List ℕ) → word k text ≡ sign j → k ≡ j
-kind_of_sign Name j text e = absurd (name_of_choice (is_reserved text) (list_all is_ascii text) text j e)
+kind_of_sign Name j text e = absurd (name_no_sign (is_reserved text) text j e)
 kind_of_sign Number j text e = cc
 kind_of_sign k j text e = cc
 
@@ -38,39 +42,42 @@ is_the_sign line t k is same = ap (λ j. word j (slice_range line t.start t.end)
 pub has_the_kind : (line : List ℕ) (t : Token) (k : Kind) → word_of line t ≡ sign k → t.kind ≡ k
 has_the_kind line t k is = kind_of_sign t.kind k (slice_range line t.start t.end) is
 
+-- the signs of comparisons and sums
+
+op_is_sign : (op : Op) → IsSign (op_sign op)
+op_is_sign ops.Eq = tt
+op_is_sign ops.Ne = tt
+op_is_sign ops.Lt = tt
+op_is_sign ops.Le = tt
+op_is_sign ops.Gt = tt
+op_is_sign ops.Ge = tt
+
+added_is_sign : (s : Sign) → IsSign (added_sign s)
+added_is_sign signs.Plus = tt
+added_is_sign signs.Minus = tt
+
+pub is_the_op : (line : List ℕ) (t : Token) (op : Op) → t.kind ≡ op_sign op → word_of line t ≡ sign (op_sign op)
+is_the_op line t op same = is_the_sign line t (op_sign op) (op_is_sign op) same
+
+pub is_the_added : (line : List ℕ) (t : Token) (s : Sign) → t.kind ≡ added_sign s → word_of line t ≡ sign (added_sign s)
+is_the_added line t s same = is_the_sign line t (added_sign s) (added_is_sign s) same
+
 -- ---- names
-
-ascii_is : (text : List ℕ) → IsAscii text → list_all is_ascii text ≡ true
-ascii_is [] all = refl
-ascii_is (c ∷ cs) all =
-    let first = all 0 in
-    let rest = ascii_is cs (λ i. let next = all (i + 1) in grind arith) in
-    grind (arith, nat_tests)
-
-ascii_isnt : (text : List ℕ) → IsNotAscii text → list_all is_ascii text ≡ true → ⊥
-ascii_isnt text not all =
-    let high = not.1 in
-    let inside : not.0 < length text = grind (arith, get_or_past) in
-    let test : is_ascii (get_or text not.0 0) ≡ false = grind (arith, nat_tests) in
-    let no = list_all_at is_ascii text not.0 0 inside test in
-    cc
 
 -- the name that a word is
 record IsNameWord (k : Kind) (text other : List ℕ) : Type 0 where
   kind : k ≡ Name
   free : is_reserved text ≡ false
-  ascii : list_all is_ascii text ≡ true
   same : text ≡ other
 
-name_choice : (a b : Bool) (text other : List ℕ) → (if a then reserved text else (if b then name text else beyond_ascii text)) ≡ name other → (a ≡ false) × (b ≡ true) × (text ≡ other)
-name_choice true b text other e = cc
-name_choice false true text other e = (refl, refl, (cc))
-name_choice false false text other e = cc
+name_choice : (a : Bool) (text other : List ℕ) → (if a then reserved text else name text) ≡ name other → (a ≡ false) × (text ≡ other)
+name_choice true text other e = cc
+name_choice false text other e = (refl, (cc))
 
 from_name_word : (k : Kind) (text other : List ℕ) → word k text ≡ name other → IsNameWord k text other
 from_name_word Name text other e =
-    let is = name_choice (is_reserved text) (list_all is_ascii text) text other e in
-    record { kind = refl; free = is.0; ascii = is.1; same = is.2 }
+    let is = name_choice (is_reserved text) text other e in
+    record { kind = refl; free = is.0; same = is.1 }
 from_name_word Number text other e = cc
 from_name_word k text other e = cc
 
@@ -82,23 +89,17 @@ reserved_name line t reserves text is =
     let free = (from_name_word t.kind (slice_range line t.start t.end) text is).free in
     cc
 
-pub wide_name : (line : List ℕ) (t : Token) → IsNotAscii (slice_range line t.start t.end) → (text : List ℕ) → word_of line t ≡ name text → ⊥
-wide_name line t wide text is = ascii_isnt (slice_range line t.start t.end) wide (from_name_word t.kind (slice_range line t.start t.end) text is).ascii
-
 pub name_token : (line : List ℕ) (t : Token) (text : List ℕ) → word_of line t ≡ name text → (t.kind ≡ Name) × (slice_range line t.start t.end ≡ text)
 name_token line t text is =
     let named = from_name_word t.kind (slice_range line t.start t.end) text is in
     (named.kind, named.same)
 
-chosen_name : (a b : Bool) (text : List ℕ) → a ≡ false → b ≡ true → (if a then reserved text else (if b then name text else beyond_ascii text)) ≡ name text
-chosen_name true b text free ascii = cc
-chosen_name false true text free ascii = refl
-chosen_name false false text free ascii = cc
+chosen : (a b : Bool) (text : List ℕ) → a ≡ b → (if a then reserved text else name text) ≡ (if b then reserved text else name text)
+chosen a b text same = ap (λ c. if c then reserved text else name text) same
 
 -- the word of a name's token, and that its text is a name
-pub name_is : (line : List ℕ) (t : Token) (text : List ℕ) → text ≡ slice_range line t.start t.end → t.kind ≡ Name → is_reserved text ≡ false → IsAscii text → word_of line t ≡ name text
-name_is line t text slice kind free ascii =
-    ap (λ k. word k (slice_range line t.start t.end)) kind ∙ ap name_word (sym slice) ∙ chosen_name (is_reserved text) (list_all is_ascii text) text free (ascii_is text ascii)
+pub name_is : (line : List ℕ) (t : Token) (text : List ℕ) → text ≡ slice_range line t.start t.end → t.kind ≡ Name → is_reserved text ≡ false → word_of line t ≡ name text
+name_is line t text slice kind free = ap (λ k. word k (slice_range line t.start t.end)) kind ∙ ap name_word (sym slice) ∙ chosen (is_reserved text) false text free
 
 pub text_is_name : (line : List ℕ) (t : Token) (text : List ℕ) → IsTokenOf line t → length line ≤ most_name_bytes → text ≡ slice_range line t.start t.end → t.kind ≡ Name → is_reserved text ≡ false → IsName text
 text_is_name line t text is within slice kind free =
@@ -109,15 +110,69 @@ text_is_name line t text is within slice kind free =
       within = omega (arith, ap length slice, length-take-le (t.end - t.start) (drop t.start line) (omega (arith, length-drop t.start line, is.within)), is.within);
     }
 
+-- ---- the words of quantifiers
+
+reserved_choice : (a : Bool) (text other : List ℕ) → (if a then reserved text else name text) ≡ reserved other → text ≡ other
+reserved_choice true text other e = cc
+reserved_choice false text other e = cc
+
+from_reserved_word : (k : Kind) (text other : List ℕ) → word k text ≡ reserved other → (k ≡ Name) × (text ≡ other)
+from_reserved_word Name text other e = (refl, reserved_choice (is_reserved text) text other e)
+from_reserved_word Number text other e = cc
+from_reserved_word k text other e = cc
+
+reserves : (q : Quantifier) → is_reserved (quantifier_word q) ≡ true
+reserves ForAll = refl
+reserves Exists = refl
+
+pub other_no_quantifier : (line : List ℕ) (t : Token) → (t.kind ≡ Name → ⊥) → (q : Quantifier) → word_of line t ≡ reserved (quantifier_word q) → ⊥
+other_no_quantifier line t other q is = other (from_reserved_word t.kind (slice_range line t.start t.end) (quantifier_word q) is).0
+
+pub quantifier_is : (line : List ℕ) (t : Token) (text : List ℕ) (q : Quantifier) → text ≡ slice_range line t.start t.end → t.kind ≡ Name → text ≡ quantifier_word q → word_of line t ≡ reserved (quantifier_word q)
+quantifier_is line t text q slice kind is =
+    ap (λ k. word k (slice_range line t.start t.end)) kind ∙ ap name_word (sym slice ∙ is) ∙ chosen (is_reserved (quantifier_word q)) true (quantifier_word q) (reserves q)
+
+pub no_quantifier_is : (line : List ℕ) (t : Token) (text : List ℕ) → text ≡ slice_range line t.start t.end → ((q : Quantifier) → text ≡ quantifier_word q → ⊥) → (q : Quantifier) → word_of line t ≡ reserved (quantifier_word q) → ⊥
+no_quantifier_is line t text slice none q is = none q (slice ∙ (from_reserved_word t.kind (slice_range line t.start t.end) (quantifier_word q) is).1)
+
+-- ---- the words at which a formula goes a level down
+
+quantifier_nests : (q : Quantifier) → nests (reserved (quantifier_word q)) ≡ true
+quantifier_nests ForAll = refl
+quantifier_nests Exists = refl
+
+no_true : (b : Bool) → (b ≡ true → ⊥) → b ≡ false
+no_true true absent = absurd (absent refl)
+no_true false absent = refl
+
+name_nests_not : (a : Bool) (text : List ℕ) → ((q : Quantifier) → (if a then reserved text else name text) ≡ reserved (quantifier_word q) → ⊥) → nests (if a then reserved text else name text) ≡ false
+name_nests_not false text none = refl
+name_nests_not true text none =
+    let first = no_true (bytes_eq text (codes "forall")) (λ yes. none ForAll (ap reserved ((bytes_eq-Decides text (codes "forall")).0 yes))) in
+    let second = no_true (bytes_eq text (codes "exists")) (λ yes. none Exists (ap reserved ((bytes_eq-Decides text (codes "exists")).0 yes))) in
+    ap₂ (λ p q. p || q) first second
+
+pub name_nests : (line : List ℕ) (t : Token) (r : Option Quantifier) → t.kind ≡ Name → MatchOption r ((q : Quantifier) → word_of line t ≡ reserved (quantifier_word q) → ⊥) (λ q. word_of line t ≡ reserved (quantifier_word q)) → is_some r ≡ nests (word_of line t)
+name_nests line t (Some q) kind is = sym (ap nests is ∙ quantifier_nests q)
+name_nests line t None kind none =
+    let named : word_of line t ≡ name_word (slice_range line t.start t.end) = ap (λ k. word k (slice_range line t.start t.end)) kind in
+    sym (ap nests named ∙ name_nests_not (is_reserved (slice_range line t.start t.end)) (slice_range line t.start t.end) (λ q is. none q (named ∙ is)))
+
+pub quantifier_match : (line : List ℕ) (t : Token) (text : List ℕ) (r : Option Quantifier) → text ≡ slice_range line t.start t.end → t.kind ≡ Name → MatchOption r ((q : Quantifier) → text ≡ quantifier_word q → ⊥) (λ q. text ≡ quantifier_word q) → MatchOption r ((q : Quantifier) → word_of line t ≡ reserved (quantifier_word q) → ⊥) (λ q. word_of line t ≡ reserved (quantifier_word q))
+quantifier_match line t text (Some q) slice kind is = quantifier_is line t text q slice kind is
+quantifier_match line t text None slice kind none = no_quantifier_is line t text slice none
+
+pub sign_nests : (line : List ℕ) (t : Token) (k : Kind) → IsSign k → t.kind ≡ k → nests (word_of line t) ≡ nests (sign k)
+sign_nests line t k is same = ap nests (is_the_sign line t k is same)
+
 -- ---- numbers
 
 from_number_word : (k : Kind) (text other : List ℕ) → word k text ≡ number other → k ≡ Number
-from_number_word Name text other e = absurd (choice (is_reserved text) (list_all is_ascii text) e)
+from_number_word Name text other e = absurd (choice (is_reserved text) e)
   where
-    choice : (a b : Bool) → (if a then reserved text else (if b then name text else beyond_ascii text)) ≡ number other → ⊥
-    choice true b e = cc
-    choice false true e = cc
-    choice false false e = cc
+    choice : (a : Bool) → (if a then reserved text else name text) ≡ number other → ⊥
+    choice true e = cc
+    choice false e = cc
 from_number_word Number text other e = refl
 from_number_word k text other e = cc
 
@@ -142,3 +197,9 @@ is_numeral line t text is slice kind =
     let each : (i : ℕ) → i < length (slice_range line t.start t.end) → is_ascii_digit (get_or (slice_range line t.start t.end) i 0) ≡ true =
     λ i inside. ap is_ascii_digit (get_or-take (t.end - t.start) (drop t.start line) i 0 (omega (arith, inside, size)) ∙ get_or-drop t.start line i 0) ∙ run.digits (t.start + i) (omega arith) (omega (arith, inside, size, is.nonempty)) in
     subst (IsNumeral 10) (sym slice) (omega (arith, size, is.nonempty), all_digits (slice_range line t.start t.end) each)
+
+pub digits_within : (line : List ℕ) (t : Token) (text : List ℕ) → IsTokenOf line t → text ≡ slice_range line t.start t.end → t.kind ≡ Number → length text ≤ 18
+digits_within line t text is slice kind =
+    let number : IsNumberAt line t.start t.end = subst (λ k. IsOfKind k line t.start t.end) kind is.kind in
+    let size : length (slice_range line t.start t.end) ≡ t.end - t.start = length-take-le (t.end - t.start) (drop t.start line) (omega (arith, length-drop t.start line, is.within)) in
+    omega (arith, ap length slice, size, number.1, is.nonempty)

@@ -1,23 +1,36 @@
 -- The grammar of formulas, as derivations over words.
 use Rattle.std.specs.Prelude.{◌≡◌, ℕ, List, [], ◌∷◌}
 use Rattle.pc_name.specs.declared.sign.Op.{Op}
-use Rattle.pc_name.specs.declared.sign.Op.TheVariants as ops
 use Rattle.pc_token.specs.declared.token.Kind.{Kind}
-use Rattle.pc_token.specs.declared.token.Kind.TheVariants.{Equal, NotEqual, Less, LessEqual, Greater, GreaterEqual, Not, And, Or, Arrow, DoubleArrow, Open, Close}
-use Rattle.pc_formula.specs.Word.{Word, name, sign, NotFirst}
-use Rattle.pc_formula.specs.Tree.{Side, named, no_item, Formula, iff, implies, or, and, not, compare, parts_of}
+use Rattle.pc_token.specs.declared.token.Kind.TheVariants.{Not, And, Or, Arrow, DoubleArrow, Open, Close, Colon, Dot}
+use Rattle.pc_formula.specs.declared.words.Quantifier.{Quantifier}
+use Rattle.pc_formula.specs.declared.words.Quantifier.TheVariants.{ForAll, Exists}
+use Rattle.pc_formula.specs.Word.{Word, name, reserved, sign}
+use Rattle.pc_formula.specs.Tree.{Item, Side, Formula, for_all, exists, iff, implies, or, and, not, compare, in_table, named, items_of, parts_of}
+use Rattle.pc_formula.specs.Sign.{op_sign, quantifier_word}
+use Rattle.pc_formula.specs.Side.{DerivesItems, DerivesSide}
 
 -- the two forms that join parts by a sign
 pub data Joint : Type 0 where
   by_or : Joint
   by_and : Joint
 
--- the forms of the grammar: IFF, IMP, OR or AND, UNARY
+-- the forms of the grammar: FORMULA, IFF, IMP, OR or AND, UNARY
 pub data Form : Type 0 where
+  whole : Form
   iffs : Form
   imps : Form
   joined : Joint → Form
   unary : Form
+
+-- how loosely the signs bind by which a form goes on
+abbrev pub level : Form → ℕ
+level whole = 7
+level iffs = 7
+level imps = 6
+level (joined by_or) = 5
+level (joined by_and) = 4
+level unary = 3
 
 -- the form of the parts
 abbrev pub part_form : Joint → Form
@@ -39,28 +52,17 @@ abbrev pub of_parts : Joint → List Formula → Formula
 of_parts j (f ∷ []) = f
 of_parts j fs = joint j fs
 
--- how a comparison's sign is written
-abbrev pub op_sign : Op → Kind
-op_sign ops.Eq = Equal
-op_sign ops.Ne = NotEqual
-op_sign ops.Lt = Less
-op_sign ops.Le = LessEqual
-op_sign ops.Gt = Greater
-op_sign ops.Ge = GreaterEqual
-
--- the two signs that compare names
-abbrev pub IsEquality : Op → Type 0
-IsEquality ops.Eq = Unit {0}
-IsEquality ops.Ne = Unit {0}
-IsEquality o = ⊥
-
--- a side that is a bare name
-abbrev pub bare : List ℕ → Side
-bare text = record { first = named text no_item; rest = [] }
+-- the node of a quantifier with its variable, sort and body
+abbrev pub quantified : Quantifier → List ℕ → List ℕ → Formula → Formula
+quantified ForAll variable sort f = for_all variable sort f
+quantified Exists variable sort f = exists variable sort f
 
 mutual
   -- the form derives the front of the words as the formula, and leaves the rest
   pub data Derives : Form → List Word → Formula → List Word → Type 0 where
+    -- FORMULA = forall NAME : NAME . FORMULA | exists NAME : NAME . FORMULA | IFF
+    quantifier : {ws rest : List Word} {f : Formula} (q : Quantifier) (variable sort : List ℕ) → Derives whole ws f rest → Derives whole (reserved (quantifier_word q) ∷ name variable ∷ sign Colon ∷ name sort ∷ sign Dot ∷ ws) (quantified q variable sort f) rest
+    no_quantifier : {ws rest : List Word} {f : Formula} → Derives iffs ws f rest → Derives whole ws f rest
     -- IFF = IMP [ <-> IMP ]
     iff_one : {ws rest : List Word} {f : Formula} → Derives imps ws f rest → Derives iffs ws f rest
     iff_two : {ws mid rest : List Word} {f g : Formula} → Derives imps ws f (sign DoubleArrow ∷ mid) → Derives imps mid g rest → Derives iffs ws (iff f g) rest
@@ -69,34 +71,26 @@ mutual
     imp_two : {ws mid rest : List Word} {f g : Formula} → Derives (joined by_or) ws f (sign Arrow ∷ mid) → Derives imps mid g rest → Derives imps ws (implies f g) rest
     -- OR = AND { | AND } and AND = UNARY { & UNARY }
     join : {j : Joint} {ws mid rest : List Word} {f : Formula} {fs : List Formula} → Derives (part_form j) ws f mid → Goes_on j mid fs rest → Derives (joined j) ws (of_parts j (f ∷ fs)) rest
-    -- UNARY = ! UNARY | ( IFF ) | ATOM and ATOM = NAME = NAME | NAME != NAME: parentheses leave no node
+    -- UNARY = ! UNARY | ( FORMULA ) | ATOM: parentheses leave no node
     negation : {ws rest : List Word} {f : Formula} → Derives unary ws f rest → Derives unary (sign Not ∷ ws) (not f) rest
-    group : {ws rest : List Word} {f : Formula} → Derives iffs ws f (sign Close ∷ rest) → Derives unary (sign Open ∷ ws) f rest
-    atom : {rest : List Word} (left : List ℕ) (op : Op) (right : List ℕ) → IsEquality op → Derives unary (name left ∷ sign (op_sign op) ∷ name right ∷ rest) (compare (bare left) op (bare right)) rest
+    group : {ws rest : List Word} {f : Formula} → Derives whole ws f (sign Close ∷ rest) → Derives unary (sign Open ∷ ws) f rest
+    -- ATOM = SIDE OP SIDE | NAME ( ITEM { , ITEM } )
+    comparison : {ws mid rest : List Word} {left right : Side} (op : Op) → DerivesSide ws left (sign (op_sign op) ∷ mid) → DerivesSide mid right rest → Derives unary ws (compare left op right) rest
+    table_atom : {ws rest : List Word} {args : List Item} (text : List ℕ) → DerivesItems ws args rest → Derives unary (name text ∷ sign Open ∷ ws) (in_table text args) rest
 
   -- further parts, each behind the joint's sign
   pub data Goes_on : Joint → List Word → List Formula → List Word → Type 0 where
     no_more : {j : Joint} {ws : List Word} → Goes_on j ws [] ws
     one_more : {j : Joint} {ws mid rest : List Word} {f : Formula} {fs : List Formula} → Derives (part_form j) ws f mid → Goes_on j mid fs rest → Goes_on j (sign (joint_sign j) ∷ ws) (f ∷ fs) rest
 
--- no sign follows by which the form would go on
-abbrev pub Stops : Form → List Word → Type 0
-Stops unary ws = Unit {0}
-Stops (joined by_and) ws = NotFirst And ws
-Stops (joined by_or) ws = NotFirst And ws × NotFirst Or ws
-Stops imps ws = NotFirst And ws × NotFirst Or ws × NotFirst Arrow ws
-Stops iffs ws = NotFirst And ws × NotFirst Or ws × NotFirst Arrow ws × NotFirst DoubleArrow ws
-
--- the longest front of the old words that the form derives is this formula, and the new words are left; no other such front is derived
-pub record Reads (form : Form) (old : List Word) (f : Formula) (new : List Word) : Type 0 where
-  pub derives : Derives form old f new
-  pub stops : Stops form new
-  pub only : (g : Formula) (rest : List Word) → Derives form old g rest → Stops form rest → (g ≡ f) × (rest ≡ new)
-
--- no such front of the words is derived
-pub record ReadsNone (form : Form) (old : List Word) : Type 0 where
-  pub none : (g : Formula) (rest : List Word) → Derives form old g rest → Stops form rest → ⊥
-
 -- the words are a formula, all of them
 abbrev pub IsFormula : List Word → Formula → Type 0
-IsFormula ws f = Derives iffs ws f []
+IsFormula ws f = Derives whole ws f []
+
+-- the side is one name with its arguments, and the formula is the table's atom that is written so
+pub record IsTableAtom (s : Side) (f : Formula) : Type 0 where
+  pub table : List ℕ
+  pub first : Item
+  pub others : List Item
+  pub side : s ≡ record { first = named table (items_of (first ∷ others)); rest = [] }
+  pub formula : f ≡ in_table table (first ∷ others)

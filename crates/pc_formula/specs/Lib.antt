@@ -1,4 +1,9 @@
+pub mod Front
 pub mod Grammar
+pub mod Nesting
+pub mod Side
+pub mod Sign
 pub mod Sized
 pub mod Tree
+pub mod Value
 pub mod Word

@@ -75,9 +75,13 @@ item_step (ItemTree-F.Named name args) = named name (items_of args.items)
 abbrev pub item_of : ItemTree → Item
 item_of = fold-ItemTree Item item_step
 
+-- an added item with the sign before it
+abbrev pub added_of : Sign × ItemTree → Sign × Item
+added_of p = (p.0, item_of p.1)
+
 -- the side that a tree stands for
 abbrev pub side_of : SideTree → Side
-side_of t = record { first = item_of t.first; rest = map (λ p. (p.0, item_of p.1)) t.rest.items }
+side_of t = record { first = item_of t.first; rest = map added_of t.rest.items }
 
 -- one level of a formula, with each part already seen as its formula
 abbrev pub formula_step : FormulaTree-F Formula → Formula

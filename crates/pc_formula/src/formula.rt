@@ -1,52 +1,44 @@
 // The reader of formulas: one function for each form of the grammar.
 //
-// Each reads the longest front of the words that its form derives. It calls itself again only behind `(`, `!` and `->`,
-// so the number of these bounds its depth, and parts that `&` or `|` join are read by a loop.
-ghost use Rattle.std.specs.Prelude.{◌≡◌, ◌<◌, ◌∷◌, length, IfOk, OnOk, MatchOption};
-ghost use Rattle.pc_name.specs.Names.{IsName};
-ghost use Rattle.pc_formula.specs.Tree.{formula_of, side_of};
-ghost use Rattle.pc_formula.specs.Word.{sign, NotFirst};
-ghost use Rattle.pc_formula.specs.Grammar.{iffs, imps, joined, by_or, by_and, unary, op_sign, bare, IsEquality, Reads, ReadsNone};
+// Each reads the longest front of the words that its form derives. It calls itself again only behind `(`, `!`, `->` and
+// the words of quantifiers, so the number of these bounds its depth, and parts that `&` or `|` join are read by a loop.
+ghost use Rattle.std.specs.Prelude.{◌≡◌, ◌<◌, ◌∷◌, ℕ, List, length, IfOk, OnOk, MatchOption};
+ghost use Rattle.pc_formula.specs.Word.{Word, name, sign, NotFirst};
+ghost use Rattle.pc_formula.specs.Tree.{Formula, formula_of, side_of};
+ghost use Rattle.pc_formula.specs.Front.{Reads, ReadsNone};
+ghost use Rattle.pc_formula.specs.Grammar.{whole, iffs, imps, joined, by_or, by_and, unary, quantified, IsTableAtom, Derives};
 
+use crate::items::side;
+use crate::refusal::Refusal;
 use crate::tree::{FormulaTree, ItemTree, SideTree};
-use crate::words::Words;
-use pc_name::{Name, Op};
+use crate::words::{Quantifier, Words};
+use pc_name::Name;
 use pc_token::Kind;
-use std::alloc::{AllocError, AllocFailed, Global};
+use std::alloc::Global;
 
-/// Why no form was read.
-#[derive(Debug, Drop)]
-pub enum Refusal {
-    Syntax,
-    Memory,
-}
-
-impl From<AllocError> for Refusal {
-    ghost use Rattle.pc_formula.specs.declared.formula.Refusal.TheVariants.{Memory};
-
-    ghost from_gives = { λ _ e. e ≡ Memory };
-
-    fn from(_: AllocError) -> Self {
-        Refusal::Memory
-    }
-}
-
-impl<T: Drop> From<AllocFailed<T>> for Refusal {
-    ghost use Rattle.pc_formula.specs.declared.formula.Refusal.TheVariants.{Memory};
-
-    ghost from_gives = { λ _ e. e ≡ Memory };
-
-    fn from(_: AllocFailed<T>) -> Self {
-        Refusal::Memory
-    }
-}
-
-/// Reads IFF = IMP [ <-> IMP ]: the longest front of the words that is one.
+/// Reads FORMULA = forall NAME : NAME . FORMULA | exists NAME : NAME . FORMULA | IFF: the longest front of the words
+/// that is one.
 #[cycle(formula)]
-pub fn iff(alloc: Global, words: &mut Words<'_>) -> Result<FormulaTree, Refusal>
-    ensures ok { IfOk result (λ t. Reads iffs words.old (formula_of t) words.new) }
+pub fn read_formula(alloc: Global, words: &mut Words<'_>) -> Result<FormulaTree, Refusal>
+    ensures ok { IfOk result (λ t. Reads (Derives whole) 7 words.old (formula_of t) words.new) }
     ensures shorter { OnOk result (length words.new < length words.old) }
-    ensures err { result ≡ Err Refusal.Syntax → ReadsNone iffs words.old }
+    ensures err { result ≡ Err Refusal.Syntax → ReadsNone (Derives whole) 7 words.old }
+{
+    let Some(quantifier) = words.take_quantifier() else {
+        return iff(alloc, words);
+    };
+    let (variable, sort) = binder(alloc, words)?;
+    let body = read_formula(alloc, words)?;
+    let body = Box::new(alloc, body)?;
+    Ok(quantified(quantifier, variable, sort, body))
+}
+
+// Reads IFF = IMP [ <-> IMP ].
+#[cycle(formula)]
+fn iff(alloc: Global, words: &mut Words<'_>) -> Result<FormulaTree, Refusal>
+    ensures ok { IfOk result (λ t. Reads (Derives iffs) 7 words.old (formula_of t) words.new) }
+    ensures shorter { OnOk result (length words.new < length words.old) }
+    ensures err { result ≡ Err Refusal.Syntax → ReadsNone (Derives iffs) 7 words.old }
 {
     let first = imp(alloc, words)?;
     if !words.take_sign(Kind::DoubleArrow) {
@@ -63,9 +55,9 @@ pub fn iff(alloc: Global, words: &mut Words<'_>) -> Result<FormulaTree, Refusal>
 // Reads IMP = OR [ -> IMP ].
 #[cycle(formula)]
 fn imp(alloc: Global, words: &mut Words<'_>) -> Result<FormulaTree, Refusal>
-    ensures ok { IfOk result (λ t. Reads imps words.old (formula_of t) words.new) }
+    ensures ok { IfOk result (λ t. Reads (Derives imps) 6 words.old (formula_of t) words.new) }
     ensures shorter { OnOk result (length words.new < length words.old) }
-    ensures err { result ≡ Err Refusal.Syntax → ReadsNone imps words.old }
+    ensures err { result ≡ Err Refusal.Syntax → ReadsNone (Derives imps) 6 words.old }
 {
     let left = or(alloc, words)?;
     if !words.take_sign(Kind::Arrow) {
@@ -78,9 +70,9 @@ fn imp(alloc: Global, words: &mut Words<'_>) -> Result<FormulaTree, Refusal>
 // Reads OR = AND { | AND }.
 #[cycle(formula)]
 fn or(alloc: Global, words: &mut Words<'_>) -> Result<FormulaTree, Refusal>
-    ensures ok { IfOk result (λ t. Reads (joined by_or) words.old (formula_of t) words.new) }
+    ensures ok { IfOk result (λ t. Reads (Derives (joined by_or)) 5 words.old (formula_of t) words.new) }
     ensures shorter { OnOk result (length words.new < length words.old) }
-    ensures err { result ≡ Err Refusal.Syntax → ReadsNone (joined by_or) words.old }
+    ensures err { result ≡ Err Refusal.Syntax → ReadsNone (Derives (joined by_or)) 5 words.old }
 {
     let first = and(alloc, words)?;
     if !words.take_sign(Kind::Or) {
@@ -98,9 +90,9 @@ fn or(alloc: Global, words: &mut Words<'_>) -> Result<FormulaTree, Refusal>
 // Reads AND = UNARY { & UNARY }.
 #[cycle(formula)]
 fn and(alloc: Global, words: &mut Words<'_>) -> Result<FormulaTree, Refusal>
-    ensures ok { IfOk result (λ t. Reads (joined by_and) words.old (formula_of t) words.new) }
+    ensures ok { IfOk result (λ t. Reads (Derives (joined by_and)) 4 words.old (formula_of t) words.new) }
     ensures shorter { OnOk result (length words.new < length words.old) }
-    ensures err { result ≡ Err Refusal.Syntax → ReadsNone (joined by_and) words.old }
+    ensures err { result ≡ Err Refusal.Syntax → ReadsNone (Derives (joined by_and)) 4 words.old }
 {
     let first = unary(alloc, words)?;
     if !words.take_sign(Kind::And) {
@@ -115,20 +107,24 @@ fn and(alloc: Global, words: &mut Words<'_>) -> Result<FormulaTree, Refusal>
     Ok(FormulaTree::And(parts))
 }
 
-// Reads UNARY = ! UNARY | ( IFF ) | ATOM.
+// Reads UNARY = ! UNARY | ( FORMULA ) | ATOM.
 #[cycle(formula)]
 fn unary(alloc: Global, words: &mut Words<'_>) -> Result<FormulaTree, Refusal>
-    ensures ok { IfOk result (λ t. Reads unary words.old (formula_of t) words.new) }
+    ensures ok { IfOk result (λ t. Reads (Derives unary) 3 words.old (formula_of t) words.new) }
     ensures shorter { OnOk result (length words.new < length words.old) }
-    ensures err { result ≡ Err Refusal.Syntax → ReadsNone unary words.old }
+    ensures err { result ≡ Err Refusal.Syntax → ReadsNone (Derives unary) 3 words.old }
 {
     if words.take_sign(Kind::Not) {
         let inner = unary(alloc, words)?;
         return Ok(FormulaTree::Not(Box::new(alloc, inner)?));
     }
     if words.take_sign(Kind::Open) {
-        let inner = iff(alloc, words)?;
+        let inner = read_formula(alloc, words)?;
         if !words.take_sign(Kind::Close) {
+            return Err(Refusal::Syntax);
+        }
+        // A formula is no side.
+        if !words.stops_at(3) {
             return Err(Refusal::Syntax);
         }
         return Ok(inner);
@@ -136,52 +132,72 @@ fn unary(alloc: Global, words: &mut Words<'_>) -> Result<FormulaTree, Refusal>
     atom(alloc, words)
 }
 
-// Reads ATOM = NAME = NAME | NAME != NAME.
+// Reads ATOM = SIDE OP SIDE | NAME ( ITEM { , ITEM } ).
 fn atom(alloc: Global, words: &mut Words<'_>) -> Result<FormulaTree, Refusal>
     requires { NotFirst Kind.Not words.old × NotFirst Kind.Open words.old }
-    ensures ok { IfOk result (λ t. Reads unary words.old (formula_of t) words.new) }
+    ensures ok { IfOk result (λ t. Reads (Derives unary) 3 words.old (formula_of t) words.new) }
     ensures shorter { OnOk result (length words.new < length words.old) }
-    ensures err { result ≡ Err Refusal.Syntax → ReadsNone unary words.old }
+    ensures err { result ≡ Err Refusal.Syntax → ReadsNone (Derives unary) 3 words.old }
 {
-    let Some(left) = words.take_name() else {
-        return Err(Refusal::Syntax);
+    let left = side(alloc, words)?;
+    let Some(op) = words.take_op() else {
+        return table_atom(left);
     };
-    let Some(op) = take_equality(words) else {
+    let right = side(alloc, words)?;
+    // A second comparison stands in no formula.
+    if !words.stops_at(3) {
         return Err(Refusal::Syntax);
-    };
-    let Some(right) = words.take_name() else {
-        return Err(Refusal::Syntax);
-    };
-    let left = bare_side(alloc, left)?;
-    let right = bare_side(alloc, right)?;
+    }
     Ok(FormulaTree::Compare { left, op, right })
 }
 
-// Takes `=` or `!=`, where it is the first word.
-fn take_equality(words: &mut Words<'_>) -> Option<Op>
-    ensures { MatchOption result ((words.new ≡ words.old) × NotFirst Kind.Equal words.old × NotFirst Kind.NotEqual words.old) (λ op. IsEquality op × (words.old ≡ sign (op_sign op) ∷ words.new)) }
+// The table's atom that a side is, where it is one name with its arguments.
+fn table_atom(side: SideTree) -> Result<FormulaTree, Refusal>
+    ensures ok { IfOk result (λ t. IsTableAtom (side_of side) (formula_of t)) }
+    ensures err { result ≡ Err Refusal.Syntax → (f : Formula) → IsTableAtom (side_of side) f → ⊥ }
+    ensures no_memory { result ≡ Err Refusal.Memory → ⊥ }
 {
-    if words.take_sign(Kind::Equal) {
-        return Some(Op::Eq);
+    let SideTree { first, rest } = side;
+    if !rest.is_empty() {
+        return Err(Refusal::Syntax);
     }
-    if words.take_sign(Kind::NotEqual) {
-        return Some(Op::Ne);
+    let ItemTree::Named { name: table, args } = first else {
+        return Err(Refusal::Syntax);
+    };
+    if args.is_empty() {
+        return Err(Refusal::Syntax);
     }
-    None
+    Ok(FormulaTree::InTable { table, args })
 }
 
-// A side that is a bare name.
-fn bare_side(alloc: Global, text: &str) -> Result<SideTree, AllocError>
-    requires { IsName text.now }
-    ensures { IfOk result (λ side. side_of side ≡ bare text.now) }
+// Reads NAME : NAME `.`, behind a quantifier's word: its variable and its sort.
+fn binder(alloc: Global, words: &mut Words<'_>) -> Result<(Name, Name), Refusal>
+    ensures ok { IfOk result (λ p. words.old ≡ name p.0 ∷ sign Kind.Colon ∷ name p.1 ∷ sign Kind.Dot ∷ words.new) }
+    ensures err { result ≡ Err Refusal.Syntax → (variable sort : List ℕ) (more : List Word) → words.old ≡ name variable ∷ sign Kind.Colon ∷ name sort ∷ sign Kind.Dot ∷ more → ⊥ }
 {
-    let name = Name::new(alloc, text)?;
-    let first = ItemTree::Named {
-        name,
-        args: Vec::new(alloc),
+    let Some(variable) = words.take_name() else {
+        return Err(Refusal::Syntax);
     };
-    Ok(SideTree {
-        first,
-        rest: Vec::new(alloc),
-    })
+    if !words.take_sign(Kind::Colon) {
+        return Err(Refusal::Syntax);
+    }
+    let Some(sort) = words.take_name() else {
+        return Err(Refusal::Syntax);
+    };
+    if !words.take_sign(Kind::Dot) {
+        return Err(Refusal::Syntax);
+    }
+    let variable = Name::new(alloc, variable)?;
+    let sort = Name::new(alloc, sort)?;
+    Ok((variable, sort))
+}
+
+// The quantifier's node.
+fn quantified(quantifier: Quantifier, name: Name, sort: Name, body: Box<FormulaTree>) -> FormulaTree
+    ensures { formula_of result ≡ quantified quantifier name sort (formula_of body.value) }
+{
+    match quantifier {
+        Quantifier::ForAll => FormulaTree::ForAll { name, sort, body },
+        Quantifier::Exists => FormulaTree::Exists { name, sort, body },
+    }
 }

@@ -1,13 +1,20 @@
-//! Formulas, cells and values as trees, the words of a line, and the reader that makes formulas of words.
+//! Formulas, cells and values as trees, the words of a line, and the readers that make trees of words.
 #![tactic(auto)]
 
 mod formula;
+mod items;
 mod law;
+mod refusal;
 mod tree;
+mod values;
 mod words;
 
-pub use formula::{Refusal, iff};
-pub use law::one_formula;
+pub use formula::read_formula;
+pub use law::{one_formula, one_value};
 pub use pc_name::{Name, Op, Sign};
+pub use refusal::Refusal;
 pub use tree::{CellTree, FormulaTree, ItemTree, SideTree, ValueTree};
-pub use words::Words;
+pub use values::{
+    read_cell, read_integer, read_name_arguments, read_names, read_number, read_value, read_values,
+};
+pub use words::{Quantifier, Words};

@@ -1,12 +1,14 @@
 // The words of a line, read from the left.
-ghost use Rattle.std.specs.Prelude.{◌≡◌, ◌↔◌, ◌≤◌, ℕ, List, [], ◌∷◌, length, IsTrue, MatchOption};
+ghost use Rattle.std.specs.Prelude.{◌≡◌, ◌↔◌, ◌<◌, ◌≤◌, ℕ, List, [], ◌∷◌, length, IsTrue, MatchOption};
 ghost use Rattle.std.specs.List.{AllByRecursion};
 ghost use Rattle.std.specs.Str.Parse.{IsNumeral};
 ghost use Rattle.pc_name.specs.Names.{IsName, most_name_bytes};
 ghost use Rattle.pc_token.specs.Token.{IsTokenOf};
-ghost use Rattle.pc_formula.specs.Word.{name, number, sign, word_of, words_of, IsSign, TakesSign, HasNoName, HasNoNumber};
+ghost use Rattle.pc_formula.specs.Word.{name, reserved, number, sign, word_of, words_of, nests, nesting, IsSign, TakesSign, NotFirst, HasNoName, HasNoNumber};
+ghost use Rattle.pc_formula.specs.Front.{reach, StopsAt};
+ghost use Rattle.pc_formula.specs.Sign.{op_sign, added_sign, quantifier_word, NotQuantified};
 
-use pc_name::is_reserved;
+use pc_name::{Op, Sign, is_reserved};
 use pc_token::{Kind, Token};
 use std::marker::Model;
 
@@ -73,15 +75,70 @@ impl<'a> Words<'a> {
         Some(text)
     }
 
-    /// Takes the first word, where it is a number.
+    /// Takes the first word, where it is a number, of at most 18 digits.
     pub fn take_number(&mut self) -> Option<&'a str>
-        ensures { MatchOption result (HasNoNumber self.old self.new) (λ digits. (self.old ≡ number digits.now ∷ self.new) × IsNumeral 10 digits.now) }
+        ensures { MatchOption result (HasNoNumber self.old self.new) (λ digits. (self.old ≡ number digits.now ∷ self.new) × IsNumeral 10 digits.now × (length digits.now ≤ 18)) }
     {
         let (first, rest) = self.tokens.split_first()?;
         let digits = number_of(self.line, *first)?;
         self.tokens = rest;
         Some(digits)
     }
+
+    /// Takes the first word, where it starts a quantifier.
+    pub fn take_quantifier(&mut self) -> Option<Quantifier>
+        ensures { MatchOption result ((self.new ≡ self.old) × NotQuantified self.old) (λ q. self.old ≡ reserved (quantifier_word q) ∷ self.new) }
+    {
+        let (first, rest) = self.tokens.split_first()?;
+        let quantifier = quantifier_of(self.line, *first)?;
+        self.tokens = rest;
+        Some(quantifier)
+    }
+
+    /// Takes the first word, where it is the sign of a comparison.
+    pub fn take_op(&mut self) -> Option<Op>
+        ensures { MatchOption result ((self.new ≡ self.old) × ((op : Op) → NotFirst (op_sign op) self.old)) (λ op. self.old ≡ sign (op_sign op) ∷ self.new) }
+    {
+        let (first, rest) = self.tokens.split_first()?;
+        let op = op_of(first.kind)?;
+        self.tokens = rest;
+        Some(op)
+    }
+
+    /// Takes the first word, where it is a plus or a minus.
+    pub fn take_plus_or_minus(&mut self) -> Option<Sign>
+        ensures { MatchOption result ((self.new ≡ self.old) × ((s : Sign) → NotFirst (added_sign s) self.old)) (λ s. self.old ≡ sign (added_sign s) ∷ self.new) }
+    {
+        let (first, rest) = self.tokens.split_first()?;
+        let sign = plus_or_minus_of(first.kind)?;
+        self.tokens = rest;
+        Some(sign)
+    }
+
+    /// Whether the first word is no sign by which a form of the level would go on.
+    pub fn stops_at(&self, level: u8) -> bool
+        requires { level < 8 }
+        ensures { IsTrue result ↔ StopsAt level self.now }
+    {
+        match self.tokens.first() {
+            None => true,
+            Some(token) => level < reach(token.kind),
+        }
+    }
+
+    /// At how many of the words a formula goes a level down: `(`, `!`, `->`, `forall` and `exists`.
+    pub fn nesting(&self) -> usize
+        ensures { result ≡ nesting self.now }
+    {
+        nesting(self.line, self.tokens)
+    }
+}
+
+/// The words that start a quantifier.
+#[derive(Clone, Copy, Debug, PartialEq, Eq)]
+pub enum Quantifier {
+    ForAll,
+    Exists,
 }
 
 // Whether the token is the sign.
@@ -108,7 +165,7 @@ fn name_of<'a>(line: &'a str, token: Token) -> Option<&'a str>
         return None;
     }
     let text = &line[token.start..token.end];
-    if is_reserved(text) || !text.is_ascii() {
+    if is_reserved(text) {
         return None;
     }
     Some(text)
@@ -117,10 +174,102 @@ fn name_of<'a>(line: &'a str, token: Token) -> Option<&'a str>
 // The digits of the number that the token is.
 fn number_of<'a>(line: &'a str, token: Token) -> Option<&'a str>
     requires { IsTokenOf line.now token }
-    ensures { MatchOption result ((digits : List ℕ) → word_of line.now token ≡ number digits → ⊥) (λ digits. (word_of line.now token ≡ number digits.now) × IsNumeral 10 digits.now) }
+    ensures { MatchOption result ((digits : List ℕ) → word_of line.now token ≡ number digits → ⊥) (λ digits. (word_of line.now token ≡ number digits.now) × IsNumeral 10 digits.now × (length digits.now ≤ 18)) }
 {
     if token.kind != Kind::Number {
         return None;
     }
     Some(&line[token.start..token.end])
+}
+
+// The quantifier that the token starts.
+fn quantifier_of(line: &str, token: Token) -> Option<Quantifier>
+    requires { IsTokenOf line.now token }
+    ensures { MatchOption result ((q : Quantifier) → word_of line.now token ≡ reserved (quantifier_word q) → ⊥) (λ q. word_of line.now token ≡ reserved (quantifier_word q)) }
+{
+    if token.kind != Kind::Name {
+        return None;
+    }
+    quantifier_named(&line[token.start..token.end])
+}
+
+fn quantifier_named(text: &str) -> Option<Quantifier>
+    ensures { MatchOption result ((q : Quantifier) → text.now ≡ quantifier_word q → ⊥) (λ q. text.now ≡ quantifier_word q) }
+{
+    if text == "forall" {
+        return Some(Quantifier::ForAll);
+    }
+    if text == "exists" {
+        return Some(Quantifier::Exists);
+    }
+    None
+}
+
+// At how many of the tokens a formula goes a level down.
+fn nesting(line: &str, tokens: &[Token]) -> usize
+    requires { AllByRecursion (IsTokenOf line.now) tokens.now }
+    ensures { result ≡ nesting (words_of line.now tokens.now) }
+{
+    let mut count = 0;
+    let mut rest = tokens;
+    'tokens: while let Some((first, after)) = rest.split_first() {
+        if nests(line, *first) {
+            count += 1;
+        }
+        rest = after;
+    }
+    count
+}
+
+// Whether a formula goes a level down at the token.
+fn nests(line: &str, token: Token) -> bool
+    requires { IsTokenOf line.now token }
+    ensures { result ≡ nests (word_of line.now token) }
+{
+    match token.kind {
+        Kind::Open | Kind::Not | Kind::Arrow => true,
+        Kind::Name => quantifier_of(line, token).is_some(),
+        _ => false,
+    }
+}
+
+// How loosely the sign binds.
+fn reach(kind: Kind) -> u8
+    ensures { result ≡ reach kind }
+{
+    match kind {
+        Kind::Open => 1,
+        Kind::Plus | Kind::Minus => 2,
+        Kind::Equal | Kind::NotEqual | Kind::Less => 3,
+        Kind::LessEqual | Kind::Greater | Kind::GreaterEqual => 3,
+        Kind::And => 4,
+        Kind::Or => 5,
+        Kind::Arrow => 6,
+        Kind::DoubleArrow => 7,
+        _ => 8,
+    }
+}
+
+fn op_of(kind: Kind) -> Option<Op>
+    ensures { MatchOption result ((op : Op) → kind ≡ op_sign op → ⊥) (λ op. kind ≡ op_sign op) }
+{
+    match kind {
+        Kind::Equal => Some(Op::Eq),
+        Kind::NotEqual => Some(Op::Ne),
+        Kind::Less => Some(Op::Lt),
+        Kind::LessEqual => Some(Op::Le),
+        Kind::Greater => Some(Op::Gt),
+        Kind::GreaterEqual => Some(Op::Ge),
+        _ => None,
+    }
+}
+
+fn plus_or_minus_of(kind: Kind) -> Option<Sign>
+    ensures { MatchOption result ((s : Sign) → kind ≡ added_sign s → ⊥) (λ s. kind ≡ added_sign s) }
+{
+    match kind {
+        Kind::Plus => Some(Sign::Plus),
+        Kind::Minus => Some(Sign::Minus),
+        _ => None,
+    }
 }

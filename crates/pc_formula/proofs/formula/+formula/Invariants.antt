@@ -4,21 +4,24 @@ use Rattle.pc_formula.specs.Grammar.{by_or, by_and}
 use Rattle.pc_formula.proofs.Joining.{Joins}
 use Rattle.pc_formula.proofs.formula.+formula.Given as goal
 
--- each form calls the next one at the same words, and goes back to the first behind a parenthesis
+-- each form calls the next one at the same words, and goes back to the first behind a parenthesis or a quantifier
+abbrev pub decreases-read_formula : goal.decreases-read_formula
+decreases-read_formula l = 6 * length l.words.now + 5
+
 abbrev pub decreases-iff : goal.decreases-iff
-decreases-iff l = 5 * length l.words.now + 4
+decreases-iff l = 6 * length l.words.now + 4
 
 abbrev pub decreases-imp : goal.decreases-imp
-decreases-imp l = 5 * length l.words.now + 3
+decreases-imp l = 6 * length l.words.now + 3
 
 abbrev pub decreases-or : goal.decreases-or
-decreases-or l = 5 * length l.words.now + 2
+decreases-or l = 6 * length l.words.now + 2
 
 abbrev pub decreases-and : goal.decreases-and
-decreases-and l = 5 * length l.words.now + 1
+decreases-and l = 6 * length l.words.now + 1
 
 abbrev pub decreases-unary : goal.decreases-unary
-decreases-unary l = 5 * length l.words.now
+decreases-unary l = 6 * length l.words.now
 
 abbrev pub invariant-or-parts : goal.invariant-or-parts
 invariant-or-parts l = record {
