@@ -3,7 +3,7 @@
 //! The trail of Marques-Silva and Sakallah's GRASP, as in MiniSat: each decision starts a level, each other literal
 //! is there by a clause whose other literals were false before it.
 
-ghost use Rattle.std.specs.Prelude.{◌≡◌, ◌+◌, ◌<◌, List, [], ◌∷◌, ◌++◌, IfOk, OnOk, OnErr, IfSome, IfNone, IsTrue, ◌↔◌, Some, None, All, length, map, count_by, slice_get, if◌then◌else◌, Contains};
+ghost use Rattle.std.specs.Prelude.{◌≡◌, ◌+◌, ◌<◌, List, [], ◌∷◌, ◌++◌, IfOk, OnOk, OnErr, IfSome, IfNone, IsTrue, ◌↔◌, Some, None, All, length, map, count_by, slice_get, if◌then◌else◌, Contains, not};
 ghost use Rattle.pc_lits.specs.declared.literal.Lit.{Lit};
 ghost use Rattle.pc_lits.specs.Literals.{negated};
 ghost use Rattle.pc_lits.specs.Steps.{IsLastOpen};
@@ -115,6 +115,7 @@ impl Trail {
     pub fn value(&self, variable: Var) -> Option<bool>
         requires { variable.0 < self.now.variables }
         ensures some { IfSome result (λ b. Contains (literals self.now.entries) (record { variable = variable; sign = b })) }
+        ensures opposite { IfSome result (λ b. Contains (falses self.now.entries) (record { variable = variable; sign = not b })) }
         ensures known { IfSome result (λ _. HasValue self.now.entries variable) }
         ensures none { IfNone result (¬ HasValue self.now.entries variable) }
     {
