@@ -31,7 +31,7 @@ fit_sorts : (u : Universe) (found : Option Family) (vs : List ValueId) → IsSom
 fit_sorts u None vs w = absurd w
 fit_sorts u (Some f) vs w = w
 
-within_as_many : (ns : List ℕ) (vs : List ValueId) → AreWithin ns vs → length vs ≡ length ns
+pub within_as_many : (ns : List ℕ) (vs : List ValueId) → AreWithin ns vs → length vs ≡ length ns
 within_as_many [] [] w = refl
 within_as_many [] (v ∷ vs) w = absurd w
 within_as_many (n ∷ ns) [] w = absurd w

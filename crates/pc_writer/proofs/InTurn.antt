@@ -1,5 +1,5 @@
 -- One text written after another.
-use Rattle.std.proofs.Common.{◌≡◌, ℕ, List, [], ◌++◌, Option, Result, Ok, Err, IsErr, arith, subst}
+use Rattle.std.proofs.Common.{◌≡◌, ℕ, List, [], ◌++◌, Option, Result, Ok, Err, IsErr, arith, refl, subst}
 use Rattle.std.proofs.KnownBytes.{Appends-nil, Appends-trans}
 use Rattle.pc_port.proofs.Told.{front_of_first, front_of_second}
 use Rattle.pc_writer.specs.Writes.{Writes}
@@ -14,6 +14,9 @@ module _ {S : Type 0} {given : S → Option (List ℕ)} {faults : S → ℕ} {be
   Writes-cut (Ok x) ys fails wrote = absurd (cc)
   Writes-cut {xs = xs} (Err e) ys fails wrote =
       record { bytes = front_of_first (given before) (given after) xs ys wrote.bytes; cause = record { later = wrote.cause.later; failed = wrote.cause.failed } }
+
+  pub Writes-front : {T D E : Type 0} {xs : List ℕ} {fault : E} (ys : List ℕ) → Writes {T = T} {E = E} given faults before after (Err fault) xs → Writes {T = D} given faults before after (Err fault) (xs ++ ys)
+  Writes-front {fault = fault} ys wrote = Writes-cut (Err fault) ys refl wrote
 
 module _ {S : Type 0} {given : S → Option (List ℕ)} {faults : S → ℕ} {before middle after : S} where
   -- one text and then another

@@ -1,5 +1,5 @@
 -- Texts written one after another with a separator between each two.
-use Rattle.std.proofs.Common.{◌≡◌, ℕ, zero, suc, ◌+◌, ◌≤◌, List, [], ◌∷◌, ◌++◌, length, take, drop, slice_get, Option, Some, Result, Ok, Err, IsErr, arith, refl, sym, ◌∙◌, ap, subst, append_assoc}
+use Rattle.std.proofs.Common.{◌≡◌, ℕ, zero, suc, ◌+◌, ◌≤◌, List, [], ◌∷◌, ◌++◌, length, take, drop, slice_get, Option, Some, Result, Ok, Err, IsErr, arith, sym, ◌∙◌, ap, subst, append_assoc}
 use Rattle.std.specs.List.{flat_map}
 use Rattle.std.proofs.lemmas.List.{take_all}
 use Rattle.pc_sheet.proofs.Cells.{some_same}
@@ -7,21 +7,7 @@ use Rattle.pc_writer.specs.Spelling.{joined}
 use Rattle.pc_writer.specs.Separator.{separator_at}
 use Rattle.pc_writer.specs.Writes.{Writes}
 use Rattle.pc_writer.proofs.InTurn.{Writes-then, Writes-cut}
-
-flat_map-take_more : (f : List ℕ → List ℕ) (texts : List (List ℕ)) (i : ℕ) (text : List ℕ) → slice_get texts i ≡ Some text → flat_map f (take (suc i) texts) ≡ flat_map f (take i texts) ++ f text
-flat_map-take_more f [] i text is = absurd (cc)
-flat_map-take_more f (x ∷ texts) zero text is = append-nil-of (f x) ∙ ap f (some_same is)
-  where
-    append-nil-of : (xs : List ℕ) → xs ++ [] ≡ xs
-    append-nil-of [] = refl
-    append-nil-of (y ∷ ys) = ap (λ zs. y ∷ zs) (append-nil-of ys)
-flat_map-take_more f (x ∷ texts) (suc i) text is = ap (λ rest. f x ++ rest) (flat_map-take_more f texts i text is) ∙ sym (append_assoc (f x) (flat_map f (take i texts)) (f text))
-
-flat_map-whole : (f : List ℕ → List ℕ) (texts : List (List ℕ)) (i : ℕ) (text : List ℕ) → slice_get texts i ≡ Some text → flat_map f texts ≡ flat_map f (take i texts) ++ (f text ++ flat_map f (drop (suc i) texts))
-flat_map-whole f [] i text is = absurd (cc)
-flat_map-whole f (x ∷ texts) zero text is = ap (λ t. f t ++ flat_map f texts) (some_same is)
-flat_map-whole f (x ∷ texts) (suc i) text is =
-    ap (λ rest. f x ++ rest) (flat_map-whole f texts i text is) ∙ sym (append_assoc (f x) (flat_map f (take i texts)) (f text ++ flat_map f (drop (suc i) texts)))
+use Rattle.pc_writer.proofs.InPieces.{flat_map-take_more, flat_map-whole}
 
 module _ (separator : List ℕ) where
   joined-more : (texts : List (List ℕ)) (i : ℕ) (text : List ℕ) → slice_get texts i ≡ Some text → joined separator (take (suc i) texts) ≡ joined separator (take i texts) ++ (separator_at separator i ++ text)

@@ -1,3 +1,9 @@
 pub mod CellLemmas
 pub mod InTurn
+pub mod InPieces
 pub mod Joined
+pub mod Names
+pub mod Items
+pub mod Statements
+pub mod Universe
+pub mod Sheets

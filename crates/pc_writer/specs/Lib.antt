@@ -1,3 +1,8 @@
 pub mod Spelling
 pub mod Separator
 pub mod Writes
+pub mod FormulaText
+pub mod SheetText
+pub mod Scope
+pub mod Writable
+pub mod Examples

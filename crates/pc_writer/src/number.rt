@@ -13,3 +13,10 @@ pub fn write_integer<O: Sink>(number: i64, out: &mut O) -> Result<(), Failed>
     let mut buffer = Buffer::new();
     write_text(buffer.format(number).as_bytes(), out)
 }
+
+/// Writes a number of a sheet.
+pub(crate) fn write_number<O: Sink>(number: i32, out: &mut O) -> Result<(), Failed>
+    ensures { Writes O.given O.faults out.old out.new result (signed_decimal number) }
+{
+    write_integer(i64::from(number), out)
+}

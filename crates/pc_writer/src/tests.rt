@@ -1,4 +1,5 @@
-use crate::{write_integer, write_text};
+use crate::{write_integer, write_sheet, write_text};
+use pc_logic::Book;
 use pc_port::{MemorySink, Sink};
 use std::test::Fail;
 
@@ -26,5 +27,15 @@ fn a_failed_write_is_told(rt: HostRuntime) -> Result<(), Fail> {
     assert!(rt; write_integer(12, &mut out).is_ok());
     assert!(rt; write_integer(34, &mut out).is_err());
     assert_eq!(rt; out.bytes(), b"12".as_slice());
+    Ok(())
+}
+
+#[test]
+fn an_empty_book(rt: HostRuntime) -> Result<(), Fail> {
+    let alloc = rt.alloc();
+    let book = Book::new(alloc)?;
+    let mut out = MemorySink::new(alloc, 64, Vec::new(alloc))?;
+    write_sheet(&book, &mut out).ok().ok_or("no room")?;
+    assert_eq!(rt; out.bytes(), b"sheet 1\nbegin\n".as_slice());
     Ok(())
 }

@@ -1,0 +1,12 @@
+use Rattle.std.proofs.Common.{take, map, Ok}
+use Rattle.std.specs.List.{flat_map}
+use Rattle.pc_writer.specs.SheetText.{ended, rule_line}
+use Rattle.pc_port.specs.declared.source.Failed.{Failed}
+use Rattle.pc_writer.specs.Writes.{Writes}
+use Rattle.pc_writer.proofs.sheet.write_rules.Given as goal
+
+abbrev pub invariant-loop-rule : goal.invariant-loop-rule
+invariant-loop-rule g l =
+    let u = l.book.universe in
+    Writes {T = Unit {0}} {E = Failed} g.O.Sink.given g.O.Sink.faults l.initial.out l.out (Ok tt)
+    (flat_map ended (take l.rule-index (map (rule_line u) l.book.rules)))

@@ -1,0 +1,115 @@
+// Whole sheets, in canonical form.
+ghost use Rattle.std.specs.Prelude.{◌≡◌, ◌<◌, All, length, map};
+ghost use Rattle.std.specs.List.{flat_map};
+ghost use Rattle.pc_sheet.specs.WellFormed.{IsEntryOf, IsWellFormed};
+ghost use Rattle.pc_writer.specs.FormulaText.{table_at};
+ghost use Rattle.pc_writer.specs.SheetText.{enter_line, family_line, lines_text, row_lines, rule_line, sheet_text, sort_line, table_line, universe_lines};
+ghost use Rattle.pc_writer.specs.Writes.{Writes};
+
+use crate::lines::{write_enter, write_family, write_row, write_rule, write_sort, write_table};
+use crate::pieces::write_text;
+use pc_logic::Book;
+use pc_port::{Failed, Sink};
+use pc_sheet::{FamilyId, SortId, TableId};
+
+fn write_sorts<O: Sink>(book: &Book, out: &mut O) -> Result<(), Failed>
+    requires { IsWellFormed book.now }
+    ensures { Writes O.given O.faults out.old out.new result (lines_text (map sort_line book.now.universe.sorts)) }
+{
+    for i in 0..book.sorts() {
+        write_sort(book, SortId(i as u16), out)?;
+        write_text(b"\n", out)?;
+    }
+    Ok(())
+}
+
+fn write_tables<O: Sink>(book: &Book, out: &mut O) -> Result<(), Failed>
+    requires { IsWellFormed book.now }
+    ensures { Writes O.given O.faults out.old out.new result (lines_text (map (table_line book.now.universe) book.now.universe.tables)) }
+{
+    for i in 0..book.tables() {
+        write_table(book, TableId(i as u16), out)?;
+        write_text(b"\n", out)?;
+    }
+    Ok(())
+}
+
+/// Writes the rows of one table, in the order in which they were added.
+fn write_rows_of<O: Sink>(book: &Book, table: TableId, out: &mut O) -> Result<(), Failed>
+    requires formed { IsWellFormed book.now }
+    requires table { table.0 < length book.now.universe.tables }
+    ensures { Writes O.given O.faults out.old out.new result (lines_text (row_lines book.now.universe (table_at book.now.universe table))) }
+{
+    for i in 0..book.rows(table) {
+        write_row(book, table, book.row(table, i), out)?;
+        write_text(b"\n", out)?;
+    }
+    Ok(())
+}
+
+fn write_rows<O: Sink>(book: &Book, out: &mut O) -> Result<(), Failed>
+    requires { IsWellFormed book.now }
+    ensures { Writes O.given O.faults out.old out.new result (lines_text (flat_map (row_lines book.now.universe) book.now.universe.tables)) }
+{
+    for i in 0..book.tables() {
+        write_rows_of(book, TableId(i as u16), out)?;
+    }
+    Ok(())
+}
+
+fn write_families<O: Sink>(book: &Book, out: &mut O) -> Result<(), Failed>
+    requires { IsWellFormed book.now }
+    ensures { Writes O.given O.faults out.old out.new result (lines_text (map (family_line book.now.universe) book.now.universe.families)) }
+{
+    for i in 0..book.families() {
+        write_family(book, FamilyId(i as u16), out)?;
+        write_text(b"\n", out)?;
+    }
+    Ok(())
+}
+
+fn write_rules<O: Sink>(book: &Book, out: &mut O) -> Result<(), Failed>
+    requires { IsWellFormed book.now }
+    ensures { Writes O.given O.faults out.old out.new result (lines_text (map (rule_line book.now.universe) book.now.rules)) }
+{
+    for rule in book.rules() {
+        write_rule(book, rule, out)?;
+        write_text(b"\n", out)?;
+    }
+    Ok(())
+}
+
+fn write_entered<O: Sink>(book: &Book, out: &mut O) -> Result<(), Failed>
+    requires { IsWellFormed book.now }
+    ensures { Writes O.given O.faults out.old out.new result (lines_text (map (enter_line book.now.universe) book.now.entries)) }
+{
+    for entry in book.entries() {
+        write_enter(book, *entry, out)?;
+        write_text(b"\n", out)?;
+    }
+    Ok(())
+}
+
+/// Writes the declarations of the universe.
+fn write_universe<O: Sink>(book: &Book, out: &mut O) -> Result<(), Failed>
+    requires { IsWellFormed book.now }
+    ensures { Writes O.given O.faults out.old out.new result (lines_text (universe_lines book.now.universe)) }
+{
+    write_sorts(book, out)?;
+    write_tables(book, out)?;
+    write_rows(book, out)?;
+    write_families(book, out)
+}
+
+/// Writes the canonical text of a book: the version, all sorts, all tables, the rows table by table, all families, all
+/// rules, all entries with the oldest first, and `begin`.
+pub fn write_sheet<O: Sink>(book: &Book, out: &mut O) -> Result<(), Failed>
+    ensures { Writes O.given O.faults out.old out.new result (sheet_text book.now) }
+{
+    let _entries = book.entries();
+    write_text(b"sheet 1\n", out)?;
+    write_universe(book, out)?;
+    write_rules(book, out)?;
+    write_entered(book, out)?;
+    write_text(b"begin\n", out)
+}
