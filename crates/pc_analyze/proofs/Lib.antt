@@ -1,0 +1,10 @@
+pub mod PlaceLemmas
+pub mod LevelLemmas
+pub mod MarkLemmas
+pub mod LoopLemmas
+pub mod RefuteLemmas
+pub mod StepLemmas
+pub mod WalkLemmas
+pub mod LearnLemmas
+pub mod DeriveLemmas
+pub mod AssertLemmas
