@@ -18,3 +18,6 @@ pub use values::{
     read_cell, read_integer, read_name_arguments, read_names, read_number, read_value, read_values,
 };
 pub use words::{Quantifier, Words};
+
+#[cfg(test)]
+mod tests;
