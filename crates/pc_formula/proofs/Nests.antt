@@ -1,19 +1,18 @@
 -- A formula nests no deeper than the words that it is read from.
-use Rattle.std.proofs.Common.{◌≡◌, ℕ, ◌+◌, ◌<◌, ◌≤◌, Bool, true, false, List, [], ◌∷◌, nat_lt, cond, arith, refl, sym, ap, subst}
+use Rattle.std.proofs.Common.{◌≡◌, ℕ, ◌+◌, ◌≤◌, Bool, true, false, List, [], ◌∷◌, nat_lt, cond, arith, refl, ap}
 use Rattle.std.proofs.lemmas.Bool.Decides.{nat_tests}
 use Rattle.std.specs.List.{sum_by}
 use Rattle.std.proofs.lemmas.List.Sums.{sum_by-cons}
 use Rattle.pc_token.specs.declared.token.Kind.TheVariants.{Not, Open, Close, Comma, Colon, Dot, Arrow, DoubleArrow, Minus}
 use Rattle.pc_name.specs.declared.sign.Sign.{Sign}
-use Rattle.pc_name.specs.declared.sign.Sign.TheVariants as signs
 use Rattle.pc_formula.specs.declared.words.Quantifier.{Quantifier}
 use Rattle.pc_formula.specs.declared.words.Quantifier.TheVariants.{ForAll, Exists}
 use Rattle.pc_formula.specs.Word.{Word, name, reserved, number, sign, nests, nesting}
-use Rattle.pc_formula.specs.Tree.{Item, named, items_of, Side, Formula, iff, implies, not, compare, in_table, parts_of}
+use Rattle.pc_formula.specs.Tree.{Item, named, items_of, Side, Formula, parts_of}
 use Rattle.pc_formula.specs.Sign.{added_sign, op_sign, quantifier_word}
 use Rattle.pc_formula.specs.Side.{DerivesItem, integer_item, bare_item, applied_item, DerivesItems, last_item, next_item, Adds, nothing_added, added, DerivesSide, a_side}
-use Rattle.pc_formula.specs.Value.{DerivesNumber, a_number, DerivesInt, natural, negative}
-use Rattle.pc_formula.specs.Grammar.{Joint, by_or, by_and, Form, whole, iffs, imps, joined, unary, part_form, joint_sign, joint, of_parts, quantified, IsFormula, Derives, quantifier, no_quantifier, iff_one, iff_two, imp_one, imp_two, join, negation, group, comparison, table_atom, Goes_on, no_more, one_more}
+use Rattle.pc_formula.specs.Value.{DerivesNumber, a_number, natural, negative}
+use Rattle.pc_formula.specs.Grammar.{Joint, by_or, by_and, Form, whole, iffs, imps, joined, unary, part_form, joint_sign, of_parts, quantified, IsFormula, Derives, quantifier, no_quantifier, iff_one, iff_two, imp_one, imp_two, join, negation, group, comparison, table_atom, Goes_on, no_more, one_more}
 use Rattle.pc_formula.specs.Nesting.{nesting_of_item, nesting_of_items, nesting_of_added, nesting_of_side, tightness, parentheses, nesting_of, nesting_of_parts}
 
 -- ---- words

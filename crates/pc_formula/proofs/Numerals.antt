@@ -1,5 +1,5 @@
 -- The value of at most 18 digits, as a machine's number.
-use Rattle.std.proofs.Common.{◌≡◌, ℕ, ◌<◌, ◌≤◌, ◌^◌, Bool, true, false, ℤ, pos, ◌-ℤ◌, neg_ℤ, List, length, Result, Ok, Err, arith, refl, w64, lit≤}
+use Rattle.std.proofs.Common.{◌≡◌, ℕ, ◌<◌, ◌≤◌, Bool, true, false, pos, ◌-ℤ◌, neg_ℤ, List, length, Result, Ok, Err, arith, refl, w64}
 use Rattle.std.specs.Str.Parse.{AllDigits, IsNumeral, digits_value, ParsesUnsigned}
 use Rattle.std.proofs.lemmas.Str.Parse.{IsNumeralModel, digits_value_short, parse_gives}
 use Rattle.std.proofs.lemmas.Int.{ints}

@@ -5,11 +5,11 @@ use Rattle.pc_formula.specs.declared.words.Quantifier.{Quantifier}
 use Rattle.pc_formula.specs.declared.words.Quantifier.TheVariants.{ForAll, Exists}
 use Rattle.pc_formula.specs.Word.{Word, name, reserved, sign}
 use Rattle.pc_formula.specs.Tree.{Item, Side, Formula}
-use Rattle.pc_formula.specs.Sign.{op_sign, quantifier_word, NotQuantified}
-use Rattle.pc_formula.specs.Front.{StopsAt, Reads, ReadsNone}
+use Rattle.pc_formula.specs.Sign.{quantifier_word, NotQuantified}
+use Rattle.pc_formula.specs.Front.{Reads, ReadsNone}
 use Rattle.pc_formula.specs.Value.{DerivesNumber, a_number, DerivesInt, natural, negative}
 use Rattle.pc_formula.specs.Side.{DerivesItem, integer_item, bare_item, applied_item, DerivesSide, a_side}
-use Rattle.pc_formula.specs.Grammar.{Joint, by_or, by_and, Form, whole, iffs, imps, joined, unary, part_form, quantified, Derives, quantifier, no_quantifier, iff_one, iff_two, imp_one, imp_two, join, negation, group, comparison, table_atom}
+use Rattle.pc_formula.specs.Grammar.{Joint, by_or, by_and, Form, whole, iffs, imps, joined, part_form, quantified, Derives, quantifier, no_quantifier, iff_one, iff_two, imp_one, imp_two, join, negation, group, comparison, table_atom}
 
 -- ---- only a formula with a quantifier starts with a reserved word
 

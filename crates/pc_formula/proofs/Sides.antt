@@ -1,8 +1,8 @@
 -- Items and sides, read item by item.
-use Rattle.std.proofs.Common.{◌≡◌, ℕ, ℤ, ◌<◌, List, [], ◌∷◌, ◌++◌, refl, sym, ◌∙◌, ap, ap₂, subst, arith}
+use Rattle.std.proofs.Common.{◌≡◌, ℕ, ℤ, List, [], ◌∷◌, ◌++◌, refl, sym, ◌∙◌, ap, ap₂, subst, arith}
 use Rattle.std.proofs.lemmas.List.{append-nil, append_assoc}
 use Rattle.pc_name.specs.declared.sign.Sign.{Sign}
-use Rattle.pc_token.specs.declared.token.Kind.TheVariants.{Open, Close, Comma}
+use Rattle.pc_token.specs.declared.token.Kind.TheVariants.{Open}
 use Rattle.pc_formula.specs.Word.{Word, name, sign, NotFirst, NoName}
 use Rattle.pc_formula.specs.Tree.{Item, integer, named, no_item, items_of, Side}
 use Rattle.pc_formula.specs.Sign.{added_sign}

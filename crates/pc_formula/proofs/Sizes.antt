@@ -8,10 +8,10 @@ use Rattle.pc_formula.specs.declared.words.Quantifier.{Quantifier}
 use Rattle.pc_formula.specs.declared.words.Quantifier.TheVariants.{ForAll, Exists}
 use Rattle.pc_formula.specs.Word.{Word, word_of, HasWords}
 use Rattle.pc_formula.specs.Tree.{Item, Side, Formula, parts_of}
-use Rattle.pc_formula.specs.Value.{DerivesNumber, a_number, DerivesInt, natural, negative}
+use Rattle.pc_formula.specs.Value.{DerivesNumber, a_number, natural, negative}
 use Rattle.pc_formula.specs.Side.{DerivesItem, integer_item, bare_item, applied_item, DerivesItems, last_item, next_item, Adds, nothing_added, added, DerivesSide, a_side}
-use Rattle.pc_formula.specs.Grammar.{Joint, by_or, by_and, Form, whole, iffs, of_parts, quantified, Derives, quantifier, no_quantifier, iff_one, iff_two, imp_one, imp_two, join, negation, group, comparison, table_atom, Goes_on, no_more, one_more}
-use Rattle.pc_formula.specs.Sized.{count_parts, too_many, IsSizedSide, IsSized, AreSized}
+use Rattle.pc_formula.specs.Grammar.{Joint, by_or, by_and, Form, of_parts, quantified, Derives, quantifier, no_quantifier, iff_one, iff_two, imp_one, imp_two, join, negation, group, comparison, table_atom, Goes_on, no_more, one_more}
+use Rattle.pc_formula.specs.Sized.{count_parts, too_many, IsSized, AreSized}
 
 -- ---- a derivation takes words
 

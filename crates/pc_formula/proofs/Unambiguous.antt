@@ -1,5 +1,5 @@
 -- Words derive at most one formula.
-use Rattle.std.proofs.Common.{◌≡◌, ℕ, ℤ, ◌<◌, List, [], ◌∷◌, ◌++◌, refl, sym, subst, arith}
+use Rattle.std.proofs.Common.{◌≡◌, ℤ, List, [], ◌∷◌, ◌++◌, refl, sym, subst, arith}
 use Rattle.std.proofs.lemmas.List.{append-nil, append_assoc}
 use Rattle.pc_name.specs.declared.sign.Sign.{Sign}
 use Rattle.pc_token.specs.declared.token.Kind.TheVariants.{Open, Close, Colon, Dot}

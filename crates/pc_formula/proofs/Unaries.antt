@@ -3,11 +3,11 @@ use Rattle.std.proofs.Common.{◌≡◌, ℕ, ℤ, List, [], ◌∷◌, refl, sy
 use Rattle.pc_name.specs.declared.sign.Op.{Op}
 use Rattle.pc_token.specs.declared.token.Kind.TheVariants.{Not, Open, Close}
 use Rattle.pc_formula.specs.Word.{Word, name, sign, NotFirst}
-use Rattle.pc_formula.specs.Tree.{Item, Items, named, no_item, one_item, items_of, Side, Formula, not, compare, in_table}
+use Rattle.pc_formula.specs.Tree.{Item, named, items_of, Side, Formula, not, compare, in_table}
 use Rattle.pc_formula.specs.Sign.{op_sign}
 use Rattle.pc_formula.specs.Front.{StopsAt, Reads, ReadsNone}
 use Rattle.pc_formula.specs.Value.{DerivesNumber, a_number, DerivesInt, natural, negative}
-use Rattle.pc_formula.specs.Side.{DerivesItem, integer_item, bare_item, applied_item, DerivesItems, last_item, next_item, Adds, nothing_added, added, DerivesSide, a_side}
+use Rattle.pc_formula.specs.Side.{DerivesItem, integer_item, bare_item, applied_item, DerivesItems, last_item, next_item, Adds, nothing_added, DerivesSide, a_side}
 use Rattle.pc_formula.specs.Grammar.{whole, unary, IsTableAtom, Derives, negation, group, comparison, table_atom}
 use Rattle.pc_formula.proofs.Stops.{weaken, op_stops, op_first, same_op}
 

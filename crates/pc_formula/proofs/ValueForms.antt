@@ -1,5 +1,5 @@
 -- Names, numbers, integers, values and cells, by their first words.
-use Rattle.std.proofs.Common.{◌≡◌, ℕ, ℤ, pos, neg_ℤ, List, [], ◌∷◌, refl, sym, ◌∙◌, ap, subst, arith}
+use Rattle.std.proofs.Common.{◌≡◌, ℕ, ℤ, pos, neg_ℤ, List, ◌∷◌, refl, sym, ◌∙◌, ap, subst}
 use Rattle.std.specs.Str.Parse.{digits_value}
 use Rattle.pc_token.specs.declared.token.Kind.TheVariants.{Minus}
 use Rattle.pc_formula.specs.Word.{Word, name, number, sign, NotFirst, NoName, NoNumber}

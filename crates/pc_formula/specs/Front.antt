@@ -1,5 +1,5 @@
 -- The longest front of the words that a form derives.
-use Rattle.std.specs.Prelude.{◌≡◌, ℕ, ◌<◌, List, [], ◌∷◌}
+use Rattle.std.specs.Prelude.{◌≡◌, ℕ, ◌<◌, List, ◌∷◌}
 use Rattle.pc_token.specs.declared.token.Kind.{Kind}
 use Rattle.pc_token.specs.declared.token.Kind.TheVariants.{Equal, NotEqual, Less, LessEqual, Greater, GreaterEqual, And, Or, Arrow, DoubleArrow, Open, Plus, Minus}
 use Rattle.pc_formula.specs.Word.{Word, sign}

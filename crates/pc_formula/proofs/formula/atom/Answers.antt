@@ -3,7 +3,6 @@ use Rattle.std.proofs.lemmas.Result.{IfOk-weaker, err_from_is_err_and}
 use Rattle.pc_formula.specs.declared.tree.FormulaTree.{FormulaTree}
 use Rattle.pc_formula.specs.Tree.{formula_of, side_of}
 use Rattle.pc_formula.specs.Front.{Reads}
-use Rattle.pc_formula.specs.Side.{DerivesSide}
 use Rattle.pc_formula.specs.Grammar.{unary, IsTableAtom, Derives}
 use Rattle.pc_formula.proofs.Stops.{stops_unary}
 use Rattle.pc_formula.proofs.Unaries.{atom_none_left, table_reads, table_none, comparison_none, comparison_reads, comparison_goes_on}

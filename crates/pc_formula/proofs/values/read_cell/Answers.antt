@@ -1,5 +1,5 @@
-use Rattle.std.proofs.Common.{◌≡◌, List, ℕ, map, sym, subst}
-use Rattle.pc_formula.specs.Tree.{Value, Cell, value_of}
+use Rattle.std.proofs.Common.{List, ℕ, map, sym, subst}
+use Rattle.pc_formula.specs.Tree.{value_of}
 use Rattle.pc_formula.specs.Front.{Reads}
 use Rattle.pc_formula.specs.Value.{DerivesCell}
 use Rattle.pc_formula.proofs.ValueForms.{cell_reads}

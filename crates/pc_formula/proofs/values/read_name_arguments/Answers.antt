@@ -1,4 +1,4 @@
-use Rattle.std.proofs.Common.{sym, ap, subst₂, ◌↔◌}
+use Rattle.std.proofs.Common.{sym, subst₂}
 use Rattle.pc_formula.specs.Front.{Reads}
 use Rattle.pc_formula.specs.Value.{DerivesName, Arguments}
 use Rattle.pc_formula.proofs.Lists.{arguments_absent, arguments_read, arguments_again}

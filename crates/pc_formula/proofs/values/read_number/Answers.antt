@@ -1,4 +1,4 @@
-use Rattle.std.proofs.Common.{◌≡◌, Ok, sym, arith}
+use Rattle.std.proofs.Common.{◌≡◌, arith}
 use Rattle.std.specs.Str.Parse.{digits_value}
 use Rattle.pc_formula.proofs.ValueForms.{number_reads}
 use Rattle.pc_formula.proofs.Numerals.{small_value, parsed, not_both, same_ok}

@@ -1,4 +1,4 @@
-use Rattle.std.proofs.Common.{ℕ, List, Vec, Global, map}
+use Rattle.std.proofs.Common.{Vec, Global, map}
 use Rattle.std.proofs.lemmas.Result.{IfOk-weaker}
 use Rattle.pc_formula.specs.declared.tree.ValueTree.{ValueTree}
 use Rattle.pc_formula.specs.Tree.{value_of}

@@ -1,4 +1,4 @@
-use Rattle.std.proofs.Common.{map, sym, ap, subst₂, ◌↔◌}
+use Rattle.std.proofs.Common.{map, sym, ap, subst₂}
 use Rattle.pc_formula.specs.Tree.{value_of}
 use Rattle.pc_formula.specs.Front.{Reads}
 use Rattle.pc_formula.specs.Value.{DerivesValue, Arguments}
