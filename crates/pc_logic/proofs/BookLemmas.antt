@@ -18,7 +18,7 @@ use Rattle.pc_logic.specs.declared.scheme.Scheme.{Scheme}
 use Rattle.pc_logic.specs.declared.scheme.SortDecl.{SortDecl}
 use Rattle.pc_logic.proofs.CountLemmas.{total_is, sizes_count}
 
-All-unmap : {X Y : Type 0} (P : Y → Type 0) (f : X → Y) (xs : List X) → All P (map f xs) → All (λ x. P (f x)) xs
+pub All-unmap : {X Y : Type 0} (P : Y → Type 0) (f : X → Y) (xs : List X) → All P (map f xs) → All (λ x. P (f x)) xs
 All-unmap P f xs h k d l = subst P (get_or-map f xs k d) (h k (f d) (omega (arith, length-map xs f)))
 
 few_values : (v : Values) → AreWellFormedValues v → count_of v ≤ 256

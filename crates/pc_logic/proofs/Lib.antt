@@ -8,4 +8,7 @@ pub mod EntryLemmas
 pub mod NamesLemmas
 pub mod EditLemmas
 pub mod RankLemmas
+pub mod RowLemmas
 pub mod TupleLemmas
+pub mod BoundedLemmas
+pub mod NodeLemmas

@@ -3,7 +3,7 @@ use Rattle.std.proofs.Common.{◌≡◌, ◌≢◌, ℕ, zero, suc, ◌<◌, ◌
 use Rattle.pc_sheet.specs.Sheet.{Universe, cell}
 use Rattle.pc_sheet.specs.Truth.{Scope, Holds, AllHold, SomeHolds, depth_of, greatest_depth, meaning, places, place_of, result_sort_of, value_or_first, cell_number}
 use Rattle.pc_sheet.specs.Views.{item_of, items_of, statement_of, statements_of}
-use Rattle.pc_logic.specs.SchemeView.{row_of}
+use Rattle.pc_logic.specs.RowView.{row_of}
 use Rattle.pc_sheet.specs.declared.formula.Formula.{Formula}
 use Rattle.pc_sheet.specs.declared.formula.Term.{Term, Cell, the_lemmas}
 use Rattle.pc_sheet.specs.declared.ids.FamilyId.{FamilyId}

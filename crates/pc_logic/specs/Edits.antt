@@ -1,9 +1,12 @@
 -- The sheet after an edit.
-use Rattle.std.specs.Prelude.{◌≡◌, ℕ, ℤ, ◌<◌, Bool, ◌==◌, ◌&&◌, not, cond, List, [], ◌∷◌, ◌++◌, filter, length, slice_index_or}
+use Rattle.std.specs.Prelude.{◌≡◌, ℕ, zero, suc, ℤ, ◌<◌, Bool, ◌==◌, ◌&&◌, not, cond, List, [], ◌∷◌, ◌++◌, filter, length, slice_index_or}
 use Rattle.std.specs.List.{list_any, remove}
 use Rattle.pc_sheet.specs.Sheet.{listed, range, Sort, Table, Family, Sheet}
+use Rattle.pc_sheet.specs.Readings.{is_same_row}
 use Rattle.pc_sheet.specs.declared.ids.CellId.{CellId}
 use Rattle.pc_sheet.specs.declared.ids.SortId.{SortId}
+use Rattle.pc_sheet.specs.declared.ids.TableId.{TableId}
+use Rattle.pc_sheet.specs.declared.ids.ValueId.{ValueId}
 use Rattle.pc_sheet.specs.declared.ids.Entry.{Entry}
 
 -- a sort of these values, in this order
@@ -18,6 +21,16 @@ range_sort name low high = record { name = name; values = range low high }
 abbrev pub table_from : List ℕ → List SortId → Table
 table_from name sorts = record { name = name; sorts = sorts; rows = [] }
 
+-- with one more row, as the last one, unless it stands already
+abbrev pub rows_with : List (List ValueId) → List ValueId → List (List ValueId)
+rows_with rows row = cond (list_any (λ r. is_same_row r row) rows) rows (rows ++ row ∷ [])
+
+-- with one more row in the table at that place
+abbrev pub tables_with : List Table → ℕ → List ValueId → List Table
+tables_with [] place row = []
+tables_with (t ∷ ts) zero row = record t { rows = rows_with t.rows row } ∷ ts
+tables_with (t ∷ ts) (suc place) row = t ∷ tables_with ts place row
+
 -- a family with these argument sorts and this result sort
 abbrev pub family_from : List ℕ → List SortId → SortId → Family
 family_from name sorts result_sort = record { name = name; sorts = sorts; result_sort = result_sort }
@@ -29,6 +42,10 @@ with_sort s sort = record s { universe = record s.universe { sorts = s.universe.
 -- with one more table, as the last one
 abbrev pub with_table : Sheet → Table → Sheet
 with_table s table = record s { universe = record s.universe { tables = s.universe.tables ++ table ∷ [] } }
+
+-- with one more row of the table, as its last one, unless it stands already
+abbrev pub with_row : Sheet → TableId → List ValueId → Sheet
+with_row s t row = record s { universe = record s.universe { tables = tables_with s.universe.tables t.0 row } }
 
 -- with one more family, as the last one
 abbrev pub with_family : Sheet → Family → Sheet

@@ -1,3 +1,4 @@
+pub mod RowView
 pub mod SchemeView
 pub mod Sound
 pub mod NameTable
@@ -5,3 +6,5 @@ pub mod Named
 pub mod BookView
 pub mod Edits
 pub mod Tuples
+pub mod Bounded
+pub mod Found

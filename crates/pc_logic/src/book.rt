@@ -4,23 +4,25 @@ ghost use Rattle.std.specs.Option.{SomeIff};
 ghost use Rattle.pc_sheet.specs.Cells.{IsApplication};
 ghost use Rattle.pc_sheet.specs.Truth.{cell_number};
 ghost use Rattle.pc_sheet.specs.Entailment.{cell_sizes, Fits, RuleHolds};
+ghost use Rattle.pc_sheet.specs.Nodes.{kind_at};
 ghost use Rattle.pc_sheet.specs.Sheet.{empty_sheet, with_rule};
 ghost use Rattle.pc_sheet.specs.Views.{rule_of};
 ghost use Rattle.pc_sheet.specs.WellFormed.{IsEntryOf, IsWellFormed};
 ghost use Rattle.pc_sheet.specs.WellSorted.{declared_names, names_of_values};
 ghost use Rattle.pc_logic.specs.Named.{IsNameOf, sort_keys};
 ghost use Rattle.pc_logic.specs.NameTable.{named_texts};
-ghost use Rattle.pc_logic.specs.SchemeView.{sort_of, values_of};
+ghost use Rattle.pc_logic.specs.SchemeView.{sort_of, table_of, values_of};
 ghost use Rattle.pc_logic.specs.declared.names.Named.{Named};
-ghost use Rattle.pc_logic.specs.Edits.{entered, family_from, listed_sort, range_sort, table_from, with_family, with_sort, with_table, without_entry, without_rule};
+ghost use Rattle.pc_logic.specs.Edits.{entered, family_from, listed_sort, range_sort, table_from, tables_with, with_family, with_row, with_sort, with_table, without_entry, without_rule};
 
 use crate::assignment::Assignment;
 use crate::copies::{copy_rules, copy_scheme};
 use crate::entries::{clear, enter};
 use crate::names::{NameTable, Named, key_of, keys_of_list};
+use crate::rows::Rows;
 use crate::scheme::{self, FamilyDecl, Scheme, SortDecl, SortValues, TableDecl};
-use crate::truth;
-use pc_sheet::{CellId, Entry, FamilyId, Name, Rule, SortId, TableId, ValueId};
+use crate::{nodes, truth};
+use pc_sheet::{CellId, Entry, FamilyId, Name, NodeKind, Rule, SortId, TableId, ValueId};
 use std::alloc::{AllocError, Global};
 use std::marker::Model;
 
@@ -171,11 +173,23 @@ impl Book {
         let keys = key_of(alloc, &name, Named::Table(table))?;
         self.scheme.tables.reserve(1)?;
         self.names.add_all(keys)?;
-        let rows = Vec::new(alloc);
+        let rows = Rows::new(alloc);
         self.scheme
             .tables
             .push(TableDecl { name, sorts, rows })
             .unwrap();
+        Ok(())
+    }
+
+    /// Adds a row to a table as its last one. A row that stands already changes nothing.
+    pub fn add_row(&mut self, table: TableId, values: &[ValueId]) -> Result<(), AllocError>
+        requires formed { IsWellFormed (with_row self.old table values.now) }
+        requires table { table.0 < length self.old.universe.tables }
+        ensures ok { OnOk result (self.new ≡ with_row self.old table values.now) }
+        ensures err { OnErr result (self.new ≡ self.old) }
+    {
+        let alloc = *self.rules.allocator();
+        add_row(alloc, &mut self.scheme.tables, usize::from(table.0), values)?;
         Ok(())
     }
 
@@ -300,6 +314,20 @@ impl Book {
     }
 }
 
+fn add_row(
+    alloc: Global,
+    tables: &mut [TableDecl],
+    place: usize,
+    row: &[ValueId],
+) -> Result<(), AllocError>
+    requires { place < length tables.old }
+    ensures ok { OnOk result (map table_of tables.new ≡ tables_with (map table_of tables.old) place row.now) }
+    ensures err { OnErr result (map table_of tables.new ≡ map table_of tables.old) }
+{
+    tables[place].rows.add(alloc, row)?;
+    Ok(())
+}
+
 /// The truth of a rule.
 pub fn eval(book: &Book, rule: usize, values: &Assignment) -> bool
     requires { rule < length book.now.rules }
@@ -313,4 +341,12 @@ pub fn satisfies(book: &Book, values: &Assignment) -> bool
     ensures { IsTrue result ↔ Fits book.now values.now }
 {
     truth::rules_hold(&book.scheme, &book.rules, values.values())
+}
+
+/// The kind of the node to which a rule's path leads, with the number of its children. There is none where there is no
+/// such rule, or where the path leaves its formula.
+pub fn node_at(book: &Book, rule: u32, steps: &[u32]) -> Option<NodeKind>
+    ensures { result ≡ kind_at book.now rule steps.now }
+{
+    nodes::kind_at(&book.scheme, &book.rules, rule as usize, steps)
 }

@@ -6,14 +6,16 @@ mod book;
 mod copies;
 mod entries;
 mod names;
+mod nodes;
+mod rows;
 mod scheme;
 mod truth;
 mod universe;
 
 pub use assignment::Assignment;
-pub use book::{Book, eval, satisfies};
+pub use book::{Book, eval, node_at, satisfies};
 pub use names::Named;
 pub use pc_sheet::{
-    CellId, Entry, FamilyId, Formula, Name, Op, Rule, Side, Sign, SortId, TableId, Target, Term,
-    ValueId,
+    CellId, Entry, FamilyId, Formula, Name, NodeKind, NodePath, Op, Rule, Side, Sign, SortId,
+    TableId, Target, Term, ValueId,
 };

@@ -8,6 +8,7 @@ ghost use Rattle.pc_logic.specs.SchemeView.{universe_of};
 ghost use Rattle.pc_logic.specs.Sound.{IsSound};
 ghost use Rattle.pc_logic.specs.Tuples.{tuple_at};
 
+use crate::rows::Rows;
 use pc_sheet::{FamilyId, Name, SortId, ValueId, cells_are_numbered_in_order};
 
 /// The values of a sort: names, or the whole numbers from the low one to the high one.
@@ -27,7 +28,7 @@ pub(crate) struct SortDecl {
 pub(crate) struct TableDecl {
     pub(crate) name: Name,
     pub(crate) sorts: Vec<SortId>,
-    pub(crate) rows: Vec<Vec<ValueId>>,
+    pub(crate) rows: Rows,
 }
 
 #[derive(Drop)]

@@ -2,7 +2,8 @@
 ghost use Rattle.std.specs.Prelude.{◌≡◌, ◌+◌, ◌*◌, ◌^◌, ◌<◌, ◌≤◌, ◌↔◌, [], ◌∷◌, ◌++◌, All, Contains, IfOk, IsSomeAnd, IsTrue, OnOk, replicate, length, map, slice_get, take, sum_by};
 ghost use Rattle.pc_sheet.specs.Truth.{size_of, rows_of, argument_sorts, result_sort_of, cells_in, cell_number, rank_from, meaning_of_variable, value_or_first, meaning, places, place_of, settled, added, number_of, sum_meaning, Compares, Holds, AllHold, SomeHolds, depth_of, greatest_depth};
 ghost use Rattle.pc_sheet.specs.Views.{rule_of, item_of, items_of, sum_of, statement_of, statements_of};
-ghost use Rattle.pc_logic.specs.SchemeView.{universe_of, row_of};
+ghost use Rattle.pc_logic.specs.RowView.{row_of};
+ghost use Rattle.pc_logic.specs.SchemeView.{universe_of};
 ghost use Rattle.pc_sheet.specs.WellSorted.{IsWithin};
 ghost use Rattle.pc_logic.specs.Sound.{IsSound, AreShallow};
 

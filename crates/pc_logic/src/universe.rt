@@ -85,7 +85,10 @@ impl Book {
         requires { table.0 < length self.now.universe.tables }
         ensures { IsSomeAnd (slice_get self.now.universe.tables table.0) (λ declared. result ≡ length declared.rows) }
     {
-        self.scheme.tables[usize::from(table.0)].rows.len()
+        self.scheme.tables[usize::from(table.0)]
+            .rows
+            .as_slice()
+            .len()
     }
 
     /// A table's row, counted from 0 in the order in which the rows were added.
@@ -93,7 +96,7 @@ impl Book {
         requires { IsSomeAnd (slice_get self.now.universe.tables table.0) (λ declared. i < length declared.rows) }
         ensures { IsSomeAnd (slice_get self.now.universe.tables table.0) (λ declared. slice_get declared.rows i ≡ Some result.now) }
     {
-        self.scheme.tables[usize::from(table.0)].rows[i].as_slice()
+        self.scheme.tables[usize::from(table.0)].rows.as_slice()[i].as_slice()
     }
 
     /// How many families there are.

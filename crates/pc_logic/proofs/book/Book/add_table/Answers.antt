@@ -1,4 +1,4 @@
-use Rattle.std.proofs.Common.{◌≡◌, ℕ, length, map, arith, ap, ◌∙◌, sym, subst, ◌++◌, ◌∷◌, []}
+use Rattle.std.proofs.Common.{◌≡◌, ℕ, length, arith, ap, ◌∙◌, sym, subst, ◌++◌, ◌∷◌, []}
 use Rattle.std.specs.Map.{keys_of}
 use Rattle.std.proofs.lemmas.List.{length-map}
 use Rattle.pc_sheet.specs.Sheet.{Universe}
@@ -6,7 +6,7 @@ use Rattle.pc_sheet.specs.WellFormed.{IsWellFormed, AreDifferent}
 use Rattle.pc_logic.specs.BookView.{sheet_of, IsTableOf}
 use Rattle.pc_logic.specs.Edits.{table_from, with_table}
 use Rattle.pc_logic.specs.NameTable.{named_texts}
-use Rattle.pc_logic.specs.SchemeView.{universe_of, row_of, table_of}
+use Rattle.pc_logic.specs.SchemeView.{universe_of, table_of}
 use Rattle.pc_logic.specs.Sound.{AreCounted}
 use Rattle.pc_logic.specs.declared.scheme.TableDecl.{TableDecl}
 use Rattle.pc_logic.specs.declared.names.Named.TheVariants as named
@@ -37,7 +37,7 @@ invariant_of-self-2 c =
     let names = c.in_ok-add_all.ensures.ok ∙ ap (λ k. b.names ++ k) keys in
     let declared : TableDecl = record { name = c.args.name; sorts = c.args.sorts; rows = c.new-rows.result } in
     let pushed : c.push.new.self.items ≡ b.scheme.tables.items ++ declared ∷ [] = (rw c.unwrap.ensures at c.push.ensures.items) ∙ ap (λ xs. xs ++ declared ∷ []) c.in_ok-reserve.ensures.items in
-    let seen : table_of declared ≡ table = λ i. record { name = c.args.name; sorts = c.args.sorts.items; rows = map row_of (c.new-rows.ensures.items i) } in
+    let seen : table_of declared ≡ table = λ i. record { name = c.args.name; sorts = c.args.sorts.items; rows = c.new-rows.ensures i } in
     let universe = table_added b.scheme c.push.new.self declared pushed ∙ ap (more_tables u) seen in
     record {
       well_formed = subst (λ (v : Universe). IsWellFormed (record (sheet_of b) { universe = v })) (sym universe) formed;
