@@ -1,7 +1,15 @@
-pub mod Lines
+pub mod CommandTold
+pub mod Families
+pub mod Limits
+pub mod LineTold
+pub mod Lone
+pub mod OneCommand
+pub mod OneFault
 pub mod OneLine
 pub mod OneSheet
+pub mod Ordered
 pub mod Parts
+pub mod Progress
 pub mod ReadLine
-pub mod Sizes
+pub mod Sorts
 pub mod Splitting

@@ -1,21 +1,23 @@
--- A line has one form, which its first word decides.
-use Rattle.std.proofs.Common.{◌≡◌, ℕ, List, [], ◌∷◌, map, refl, sym, ◌∙◌, ap, subst, arith}
-use Rattle.pc_token.specs.Token.{split}
-use Rattle.pc_token.proofs.Once.{one_reading}
-use Rattle.pc_formula.specs.Word.{Word, name, words_of, HasWords}
-use Rattle.pc_syntax.specs.Tree.{Formula, Cell, Value, list_sort, cell, rule, enter, Asked, asks_enter, asks_show}
+-- A line has one form, which its first word decides, and a command line one reading.
+use Rattle.std.proofs.Common.{◌≡◌, ℕ, ℤ, Bool, true, false, List, [], ◌∷◌, map, refl, sym, ◌∙◌, ap, subst, arith, if◌then◌else◌}
+use Rattle.std.specs.Prelude.{codes, bytes_eq}
+use Rattle.pc_token.specs.declared.token.Kind.TheVariants.{Colon}
+use Rattle.pc_formula.specs.Word.{Word, name, sign, nesting}
+use Rattle.pc_formula.specs.Front.{StopsAt}
+use Rattle.pc_formula.specs.Value.{DerivesName, DerivesNumber, DerivesInt, DerivesValue, InParentheses, Arguments}
 use Rattle.pc_formula.specs.Grammar.{IsFormula}
-use Rattle.pc_syntax.specs.Line.{LineForm, heading, declares, begins, keyword, command_keyword, Follows, FollowsCommand, IsEntry, IsList, IsRule, IsCell, IsForm, IsCommand, IsLine, empty_line, spelled_line, CommandReading, asks, IsCommandReading, empty_command, spelled_command}
-use Rattle.pc_formula.proofs.Unambiguous as unambiguous
+use Rattle.pc_formula.specs.Tree.{Formula, Cell, Value}
+use Rattle.pc_syntax.specs.Tree.{Declared, list_sort, range_sort, table, row, cell, rule, enter}
+use Rattle.pc_syntax.specs.Spelling.{IsNothing, IsSpelled, IsTooDeep}
+use Rattle.pc_syntax.specs.Clause.{IsPair, IsRule, equality}
+use Rattle.pc_syntax.specs.Line.{LineForm, nothing, heading, declares, begins, keyword, AreBounds, IsRange, IsTable, IsRow, IsFamily, Follows, IsDeclaration, IsHeading, IsForm, IsBegin, IsLine, empty_line, begin_line, spelled_line}
+use Rattle.pc_formula.proofs.Unambiguous.{one_tree}
+use Rattle.pc_formula.proofs.ValueForms.{number_once, int_once, value_once}
+use Rattle.pc_syntax.proofs.Families.{one_cell, one_list_of_names, one_list_of_values, one_arguments, no_int_of_name, no_int_of_none, nesting_of_one}
+use Rattle.pc_syntax.proofs.Lone.{lone_something}
+use Rattle.pc_syntax.proofs.ReadLine.{one_words, one_name_has}
 
--- a line splits into one list of words
-pub one_words : (line : List ℕ) (ws vs : List Word) → HasWords line ws → HasWords line vs → ws ≡ vs
-one_words line ws vs a b =
-    let readings = one_reading line (split a.tokens) (split b.tokens) a.splits b.splits in
-    let tokens : a.tokens ≡ b.tokens = cc in
-    a.words ∙ ap (words_of line) tokens ∙ sym b.words
-
-same_names : (xs ys : List (List ℕ)) → map name xs ≡ map name ys → xs ≡ ys
+pub same_names : (xs ys : List (List ℕ)) → map name xs ≡ map name ys → xs ≡ ys
 same_names [] [] e = refl
 same_names [] (y ∷ ys) e = cc
 same_names (x ∷ xs) [] e = cc
@@ -24,109 +26,254 @@ same_names (x ∷ xs) (y ∷ ys) e =
     let more = same_names xs ys rest in
     cc
 
--- ---- the forms that are read yet
+-- ---- the word that starts a declaration
 
-data Shape : LineForm → Type 0 where
-  a_heading : Shape heading
-  a_begin : Shape begins
-  a_list : (n : List ℕ) (values : List (List ℕ)) → Shape (declares (list_sort n values))
-  a_cell : (n : List ℕ) (sorts : List (List ℕ)) (r : List ℕ) → Shape (declares (cell n sorts r))
-  a_rule : (n : List ℕ) (f : Formula) → Shape (declares (rule n f))
-  an_entry : (c : Cell) (v : Value) → Shape (declares (enter c v))
+data Start : Type 0 where
+  of_sort : Start
+  of_table : Start
+  of_row : Start
+  of_cell : Start
+  of_rule : Start
+  of_enter : Start
+  of_none : Start
 
-shape : (f : LineForm) (ws : List Word) → Follows f ws → Shape f
-shape heading ws is = a_heading
-shape begins ws is = a_begin
-shape (declares (list_sort n values)) ws is = a_list n values
-shape (declares (cell n sorts r)) ws is = a_cell n sorts r
-shape (declares (rule n f)) ws is = a_rule n f
-shape (declares (enter c v)) ws is = an_entry c v
-shape f ws is = absurd is
+start : List ℕ → Start
+start text =
+    if bytes_eq text (codes "sort") then of_sort
+    else (if bytes_eq text (codes "table") then of_table
+    else (if bytes_eq text (codes "row") then of_row
+    else (if bytes_eq text (codes "cell") then of_cell
+    else (if bytes_eq text (codes "rule") then of_rule
+    else (if bytes_eq text (codes "enter") then of_enter else of_none)))))
 
-one_list : (ws : List Word) (n k : List ℕ) (xs ys : List (List ℕ)) → IsList ws n xs → IsList ws k ys → list_sort n xs ≡ list_sort k ys
-one_list ws n k xs ys a b =
-    let words = sym a.words ∙ b.words in
+start_of : Declared → Start
+start_of (list_sort n values) = of_sort
+start_of (range_sort n low high) = of_sort
+start_of (table n sorts) = of_table
+start_of (row n values) = of_row
+start_of (cell n sorts result) = of_cell
+start_of (rule n f) = of_rule
+start_of (enter c v) = of_enter
+
+start_is : (d : Declared) → start (keyword d) ≡ start_of d
+unfolding start start_of
+start_is (list_sort n values) = refl
+start_is (range_sort n low high) = refl
+start_is (table n sorts) = refl
+start_is (row n values) = refl
+start_is (cell n sorts result) = refl
+start_is (rule n f) = refl
+start_is (enter c v) = refl
+
+starts_some : (d : Declared) → start_of d ≡ of_none → ⊥
+unfolding start_of
+starts_some (list_sort n values) is = cc
+starts_some (range_sort n low high) is = cc
+starts_some (table n sorts) is = cc
+starts_some (row n values) is = cc
+starts_some (cell n sorts result) is = cc
+starts_some (rule n f) is = cc
+starts_some (enter c v) is = cc
+
+-- a word that starts no declaration
+no_keyword : (text : List ℕ) → start text ≡ of_none → (d : Declared) → keyword d ≡ text → ⊥
+no_keyword text none d is = starts_some d (sym (start_is d) ∙ ap start is ∙ none)
+
+data Shape : Start → Declared → Type 0 where
+  a_list : (n : List ℕ) (values : List (List ℕ)) → Shape of_sort (list_sort n values)
+  a_range : (n : List ℕ) (low high : ℤ) → Shape of_sort (range_sort n low high)
+  a_table : (n : List ℕ) (sorts : List (List ℕ)) → Shape of_table (table n sorts)
+  a_row : (n : List ℕ) (values : List Value) → Shape of_row (row n values)
+  a_cell : (n : List ℕ) (sorts : List (List ℕ)) (r : List ℕ) → Shape of_cell (cell n sorts r)
+  a_rule : (n : List ℕ) (f : Formula) → Shape of_rule (rule n f)
+  an_entry : (c : Cell) (v : Value) → Shape of_enter (enter c v)
+
+shape : (d : Declared) → Shape (start_of d) d
+unfolding start_of
+shape (list_sort n values) = a_list n values
+shape (range_sort n low high) = a_range n low high
+shape (table n sorts) = a_table n sorts
+shape (row n values) = a_row n values
+shape (cell n sorts r) = a_cell n sorts r
+shape (rule n f) = a_rule n f
+shape (enter c v) = an_entry c v
+
+-- ---- one declaration
+
+one_listed : (ws : List Word) (n k : List ℕ) (xs ys : List (List ℕ)) → Follows (list_sort n xs) ws → Follows (list_sort k ys) ws → list_sort n xs ≡ list_sort k ys
+one_listed ws n k xs ys a b =
+    let words = sym a ∙ b in
     let values = same_names xs ys (cc) in
     cc
 
-one_cell : (ws : List Word) (n k : List ℕ) (xs ys : List (List ℕ)) (r s : List ℕ) → IsCell ws n xs r → IsCell ws k ys s → cell n xs r ≡ cell k ys s
-one_cell ws n k xs ys r s a b =
+no_bounds : (ws : List Word) (xs : List (List ℕ)) (n k : List ℕ) (low high : ℤ) → Follows (list_sort n xs) ws → IsRange ws k low high → ⊥
+no_bounds ws [] n k low high a b =
+    let words = sym b.words ∙ a in
+    let none : b.rest ≡ [] = cc in
+    no_int_of_none b.rest low _ none b.bounds.first
+no_bounds ws (x ∷ xs) n k low high a b =
+    let words = sym b.words ∙ a in
+    let first : b.rest ≡ name x ∷ map name xs = cc in
+    no_int_of_name b.rest x (map name xs) low _ first b.bounds.first
+
+one_range : (ws : List Word) (n k : List ℕ) (low high below above : ℤ) → IsRange ws n low high → IsRange ws k below above → range_sort n low high ≡ range_sort k below above
+one_range ws n k low high below above a b =
     let words = sym a.words ∙ b.words in
-    let first = a.no_sorts in
-    let second = b.no_sorts in
+    let rest : a.rest ≡ b.rest = cc in
+    let x = subst (λ l. AreBounds l low high) rest a.bounds in
+    let first = int_once b.rest low below _ _ x.first b.bounds.first in
+    let behind = first.1 in
+    let second : x.rest ≡ b.bounds.rest = cc in
+    let last = int_once b.bounds.rest high above [] [] (subst (λ l. DerivesInt l high []) second x.second) b.bounds.second in
+    let names : n ≡ k = cc in
+    let lows = first.0 in
+    let highs = last.0 in
     cc
 
-one_rule : (ws : List Word) (n k : List ℕ) (f g : Formula) → IsRule ws n f → IsRule ws k g → rule n f ≡ rule k g
+one_table : (ws : List Word) (n k : List ℕ) (xs ys : List (List ℕ)) → IsTable ws n xs → IsTable ws k ys → table n xs ≡ table k ys
+one_table ws n k xs ys a b =
+    let words = sym a.words ∙ b.words in
+    let rest : a.rest ≡ b.rest = cc in
+    let names : n ≡ k = cc in
+    let sorts = (one_list_of_names b.rest xs ys [] [] (subst (λ l. InParentheses DerivesName l xs []) rest a.listed) b.listed).0 in
+    cc
+
+one_row : (ws : List Word) (n k : List ℕ) (xs ys : List Value) → IsRow ws n xs → IsRow ws k ys → row n xs ≡ row k ys
+one_row ws n k xs ys a b =
+    let words = sym a.words ∙ b.words in
+    let rest : a.rest ≡ b.rest = cc in
+    let names : n ≡ k = cc in
+    let values = (one_list_of_values b.rest xs ys [] [] (subst (λ l. InParentheses DerivesValue l xs []) rest a.listed) b.listed).0 in
+    cc
+
+one_family : (ws : List Word) (n k : List ℕ) (xs ys : List (List ℕ)) (p q : List ℕ) → IsFamily ws n xs p → IsFamily ws k ys q → cell n xs p ≡ cell k ys q
+one_family ws n k xs ys p q a b =
+    let words = sym a.words ∙ b.words in
+    let rest : a.rest ≡ b.rest = cc in
+    let names : n ≡ k = cc in
+    let both = one_arguments b.rest xs ys _ _ (omega arith) (omega arith) (subst (λ l. Arguments DerivesName l xs (sign Colon ∷ name p ∷ [])) rest a.arguments) b.arguments in
+    let sorts = both.0 in
+    let behind = both.1 in
+    let results : p ≡ q = cc in
+    cc
+
+pub one_rule : (ws : List Word) (n k : List ℕ) (f g : Formula) → IsRule ws n f → IsRule ws k g → (n ≡ k) × (f ≡ g)
 one_rule ws n k f g a b =
     let words = sym a.words ∙ b.words in
-    let same : a.rest ≡ b.rest = cc in
-    let formula = unambiguous.one_tree b.rest f g (subst (λ l. IsFormula l f) same a.formula) b.formula in
+    let rest : a.rest ≡ b.rest = cc in
+    ((cc), one_tree b.rest f g (subst (λ l. IsFormula l f) rest a.formula) b.formula)
+
+-- the sign behind a cell ends it
+ends_cell : (h : Bool) (ws : List Word) → StopsAt 1 (sign (equality h) ∷ ws)
+ends_cell true ws = omega arith
+ends_cell false ws = omega arith
+
+pub record SamePair (c d : Cell) (v w : Value) (h i : Bool) : Type 0 where
+  pub cells : c ≡ d
+  pub values : v ≡ w
+  pub signs : h ≡ i
+
+same_sign : (h i : Bool) (r s : List Word) → sign (equality h) ∷ r ≡ sign (equality i) ∷ s → h ≡ i
+same_sign true true r s is = refl
+same_sign true false r s is = cc
+same_sign false true r s is = cc
+same_sign false false r s is = refl
+
+pub one_pair : (ws : List Word) (c d : Cell) (v w : Value) (h i : Bool) → IsPair ws (equality h) c v → IsPair ws (equality i) d w → SamePair c d v w h i
+one_pair ws c d v w h i a b =
+    let cells = one_cell ws c d _ _ (ends_cell h a.rest) (ends_cell i b.rest) a.cell b.cell in
+    let behind = cells.1 in
+    let rest : a.rest ≡ b.rest = cc in
+    record { cells = cells.0; values = (value_once b.rest v w [] [] (subst (λ l. DerivesValue l v []) rest a.value) b.value).0; signs = same_sign h i a.rest b.rest behind }
+
+one_shape : (t : Start) (d e : Declared) (ws : List Word) → Shape t d → Shape t e → Follows d ws → Follows e ws → d ≡ e
+one_shape t d e ws (a_list n xs) (a_list k ys) a b = one_listed ws n k xs ys a b
+one_shape t d e ws (a_list n xs) (a_range k low high) a b = absurd (no_bounds ws xs n k low high a b)
+one_shape t d e ws (a_range n low high) (a_list k ys) a b = absurd (no_bounds ws ys k n low high b a)
+one_shape t d e ws (a_range n low high) (a_range k below above) a b = one_range ws n k low high below above a b
+one_shape t d e ws (a_table n xs) (a_table k ys) a b = one_table ws n k xs ys a b
+one_shape t d e ws (a_row n xs) (a_row k ys) a b = one_row ws n k xs ys a b
+one_shape t d e ws (a_cell n xs p) (a_cell k ys q) a b = one_family ws n k xs ys p q a b
+one_shape t d e ws (a_rule n f) (a_rule k g) a b = let both = one_rule ws n k f g a b in ap (λ m. rule m f) both.0 ∙ ap (λ h. rule k h) both.1
+one_shape t d e ws (an_entry c v) (an_entry p w) a b = let both = one_pair ws c p v w true true a b in ap (λ m. enter m v) both.cells ∙ ap (λ u. enter p u) both.values
+
+one_declaration : (ws : List Word) (d e : Declared) → IsDeclaration ws d → IsDeclaration ws e → d ≡ e
+one_declaration ws d e a b =
+    let words = sym a.words ∙ b.words in
+    let keywords : keyword d ≡ keyword e = cc in
+    let rest : a.rest ≡ b.rest = cc in
+    let starts = sym (start_is d) ∙ ap start keywords ∙ start_is e in
+    one_shape (start_of e) d e b.rest (subst (λ t. Shape t d) starts (shape d)) (shape e) (subst (Follows d) rest a.follows) b.follows
+
+-- ---- one form
+
+pub differ : (texts others : List ℕ) → bytes_eq texts texts ≡ true → bytes_eq texts others ≡ false → texts ≡ others → ⊥
+differ texts others one other same =
+    let both : bytes_eq texts texts ≡ bytes_eq texts others = ap (bytes_eq texts) same in
     cc
 
-record SameEntry (c d : Cell) (v w : Value) : Type 0 where
-  cells : c ≡ d
-  values : v ≡ w
+no_heading : start (codes "sheet") ≡ of_none
+unfolding start
+no_heading = refl
 
-one_entry : (ws : List Word) (c d : Cell) (v w : Value) → IsEntry ws c v → IsEntry ws d w → SameEntry c d v w
-one_entry ws c d v w a b =
+no_begin : start (codes "begin") ≡ of_none
+unfolding start
+no_begin = refl
+
+one_heading : (ws : List Word) (n m : ℕ) → IsHeading ws n → IsHeading ws m → n ≡ m
+one_heading ws n m a b =
     let words = sym a.words ∙ b.words in
-    let left : a.left ≡ b.left = cc in
-    let right : a.right ≡ b.right = cc in
-    let p = a.cell in
-    let q = b.cell in
-    let r = a.value in
-    let s = b.value in
-    record { cells = cc; values = cc }
+    let rest : a.rest ≡ b.rest = cc in
+    (number_once b.rest n m [] [] (subst (λ l. DerivesNumber l n []) rest a.number) b.number).0
 
-one_shape : (f g : LineForm) (ws : List Word) → Shape f → Shape g → keyword f ≡ keyword g → Follows f ws → Follows g ws → f ≡ g
-one_shape f g ws a_heading a_heading same a b = refl
-one_shape f g ws a_begin a_begin same a b = refl
-one_shape f g ws (a_list n xs) (a_list k ys) same a b = ap declares (one_list ws n k xs ys a b)
-one_shape f g ws (a_cell n xs r) (a_cell k ys s) same a b = ap declares (one_cell ws n k xs ys r s a b)
-one_shape f g ws (a_rule n f') (a_rule k g') same a b = ap declares (one_rule ws n k f' g' a b)
-one_shape f g ws (an_entry c v) (an_entry d w) same a b = let e = one_entry ws c d v w a b in ap (λ p. declares (enter p v)) e.cells ∙ ap (λ p. declares (enter d p)) e.values
-one_shape f g ws p q same a b = absurd (grind arith)
+heading_declares_none : (ws : List Word) (n : ℕ) (d : Declared) → IsHeading ws n → IsDeclaration ws d → ⊥
+heading_declares_none ws n d a b =
+    let words = sym b.words ∙ a.words in
+    let keywords : keyword d ≡ codes "sheet" = cc in
+    no_keyword (codes "sheet") no_heading d keywords
 
 pub one_form : (ws : List Word) (f g : LineForm) → IsForm ws f → IsForm ws g → f ≡ g
-one_form ws f g a b =
-    let words = sym a.words ∙ b.words in
-    let starts : keyword f ≡ keyword g = cc in
-    let rest : a.rest ≡ b.rest = cc in
-    let follows = subst (Follows f) rest a.follows in
-    one_shape f g b.rest (shape f b.rest follows) (shape g b.rest b.follows) starts follows b.follows
+one_form ws (heading n) (heading m) a b = ap heading (one_heading ws n m a b)
+one_form ws (heading n) (declares d) a b = absurd (heading_declares_none ws n d a b)
+one_form ws (declares d) (heading n) a b = absurd (heading_declares_none ws n d b a)
+one_form ws (declares d) (declares e) a b = ap declares (one_declaration ws d e a b)
+one_form ws nothing g a b = absurd a
+one_form ws begins g a b = absurd a
+one_form ws (heading n) nothing a b = absurd b
+one_form ws (heading n) begins a b = absurd b
+one_form ws (declares d) nothing a b = absurd b
+one_form ws (declares d) begins a b = absurd b
+
+-- the word `begin` starts no form
+begin_is_none : (ws : List Word) (f : LineForm) → ws ≡ name (codes "begin") ∷ [] → IsForm ws f → ⊥
+begin_is_none ws nothing is a = a
+begin_is_none ws begins is a = a
+begin_is_none ws (heading n) is a =
+    let words = sym a.words ∙ is in
+    let keywords : codes "sheet" ≡ codes "begin" = cc in
+    differ (codes "sheet") (codes "begin") refl refl keywords
+begin_is_none ws (declares d) is a =
+    let words = sym a.words ∙ is in
+    let keywords : keyword d ≡ codes "begin" = cc in
+    no_keyword (codes "begin") no_begin d keywords
+
+pub begin_spells_none : (line : List ℕ) (ws : List Word) (f : LineForm) → IsBegin line → IsSpelled line ws → IsForm ws f → ⊥
+begin_spells_none line ws f b s is = begin_is_none ws f (one_words line ws (name (codes "begin") ∷ []) s.split.has (one_name_has line (codes "begin") refl b.name)) is
 
 pub one_line : (line : List ℕ) (f g : LineForm) → IsLine line f → IsLine line g → f ≡ g
 one_line line f g (empty_line a) (empty_line b) = refl
-one_line line f g (empty_line a) (spelled_line ws s b) = absurd (s.something a)
-one_line line f g (spelled_line ws s a) (empty_line b) = absurd (s.something b)
-one_line line f g (spelled_line ws s a) (spelled_line vs t b) = one_form vs f g (subst (λ l. IsForm l f) (one_words line ws vs s.has t.has) a) b
+one_line line f g (empty_line a) (begin_line b) = absurd (lone_something line (codes "begin") b.name a.empty)
+one_line line f g (empty_line a) (spelled_line ws s b) = absurd (s.split.something a)
+one_line line f g (begin_line a) (empty_line b) = absurd (lone_something line (codes "begin") a.name b.empty)
+one_line line f g (begin_line a) (begin_line b) = refl
+one_line line f g (begin_line a) (spelled_line ws s b) = absurd (begin_spells_none line ws g a s b)
+one_line line f g (spelled_line ws s a) (empty_line b) = absurd (s.split.something b)
+one_line line f g (spelled_line ws s a) (begin_line b) = absurd (begin_spells_none line ws f b s a)
+one_line line f g (spelled_line ws s a) (spelled_line vs t b) = one_form vs f g (subst (λ l. IsForm l f) (one_words line ws vs s.split.has t.split.has) a) b
 
--- ---- commands
-
-data Question : Asked → Type 0 where
-  an_enter : (c : Cell) (v : Value) → Question (asks_enter c v)
-  a_show : Question asks_show
-
-question : (a : Asked) (ws : List Word) → FollowsCommand a ws → Question a
-question (asks_enter c v) ws is = an_enter c v
-question asks_show ws is = a_show
-question a ws is = absurd is
-
-one_question : (a b : Asked) (ws : List Word) → Question a → Question b → command_keyword a ≡ command_keyword b → FollowsCommand a ws → FollowsCommand b ws → a ≡ b
-one_question a b ws (an_enter c v) (an_enter d w) same p q = let e = one_entry ws c d v w p q in ap (λ l. asks_enter l v) e.cells ∙ ap (λ l. asks_enter d l) e.values
-one_question a b ws a_show a_show same p q = refl
-one_question a b ws s t same p q = absurd (grind arith)
-
-pub one_command : (ws : List Word) (a b : Asked) → IsCommand ws a → IsCommand ws b → a ≡ b
-one_command ws a b p q =
-    let words = sym p.words ∙ q.words in
-    let starts : command_keyword a ≡ command_keyword b = cc in
-    let rest : p.rest ≡ q.rest = cc in
-    let follows = subst (FollowsCommand a) rest p.follows in
-    one_question a b q.rest (question a q.rest follows) (question b q.rest q.follows) starts follows q.follows
-
-pub one_command_reading : (line : List ℕ) (q r : CommandReading) → IsCommandReading line q → IsCommandReading line r → q ≡ r
-one_command_reading line q r (empty_command a) (empty_command b) = refl
-one_command_reading line q r (empty_command a) (spelled_command ws s b) = absurd (s.something a)
-one_command_reading line q r (spelled_command ws s a) (empty_command b) = absurd (s.something b)
-one_command_reading line q r (spelled_command {a = a} ws s p) (spelled_command {a = b} vs t is) = ap asks (one_command vs a b (subst (λ l. IsCommand l a) (one_words line ws vs s.has t.has) p) is)
+-- the word `begin` doesn't go too deep
+pub deep_no_begin : (line : List ℕ) → IsTooDeep line → IsBegin line → ⊥
+deep_no_begin line t b =
+    let words = one_words line t.words (name (codes "begin") ∷ []) t.split.has (one_name_has line (codes "begin") refl b.name) in
+    let count = ap nesting words in
+    absurd (omega (arith, t.deep, count, nesting_of_one (codes "begin")))

@@ -1,8 +1,10 @@
+pub mod Clause
+pub mod Command
+pub mod Fault
 pub mod Line
 pub mod Part
 pub mod Sheet
 pub mod Sized
+pub mod Spelling
 pub mod Told
 pub mod Tree
-pub use Rattle.pc_formula.specs.Grammar
-pub use Rattle.pc_formula.specs.Word

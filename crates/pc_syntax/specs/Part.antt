@@ -1,11 +1,20 @@
 -- The parts of a sheet, and which lines may stand in each.
-use Rattle.std.specs.Prelude.{◌≡◌, ℕ, Option, Some, None, List, [], ◌∷◌, ◌++◌, map, if◌then◌else◌}
+use Rattle.std.specs.Prelude.{◌≡◌, ℕ, Bool, true, false, ◌==◌, Option, Some, None, List, [], ◌∷◌, ◌++◌, map, if◌then◌else◌}
+use Rattle.std.specs.List.{list_any}
 use Rattle.pc_syntax.specs.declared.sheet.Part.{Part}
 use Rattle.pc_syntax.specs.declared.sheet.Part.TheVariants.{Heading, Universe, Rules, End}
 use Rattle.pc_syntax.specs.declared.tree.Declaration.{Declaration}
 use Rattle.pc_syntax.specs.Tree.{Declared, declared_of}
-use Rattle.pc_syntax.specs.Line.{LineForm, nothing, heading, declares, begins, IsLine}
-use Rattle.pc_syntax.specs.Sheet.{is_rule, is_of_universe, declared_from}
+use Rattle.pc_syntax.specs.Fault.{Fault, syntax, wrong_version, IsAtFault}
+use Rattle.pc_syntax.specs.Line.{LineForm, nothing, heading, declares, begins, IsLine, HasForm}
+use Rattle.pc_syntax.specs.Sheet.{is_heading, is_begin, is_rule, is_rule_line, is_of_universe, declared_from}
+
+-- the part behind lines of these forms
+abbrev pub IsPart : Part → List LineForm → Type 0
+IsPart Heading fs = (list_any is_heading fs ≡ false) × (list_any is_begin fs ≡ false) × (list_any is_rule_line fs ≡ false)
+IsPart Universe fs = (list_any is_heading fs ≡ true) × (list_any is_begin fs ≡ false) × (list_any is_rule_line fs ≡ false)
+IsPart Rules fs = (list_any is_heading fs ≡ true) × (list_any is_begin fs ≡ false) × (list_any is_rule_line fs ≡ true)
+IsPart End fs = (list_any is_heading fs ≡ true) × (list_any is_begin fs ≡ true)
 
 -- the part behind a declaration: once a rule stood, no more of the universe follows
 abbrev pub part_after : Part → Declared → Option Part
@@ -16,12 +25,22 @@ part_after p d = None
 -- the part behind a line, where the line may stand
 abbrev pub next_part : Part → LineForm → Option Part
 next_part p nothing = Some p
-next_part Heading heading = Some Universe
-next_part p heading = None
+next_part Heading (heading n) = if n == 1 then Some Universe else None
+next_part p (heading n) = None
 next_part Universe begins = Some End
 next_part Rules begins = Some End
 next_part p begins = None
 next_part p (declares d) = part_after p d
+
+-- what is at fault where a line may not stand in the part
+abbrev pub misplaced : Part → LineForm → Fault
+misplaced Heading (heading n) = wrong_version
+misplaced p f = syntax
+
+-- the first fault of the line in the part
+pub data IsAtFaultIn (part : Part) (line : List ℕ) : Fault → Type 0 where
+  by_itself : {e : Fault} → IsAtFault line (HasForm line) e → IsAtFaultIn part line e
+  by_place : (f : LineForm) → IsLine line f → next_part part f ≡ None → IsAtFaultIn part line (misplaced part f)
 
 -- what declarations stand for, each with its line's number
 abbrev pub declared : List (ℕ × Declaration) → List (ℕ × Declared)

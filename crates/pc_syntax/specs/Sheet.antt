@@ -1,7 +1,9 @@
--- The text of a sheet: which lines stand where, and what they declare.
-use Rattle.std.specs.Prelude.{◌≡◌, ℕ, ◌+◌, Bool, true, false, ◌==◌, ◌&&◌, List, [], ◌∷◌, ◌++◌, if◌then◌else◌}
+-- The text of a sheet: its lines, which of them may stand where, and what it is read as.
+use Rattle.std.specs.Prelude.{◌≡◌, ℕ, ◌+◌, Bool, true, false, ◌==◌, ◌&&◌, ◌||◌, not, List, [], ◌∷◌, ◌++◌, length, if◌then◌else◌}
+use Rattle.std.specs.List.{list_any}
+use Rattle.pc_syntax.specs.Fault.{Fault, syntax, wrong_version, IsAtFault}
 use Rattle.pc_syntax.specs.Tree.{Declared, rule, enter}
-use Rattle.pc_syntax.specs.Line.{LineForm, nothing, heading, declares, begins, IsLine}
+use Rattle.pc_syntax.specs.Line.{LineForm, nothing, heading, declares, begins, IsLine, HasForm}
 
 -- the text goes on with LF
 abbrev pub starts_with_lf : List ℕ → Bool
@@ -28,29 +30,24 @@ without_cr [] = []
 without_cr (b ∷ []) = if b == 13 then [] else b ∷ []
 without_cr (b ∷ c ∷ bs) = b ∷ without_cr (c ∷ bs)
 
--- each line has its form
-abbrev pub AreLines : List (List ℕ) → List LineForm → Type 0
-AreLines [] [] = Unit {0}
-AreLines (l ∷ ls) (f ∷ fs) = IsLine l f × AreLines ls fs
-AreLines ls fs = ⊥
+-- ---- which lines may stand where
 
--- blank lines and comments alone
-abbrev pub AreNothing : List LineForm → Type 0
-AreNothing [] = Unit {0}
-AreNothing (nothing ∷ fs) = AreNothing fs
-AreNothing (f ∷ fs) = ⊥
+abbrev pub is_heading : LineForm → Bool
+is_heading (heading n) = true
+is_heading f = false
 
--- declarations, blank lines and comments alone
-abbrev pub AreBody : List LineForm → Type 0
-AreBody [] = Unit {0}
-AreBody (nothing ∷ fs) = AreBody fs
-AreBody (declares d ∷ fs) = AreBody fs
-AreBody (f ∷ fs) = ⊥
+abbrev pub is_begin : LineForm → Bool
+is_begin begins = true
+is_begin f = false
 
 -- a `rule` line
 abbrev pub is_rule : Declared → Bool
 is_rule (rule n f) = true
 is_rule d = false
+
+abbrev pub is_rule_line : LineForm → Bool
+is_rule_line (declares d) = is_rule d
+is_rule_line f = false
 
 -- a `sort`, `table`, `row` or `cell` line
 abbrev pub is_of_universe : Declared → Bool
@@ -58,34 +55,35 @@ is_of_universe (rule n f) = false
 is_of_universe (enter c v) = false
 is_of_universe d = true
 
--- no `sort`, `table`, `row` or `cell` line
-abbrev pub HasNoUniverse : List LineForm → Type 0
-HasNoUniverse [] = Unit {0}
-HasNoUniverse (declares d ∷ fs) = (is_of_universe d ≡ false) × HasNoUniverse fs
-HasNoUniverse (f ∷ fs) = HasNoUniverse fs
+-- behind lines of these forms the sheet has begun and not ended
+abbrev pub is_open : List LineForm → Bool
+is_open before = list_any is_heading before && not (list_any is_begin before)
 
--- no `sort`, `table`, `row` or `cell` line follows a `rule` line
-abbrev pub HasUniverseFirst : List LineForm → Type 0
-HasUniverseFirst [] = Unit {0}
-HasUniverseFirst (declares d ∷ fs) = (is_rule d ≡ true → HasNoUniverse fs) × HasUniverseFirst fs
-HasUniverseFirst (f ∷ fs) = HasUniverseFirst fs
+-- A line of the form may stand behind lines of these forms: first `sheet 1`, then declarations, the universe before the
+-- first rule, then `begin`; and blank lines and comments anywhere.
+abbrev pub may_stand : List LineForm → LineForm → Bool
+may_stand before nothing = true
+may_stand before (heading n) = not (list_any is_heading before) && (n == 1)
+may_stand before (declares d) = is_open before && (not (is_of_universe d) || not (list_any is_rule_line before))
+may_stand before begins = is_open before
 
--- behind its heading a sheet has a body, the `begin` line, and then blank lines and comments alone
-pub record HasBody (fs : List LineForm) : Type 0 where
-  pub body : List LineForm
-  pub after : List LineForm
-  pub parts : fs ≡ body ++ begins ∷ after
-  pub is_body : AreBody body
-  pub universe_first : HasUniverseFirst body
-  pub ends : AreNothing after
+-- what is at fault where a line of the form may not stand: its version, where its place is that of the heading
+abbrev pub misplacement : List LineForm → LineForm → Fault
+misplacement before (heading n) = if list_any is_heading before then syntax else wrong_version
+misplacement before f = syntax
 
--- a sheet's first line that is neither blank nor a comment is its heading
-pub record HasShape (fs : List LineForm) : Type 0 where
-  pub before : List LineForm
-  pub rest : List LineForm
-  pub parts : fs ≡ before ++ heading ∷ rest
-  pub is_before : AreNothing before
-  pub body : HasBody rest
+-- each line has its form and may stand behind those before it
+abbrev pub AreStanding : List LineForm → List (List ℕ) → List LineForm → Type 0
+AreStanding before [] [] = Unit {0}
+AreStanding before (l ∷ ls) (f ∷ fs) = IsLine l f × (may_stand before f ≡ true) × AreStanding (before ++ f ∷ []) ls fs
+AreStanding before ls fs = ⊥
+
+-- the first fault of the line behind lines of these forms: its own, or that it may not stand there
+pub data IsAtFaultBehind (before : List LineForm) (line : List ℕ) : Fault → Type 0 where
+  by_itself : {e : Fault} → IsAtFault line (HasForm line) e → IsAtFaultBehind before line e
+  by_place : (f : LineForm) → IsLine line f → may_stand before f ≡ false → IsAtFaultBehind before line (misplacement before f)
+
+-- ---- what a text is read as
 
 -- what the lines declare, each declaration with its line's number, the first line having this one
 abbrev pub declared_from : ℕ → List LineForm → List (ℕ × Declared)
@@ -93,9 +91,29 @@ declared_from n [] = []
 declared_from n (declares d ∷ fs) = (n, d) ∷ declared_from (n + 1) fs
 declared_from n (f ∷ fs) = declared_from (n + 1) fs
 
+-- what a text is: a sheet that declares this, line by line; a text whose first line at fault has this number and this
+-- fault; or one that lacks its `begin`
+pub data SheetReading : Type 0 where
+  sheet : List (ℕ × Declared) → SheetReading
+  fault_at : ℕ → Fault → SheetReading
+  no_begin : SheetReading
+
+-- the text is read so
+pub data IsSheetReading (text : List ℕ) : SheetReading → Type 0 where
+  whole : (forms : List LineForm) → AreStanding [] (lines_of text) forms → list_any is_begin forms ≡ true → IsSheetReading text (sheet (declared_from 1 forms))
+  endless : (forms : List LineForm) → AreStanding [] (lines_of text) forms → list_any is_begin forms ≡ false → IsSheetReading text no_begin
+  faulty : (before : List (List ℕ)) (forms : List LineForm) (line : List ℕ) (after : List (List ℕ)) {e : Fault} → lines_of text ≡ before ++ line ∷ after → AreStanding [] before forms → IsAtFaultBehind forms line e → IsSheetReading text (fault_at (length before + 1) e)
+
 -- the text is a sheet that declares this, line by line
-pub record IsSheet (text : List ℕ) (ds : List (ℕ × Declared)) : Type 0 where
-  pub forms : List LineForm
-  pub lines : AreLines (lines_of text) forms
-  pub shape : HasShape forms
-  pub declared : ds ≡ declared_from 1 forms
+abbrev pub IsSheet : List ℕ → List (ℕ × Declared) → Type 0
+IsSheet text ds = IsSheetReading text (sheet ds)
+
+-- no `sort`, `table`, `row` or `cell` line is among the declarations
+abbrev pub HasNoUniverse : List (ℕ × Declared) → Type 0
+HasNoUniverse [] = Unit {0}
+HasNoUniverse (d ∷ ds) = (is_of_universe d.1 ≡ false) × HasNoUniverse ds
+
+-- none of these follows a `rule` line
+abbrev pub HasUniverseFirst : List (ℕ × Declared) → Type 0
+HasUniverseFirst [] = Unit {0}
+HasUniverseFirst (d ∷ ds) = (is_rule d.1 ≡ true → HasNoUniverse ds) × HasUniverseFirst ds

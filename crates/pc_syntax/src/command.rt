@@ -1,11 +1,14 @@
 // The reader of commands.
-ghost use Rattle.std.specs.Prelude.{◌≡◌, ◌≤◌, List, length, IfOk};
+ghost use Rattle.std.specs.Prelude.{◌≡◌, ◌≤◌, List, [], ℕ, length, codes, IfOk, MatchOption};
 ghost use Rattle.pc_name.specs.Names.{most_name_bytes};
+ghost use Rattle.pc_token.specs.Line.{IsOneName};
 ghost use Rattle.pc_syntax.specs.Tree.{Asked, asked_of};
-ghost use Rattle.pc_syntax.specs.Line.{IsCommand, Spells, CommandReading, IsCommandReading, TakesNoMemory};
-ghost use Rattle.pc_syntax.specs.Told.{reading_of, TellsCommand};
+ghost use Rattle.pc_syntax.specs.Command.{command_keyword, FollowsCommand, IsCommand, Asks, IsAlone, CommandReading, IsCommandReading, TakesNoMemory};
+ghost use Rattle.pc_syntax.specs.Told.{reading_of, IsCommandTold, TellsCommand, IsAskedTold, IsLone};
+ghost use Rattle.pc_syntax.specs.Sized.{IsSizedReading, IsNestedReading};
 
-use crate::line::{end, entry, is_word};
+use crate::clause::{end, entry, is_word, last_cell, last_name, number, question, rule};
+use crate::fault::LineFault;
 use crate::read::{is_nothing, tokens_within};
 use crate::tree::{Command, CommandFault};
 use pc_formula::{Refusal, Words};
@@ -15,39 +18,56 @@ use std::str;
 
 /// The command of a line without its end, or `None` at a blank line or a comment.
 ///
-/// The forms `enter NAME = NAME` and `show` are read yet, with names of ASCII; any other line is `NotYet`. A blank
-/// line, a comment and a line whose one token is `show` take no memory.
+/// The order of faults is `NotUtf8`, `TooDeep`, `Syntax`. A blank line, a comment and a line whose one token is `show`,
+/// `grid` or `dump` take no memory.
 pub fn parse_command(alloc: Global, line: &[u8]) -> Result<Option<Command>, CommandFault>
     requires { length line.now ≤ 4096 }
-    ensures told { IfOk result (λ c. IsCommandReading line.now (reading_of c)) }
+    ensures told { IsCommandTold line.now result }
     ensures only { (r : CommandReading) → IsCommandReading line.now r → TellsCommand result r }
+    ensures sized { IfOk result (λ c. IsSizedReading (reading_of c)) }
+    ensures nested { IfOk result (λ c. IsNestedReading (reading_of c)) }
     ensures no_memory { TakesNoMemory line.now → result ≡ Err CommandFault.Memory → ⊥ }
 {
     let Ok(text) = str::from_utf8(line) else {
-        return Err(CommandFault::NotYet);
+        return Err(CommandFault::NotUtf8);
     };
     if is_nothing(text) {
         return Ok(None);
     }
-    if is_one_name(text, "show") {
-        return Ok(Some(Command::Show));
+    if let Some(command) = lone_command(text) {
+        return Ok(Some(command));
     }
     match read_command(alloc, text) {
         Ok(command) => Ok(Some(command)),
-        Err(Refusal::Syntax) => Err(CommandFault::NotYet),
-        Err(Refusal::Memory) => Err(CommandFault::Memory),
+        Err(fault) => Err(CommandFault::from(fault)),
     }
 }
 
+// The command that is one word and takes no memory, where the line is one.
+fn lone_command(line: &str) -> Option<Command>
+    ensures { MatchOption result (IsLone line.now → ⊥) (λ c. IsOneName line.now (command_keyword (asked_of c)) × FollowsCommand (asked_of c) []) }
+{
+    if is_one_name(line, "show") {
+        return Some(Command::Show);
+    }
+    if is_one_name(line, "grid") {
+        return Some(Command::Grid);
+    }
+    if is_one_name(line, "dump") {
+        return Some(Command::Dump);
+    }
+    None
+}
+
 // The command that the tokens of the text are.
-fn read_command(alloc: Global, text: &str) -> Result<Command, Refusal>
+fn read_command(alloc: Global, text: &str) -> Result<Command, LineFault>
     requires { length text.now ≤ most_name_bytes }
-    ensures told { IfOk result (λ c. Spells text.now (asked_of c)) }
-    ensures none { result ≡ Err Refusal.Syntax → (a : Asked) → Spells text.now a → ⊥ }
+    ensures { IsAskedTold text.now result }
 {
     let found = tokens_within(alloc, text)?;
     let mut words = Words::new(text, found.as_slice());
-    command(alloc, &mut words)
+    let command = command(alloc, &mut words)?;
+    Ok(command)
 }
 
 // The command with these words.
@@ -58,13 +78,56 @@ fn command(alloc: Global, words: &mut Words<'_>) -> Result<Command, Refusal>
     let Some(start) = words.take_name() else {
         return Err(Refusal::Syntax);
     };
+    command_of(alloc, start, words)
+}
+
+// The command that starts with this word.
+fn command_of(alloc: Global, start: &str, words: &mut Words<'_>) -> Result<Command, Refusal>
+    ensures told { IfOk result (λ c. Asks start.now (asked_of c) words.old) }
+    ensures none { result ≡ Err Refusal.Syntax → (a : Asked) → Asks start.now a words.old → ⊥ }
+{
+    if let Some(command) = one_word(start) {
+        end(words)?;
+        return Ok(command);
+    }
     if is_word(start, "enter") {
         let (cell, value) = entry(alloc, words)?;
         return Ok(Command::Enter(cell, value));
     }
-    if is_word(start, "show") {
-        end(words)?;
-        return Ok(Command::Show);
+    if is_word(start, "clear") {
+        return Ok(Command::Clear(last_cell(alloc, words)?));
+    }
+    if is_word(start, "rule") {
+        return Ok(Command::AddRule(rule(alloc, words)?));
+    }
+    if is_word(start, "drop") {
+        return Ok(Command::DropRule(last_name(alloc, words)?));
+    }
+    if is_word(start, "budget") {
+        return Ok(Command::Budget(number(words)?));
+    }
+    if is_word(start, "why") {
+        let (cell, value, holds) = question(alloc, words)?;
+        return Ok(Command::Why { cell, value, holds });
     }
     Err(Refusal::Syntax)
+}
+
+// The command that is this one word.
+fn one_word(start: &str) -> Option<Command>
+    ensures { MatchOption result ((a : Asked) → IsAlone a → command_keyword a ≡ start.now → ⊥) (λ c. IsAlone (asked_of c) × (command_keyword (asked_of c) ≡ start.now)) }
+{
+    if is_word(start, "show") {
+        return Some(Command::Show);
+    }
+    if is_word(start, "grid") {
+        return Some(Command::Grid);
+    }
+    if is_word(start, "json") {
+        return Some(Command::Json);
+    }
+    if is_word(start, "dump") {
+        return Some(Command::Dump);
+    }
+    None
 }

@@ -1,16 +1,12 @@
-// Laws of the grammar.
+// Laws of the definitions.
 ghost use Rattle.std.specs.Prelude.{◌≡◌, ℕ, List};
-ghost use Rattle.pc_formula.specs.Word.{Word};
-ghost use Rattle.pc_syntax.specs.Tree.{Formula, Declared};
-ghost use Rattle.pc_formula.specs.Grammar.{IsFormula};
-ghost use Rattle.pc_syntax.specs.Line.{LineForm, IsLine, CommandReading, IsCommandReading};
-ghost use Rattle.pc_syntax.specs.Sheet.{IsSheet};
+ghost use Rattle.pc_syntax.specs.Line.{LineForm, IsLine};
+ghost use Rattle.pc_syntax.specs.Command.{CommandReading, IsCommandReading};
+ghost use Rattle.pc_syntax.specs.Sheet.{SheetReading, IsSheetReading};
 
-/// Words are at most one formula, a line has at most one form and is at most one command, and a text is at most one
-/// sheet.
-pub fn one_tree()
-    ensures formula { (ws : List Word) (f g : Formula) → IsFormula ws f → IsFormula ws g → f ≡ g }
+/// A line has at most one form, and a command line and a text have at most one reading.
+pub fn one_reading()
     ensures line { (line : List ℕ) (f g : LineForm) → IsLine line f → IsLine line g → f ≡ g }
     ensures command { (line : List ℕ) (q r : CommandReading) → IsCommandReading line q → IsCommandReading line r → q ≡ r }
-    ensures sheet { (text : List ℕ) (ds es : List (ℕ × Declared)) → IsSheet text ds → IsSheet text es → ds ≡ es }
+    ensures sheet { (text : List ℕ) (q r : SheetReading) → IsSheetReading text q → IsSheetReading text r → q ≡ r }
 {}

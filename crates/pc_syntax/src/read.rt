@@ -1,16 +1,15 @@
 // The reader of a line, from its bytes.
-ghost use Rattle.std.specs.Prelude.{◌≡◌, ◌↔◌, ◌⊎◌, ◌≤◌, List, length, count_by, IfOk, IsTrue};
+ghost use Rattle.std.specs.Prelude.{◌≡◌, ◌↔◌, ◌⊎◌, ◌≤◌, List, length, IfOk, IsTrue};
 ghost use Rattle.std.specs.List.{AllByRecursion};
 ghost use Rattle.pc_name.specs.Names.{most_name_bytes};
 ghost use Rattle.pc_token.specs.Token.{IsTokenOf};
 ghost use Rattle.pc_token.specs.Line.{IsBlankLine, IsComment};
-ghost use Rattle.pc_formula.specs.Word.{Word, HasWords, nests, words_of};
-ghost use Rattle.pc_syntax.specs.Line.{LineForm, begins, IsLine};
-ghost use Rattle.pc_syntax.specs.Told.{form_of};
+ghost use Rattle.pc_syntax.specs.Told.{AreTokensTold, IsFormTold, IsLineTold};
 
+use crate::fault::LineFault;
 use crate::line::{LineTree, form};
-use pc_formula::{Refusal, Words};
-use pc_token::{Kind, Token, TokenFault, is_blank_line, is_comment, is_one_name, tokens};
+use pc_formula::Words;
+use pc_token::{Token, TokenFault, is_blank_line, is_comment, is_one_name, tokens};
 use std::alloc::Global;
 use std::str;
 
@@ -18,33 +17,31 @@ use std::str;
 const MOST_NESTING: usize = 128;
 
 /// What the line of a sheet is.
-pub fn read_line(alloc: Global, line: &[u8]) -> Result<LineTree, Refusal>
+pub fn read_line(alloc: Global, line: &[u8]) -> Result<LineTree, LineFault>
     requires { length line.now ≤ most_name_bytes }
-    ensures told { IfOk result (λ t. IsLine line.now (form_of t)) }
-    ensures none { result ≡ Err Refusal.Syntax → (f : LineForm) → IsLine line.now f → ⊥ }
+    ensures { IsLineTold line.now result }
 {
     let Ok(text) = str::from_utf8(line) else {
-        return Err(Refusal::Syntax);
+        return Err(LineFault::NotUtf8);
     };
     if is_nothing(text) {
         return Ok(LineTree::Nothing);
     }
-    let found = tokens_within(alloc, text)?;
-    let mut words = Words::new(text, found.as_slice());
-    form(alloc, &mut words)
+    if is_one_name(text, "begin") {
+        return Ok(LineTree::Begins);
+    }
+    read_form(alloc, text)
 }
 
-/// Whether the line is the `begin` line that ends a sheet: its one token is the name `begin`.
-pub fn is_begin(line: &[u8]) -> bool
-    ensures { IsTrue result ↔ IsLine line.now begins }
+// The form that the tokens of the text are.
+fn read_form(alloc: Global, text: &str) -> Result<LineTree, LineFault>
+    requires { length text.now ≤ most_name_bytes }
+    ensures { IsFormTold text.now result }
 {
-    let Ok(text) = str::from_utf8(line) else {
-        return false;
-    };
-    if is_nothing(text) {
-        return false;
-    }
-    is_one_name(text, "begin")
+    let found = tokens_within(alloc, text)?;
+    let mut words = Words::new(text, found.as_slice());
+    let form = form(alloc, &mut words)?;
+    Ok(form)
 }
 
 /// Whether the line is blank or a comment.
@@ -55,35 +52,20 @@ pub fn is_nothing(line: &str) -> bool
     is_blank_line(line) || is_comment(line)
 }
 
-/// The tokens of a line that nest within the limit.
-pub fn tokens_within(alloc: Global, line: &str) -> Result<Vec<Token>, Refusal>
+/// The tokens of a line, where they don't go too deep.
+pub fn tokens_within(alloc: Global, line: &str) -> Result<Vec<Token>, LineFault>
+    requires { length line.now ≤ most_name_bytes }
     ensures each { IfOk result (λ found. AllByRecursion (IsTokenOf line.now) found.items) }
-    ensures told { IfOk result (λ found. HasWords line.now (words_of line.now found.items)) }
-    ensures only { IfOk result (λ found. (ws : List Word) → HasWords line.now ws → ws ≡ words_of line.now found.items) }
-    ensures none { result ≡ Err Refusal.Syntax → (ws : List Word) → HasWords line.now ws → ⊥ }
+    ensures told { AreTokensTold line.now result }
 {
     let found = match tokens(alloc, line) {
         Ok(found) => found,
-        Err(TokenFault::BadCharacter { .. }) => return Err(Refusal::Syntax),
-        Err(TokenFault::NumberTooLong { .. }) => return Err(Refusal::Syntax),
-        Err(TokenFault::Memory) => return Err(Refusal::Memory),
+        Err(TokenFault::BadCharacter { .. }) => return Err(LineFault::Syntax),
+        Err(TokenFault::NumberTooLong { .. }) => return Err(LineFault::Syntax),
+        Err(TokenFault::Memory) => return Err(LineFault::Memory),
     };
-    if nesting(found.as_slice()) > MOST_NESTING {
-        return Err(Refusal::Syntax);
+    if Words::new(line, found.as_slice()).nesting() > MOST_NESTING {
+        return Err(LineFault::TooDeep);
     }
     Ok(found)
-}
-
-// How many of the tokens nest.
-fn nesting(found: &[Token]) -> usize
-    ensures { result ≡ count_by (λ t. nests t.kind) found.now }
-{
-    found.iter().filter(|token| nests(token.kind)).count()
-}
-
-// Whether a formula goes a level down at such a token.
-fn nests(kind: Kind) -> bool
-    ensures { result ≡ nests kind }
-{
-    matches!(kind, Kind::Open | Kind::Not | Kind::Arrow)
 }

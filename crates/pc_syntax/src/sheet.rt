@@ -1,13 +1,13 @@
 // The reader of sheets, line by line.
 ghost use Rattle.std.specs.Prelude.{◌≡◌, ◌↔◌, ◌≤◌, ◌<◌, ◌++◌, ◌∷◌, ℕ, List, [], length, slice_index, IfOk, IsTrue};
 ghost use Rattle.pc_name.specs.Names.{most_name_bytes};
-ghost use Rattle.pc_syntax.specs.Tree.{Declared, declared_of, sheet_of};
-ghost use Rattle.pc_syntax.specs.Line.{LineForm, IsLine};
-ghost use Rattle.pc_syntax.specs.Sheet.{lines_of, without_cr, declared_from, IsSheet};
-ghost use Rattle.pc_syntax.specs.Sized.{HasSizedRules};
-ghost use Rattle.pc_syntax.specs.Part.{next_part, part_after, declared, Takes};
-ghost use Rattle.pc_syntax.specs.Told.{form_of, TellsSheet};
+ghost use Rattle.pc_syntax.specs.Tree.{declared_of, sheet_of};
+ghost use Rattle.pc_syntax.specs.Sheet.{lines_of, without_cr, declared_from, SheetReading, IsSheetReading, HasUniverseFirst};
+ghost use Rattle.pc_syntax.specs.Sized.{HasSizedRules, HasNestedRules};
+ghost use Rattle.pc_syntax.specs.Part.{next_part, part_after, declared};
+ghost use Rattle.pc_syntax.specs.Told.{form_of, sheet_fault_of, misplaced_as, IsTaken, IsSheetTold, TellsSheet};
 
+use crate::fault::LineFault;
 use crate::line::LineTree;
 use crate::read::read_line;
 use crate::tree::{Declaration, SheetFault, SheetTree};
@@ -70,7 +70,9 @@ fn next_part(part: Part, line: &LineTree) -> Option<Part>
 {
     match line {
         LineTree::Nothing => Some(part),
-        LineTree::Heading => (part == Part::Heading).then_some(Part::Universe),
+        LineTree::Heading(version) => {
+            (part == Part::Heading && *version == 1).then_some(Part::Universe)
+        }
         LineTree::Begins => { (part == Part::Universe || part == Part::Rules).then_some(Part::End) }
         LineTree::Declares(declared) => part_after(part, declared),
     }
@@ -92,6 +94,28 @@ fn is_end(part: Part) -> bool
     ensures { IsTrue result ↔ (part ≡ Part.End) }
 {
     part == Part::End
+}
+
+// The fault of a sheet whose line with this number has the fault.
+fn sheet_fault(fault: LineFault, line: u32) -> SheetFault
+    ensures { result ≡ sheet_fault_of fault line }
+{
+    match fault {
+        LineFault::NotUtf8 => SheetFault::NotUtf8 { line },
+        LineFault::TooDeep => SheetFault::TooDeep { line },
+        LineFault::Syntax => SheetFault::Syntax { line },
+        LineFault::Memory => SheetFault::Memory,
+    }
+}
+
+// The fault of a sheet whose line with this number may not stand in its part.
+fn misplaced(part: Part, form: &LineTree, line: u32) -> SheetFault
+    ensures { result ≡ misplaced_as part (form_of form.now) line }
+{
+    match (part, form) {
+        (Part::Heading, LineTree::Heading(_)) => SheetFault::WrongVersion { line },
+        _ => SheetFault::Syntax { line },
+    }
 }
 
 // Adds what the line declares.
@@ -119,28 +143,32 @@ fn take_line(
     declarations: &mut Vec<(u32, Declaration)>,
 ) -> Result<Part, SheetFault>
     requires { length line.now ≤ most_name_bytes }
-    ensures told { IfOk result (λ next. Takes part number line.now next (declared declarations.old.items) (declared declarations.new.items)) }
-    ensures none { result ≡ Err SheetFault.NotYet → (f : LineForm) → IsLine line.now f → (q : Part) → next_part part f ≡ Some q → ⊥ }
+    ensures { IsTaken part number line.now (declared declarations.old.items) (declared declarations.new.items) result }
 {
-    let form = read_line(alloc, line)?;
+    let form = match read_line(alloc, line) {
+        Ok(form) => form,
+        Err(fault) => return Err(sheet_fault(fault, number)),
+    };
     let Some(next) = next_part(part, &form) else {
-        return Err(SheetFault::NotYet);
+        return Err(misplaced(part, &form, number));
     };
     add(declarations, number, form)?;
     Ok(next)
 }
 
-/// The declarations of a sheet's text, line by line.
+/// The declarations of a sheet's text, line by line, or the fault of its first line at fault.
 ///
 /// The text is split into lines at LF, and one CR before it is dropped. The first line that is neither blank nor a
-/// comment is `sheet 1`, and the sheet ends with its `begin` line. The forms `sort NAME = NAME { NAME }`,
-/// `cell NAME : NAME`, `rule NAME : IFF` and `enter NAME = NAME` are read yet, with names of ASCII, without
-/// quantifiers, and with atoms `NAME = NAME` and `NAME != NAME`; any other text is `NotYet`.
+/// comment is `sheet 1`, and the sheet ends with its `begin` line, behind which blank lines and comments alone stand.
+/// On one line the order of faults is `NotUtf8`, `TooDeep`, `Syntax`, `WrongVersion`. A text whose lines are all right
+/// and that has no `begin` line is `NoBegin`.
 pub fn parse_sheet(alloc: Global, bytes: &[u8]) -> Result<SheetTree, SheetFault>
     requires { length bytes.now ≤ 4194304 }
-    ensures told { IfOk result (λ t. IsSheet bytes.now (sheet_of t)) }
-    ensures only { (ds : List (ℕ × Declared)) → IsSheet bytes.now ds → TellsSheet result ds }
+    ensures told { IsSheetTold bytes.now result }
+    ensures only { (r : SheetReading) → IsSheetReading bytes.now r → TellsSheet result r }
+    ensures ordered { IfOk result (λ t. HasUniverseFirst (sheet_of t)) }
     ensures sized { IfOk result (λ t. HasSizedRules (sheet_of t)) }
+    ensures nested { IfOk result (λ t. HasNestedRules (sheet_of t)) }
 {
     let mut declarations = Vec::new(alloc);
     let mut part = Part::Heading;
@@ -153,7 +181,7 @@ pub fn parse_sheet(alloc: Global, bytes: &[u8]) -> Result<SheetTree, SheetFault>
         rest = after;
     }
     if !is_end(part) {
-        return Err(SheetFault::NotYet);
+        return Err(SheetFault::NoBegin);
     }
     Ok(SheetTree { declarations })
 }

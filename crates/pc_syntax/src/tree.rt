@@ -1,7 +1,7 @@
 // What the lines of a sheet and the commands say, as trees.
 ghost use Rattle.std.specs.Prelude.{◌≡◌};
 
-use pc_formula::{CellTree, FormulaTree, Refusal, ValueTree};
+use pc_formula::{CellTree, FormulaTree, ValueTree};
 use pc_name::Name;
 use std::alloc::AllocError;
 use thiserror::Error;
@@ -69,12 +69,20 @@ pub struct RuleTree {
     pub formula: FormulaTree,
 }
 
-/// Why a text is no sheet.
+/// Why a text is no sheet. A line's number counts from 1.
 #[derive(Debug, Drop, Error)]
 pub enum SheetFault {
-    #[error("not-yet")]
-    NotYet,
-    #[error("memory")]
+    #[error("line {line} is not UTF-8")]
+    NotUtf8 { line: u32 },
+    #[error("line {line} may not stand there")]
+    Syntax { line: u32 },
+    #[error("no line is `begin`")]
+    NoBegin,
+    #[error("line {line} has another version than 1")]
+    WrongVersion { line: u32 },
+    #[error("line {line} goes too deep")]
+    TooDeep { line: u32 },
+    #[error("out of memory")]
     Memory,
 }
 
@@ -88,24 +96,15 @@ impl From<AllocError> for SheetFault {
     }
 }
 
-impl From<Refusal> for SheetFault {
-    ghost use Rattle.pc_syntax.specs.Told.{sheet_fault_of};
-
-    ghost from_gives = { λ r e. e ≡ sheet_fault_of r };
-
-    fn from(refusal: Refusal) -> Self {
-        match refusal {
-            Refusal::Syntax => SheetFault::NotYet,
-            Refusal::Memory => SheetFault::Memory,
-        }
-    }
-}
-
 /// Why a line is no command.
 #[derive(Debug, Drop, Error)]
 pub enum CommandFault {
-    #[error("not-yet")]
-    NotYet,
-    #[error("memory")]
+    #[error("the line is not UTF-8")]
+    NotUtf8,
+    #[error("the line is no command")]
+    Syntax,
+    #[error("the line goes too deep")]
+    TooDeep,
+    #[error("out of memory")]
     Memory,
 }

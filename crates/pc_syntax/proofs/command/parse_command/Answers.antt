@@ -1,43 +1,65 @@
-use Rattle.std.proofs.Common.{◌≡◌, Err, ◌∙◌, ap}
-use Rattle.pc_formula.specs.declared.formula.Refusal.TheVariants.{Syntax}
-use Rattle.pc_syntax.specs.Tree.{asked_of, asks_show}
-use Rattle.pc_syntax.specs.Line.{IsCommandReading, asks, empty_command}
-use Rattle.pc_syntax.proofs.ReadLine.{no_utf8_no_command, is_nothing, something, spelled_reading, no_spelling_no_reading, spells_show}
-use Rattle.pc_syntax.proofs.OneLine.{one_command_reading}
+use Rattle.std.proofs.Common.{◌≡◌, Ok, Err, Some, None, arith, rules}
+use Rattle.pc_syntax.specs.declared.tree.CommandFault.TheVariants.{NotUtf8}
+use Rattle.pc_syntax.specs.Fault.{no_text}
+use Rattle.pc_syntax.specs.Tree.{asked_of}
+use Rattle.pc_syntax.specs.Command.{IsCommandReading, asks, empty_command, faulty_command}
+use Rattle.pc_syntax.specs.Told.{IsLone}
+use Rattle.pc_syntax.proofs.ReadLine.{is_nothing, something}
+use Rattle.pc_syntax.proofs.CommandTold.{tells, lone_told, command_told, refused_told, memory_taken, sized_command, nested_command}
 use Rattle.pc_syntax.proofs.command.parse_command.Goals as goal
 
+pub returns-in_default-clause-told : goal.returns-in_default-clause-told
+returns-in_default-clause-told c = faulty_command (no_text c.in_default.ensures.cases.0)
+
 pub returns-in_default-clause-only : goal.returns-in_default-clause-only
-returns-in_default-clause-only c = no_utf8_no_command c.args.line.now c.in_default.ensures.cases.0
+returns-in_default-clause-only c = tells c.args.line.now (Err NotUtf8) (faulty_command (no_text c.in_default.ensures.cases.0))
 
 pub returns-then-is_nothing-clause-told : goal.returns-then-is_nothing-clause-told
 returns-then-is_nothing-clause-told c = empty_command (is_nothing c.in-Ok.text.now c.args.line.now c.in-Ok.ensures.cases.0 c.in-Ok.ensures.cases.1 (c.is_nothing.ensures.blank c.if-is_nothing.true))
 
--- a line with the one token `show`
-show_reading : (c : goal.Then-is_one_name) → IsCommandReading c.args.line.now (asks asks_show)
-show_reading c =
+pub returns-then-is_nothing-clause-only : goal.returns-then-is_nothing-clause-only
+returns-then-is_nothing-clause-only c = tells c.args.line.now (Ok None) (empty_command (is_nothing c.in-Ok.text.now c.args.line.now c.in-Ok.ensures.cases.0 c.in-Ok.ensures.cases.1 (c.is_nothing.ensures.blank c.if-is_nothing.true)))
+
+pub returns-in-Some-clause-told : goal.returns-in-Some-clause-told
+returns-in-Some-clause-told c =
     let some = something c.in-Ok.text.now c.args.line.now c.in-Ok.ensures.cases.0 _ c.if-is_nothing.false c.is_nothing.ensures.neither in
-    spelled_reading c.in-Ok.text.now c.args.line.now c.in-Ok.ensures.cases.0 some c.in-Ok.ensures.cases.1 asks_show (spells_show c.in-Ok.text.now (c.is_one_name.ensures.0 c.if-is_one_name.true))
+    lone_told c.in-Ok.text.now c.args.line.now c.in-Ok.ensures.cases.0 c.in-Ok.ensures.cases.1 some (asked_of c.in-Some.command) c.in-Some.ensures.0 c.in-Some.ensures.1
 
-pub returns-then-is_one_name-clause-told : goal.returns-then-is_one_name-clause-told
-returns-then-is_one_name-clause-told c = show_reading c
-
-pub returns-then-is_one_name-clause-only : goal.returns-then-is_one_name-clause-only
-returns-then-is_one_name-clause-only c = λ r is. one_command_reading c.args.line.now r (asks asks_show) is (show_reading c)
+pub returns-in-Some-clause-only : goal.returns-in-Some-clause-only
+returns-in-Some-clause-only c =
+    let some = something c.in-Ok.text.now c.args.line.now c.in-Ok.ensures.cases.0 _ c.if-is_nothing.false c.is_nothing.ensures.neither in
+    tells c.args.line.now (Ok (Some c.in-Some.command)) (lone_told c.in-Ok.text.now c.args.line.now c.in-Ok.ensures.cases.0 c.in-Ok.ensures.cases.1 some (asked_of c.in-Some.command) c.in-Some.ensures.0 c.in-Some.ensures.1)
 
 -- a line with a command
 command_reading : (c : goal.In-Ok-read_command) → IsCommandReading c.args.line.now (asks (asked_of c.in-Ok-read_command.command))
 command_reading c =
     let some = something c.in-Ok.text.now c.args.line.now c.in-Ok.ensures.cases.0 _ c.if-is_nothing.false c.is_nothing.ensures.neither in
-    spelled_reading c.in-Ok.text.now c.args.line.now c.in-Ok.ensures.cases.0 some c.in-Ok.ensures.cases.1 (asked_of c.in-Ok-read_command.command) c.in-Ok-read_command.ensures.told
+    command_told c.in-Ok.text.now c.args.line.now c.in-Ok.ensures.cases.0 c.in-Ok.ensures.cases.1 some (asked_of c.in-Ok-read_command.command) c.in-Ok-read_command.ensures
 
 pub returns-in-Ok-read_command-clause-told : goal.returns-in-Ok-read_command-clause-told
 returns-in-Ok-read_command-clause-told c = command_reading c
 
 pub returns-in-Ok-read_command-clause-only : goal.returns-in-Ok-read_command-clause-only
-returns-in-Ok-read_command-clause-only c = λ r is. one_command_reading c.args.line.now r (asks (asked_of c.in-Ok-read_command.command)) is (command_reading c)
+returns-in-Ok-read_command-clause-only c = tells c.args.line.now (Ok (Some c.in-Ok-read_command.command)) (command_reading c)
 
-pub returns-in-Err-Syntax-clause-only : goal.returns-in-Err-Syntax-clause-only
-returns-in-Err-Syntax-clause-only c =
+pub returns-in-Ok-read_command-clause-sized : goal.returns-in-Ok-read_command-clause-sized
+returns-in-Ok-read_command-clause-sized c = sized_command c.args.line.now (asks (asked_of c.in-Ok-read_command.command)) (omega (arith, c.requires)) (command_reading c)
+
+pub returns-in-Ok-read_command-clause-nested : goal.returns-in-Ok-read_command-clause-nested
+returns-in-Ok-read_command-clause-nested c = nested_command c.args.line.now (asks (asked_of c.in-Ok-read_command.command)) (omega (arith, c.requires)) (command_reading c)
+
+pub returns-in-Err-clause-told : goal.returns-in-Err-clause-told
+returns-in-Err-clause-told c =
     let some = something c.in-Ok.text.now c.args.line.now c.in-Ok.ensures.cases.0 _ c.if-is_nothing.false c.is_nothing.ensures.neither in
-    let refused : c.read_command.result ≡ Err Syntax = c.in-Err-Syntax.is ∙ ap Err c.in-Err-Syntax.field-0-is in
-    no_spelling_no_reading c.in-Ok.text.now c.args.line.now c.in-Ok.ensures.cases.0 some (c.read_command.ensures.none refused)
+    refused_told c.in-Ok.text.now c.args.line.now c.in-Ok.ensures.cases.0 c.in-Ok.ensures.cases.1 some c.in-Err.fault c.in-Err.ensures c.from.result c.from.ensures
+
+pub returns-in-Err-clause-only : goal.returns-in-Err-clause-only
+returns-in-Err-clause-only c =
+    let some = something c.in-Ok.text.now c.args.line.now c.in-Ok.ensures.cases.0 _ c.if-is_nothing.false c.is_nothing.ensures.neither in
+    tells c.args.line.now (Err c.from.result) (refused_told c.in-Ok.text.now c.args.line.now c.in-Ok.ensures.cases.0 c.in-Ok.ensures.cases.1 some c.in-Err.fault c.in-Err.ensures c.from.result c.from.ensures)
+
+pub returns-in-Err-clause-no_memory : goal.returns-in-Err-clause-no_memory
+returns-in-Err-clause-no_memory c = λ takes is.
+    let some = something c.in-Ok.text.now c.args.line.now c.in-Ok.ensures.cases.0 _ c.if-is_nothing.false c.is_nothing.ensures.neither in
+    let more : IsLone c.in-Ok.text.now → ⊥ = search rules in
+    memory_taken c.in-Ok.text.now c.args.line.now c.in-Ok.ensures.cases.0 c.in-Ok.ensures.cases.1 some more takes

@@ -1,7 +1,7 @@
 use Rattle.std.proofs.Common.{◌+◌, ◌≤◌, length}
 use Rattle.pc_syntax.specs.Sheet.{lines_of}
 use Rattle.pc_syntax.specs.Part.{declared}
-use Rattle.pc_syntax.proofs.Parts.{Progress}
+use Rattle.pc_syntax.proofs.Progress.{Progress}
 use Rattle.pc_syntax.proofs.sheet.parse_sheet.Given as goal
 
 abbrev pub invariant-lines : goal.invariant-lines

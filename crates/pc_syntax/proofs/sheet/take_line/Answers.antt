@@ -1,15 +1,19 @@
-use Rattle.std.proofs.Common.{◌≡◌, None, sym, ◌∙◌, ap, rules}
-use Rattle.pc_syntax.specs.Part.{next_part}
-use Rattle.pc_syntax.specs.Told.{form_of}
-use Rattle.pc_syntax.proofs.OneLine.{one_line}
+use Rattle.std.proofs.Common.{◌≡◌, None, sym, ◌∙◌, rules, subst}
+use Rattle.pc_syntax.specs.Part.{IsAtFaultIn}
+use Rattle.pc_syntax.specs.Told.{form_of, Blames}
+use Rattle.pc_syntax.proofs.Progress.{line_blamed, place_blamed}
 use Rattle.pc_syntax.proofs.sheet.take_line.Goals as goal
 
-pub returns-in_default-clause-none : goal.returns-in_default-clause-none
-returns-in_default-clause-none c = λ refused f is q goes.
-    let same = one_line c.args.line.now f (form_of c.in_ok-form.form) is c.in_ok-form.ensures.told in
-    let none : c.next_part.result ≡ None = search rules in
-    let clash = sym goes ∙ ap (next_part c.args.part) same ∙ sym c.next_part.ensures ∙ none in
-    cc
+pub returns-in-Err : goal.returns-in-Err
+returns-in-Err c =
+    subst (λ f. Blames f c.args.number (λ e. IsAtFaultIn c.args.part c.args.line.now e)) (sym c.sheet_fault.ensures)
+    (line_blamed c.in-Err.fault c.args.number c.args.part c.args.line.now c.in-Err.ensures)
 
-pub returns-clause-told : goal.returns-clause-told
-returns-clause-told c = record { form = form_of c.in_ok-form.form; is = c.in_ok-form.ensures.told; goes = sym c.next_part.ensures ∙ c.in-Some.is; adds = c.in_ok-add.ensures }
+pub returns-in_default : goal.returns-in_default
+returns-in_default c =
+    let none : c.next_part.result ≡ None = search rules in
+    subst (λ f. Blames f c.args.number (λ e. IsAtFaultIn c.args.part c.args.line.now e)) (sym c.misplaced.ensures)
+    (place_blamed c.args.part (form_of c.in-Ok.form) c.args.number c.args.line.now c.in-Ok.ensures (sym c.next_part.ensures ∙ none))
+
+pub returns : goal.returns
+returns c = record { form = form_of c.in-Ok.form; is = c.in-Ok.ensures; goes = sym c.next_part.ensures ∙ c.in-Some.is; adds = c.in_ok-add.ensures }

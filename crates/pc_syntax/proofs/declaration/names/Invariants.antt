@@ -1,6 +1,6 @@
 use Rattle.std.proofs.Common.{◌≡◌, ◌++◌, length, map}
 use Rattle.pc_formula.specs.Word.{name}
-use Rattle.pc_syntax.proofs.line.names.Given as goal
+use Rattle.pc_syntax.proofs.declaration.names.Given as goal
 
 abbrev pub invariant-names : goal.invariant-names
 invariant-names l = l.fn.words ≡ map name l.found.items ++ l.words

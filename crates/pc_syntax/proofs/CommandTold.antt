@@ -1,0 +1,93 @@
+-- What is told of a command line.
+use Rattle.std.proofs.Common.{◌≡◌, ℕ, ◌≤◌, Result, Ok, Err, Option, Some, None, List, [], ◌∷◌, ◌⊎◌, length, ⊎_elim, refl, sym, subst, arith}
+use Rattle.std.specs.Prelude.{codes}
+use Rattle.std.specs.Str.{IsUtf8}
+use Rattle.pc_token.specs.declared.token.Kind.TheVariants.{Name}
+use Rattle.pc_token.specs.Line.{IsOneName}
+use Rattle.pc_formula.specs.Word.{Word, name, word}
+use Rattle.pc_syntax.specs.declared.fault.LineFault.{LineFault}
+use Rattle.pc_syntax.specs.declared.fault.LineFault.TheVariants as line_fault
+use Rattle.pc_syntax.specs.declared.tree.Command.{Command}
+use Rattle.pc_syntax.specs.declared.tree.CommandFault.{CommandFault}
+use Rattle.pc_syntax.specs.declared.tree.CommandFault.TheVariants as command_fault
+use Rattle.pc_syntax.specs.Spelling.{IsNothing, IsSpelled}
+use Rattle.pc_syntax.specs.Tree.{Asked, asked_of, asks_enter, asks_clear, asks_rule, asks_drop, asks_budget, asks_show, asks_grid, asks_json, asks_why, asks_dump}
+use Rattle.pc_syntax.specs.Command.{command_keyword, FollowsCommand, IsCommand, IsAlone, HasCommand, no_words, some_words, CommandReading, no_command, asks, at_fault, IsCommandReading, empty_command, spelled_command, faulty_command, TakesNoMemory}
+use Rattle.pc_syntax.specs.Told.{Spells, SpellsNone, IsLone, command_fault_of, IsCommandTold, TellsCommand}
+use Rattle.pc_syntax.specs.Sized.{too_many, IsSizedReading, IsNestedReading}
+use Rattle.pc_syntax.proofs.Families.{nesting_of_one}
+use Rattle.pc_syntax.proofs.ReadLine.{spelled, faulty, one_name_has}
+use Rattle.pc_syntax.proofs.OneCommand.{one_command_reading}
+use Rattle.pc_syntax.proofs.Limits.{limited_rule}
+
+pub tells : (line : List ℕ) (r : Result (Option Command) CommandFault) → IsCommandTold line r → (q : CommandReading) → IsCommandReading line q → TellsCommand r q
+tells line (Ok None) told q is = one_command_reading line q no_command is told
+tells line (Ok (Some c)) told q is = one_command_reading line q (asks (asked_of c)) is told
+tells line (Err command_fault.NotUtf8) told q is = one_command_reading line q _ is told
+tells line (Err command_fault.TooDeep) told q is = one_command_reading line q _ is told
+tells line (Err command_fault.Syntax) told q is = one_command_reading line q _ is told
+tells line (Err command_fault.Memory) told q is = tt
+
+-- the word that starts a command is a name
+is_a_name : (a : Asked) → word Name (command_keyword a) ≡ name (command_keyword a)
+is_a_name (asks_enter c v) = refl
+is_a_name (asks_clear c) = refl
+is_a_name (asks_rule n f) = refl
+is_a_name (asks_drop n) = refl
+is_a_name (asks_budget n) = refl
+is_a_name asks_show = refl
+is_a_name asks_grid = refl
+is_a_name asks_json = refl
+is_a_name (asks_why c v h) = refl
+is_a_name asks_dump = refl
+
+spells_one : (text : List ℕ) (a : Asked) → IsOneName text (command_keyword a) → Spells text (λ ws. ws ≡ name (command_keyword a) ∷ [])
+spells_one text a one = record {
+  words = name (command_keyword a) ∷ [];
+  has = one_name_has text (command_keyword a) (is_a_name a) one;
+  within = omega (arith, nesting_of_one (command_keyword a));
+  is = refl;
+}
+
+module _ (text line : List ℕ) (same : text ≡ line) (utf8 : IsUtf8 line) (some : IsNothing line → ⊥) where
+  -- a line of one word that is a command
+  pub lone_told : (a : Asked) → IsOneName text (command_keyword a) → FollowsCommand a [] → IsCommandReading line (asks a)
+  lone_told a one follows =
+      let s = spells_one text a one in
+      spelled_command s.words (spelled text line same utf8 some _ s) (record { rest = []; words = s.is; follows = follows })
+
+  pub command_told : (a : Asked) → Spells text (λ ws. IsCommand ws a) → IsCommandReading line (asks a)
+  command_told a s = spelled_command s.words (spelled text line same utf8 some _ s) s.is
+
+  words_back : HasCommand line → (ws : List Word) × IsSpelled line ws × ((a : Asked) × IsCommand ws a)
+  words_back (no_words n) = absurd (some n)
+  words_back (some_words ws a s is) = (ws, s, (a, is))
+
+  pub refused_told : (f : LineFault) → SpellsNone text f (λ ws. (a : Asked) × IsCommand ws a) → (r : CommandFault) → r ≡ command_fault_of f → IsCommandTold line (Err r)
+  refused_told line_fault.NotUtf8 none r is = absurd none
+  refused_told line_fault.TooDeep none r is = subst (λ e. IsCommandTold line (Err e)) (sym is) (faulty_command (faulty text line same utf8 some line_fault.TooDeep _ (HasCommand line) words_back none))
+  refused_told line_fault.Syntax none r is = subst (λ e. IsCommandTold line (Err e)) (sym is) (faulty_command (faulty text line same utf8 some line_fault.Syntax (λ ws. (a : Asked) × IsCommand ws a) (HasCommand line) words_back none))
+  refused_told line_fault.Memory none r is = subst (λ e. IsCommandTold line (Err e)) (sym is) tt
+
+  pub memory_taken : (IsLone text → ⊥) → TakesNoMemory line → ⊥
+  memory_taken more takes = ⊎_elim (λ n. some n) (λ lone. more (subst IsLone (sym same) lone)) takes
+
+-- ---- the rule of a command
+
+sized_asked : (a : Asked) (line : List ℕ) (ws : List Word) → length line ≤ too_many → IsSpelled line ws → IsCommand ws a → IsSizedReading (asks a)
+sized_asked (asks_rule n f) line ws few s is = (limited_rule line ws is.rest (codes "rule") n f few s is.words is.follows).sized
+sized_asked a line ws few s is = tt
+
+nested_asked : (a : Asked) (line : List ℕ) (ws : List Word) → length line ≤ too_many → IsSpelled line ws → IsCommand ws a → IsNestedReading (asks a)
+nested_asked (asks_rule n f) line ws few s is = (limited_rule line ws is.rest (codes "rule") n f few s is.words is.follows).nested
+nested_asked a line ws few s is = tt
+
+pub sized_command : (line : List ℕ) (r : CommandReading) → length line ≤ too_many → IsCommandReading line r → IsSizedReading r
+sized_command line r few (empty_command n) = tt
+sized_command line r few (spelled_command {a = a} ws s is) = sized_asked a line ws few s is
+sized_command line r few (faulty_command e) = tt
+
+pub nested_command : (line : List ℕ) (r : CommandReading) → length line ≤ too_many → IsCommandReading line r → IsNestedReading r
+nested_command line r few (empty_command n) = tt
+nested_command line r few (spelled_command {a = a} ws s is) = nested_asked a line ws few s is
+nested_command line r few (faulty_command e) = tt
