@@ -1,3 +1,4 @@
 pub mod Deciding
-pub mod Small
+pub mod Forms
 pub mod Loading
+pub mod SameLines

@@ -4,12 +4,14 @@
 //! sheets are small. How lines are taken and answers written is `pc_run`.
 #![tactic(auto)]
 
+mod law;
 mod load;
 mod replay;
 mod session;
 #[cfg(test)]
 mod tests;
 
+pub use law::lines_are_the_same;
 pub use pc_run::Status;
 pub use replay::run;
 pub use session::Session;

@@ -1,21 +1,21 @@
 // What answers the command lines.
-ghost use Rattle.std.specs.Prelude.{◌≡◌, ◌≤◌, ◌↔◌, ℕ, List, IfOk, IsTrue, length, MatchResult};
+ghost use Rattle.std.specs.Prelude.{◌≡◌, ◌≤◌, ◌↔◌, ℕ, List, IfOk, IsTrue, length};
 ghost use Rattle.pc_port.specs.Port.{HasCause, WriteGives};
 ghost use Rattle.pc_syntax.specs.Tree.{asked_of, cell_of, value_of};
-ghost use Rattle.pc_sortcheck.specs.Small.{IsSmallCell, IsSmallValue};
 ghost use Rattle.pc_run.specs.Answer.{Answer, IsAnswer};
-ghost use Rattle.pc_replay.specs.Judgement.{Allows, CanBeTried, IsDisplay, State};
-ghost use Rattle.pc_replay.specs.Session.{CanStart, Enters, IsSmallAsked, Obeys, start_of};
+ghost use Rattle.pc_replay.specs.Judgement.{Allows, CanBeTried, IsPage, State};
+ghost use Rattle.pc_replay.specs.Session.{Enters, Obeys, OpensAs, reply_to, start_of};
 
 use crate::load::load;
 use pc_display::Supports;
 use pc_logic::Book;
 use pc_port::{Failed, Sink};
 use pc_reasons::Tried;
-use pc_run::{LoadFault, Machine, Refusal, Reply};
-use pc_sortcheck::find_entry;
+use pc_run::{LoadFault, Machine, Page, Refusal, Reply};
+use pc_sortcheck::{find_entry, is_small_entry};
 use pc_syntax::{CellTree, Command, CommandFault, ValueTree, parse_command};
 use pc_trying::{rules_are_consistent, trying_size};
+use pc_writer::write_sheet;
 use std::alloc::{AllocError, Global};
 use std::marker::Model;
 
@@ -53,6 +53,18 @@ fn can_be_tried(book: &Book) -> bool
     trying_size(book) <= MOST_TRIES
 }
 
+// How the fault of a command line is told.
+fn reply_to(fault: CommandFault) -> Reply
+    ensures { result ≡ reply_to fault }
+{
+    match fault {
+        CommandFault::NotUtf8 => Reply::Refused(Refusal::NotUtf8),
+        CommandFault::TooDeep => Reply::Refused(Refusal::TooDeep),
+        CommandFault::Syntax => Reply::Refused(Refusal::Syntax),
+        CommandFault::Memory => Reply::Memory,
+    }
+}
+
 impl Session {
     pub(crate) fn new(alloc: Global, book: Book) -> Result<Session, AllocError>
         ensures { IfOk result (λ session. session ≡ start_of book) }
@@ -65,28 +77,26 @@ impl Session {
     }
 
     // The session of a book, where its rules are consistent and there is little enough to try.
-    pub(crate) fn open(alloc: Global, book: Book) -> Result<Session, LoadFault>
-        ensures { MatchResult result (λ session. (session ≡ start_of book) × CanStart book) (λ fault. fault ≡ LoadFault.NotYet → ¬ CanStart book) }
+    pub(crate) fn open(alloc: Global, book: Book) -> Result<Option<Session>, AllocError>
+        ensures { IfOk result (OpensAs book) }
     {
         if !can_be_tried(&book) {
-            return Err(LoadFault::NotYet);
+            return Ok(None);
         }
-        match rules_are_consistent(alloc, &book) {
-            Ok(true) => match Session::new(alloc, book) {
-                Ok(session) => Ok(session),
-                Err(AllocError) => Err(LoadFault::Memory),
-            },
-            Ok(false) => Err(LoadFault::NotYet),
-            Err(AllocError) => Err(LoadFault::Memory),
+        if !rules_are_consistent(alloc, &book)? {
+            return Ok(None);
         }
+        let session = Session::new(alloc, book)?;
+        Ok(Some(session))
     }
 
     // Enters the value into the cell. At want of memory nothing changes.
     fn enter(&mut self, alloc: Global, cell: &CellTree, value: &ValueTree) -> Reply
-        requires cell { IsSmallCell (cell_of cell.now) }
-        requires value { IsSmallValue (value_of value.now) }
         ensures { Enters self.old (cell_of cell.now) (value_of value.now) result self.new }
     {
+        if !is_small_entry(cell, value) {
+            return Reply::Refused(Refusal::NotYet);
+        }
         let book = self.tried.book();
         let Some(entry) = find_entry(book, cell, value) else {
             return Reply::Refused(Refusal::NotYet);
@@ -108,11 +118,11 @@ impl Session {
 
     // Does what the command asks for.
     fn obey(&mut self, alloc: Global, command: &Command) -> Reply
-        requires { IsSmallAsked (asked_of command.now) }
         ensures { Obeys self.old (asked_of command.now) result self.new }
     {
         match command {
-            Command::Show => Reply::Shown,
+            Command::Show => Reply::Shown(Page::Display),
+            Command::Dump => Reply::Shown(Page::SheetText),
             Command::Enter(cell, value) => self.enter(alloc, cell, value),
             _ => Reply::Refused(Refusal::NotYet),
         }
@@ -121,34 +131,37 @@ impl Session {
     // Does what the line's text asks for.
     pub(crate) fn answer(&mut self, alloc: Global, line: &[u8]) -> Reply
         requires { length line.now ≤ 4096 }
-        ensures { (answer : Answer) → IsAnswer IsDisplay self.new result answer → Allows self.old line.now answer self.new }
+        ensures { (answer : Answer) → IsAnswer IsPage self.new result answer → Allows self.old line.now answer self.new }
     {
-        let command = match parse_command(alloc, line) {
-            Ok(Some(command)) => command,
-            Ok(None) => return Reply::Silent,
-            Err(CommandFault::NotYet) => return Reply::Refused(Refusal::NotYet),
-            Err(CommandFault::Memory) => return Reply::Memory,
-        };
-        self.obey(alloc, &command)
+        match parse_command(alloc, line) {
+            Ok(Some(command)) => self.obey(alloc, &command),
+            Ok(None) => Reply::Silent,
+            Err(fault) => reply_to(fault),
+        }
     }
 
-    // Writes the display.
-    pub(crate) fn display<O: Sink>(&self, out: &mut O) -> Result<(), Failed>
-        ensures bytes { (text : List ℕ) × IsDisplay self.now text × WriteGives (O.given out.old) (O.given out.new) result text }
+    // Writes a page.
+    pub(crate) fn write_page<O: Sink>(&self, page: Page, out: &mut O) -> Result<(), Failed>
+        ensures bytes { (text : List ℕ) × IsPage page self.now text × WriteGives (O.given out.old) (O.given out.new) result text }
         ensures cause { HasCause (O.faults out.old) (O.faults out.new) result }
     {
-        self.tried.show(out)
+        match page {
+            Page::Display => self.tried.show(out),
+            Page::SheetText => write_sheet(self.tried.book(), out),
+        }
     }
 }
 
 impl Machine for Session {
-    ghost use Rattle.pc_replay.specs.Judgement.{Allows, IsDisplay, IsSmallSheet};
+    ghost use Rattle.pc_replay.specs.Judgement.{Allows, IsPage, IsSmallSheet, RefusesText};
 
     ghost IsSheet = { IsSmallSheet };
 
+    ghost RefusesText = { RefusesText };
+
     ghost Allows = { Allows };
 
-    ghost IsDisplay = { IsDisplay };
+    ghost IsPage = { IsPage };
 
     fn load(alloc: Global, text: &[u8]) -> Result<Self, LoadFault> {
         load(alloc, text)
@@ -158,7 +171,7 @@ impl Machine for Session {
         self.answer(alloc, line)
     }
 
-    fn show<O: Sink>(&self, out: &mut O) -> Result<(), Failed> {
-        self.display(out)
+    fn show<O: Sink>(&self, page: Page, out: &mut O) -> Result<(), Failed> {
+        self.write_page(page, out)
     }
 }

@@ -78,8 +78,26 @@ fn worked_sheets(rt: HostRuntime) -> Result<(), Fail> {
             Status::SomeRefused,
         ),
         (
-            "sheet 1\nsort color = red\n",
-            "",
+            EQUAL,
+            "enter a = red\ndump\n",
+            "ok\nsheet 1\nsort color = red green\ncell a : color\ncell b : color\ncell c : color\nrule ab : a = b\nrule bc : b = c\nenter a = red\nbegin\n",
+            Status::Done,
+        ),
+        (
+            EQUAL,
+            "clear b\nenter a(red) = red\nenter a = 1\ngrid\n",
+            "refused 20 not-yet\nrefused 20 not-yet\nrefused 20 not-yet\nrefused 20 not-yet\n",
+            Status::SomeRefused,
+        ),
+        (
+            "sheet 1\nsort size = 1 .. 3\nbegin\n",
+            "show\n",
+            "sheet refused 20 not-yet\n",
+            Status::SheetRefused,
+        ),
+        (
+            "sheet 1\nsort f = rot grün\nbegin\n",
+            "show\n",
             "sheet refused 20 not-yet\n",
             Status::SheetRefused,
         ),
@@ -100,6 +118,78 @@ fn worked_sheets(rt: HostRuntime) -> Result<(), Fail> {
             "{sheet}{commands}"
         );
         assert_eq!(rt; out.bytes(), want.as_bytes(), "{sheet}{commands}");
+    }
+    Ok(())
+}
+
+// A run over the bytes, which come in parts: its status, and what it prints.
+fn replay(alloc: Global, bytes: &[u8]) -> Result<(Status, Vec<u8>), AllocError> {
+    let words = replay_word(alloc)?;
+    let mut input = MemorySource::new(bytes.to_vec(alloc)?, 100, Vec::new(alloc));
+    let mut out = MemorySink::new(alloc, 4096, Vec::new(alloc))?;
+    let status = run(alloc, &words, &mut input, &mut out);
+    Ok((status, out.bytes().to_vec(alloc)?))
+}
+
+#[test]
+fn sheets_at_fault(rt: HostRuntime) -> Result<(), Fail> {
+    let alloc = rt.alloc();
+    for (sheet, want) in [
+        (
+            b"sheet 1\nsort color = red green\ncell a : color\nrule r : a =".as_slice(),
+            "sheet refused 2 syntax line 4\n",
+        ),
+        (b"sheet 1\nsort color = red\n", "sheet refused 3 no-begin\n"),
+        (
+            b"sheet 9\nbegin\n",
+            "sheet refused 4 wrong-version line 1\n",
+        ),
+        (
+            b"sheet 1\nsort color = red\n\xff\nbegin\n",
+            "sheet refused 1 not-utf8 line 3\n",
+        ),
+    ] {
+        let (status, text) = replay(alloc, sheet)?;
+        assert_eq!(rt; status, Status::SheetRefused, "{want}");
+        assert_eq!(rt; text.as_slice(), want.as_bytes(), "{want}");
+    }
+    Ok(())
+}
+
+#[test]
+fn commands_at_fault(rt: HostRuntime) -> Result<(), Fail> {
+    let alloc = rt.alloc();
+    let mut deep = b"rule q : ".to_vec(alloc)?;
+    deep.extend_from_slice(&vec![in alloc; b'!'; 129]?)?;
+    deep.extend_from_slice(b"a = b")?;
+    for (command, want) in [
+        (b"enter a =".as_slice(), "refused 2 syntax\n"),
+        (b"rule q : a", "refused 2 syntax\n"),
+        (b"enter \xff = red", "refused 1 not-utf8\n"),
+        (deep.as_slice(), "refused 21 too-deep\n"),
+    ] {
+        let mut bytes = EQUAL.as_bytes().to_vec(alloc)?;
+        bytes.extend_from_slice(command)?;
+        let (status, text) = replay(alloc, &bytes)?;
+        assert_eq!(rt; status, Status::SomeRefused, "{want}");
+        assert_eq!(rt; text.as_slice(), want.as_bytes(), "{want}");
+    }
+    Ok(())
+}
+
+// A sheet that is cut anywhere before its end has a line at fault or lacks its last one.
+#[test]
+fn cut_sheets(rt: HostRuntime) -> Result<(), Fail> {
+    let alloc = rt.alloc();
+    let sheet = EQUAL.as_bytes();
+    for end in 0..sheet.len() - 1 {
+        let (status, text) = replay(alloc, &sheet[..end])?;
+        assert_eq!(rt; status, Status::SheetRefused, "{end}");
+        assert!(rt;
+            text.as_slice() == b"sheet refused 3 no-begin\n".as_slice()
+                || text.starts_with(b"sheet refused 2 syntax line "),
+            "{end}"
+        );
     }
     Ok(())
 }

@@ -3,13 +3,17 @@ use Rattle.std.specs.Prelude.{◌≡◌, ℕ, Bool, true, false, ◌||◌, List,
 use Rattle.std.specs.declared.option.Option.{Option}
 use Rattle.std.specs.Io.KnownBytes.{Appends}
 use Rattle.pc_port.specs.Port.{AppendsFront}
-use Rattle.pc_run.specs.declared.machine.Refusal.{Refusal}
-use Rattle.pc_run.specs.declared.machine.Refusal.TheVariants.{NotYet}
+use Rattle.pc_run.specs.declared.refusal.Refusal.{Refusal}
+use Rattle.pc_run.specs.declared.refusal.SheetRefusal.{SheetRefusal}
+use Rattle.pc_run.specs.declared.machine.Page.{Page}
+use Rattle.pc_run.specs.declared.machine.LoadFault.{LoadFault}
+use Rattle.pc_run.specs.declared.machine.LoadFault.TheVariants as load_fault
 use Rattle.pc_run.specs.declared.machine.Reply.{Reply}
 use Rattle.pc_run.specs.declared.machine.Reply.TheVariants.{Silent, Accepted, Shown, Refused, Memory}
 use Rattle.pc_run.specs.declared.serve.Marks.{Marks}
+use Rattle.pc_run.specs.Refusals.{refusal_text}
 
--- no answer, `ok`, a display, a refusal, or want of memory
+-- no answer, `ok`, a page, a refusal, or want of memory
 pub data Answer : Type 0 where
   silent : Answer
   accepted : Answer
@@ -29,16 +33,12 @@ printed before last = record { before = before; last = last }
 abbrev pub ended : List ℕ → List ℕ
 ended line = line ++ 10 ∷ []
 
--- the number and the word of a refusal
-abbrev pub refusal_text : Refusal → List ℕ
-refusal_text NotYet = codes "20 not-yet"
-
 -- how an answer is written
 abbrev pub text_of : Answer → List ℕ
 text_of silent = []
 text_of accepted = ended (codes "ok")
 text_of (shown text) = text
-text_of (refused r) = ended (codes "refused " ++ refusal_text r)
+text_of (refused refusal) = refusal_text refusal
 text_of no_memory = ended (codes "refused 15 memory")
 
 abbrev pub is_refused : Answer → Bool
@@ -49,13 +49,18 @@ abbrev pub is_no_memory : Answer → Bool
 is_no_memory no_memory = true
 is_no_memory answer = false
 
--- the answer that a reply stands for in a state, of which this is the display
-abbrev pub IsAnswer : {S : Type 0} → (S → List ℕ → Type 0) → S → Reply → Answer → Type 0
-IsAnswer IsDisplay state Silent answer = answer ≡ silent
-IsAnswer IsDisplay state Accepted answer = answer ≡ accepted
-IsAnswer IsDisplay state Shown answer = (text : List ℕ) × IsDisplay state text × (answer ≡ shown text)
-IsAnswer IsDisplay state (Refused r) answer = answer ≡ refused r
-IsAnswer IsDisplay state Memory answer = answer ≡ no_memory
+-- the answer that a reply stands for in a state, of which these are the pages
+abbrev pub IsAnswer : {S : Type 0} → (Page → S → List ℕ → Type 0) → S → Reply → Answer → Type 0
+IsAnswer IsPage state Silent answer = answer ≡ silent
+IsAnswer IsPage state Accepted answer = answer ≡ accepted
+IsAnswer IsPage state (Shown page) answer = (text : List ℕ) × IsPage page state text × (answer ≡ shown text)
+IsAnswer IsPage state (Refused refusal) answer = answer ≡ refused refusal
+IsAnswer IsPage state Memory answer = answer ≡ no_memory
+
+-- why no state is made of a text: a refusal that the text has, or want of memory
+abbrev pub RefusesBy : (SheetRefusal → Type 0) → LoadFault → Type 0
+RefusesBy Has (load_fault.Refused why) = Has why
+RefusesBy Has load_fault.Memory = Unit {0}
 
 -- whether some line was refused and some wanted memory, after one answer more
 pub record IsMarked (old : Marks) (answer : Answer) (new : Marks) : Type 0 where

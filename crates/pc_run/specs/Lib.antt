@@ -1,3 +1,4 @@
+pub mod Refusals
 pub mod Answer
 pub mod Transcript
 pub mod SheetPart

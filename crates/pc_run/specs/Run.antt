@@ -6,8 +6,9 @@ use Rattle.std.specs.Io.KnownBytes.{Appends}
 use Rattle.pc_port.specs.Port.{AppendsFront}
 use Rattle.pc_run.specs.declared.status.Status.{Status}
 use Rattle.pc_run.specs.declared.status.Status.TheVariants.{Done, SomeRefused, Usage, SheetRefused, ReadFault, WriteFault, Memory, TooLong}
-use Rattle.pc_run.specs.Answer.{Answer, Printing, printed, ended, refusal_text}
-use Rattle.pc_run.specs.declared.machine.Refusal.TheVariants.{NotYet}
+use Rattle.pc_run.specs.declared.refusal.SheetRefusal.{SheetRefusal}
+use Rattle.pc_run.specs.Refusals.{sheet_refusal_text}
+use Rattle.pc_run.specs.Answer.{Answer, Printing, printed, ended}
 use Rattle.pc_run.specs.Transcript.{AnswersAll, AnswersTaken, StopsAtLimit, AnswersSome, too_long_text}
 use Rattle.pc_run.specs.SheetPart.{IsReadAhead, TakesSheet, StopsInSheet, PassesSheetLimit, HasTaken}
 
@@ -24,9 +25,6 @@ memory_text = ended (codes "refused 15 memory")
 abbrev pub sheet_memory_text : List ℕ
 sheet_memory_text = ended (codes "sheet refused 15 memory")
 
-abbrev pub sheet_refused_text : List ℕ
-sheet_refused_text = ended (codes "sheet refused " ++ refusal_text NotYet)
-
 -- There was no room for a line. Nothing was read.
 pub record LacksRoom (text : Printing) (source source' : Option (List ℕ)) : Type 0 where
   pub unread : source' ≡ source
@@ -37,14 +35,16 @@ pub record LacksMemoryForSheet (text : Printing) (source source' : Option (List 
   pub taken : HasTaken source source'
   pub text_is : text ≡ printed [] sheet_memory_text
 
--- The sheet's part was taken, and no sheet is read from it. Nothing more is.
-pub record RefusesSheet {S : Type 0} (IsSheet : List ℕ → S → Type 0) (text : Printing) (source source' : Option (List ℕ)) : Type 0 where
+-- The sheet's part was taken, it is refused, and no sheet is read from it. Nothing more is taken.
+pub record RefusesSheet {S : Type 0} (IsSheet : List ℕ → S → Type 0) (Refuses : List ℕ → SheetRefusal → Type 0) (text : Printing) (source source' : Option (List ℕ)) : Type 0 where
   pub sheet : List ℕ
   pub rest : Option (List ℕ)
   pub takes : TakesSheet sheet source rest
+  pub refusal : SheetRefusal
+  pub refused : Refuses sheet refusal
   pub none : (start : S) → ¬ IsSheet sheet start
   pub ahead : IsReadAhead rest source'
-  pub text_is : text ≡ printed [] sheet_refused_text
+  pub text_is : text ≡ printed [] (sheet_refusal_text refusal)
 
 -- The sheet's part was taken, a sheet is read from it, and from its state the rest of the input goes on so.
 pub record Opens {S : Type 0} (IsSheet : List ℕ → S → Type 0) (GoesOn : S → Option (List ℕ) → Type 0) (source : Option (List ℕ)) : Type 0 where
@@ -71,25 +71,25 @@ pub record TellsUsage (text : Printing) (source source' : Option (List ℕ)) : T
   pub text_is : text ≡ printed [] usage_text
 
 -- what was to be printed where a write failed
-pub data IsCut {S : Type 0} (IsSheet : List ℕ → S → Type 0) (Allows : S → List ℕ → Answer → S → Type 0) (text : Printing) (source source' : Option (List ℕ)) : Type 0 where
-  at_memory : LacksRoom text source source' → IsCut IsSheet Allows text source source'
-  at_sheet_memory : LacksMemoryForSheet text source source' → IsCut IsSheet Allows text source source'
-  at_sheet : RefusesSheet IsSheet text source source' → IsCut IsSheet Allows text source source'
-  at_long_sheet : HasLongSheet text source source' → IsCut IsSheet Allows text source source'
-  at_limit : Opens IsSheet (λ start rest. StopsAtLimit Allows start text rest source') source → IsCut IsSheet Allows text source source'
-  at_answer : Opens IsSheet (λ start rest. AnswersSome Allows start text rest source') source → IsCut IsSheet Allows text source source'
+pub data IsCut {S : Type 0} (IsSheet : List ℕ → S → Type 0) (Refuses : List ℕ → SheetRefusal → Type 0) (Allows : S → List ℕ → Answer → S → Type 0) (text : Printing) (source source' : Option (List ℕ)) : Type 0 where
+  at_memory : LacksRoom text source source' → IsCut IsSheet Refuses Allows text source source'
+  at_sheet_memory : LacksMemoryForSheet text source source' → IsCut IsSheet Refuses Allows text source source'
+  at_sheet : RefusesSheet IsSheet Refuses text source source' → IsCut IsSheet Refuses Allows text source source'
+  at_long_sheet : HasLongSheet text source source' → IsCut IsSheet Refuses Allows text source source'
+  at_limit : Opens IsSheet (λ start rest. StopsAtLimit Allows start text rest source') source → IsCut IsSheet Refuses Allows text source source'
+  at_answer : Opens IsSheet (λ start rest. AnswersSome Allows start text rest source') source → IsCut IsSheet Refuses Allows text source source'
 
 -- With the word `replay`: what was taken from the input at this status, and the text that was to be printed.
-abbrev pub Replays : {S : Type 0} → (List ℕ → S → Type 0) → (S → List ℕ → Answer → S → Type 0) → Status → Printing → Option (List ℕ) → Option (List ℕ) → Type 0
-Replays IsSheet Allows Done text source source' = Opens IsSheet (λ start rest. AnswersAll Allows start Done text rest source') source
-Replays IsSheet Allows SomeRefused text source source' = Opens IsSheet (λ start rest. AnswersAll Allows start SomeRefused text rest source') source
-Replays IsSheet Allows Usage text source source' = ⊥
-Replays IsSheet Allows SheetRefused text source source' = RefusesSheet IsSheet text source source'
-Replays IsSheet Allows ReadFault text source source' = FailsInSheet text source source' ⊎ Opens IsSheet (λ start rest. AnswersTaken Allows start text rest source') source
-Replays IsSheet Allows WriteFault text source source' = IsCut IsSheet Allows text source source'
-Replays IsSheet Allows Memory text source source' =
+abbrev pub Replays : {S : Type 0} → (List ℕ → S → Type 0) → (List ℕ → SheetRefusal → Type 0) → (S → List ℕ → Answer → S → Type 0) → Status → Printing → Option (List ℕ) → Option (List ℕ) → Type 0
+Replays IsSheet Refuses Allows Done text source source' = Opens IsSheet (λ start rest. AnswersAll Allows start Done text rest source') source
+Replays IsSheet Refuses Allows SomeRefused text source source' = Opens IsSheet (λ start rest. AnswersAll Allows start SomeRefused text rest source') source
+Replays IsSheet Refuses Allows Usage text source source' = ⊥
+Replays IsSheet Refuses Allows SheetRefused text source source' = RefusesSheet IsSheet Refuses text source source'
+Replays IsSheet Refuses Allows ReadFault text source source' = FailsInSheet text source source' ⊎ Opens IsSheet (λ start rest. AnswersTaken Allows start text rest source') source
+Replays IsSheet Refuses Allows WriteFault text source source' = IsCut IsSheet Refuses Allows text source source'
+Replays IsSheet Refuses Allows Memory text source source' =
     LacksRoom text source source' ⊎ LacksMemoryForSheet text source source' ⊎ Opens IsSheet (λ start rest. AnswersAll Allows start Memory text rest source') source
-Replays IsSheet Allows TooLong text source source' = HasLongSheet text source source' ⊎ Opens IsSheet (λ start rest. StopsAtLimit Allows start text rest source') source
+Replays IsSheet Refuses Allows TooLong text source source' = HasLongSheet text source source' ⊎ Opens IsSheet (λ start rest. StopsAtLimit Allows start text rest source') source
 
 -- With other words the usage line alone is printed.
 abbrev pub Declines : Status → Printing → Option (List ℕ) → Option (List ℕ) → Type 0
@@ -108,15 +108,15 @@ IsWritten WriteFault sink sink' text = AppendsPart sink sink' text
 IsWritten status sink sink' text = Appends sink sink' (text.before ++ text.last)
 
 -- what was to be printed with the word `replay`, and how much of it was
-pub record Replayed {S : Type 0} (IsSheet : List ℕ → S → Type 0) (Allows : S → List ℕ → Answer → S → Type 0) (status : Status) (source source' sink sink' : Option (List ℕ)) : Type 0 where
+pub record Replayed {S : Type 0} (IsSheet : List ℕ → S → Type 0) (Refuses : List ℕ → SheetRefusal → Type 0) (Allows : S → List ℕ → Answer → S → Type 0) (status : Status) (source source' sink sink' : Option (List ℕ)) : Type 0 where
   pub text : Printing
-  pub course : Replays IsSheet Allows status text source source'
+  pub course : Replays IsSheet Refuses Allows status text source source'
   pub written : IsWritten status sink sink' text
 
 -- what was to be printed with these words, and how much of it was
-pub record Runs {S : Type 0} (IsSheet : List ℕ → S → Type 0) (Allows : S → List ℕ → Answer → S → Type 0) (words : List (String Global)) (status : Status) (source source' sink sink' : Option (List ℕ)) : Type 0 where
+pub record Runs {S : Type 0} (IsSheet : List ℕ → S → Type 0) (Refuses : List ℕ → SheetRefusal → Type 0) (Allows : S → List ℕ → Answer → S → Type 0) (words : List (String Global)) (status : Status) (source source' sink sink' : Option (List ℕ)) : Type 0 where
   pub text : Printing
-  pub course : (AreReplay words × Replays IsSheet Allows status text source source') ⊎ ((¬ AreReplay words) × Declines status text source source')
+  pub course : (AreReplay words × Replays IsSheet Refuses Allows status text source source') ⊎ ((¬ AreReplay words) × Declines status text source source')
   pub written : IsWritten status sink sink' text
 
 -- how the command lines were answered at this status, and the text that was to be printed

@@ -1,12 +1,13 @@
 //! The run from words to a status, over anything that reads sheets and answers command lines.
 //!
 //! It takes the sheet's part of the input, hands it to a machine, and answers each command line before it reads on. What a
-//! sheet is, and what may answer a line, are the machine's own: the clause of [`run`] speaks of them by the ghost members
+//! sheet is, why a text is none, and what may answer a line, are the machine's own: the clause of [`run`] speaks of them by the ghost members
 //! of [`Machine`].
 #![tactic(auto)]
 
 mod commands;
 mod machine;
+mod refusal;
 mod replay;
 mod serve;
 mod sheet;
@@ -14,7 +15,8 @@ mod status;
 #[cfg(test)]
 mod tests;
 
-pub use machine::{LoadFault, Machine, Refusal, Reply};
+pub use machine::{LoadFault, Machine, Page, Reply};
+pub use refusal::{Refusal, SheetRefusal};
 pub use replay::run;
 pub use status::Status;
 

@@ -4,14 +4,16 @@ ghost use Rattle.pc_port.specs.Port.{Rose};
 ghost use Rattle.pc_lines.specs.Reader.{coming};
 ghost use Rattle.pc_lines.specs.declared.TheConstants.{CHUNK};
 ghost use Rattle.pc_run.specs.SheetPart.{TakesSheet};
-ghost use Rattle.pc_run.specs.Run.{AreReplay, Replayed, Runs};
+ghost use Rattle.pc_run.specs.Run.{AreReplay, Replayed, Runs, Tells};
+ghost use Rattle.pc_run.specs.Refusals.{sheet_refusal_text};
 
 use crate::commands::{TOO_LONG, answer_all, end_with};
 use crate::machine::{LoadFault, Machine};
+use crate::refusal::{SheetRefusal, write_sheet_refusal};
 use crate::sheet::{SheetStop, take_sheet};
 use crate::{SHEET_LIMIT, Status};
 use pc_lines::LineReader;
-use pc_port::{Sink, Source};
+use pc_port::{Failed, Sink, Source};
 use std::alloc::Global;
 
 const USAGE: &[u8] = b"usage: predicalc replay / edit FILE / check FILE / demo N [--budget K]\n";
@@ -20,8 +22,6 @@ const NO_MEMORY: &[u8] = b"refused 15 memory\n";
 
 const NO_MEMORY_FOR_SHEET: &[u8] = b"sheet refused 15 memory\n";
 
-const SHEET_REFUSED: &[u8] = b"sheet refused 20 not-yet\n";
-
 // Whether the words are the one word `replay`.
 fn are_replay(words: &[String]) -> bool
     ensures { IsTrue result ↔ AreReplay words.now }
@@ -29,6 +29,17 @@ fn are_replay(words: &[String]) -> bool
     match words {
         [word] => word.as_str() == "replay",
         _ => false,
+    }
+}
+
+// Ends a run by the refusal of its sheet.
+fn refuse<O: Sink>(refused: SheetRefusal, out: &mut O) -> Status
+    ensures told { Tells Status.SheetRefused (sheet_refusal_text refused) result (O.given out.old) (O.given out.new) }
+    ensures fault { result ≡ Status.WriteFault → Rose (O.faults out.old) (O.faults out.new) }
+{
+    match write_sheet_refusal(refused, out) {
+        Ok(()) => Status::SheetRefused,
+        Err(Failed) => Status::WriteFault,
     }
 }
 
@@ -44,13 +55,13 @@ fn open<M: Machine, I: Source, O: Sink>(
     requires small { length sheet.now ≤ SHEET_LIMIT }
     requires few { length reader.old.held ≤ CHUNK }
     ensures replayed { (source : Option (List ℕ)) → TakesSheet sheet.now source (coming reader.old (I.left input.old))
-        → Replayed M.IsSheet M.Allows result source (I.left input.new) (O.given out.old) (O.given out.new) }
+        → Replayed M.IsSheet M.RefusesText M.Allows result source (I.left input.new) (O.given out.old) (O.given out.new) }
     ensures read_fault { result ≡ Status.ReadFault → Rose (I.faults input.old) (I.faults input.new) }
     ensures write_fault { result ≡ Status.WriteFault → Rose (O.faults out.old) (O.faults out.new) }
 {
     match M::load(alloc, sheet) {
         Ok(mut machine) => answer_all(alloc, reader, &mut machine, input, out),
-        Err(LoadFault::NotYet) => end_with(Status::SheetRefused, SHEET_REFUSED, out),
+        Err(LoadFault::Refused(refused)) => refuse(refused, out),
         Err(LoadFault::Memory) => end_with(Status::Memory, NO_MEMORY_FOR_SHEET, out),
     }
 }
@@ -63,7 +74,7 @@ fn replay<M: Machine, I: Source, O: Sink>(
     out: &mut O,
 ) -> Status
     requires longest { reader.old.longest ≡ SHEET_LIMIT }
-    ensures replayed { Replayed M.IsSheet M.Allows result (coming reader.old (I.left input.old)) (I.left input.new) (O.given out.old) (O.given out.new) }
+    ensures replayed { Replayed M.IsSheet M.RefusesText M.Allows result (coming reader.old (I.left input.old)) (I.left input.new) (O.given out.old) (O.given out.new) }
     ensures read_fault { result ≡ Status.ReadFault → Rose (I.faults input.old) (I.faults input.new) }
     ensures write_fault { result ≡ Status.WriteFault → Rose (O.faults out.old) (O.faults out.new) }
 {
@@ -86,7 +97,7 @@ pub fn run<M: Machine, I: Source, O: Sink>(
     input: &mut I,
     out: &mut O,
 ) -> Status
-    ensures runs { Runs M.IsSheet M.Allows words.now result (I.left input.old) (I.left input.new) (O.given out.old) (O.given out.new) }
+    ensures runs { Runs M.IsSheet M.RefusesText M.Allows words.now result (I.left input.old) (I.left input.new) (O.given out.old) (O.given out.new) }
 
     // A fault is told only where that device was at fault.
     ensures read_fault { result ≡ Status.ReadFault → Rose (I.faults input.old) (I.faults input.new) }

@@ -4,7 +4,8 @@ ghost use Rattle.pc_port.specs.Port.{HasCause, WriteGives};
 ghost use Rattle.pc_run.specs.Answer.{Answer, IsAnswer, IsMarked, Serves, ServesInPart, text_of};
 ghost use Rattle.pc_run.specs.Transcript.{worse_of};
 
-use crate::machine::{Machine, Refusal, Reply};
+use crate::machine::{Machine, Reply};
+use crate::refusal::write_refusal;
 use crate::{LINE_LIMIT, Status};
 use pc_port::{Failed, Sink};
 use std::alloc::Global;
@@ -43,10 +44,10 @@ impl Marks {
 
 // The marks after one reply more.
 fn marked<M: Machine>(machine: &M, marks: Marks, reply: Reply) -> Marks
-    ensures { (answer : Answer) → IsAnswer M.IsDisplay machine.now reply answer → IsMarked marks answer result }
+    ensures { (answer : Answer) → IsAnswer M.IsPage machine.now reply answer → IsMarked marks answer result }
 {
     match reply {
-        Reply::Silent | Reply::Accepted | Reply::Shown => marks,
+        Reply::Silent | Reply::Accepted | Reply::Shown(_) => marks,
         Reply::Refused(_) => Marks {
             refused: true,
             no_memory: marks.no_memory,
@@ -60,14 +61,14 @@ fn marked<M: Machine>(machine: &M, marks: Marks, reply: Reply) -> Marks
 
 // Writes what is to be told.
 fn print<M: Machine, O: Sink>(machine: &M, reply: Reply, out: &mut O) -> Result<(), Failed>
-    ensures bytes { (answer : Answer) × IsAnswer M.IsDisplay machine.now reply answer × WriteGives (O.given out.old) (O.given out.new) result (text_of answer) }
+    ensures bytes { (answer : Answer) × IsAnswer M.IsPage machine.now reply answer × WriteGives (O.given out.old) (O.given out.new) result (text_of answer) }
     ensures cause { HasCause (O.faults out.old) (O.faults out.new) result }
 {
     match reply {
         Reply::Silent => Ok(()),
         Reply::Accepted => out.write(b"ok\n"),
-        Reply::Shown => machine.show(out),
-        Reply::Refused(Refusal::NotYet) => out.write(b"refused 20 not-yet\n"),
+        Reply::Shown(page) => machine.show(page, out),
+        Reply::Refused(refusal) => write_refusal(refusal, out),
         Reply::Memory => out.write(b"refused 15 memory\n"),
     }
 }

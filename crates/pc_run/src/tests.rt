@@ -1,29 +1,43 @@
 // What no clause says: that runs end well with ample memory, what is printed, and that each line is answered before the
 // source is read again. The machine of these tests counts.
-ghost use Rattle.std.specs.Prelude.{◌<◌, length, None};
+ghost use Rattle.std.specs.Prelude.{◌<◌, ◌≢◌, length, slice_index, None};
 
-use crate::{LINE_LIMIT, LoadFault, Machine, Refusal, Reply, SHEET_LIMIT, Status, run};
+use crate::{
+    LINE_LIMIT, LoadFault, MAX_LINES, Machine, Page, Refusal, Reply, SHEET_LIMIT, SheetRefusal,
+    Status, run,
+};
 use pc_port::{Failed, MemorySink, MemorySource, Sink, Source};
 use std::alloc::{AllocError, Global};
 use std::cell::Cell;
 use std::test::Fail;
 
-// Any text but the empty one is a sheet. The lines are `count`, `show` and blank ones.
+// Any text is a sheet, but the empty one and those that begin with `!`. The lines are `count`, `show` and blank ones.
 #[derive(Drop)]
 struct Counter {
     count: u8,
 }
 
 impl Machine for Counter {
-    ghost IsSheet = { λ text _. 0 < length text };
+    ghost IsSheet = { λ text _. (0 < length text) × (slice_index text 0 ≢ 33) };
+
+    ghost RefusesText = { λ _ _. Unit {0} };
 
     ghost Allows = { λ _ _ _ _. Unit {0} };
 
-    ghost IsDisplay = { λ _ _. Unit {0} };
+    ghost IsPage = { λ _ _ _. Unit {0} };
 
     fn load(_: Global, text: &[u8]) -> Result<Self, LoadFault> {
         if text.is_empty() {
-            return Err(LoadFault::NotYet);
+            return Err(LoadFault::Refused(SheetRefusal {
+                refusal: Refusal::NoBegin,
+                line: None,
+            }));
+        }
+        if text[0] == b'!' {
+            return Err(LoadFault::Refused(SheetRefusal {
+                refusal: Refusal::WrongVersion,
+                line: Some(1207),
+            }));
         }
         Ok(Counter { count: 0 })
     }
@@ -35,17 +49,20 @@ impl Machine for Counter {
                 self.count = self.count.saturating_add(1);
                 Reply::Accepted
             }
-            b"show" => Reply::Shown,
+            b"show" => Reply::Shown(Page::Display),
+            b"dump" => Reply::Shown(Page::SheetText),
+            b"utf8" => Reply::Refused(Refusal::NotUtf8),
+            b"deep" => Reply::Refused(Refusal::TooDeep),
             _ => Reply::Refused(Refusal::NotYet),
         }
     }
 
-    fn show<O: Sink>(&self, out: &mut O) -> Result<(), Failed> {
-        out.write(if self.count == 0 {
-            b"none\n"
-        } else {
-            b"some\n"
-        })
+    fn show<O: Sink>(&self, page: Page, out: &mut O) -> Result<(), Failed> {
+        match page {
+            Page::Display if self.count == 0 => out.write(b"none\n"),
+            Page::Display => out.write(b"some\n"),
+            Page::SheetText => out.write(b"sheet\n"),
+        }
     }
 }
 
@@ -79,8 +96,20 @@ fn each_status(rt: HostRuntime) -> Result<(), Fail> {
         ),
         (
             "replay",
+            "begin\ndump\nutf8\ndeep\n",
+            "sheet\nrefused 1 not-utf8\nrefused 21 too-deep\n",
+            Status::SomeRefused,
+        ),
+        (
+            "replay",
             "",
-            "sheet refused 20 not-yet\n",
+            "sheet refused 3 no-begin\n",
+            Status::SheetRefused,
+        ),
+        (
+            "replay",
+            "!\nbegin\nshow\n",
+            "sheet refused 4 wrong-version line 1207\n",
             Status::SheetRefused,
         ),
         ("", "begin\nshow\n", usage, Status::Usage),
@@ -153,6 +182,60 @@ fn limits(rt: HostRuntime) -> Result<(), Fail> {
         );
         assert_eq!(rt; out.bytes(), want.as_bytes(), "{sheet} {line}");
     }
+    Ok(())
+}
+
+// The last line that there may be is answered, and one more is too long.
+#[test]
+fn most_lines(rt: HostRuntime) -> Result<(), Fail> {
+    let alloc = rt.alloc();
+    let words = words(alloc, "replay")?;
+    let mut bytes = b"begin\n".to_vec(alloc)?;
+    bytes.extend_from_slice(&vec![in alloc; b'\n'; MAX_LINES - 1]?)?;
+    bytes.extend_from_slice(b"show\nshow\n")?;
+    let mut input = MemorySource::new(bytes, 4096, Vec::new(alloc));
+    let mut out = MemorySink::new(alloc, 4096, Vec::new(alloc))?;
+    assert_eq!(rt;
+        run::<Counter, _, _>(alloc, &words, &mut input, &mut out),
+        Status::TooLong
+    );
+    assert_eq!(rt; out.bytes(), b"none\nrefused 19 too-long\n");
+    Ok(())
+}
+
+// Gives a sheet that is refused, and counts the calls.
+#[derive(Drop)]
+struct Refused<'a> {
+    calls: &'a Cell<u64>,
+}
+
+impl Source for Refused<'_> {
+    ghost left = { λ _. None };
+
+    ghost faults = { λ _. 0 };
+
+    fn read(&mut self, into: &mut [u8]) -> Result<usize, Failed> {
+        self.calls.set(self.calls.get().saturating_add(1));
+        if into.len() < 8 {
+            return Ok(0);
+        }
+        into[..8].copy_from_slice(b"!\nbegin\n");
+        Ok(8)
+    }
+}
+
+#[test]
+fn nothing_is_read_after_a_refused_sheet(rt: HostRuntime) -> Result<(), Fail> {
+    let alloc = rt.alloc();
+    let calls = Cell::new(0);
+    let mut input = Refused { calls: &calls };
+    let mut out = MemorySink::new(alloc, 4096, Vec::new(alloc))?;
+    let words = words(alloc, "replay")?;
+    assert_eq!(rt;
+        run::<Counter, _, _>(alloc, &words, &mut input, &mut out),
+        Status::SheetRefused
+    );
+    assert_eq!(rt; calls.get(), 1);
     Ok(())
 }
 

@@ -6,4 +6,4 @@ pub mod Nests
 pub mod Lists
 pub mod Growing
 pub mod Sheets
-pub mod Parsed
+pub mod SmallForms

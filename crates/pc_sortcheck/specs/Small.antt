@@ -1,5 +1,5 @@
 -- The forms that small sheets are made of: listed sorts, families without arguments, comparisons of bare names, and entries.
-use Rattle.std.specs.Prelude.{◌≡◌, ◌+◌, ℕ, true, false, List, [], ◌∷◌}
+use Rattle.std.specs.Prelude.{◌≡◌, ◌+◌, ◌<◌, ℕ, true, false, List, [], ◌∷◌, All}
 use Rattle.pc_syntax.specs.Tree as tree
 use Rattle.pc_syntax.specs.Tree.{for_all, exists, iff, implies, or, and, not, compare, in_table, no_part, part, integer, named, no_item, one_item, name_value, integer_value, list_sort, range_sort, table, row, cell, rule, enter}
 use Rattle.pc_syntax.specs.Sheet.{is_rule, is_of_universe}
@@ -67,6 +67,24 @@ abbrev mutual
   pub AreFlat : Statements → Type 0
   AreFlat plain.no_statements = Unit {0}
   AreFlat (plain.statement s ss) = IsFlat s × AreFlat ss
+
+-- a name of ASCII letters, digits and `_`
+abbrev pub IsPlainName : List ℕ → Type 0
+IsPlainName name = All (λ b. b < 128) name
+
+-- what is declared has such a name; other names are of what is declared
+abbrev pub HasPlainNames : tree.Declared → Type 0
+HasPlainNames (list_sort n values) = IsPlainName n × All IsPlainName values
+HasPlainNames (range_sort n low high) = IsPlainName n
+HasPlainNames (table n sorts) = IsPlainName n
+HasPlainNames (row n values) = Unit {0}
+HasPlainNames (cell n sorts result) = IsPlainName n
+HasPlainNames (rule n f) = IsPlainName n
+HasPlainNames (enter c v) = Unit {0}
+
+-- each declaration is of a small form and has such names
+abbrev pub HaveSmallForms : List (ℕ × tree.Declared) → Type 0
+HaveSmallForms ds = All (λ d. IsSmall d.1 × HasPlainNames d.1) ds
 
 -- no line that declares a sort, a table, a row or a family
 abbrev pub NoneOfUniverse : List (ℕ × tree.Declared) → Type 0

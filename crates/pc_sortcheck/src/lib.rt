@@ -4,12 +4,12 @@
 mod declare;
 mod entry;
 mod fault;
-mod law;
 mod nesting;
 mod sheet;
+mod small;
 mod statement;
 
 pub use entry::find_entry;
 pub use fault::SheetSortFault;
-pub use law::what_is_read_is_small;
 pub use sheet::check_sheet;
+pub use small::{has_small_forms, is_small_entry};

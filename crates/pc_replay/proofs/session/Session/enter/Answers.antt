@@ -1,8 +1,11 @@
 use Rattle.std.proofs.Common.{◌≡◌, refl, sym, ap, ◌∙◌}
 use Rattle.pc_syntax.specs.Tree.{cell_of, value_of}
 use Rattle.pc_replay.specs.Judgement.{State}
-use Rattle.pc_replay.proofs.Deciding.{none_named, too_large}
+use Rattle.pc_replay.proofs.Deciding.{other_form, none_named, too_large}
 use Rattle.pc_replay.proofs.session.Session.enter.Goals as goal
+
+pub returns-then-not-is_small_entry : goal.returns-then-not-is_small_entry
+returns-then-not-is_small_entry c = (other_form c.args.self.now.sheet (cell_of c.args.cell.now) (value_of c.args.value.now) c.is_small_entry.result c.is_small_entry.ensures.1 c.if-not-is_small_entry.true, refl)
 
 pub returns-in_default : goal.returns-in_default
 returns-in_default c =
