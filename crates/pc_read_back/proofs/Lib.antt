@@ -1,0 +1,11 @@
+pub mod Cuts
+pub mod Scalars
+pub mod Words
+pub mod Signs
+pub mod Named
+pub mod Cutting
+pub mod CuttingStatements
+pub mod Spelled
+pub mod Deriving
+pub mod Counting
+pub mod ReadingBack
