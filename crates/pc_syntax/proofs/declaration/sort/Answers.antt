@@ -1,6 +1,8 @@
-use Rattle.std.proofs.Common.{◌≡◌, ◌<◌, [], ◌∷◌, length, Err, rules, arith, ◌∙◌, ap}
+use Rattle.std.proofs.Common.{refl, subst, sym, List, ℕ, ℤ, w64, to_z, of_z, ◌≡◌, ◌<◌, [], ◌∷◌, length, Err, rules, arith, ◌∙◌, ap}
 use Rattle.std.proofs.lemmas.Result.{err_from_is_err_and}
+use Rattle.std.proofs.lemmas.Int.{to_z-of_z}
 use Rattle.pc_formula.specs.Word.{name}
+use Rattle.pc_syntax.specs.Line.{IsRange}
 use Rattle.pc_syntax.proofs.ReadLine.{differs}
 use Rattle.pc_syntax.proofs.Sorts.{no_names, no_sort, no_range, a_range}
 use Rattle.pc_syntax.proofs.declaration.sort.Goals as goal
@@ -22,4 +24,10 @@ pub returns-clause-told : goal.returns-clause-told
 returns-clause-told c =
     let first = c.in-Some.ensures.0 ∙ ap (λ l. name c.in-Some.text.now ∷ l) c.if-not-take_sign.ensures in
     let size : length c.in_ok-values.values.items ≡ 0 = search rules in
-    a_range c.args.words.now c.take_sign.new.self c.names.new.words c.in-Some.text.now c.in_ok-values.values.items first c.in_ok-values.ensures.told c.in_ok-values.ensures.all (no_names _ size) c.in_ok-low.low c.in_ok-low.high c.in_ok-low.ensures.told
+    let told = a_range c.args.words.now c.take_sign.new.self c.names.new.words c.in-Some.text.now c.in_ok-values.values.items first c.in_ok-values.ensures.told c.in_ok-values.ensures.all (no_names _ size) c.in_ok-low.low c.in_ok-low.high c.in_ok-low.ensures.told in
+    let low : to_z w64 (of_z w64 c.in_ok-low.low) ≡ c.in_ok-low.low = to_z-of_z w64 c.in_ok-low.low (search rules) in
+    let high : to_z w64 (of_z w64 c.in_ok-low.high) ≡ c.in_ok-low.high = to_z-of_z w64 c.in_ok-low.high (search rules) in (
+      refl,
+      subst (λ (n : List ℕ). IsRange c.args.words.now n (to_z w64 (of_z w64 c.in_ok-low.low)) (to_z w64 (of_z w64 c.in_ok-low.high))) (sym c.in_ok-name.ensures)
+          (subst (λ (l : ℤ). IsRange c.args.words.now c.in-Some.text.now l (to_z w64 (of_z w64 c.in_ok-low.high))) (sym low) (subst (λ (h : ℤ). IsRange c.args.words.now c.in-Some.text.now c.in_ok-low.low h) (sym high) told.1)),
+    )
