@@ -84,7 +84,6 @@ one_name_has text n known one = record {
 
 -- a line of the one name that starts a command, among spelled lines
 lone_reading : (line : List ℕ) (ws : List Word) (a : Asked) → IsSpelled line ws → word Name (command_keyword a) ≡ name (command_keyword a) → FollowsCommand a [] → IsOneName line (command_keyword a) → IsCommandReading line (asks a)
-unfolding nesting
 lone_reading line ws a spelled known follows one =
     let few : nesting (name (command_keyword a) ∷ []) ≤ 1 = count_by-le-length nests (name (command_keyword a) ∷ []) in
     spelled_command (name (command_keyword a) ∷ []) record {
