@@ -199,7 +199,7 @@ fn most_lines(rt: HostRuntime) -> Result<(), Fail> {
         run::<Counter, _, _>(alloc, &words, &mut input, &mut out),
         Status::TooLong
     );
-    assert_eq!(rt; out.bytes(), b"none\nrefused 19 too-long\n");
+    assert_eq!(rt; out.bytes(), b"none\nrefused 19 too-long\n".as_slice());
     Ok(())
 }
 
