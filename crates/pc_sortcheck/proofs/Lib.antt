@@ -1,9 +1,0 @@
-pub mod Cells
-pub mod Shapes
-pub mod Bare
-pub mod Arms
-pub mod Nests
-pub mod Lists
-pub mod Growing
-pub mod Sheets
-pub mod SmallForms

@@ -1,14 +1,17 @@
 -- What declarations make of a sheet, one after another.
-use Rattle.std.specs.Prelude.{◌≡◌, ℕ, List, [], ◌∷◌}
+use Rattle.std.specs.Prelude.{◌≡◌, ℕ, List, [], ◌∷◌, slice_get, IsSomeAnd}
 use Rattle.pc_syntax.specs.Tree as tree
 use Rattle.pc_syntax.specs.Tree.{list_sort, range_sort, table, row, cell, rule, enter}
 use Rattle.pc_sheet.specs.Sheet.{Sheet, Universe, NamedStatement, empty_sheet, with_rule}
 use Rattle.pc_sheet.specs.Sheet as plain
 use Rattle.pc_sheet.specs.WellFormed.{IsWellFormed}
 use Rattle.pc_sheet.specs.declared.ids.SortId.{SortId}
+use Rattle.pc_sheet.specs.declared.ids.TableId.{TableId}
+use Rattle.pc_sheet.specs.declared.ids.ValueId.{ValueId}
 use Rattle.pc_sheet.specs.declared.ids.Entry.{Entry}
-use Rattle.pc_logic.specs.Edits.{listed_sort, family_from, with_sort, with_family, entered}
-use Rattle.pc_sortcheck.specs.Elaboration.{IsSortNamed, IsValueOf, IsCell, IsStatement}
+use Rattle.pc_logic.specs.Edits as edits
+use Rattle.pc_logic.specs.Edits.{listed_sort, table_from, family_from, with_sort, with_table, with_row, with_family, entered}
+use Rattle.pc_elaborate.specs.Elaboration.{IsSortNamed, IsTableNamed, AreValuesOf, IsValueOf, IsCell, IsStatement}
 
 -- the sorts of these names
 abbrev pub AreSortsNamed : Universe → List (List ℕ) → List SortId → Type 0
@@ -17,18 +20,23 @@ AreSortsNamed u [] (s ∷ ss) = ⊥
 AreSortsNamed u (n ∷ ns) [] = ⊥
 AreSortsNamed u (n ∷ ns) (s ∷ ss) = IsSortNamed u n s × AreSortsNamed u ns ss
 
+-- the table of that name, whose arguments are of these sorts
+abbrev pub IsTableOf : Universe → List ℕ → TableId → List SortId → Type 0
+IsTableOf u n t ss = IsTableNamed u n t × IsSomeAnd (slice_get u.tables t.0) (λ table. table.sorts ≡ ss)
+
 -- the entry that a cell and a value name
 pub record IsEntryNamed (u : Universe) (c : tree.Cell) (v : tree.Value) (e : Entry) : Type 0 where
   pub sort : SortId
   pub cell : IsCell u c e.cell sort
   pub value : IsValueOf u sort v e.value
 
--- the new sheet is the old one with what is declared; ranges, tables and rows aren't built yet
+-- the new sheet is the old one with what is declared
 abbrev pub Makes : Sheet → tree.Declared → Sheet → Type 0
 Makes old (list_sort n values) new = new ≡ with_sort old (listed_sort n values)
-Makes old (range_sort n low high) new = ⊥
-Makes old (table n sorts) new = ⊥
-Makes old (row n values) new = ⊥
+Makes old (range_sort n low high) new = new ≡ with_sort old (edits.range_sort n low high)
+Makes old (table n sorts) new = (ss : List SortId) × AreSortsNamed old.universe sorts ss × (new ≡ with_table old (table_from n ss))
+Makes old (row n values) new =
+    (t : TableId) × (ss : List SortId) × (vs : List ValueId) × IsTableOf old.universe n t ss × AreValuesOf old.universe ss values vs × (new ≡ with_row old t vs)
 Makes old (cell n sorts result) new =
     (ss : List SortId) × (r : SortId) × AreSortsNamed old.universe sorts ss × IsSortNamed old.universe result r × (new ≡ with_family old (family_from n ss r))
 Makes old (rule n f) new = (s : plain.Statement) × IsStatement old.universe [] f s × (new ≡ with_rule old (record { name = n; states = s }))

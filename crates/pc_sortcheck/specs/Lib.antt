@@ -1,5 +1,2 @@
-pub mod Elaboration
 pub mod Declaring
-pub mod Small
-pub mod Told
-pub mod Fits
+pub mod DeclarationFaults

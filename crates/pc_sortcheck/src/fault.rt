@@ -1,35 +1,9 @@
 //! Why declarations give no sheet.
-ghost use Rattle.std.specs.Prelude.{◌≡◌};
+use pc_elaborate::SortFault;
 
-use std::alloc::{AllocError, AllocFailed};
-use thiserror::Error;
-
-/// Why declarations give no sheet.
-#[derive(Debug, Drop, Error)]
-pub enum SheetSortFault {
-    /// They are no well-sorted sheet within the limits.
-    #[error("not-yet")]
-    NotYet,
-    #[error("memory")]
-    Memory,
-}
-
-impl From<AllocError> for SheetSortFault {
-    ghost use Rattle.pc_sortcheck.specs.declared.fault.SheetSortFault.TheVariants.{Memory};
-
-    ghost from_gives = { λ _ e. e ≡ Memory };
-
-    fn from(_: AllocError) -> Self {
-        SheetSortFault::Memory
-    }
-}
-
-impl<T: Drop> From<AllocFailed<T>> for SheetSortFault {
-    ghost use Rattle.pc_sortcheck.specs.declared.fault.SheetSortFault.TheVariants.{Memory};
-
-    ghost from_gives = { λ _ e. e ≡ Memory };
-
-    fn from(_: AllocFailed<T>) -> Self {
-        SheetSortFault::Memory
-    }
+/// Why declarations give no sheet, and the number of the line that is at fault; or that memory was wanted there.
+#[derive(Debug, Drop)]
+pub struct SheetSortFault {
+    pub line: u32,
+    pub fault: SortFault,
 }

@@ -1,15 +1,11 @@
-//! From trees to books: what the names of a text stand for, and whether it is well sorted.
+//! From trees to books: what declarations make of a sheet, or the first line that is at fault.
 #![tactic(auto)]
 
-mod declare;
-mod entry;
 mod fault;
-mod nesting;
+mod rule;
 mod sheet;
-mod small;
-mod statement;
 
-pub use entry::find_entry;
 pub use fault::SheetSortFault;
+pub use pc_elaborate::{SortFault, Which};
+pub use rule::check_rule;
 pub use sheet::check_sheet;
-pub use small::{has_small_forms, is_small_entry};

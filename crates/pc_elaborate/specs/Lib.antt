@@ -1,0 +1,4 @@
+pub mod Elaboration
+pub mod Tests
+pub mod FormulaFaults
+pub mod Told

