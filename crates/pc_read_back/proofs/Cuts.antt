@@ -49,7 +49,7 @@ blank_utf8 : IsUtf8 (32 ∷ [])
 unfolding is_ascii_text
 blank_utf8 = ascii_utf8 (32 ∷ []) refl
 
-cuts_utf8 : (text : List ℕ) (ws : List Word) → Cuts text ws → IsUtf8 text
+pub cuts_utf8 : (text : List ℕ) (ws : List Word) → Cuts text ws → IsUtf8 text
 cuts_utf8 text ws done = IsUtf8-nil
 cuts_utf8 text ws (blank {text = rest} cuts) = IsUtf8-append (32 ∷ []) rest blank_utf8 (cuts_utf8 rest _ cuts)
 cuts_utf8 text ws (piece k front {more = more} nonempty utf8 is cuts) = IsUtf8-append front more utf8 (cuts_utf8 more _ cuts)

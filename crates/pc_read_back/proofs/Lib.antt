@@ -9,3 +9,4 @@ pub mod Spelled
 pub mod Deriving
 pub mod Counting
 pub mod ReadingBack
+pub mod Lines

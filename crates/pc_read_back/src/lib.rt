@@ -3,4 +3,4 @@
 
 mod law;
 
-pub use law::statements_read_back;
+pub use law::{rule_lines_read_back, statements_read_back};
