@@ -93,7 +93,7 @@ digits_are n more short ends =
       within = length-decimal-le_wide 18 n (omega arith) short (omega arith);
     }
 
-cut_digits : (n : ℕ) (more : List ℕ) (ws : List Word) → n < 10 ^ 18 → Ends more → Cuts more ws → Cuts (decimal n ++ more) (word.number (decimal n) ∷ ws)
+pub cut_digits : (n : ℕ) (more : List ℕ) (ws : List Word) → n < 10 ^ 18 → Ends more → Cuts more ws → Cuts (decimal n ++ more) (word.number (decimal n) ∷ ws)
 cut_digits n more ws short ends cuts =
     let numeral = (decimal_is_IsNumeral_wide n (omega arith)).0 in
     piece Number (decimal n) numeral.0 (IsUtf8-from_ascii (decimal n) (IsAscii-from_digits (decimal n) numeral.1)) (digits_are n more short ends) cuts

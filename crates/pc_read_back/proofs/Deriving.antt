@@ -26,10 +26,10 @@ use Rattle.pc_read_back.proofs.Words.{integer_words, value_words, item_words, mo
 
 -- ---- numbers and items
 
-derive_number : (n : ℕ) (rest : List Word) → n < 10 ^ 18 → DerivesNumber (number (decimal n) ∷ rest) n rest
+pub derive_number : (n : ℕ) (rest : List Word) → n < 10 ^ 18 → DerivesNumber (number (decimal n) ∷ rest) n rest
 derive_number n rest short = subst (λ m. DerivesNumber (number (decimal n) ∷ rest) m rest) (decimal_is_IsNumeral_wide n (omega arith)).1 (a_number (decimal n))
 
-derive_integer : (z : ℤ) (rest : List Word) → IsShort z → DerivesInt (integer_words z rest) z rest
+pub derive_integer : (z : ℤ) (rest : List Word) → IsShort z → DerivesInt (integer_words z rest) z rest
 derive_integer (pos n) rest short = natural (derive_number n rest (omega (arith, short)))
 derive_integer (negsuc n) rest short = negative (derive_number (suc n) rest (omega (arith, short)))
 

@@ -97,6 +97,10 @@ module _ {more : List ℕ} {ws : List Word} (cuts : Cuts more ws) where
   unfolding is_ascii_text
   cut_spaced_colon = blank (piece Colon (codes ":") (omega arith) (ascii_utf8 (codes ":") refl) (refl, before_blank Colon more) (blank cuts))
 
+  pub cut_range : Cuts (codes " .. " ++ more) (sign Range ∷ ws)
+  unfolding is_ascii_text
+  cut_range = blank (piece Range (codes "..") (omega arith) (ascii_utf8 (codes "..") refl) (refl, before_blank Range more) (blank cuts))
+
   pub cut_comma : Cuts (codes ", " ++ more) (sign Comma ∷ ws)
   unfolding is_ascii_text
   cut_comma = piece Comma (codes ",") (omega arith) (ascii_utf8 (codes ",") refl) (refl, before_blank Comma more) (blank cuts)
