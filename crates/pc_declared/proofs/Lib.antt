@@ -1,0 +1,10 @@
+mod Chain
+mod Entries
+mod Numbered
+mod Rules
+mod Standing
+mod Sublists
+mod Tables
+mod Universes
+mod Values
+mod Whole
