@@ -5,6 +5,7 @@ mod Rules
 mod Standing
 mod Sublists
 mod Tables
+mod Texts
 mod Universes
 mod Values
 mod Whole

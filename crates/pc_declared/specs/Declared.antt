@@ -4,6 +4,8 @@ use Rattle.pc_sheet.specs.Sheet.{Universe, Statement, Sheet, empty_sheet}
 use Rattle.pc_sheet.specs.WellFormed.{IsWellFormedUniverse, IsWellFormed}
 use Rattle.pc_sheet.specs.WellSorted.{Variables, IsWellSorted}
 use Rattle.pc_syntax.specs.Tree.{Declared}
+use Rattle.pc_syntax.specs.Sheet.{IsSheet}
+use Rattle.pc_writer.specs.SheetText.{sheet_text}
 use Rattle.pc_elaborate.specs.Elaboration.{IsStatement}
 use Rattle.pc_sortcheck.specs.Declaring.{DeclareAll, IsSheetOf}
 use Rattle.pc_read_back.specs.Tree.{statement_tree}
@@ -43,3 +45,13 @@ EntriesAreDeclared =
 -- and all of them together give the book
 abbrev pub DeclarationsGiveTheSheet : Type 0
 DeclarationsGiveTheSheet = (s : Sheet) → IsWellFormed s → (ds : List (ℕ × Declared)) → map declared_in ds ≡ declarations_of s → IsSheetOf ds s
+
+-- the text is a sheet whose declarations, one after another, give this
+pub record ReadsAsSheet (text : List ℕ) (sheet : Sheet) : Type 0 where
+  pub declared : List (ℕ × Declared)
+  pub is : IsSheet text declared
+  pub gives : IsSheetOf declared sheet
+
+-- the canonical text of each book reads as that book
+abbrev pub TextsReadBack : Type 0
+TextsReadBack = (s : Sheet) → IsWellFormed s → ReadsAsSheet (sheet_text s) s

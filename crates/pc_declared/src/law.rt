@@ -1,5 +1,7 @@
 // Laws over the definitions, each the contract of a function that does nothing.
-ghost use Rattle.pc_declared.specs.Declared.{DeclarationsGiveTheSheet, EntriesAreDeclared, RulesAreDeclared, StatementsStandForThemselves, UniverseIsDeclared};
+ghost use Rattle.pc_declared.specs.Declared.{DeclarationsGiveTheSheet, EntriesAreDeclared, RulesAreDeclared, StatementsStandForThemselves, TextsReadBack, UniverseIsDeclared};
+
+use pc_read_back::sheets_read_back;
 
 /// The tree that a well-sorted statement is written as stands for that statement.
 pub fn statements_stand_for_themselves()
@@ -25,3 +27,10 @@ pub fn entries_are_declared()
 pub fn declarations_give_the_sheet()
     ensures { DeclarationsGiveTheSheet }
 {}
+
+/// The canonical text of a book reads as that book: its lines are a sheet, whose declarations give the book.
+pub fn texts_read_back()
+    ensures { TextsReadBack }
+{
+    sheets_read_back();
+}

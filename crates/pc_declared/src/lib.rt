@@ -5,5 +5,5 @@ mod law;
 
 pub use law::{
     declarations_give_the_sheet, entries_are_declared, rules_are_declared,
-    statements_stand_for_themselves, universe_is_declared,
+    statements_stand_for_themselves, texts_read_back, universe_is_declared,
 };
