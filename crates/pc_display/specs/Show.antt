@@ -1,6 +1,7 @@
 -- The display line by line: each cell with its entry, its implied values with their reasons, and what its entry clashes with.
 use Rattle.std.specs.Prelude.{◌≡◌, ℕ, zero, suc, Bool, true, false, List, [], ◌∷◌, ◌++◌, codes, length, Option, Some, None, is_some, find, nat_eq}
 use Rattle.std.specs.List.{flat_map}
+use Rattle.pc_sheet.specs.Entailment.{opposite_of}
 use Rattle.pc_sheet.specs.Sheet.{Universe, Sheet}
 use Rattle.pc_sheet.specs.Truth.{size_of}
 use Rattle.pc_sheet.specs.Cells.{cells, values_below}
@@ -24,12 +25,12 @@ entry_of es c = find (λ e. nat_eq e.cell.0 c.0) es
 -- the least support of the opposite of the cell's entry
 abbrev pub conflict_of : Reasoning → Option Entry → Option (List Entry)
 conflict_of reason None = None
-conflict_of reason (Some e) = reason (record { cell = e.cell; value = e.value; holds = false })
+conflict_of reason (Some e) = reason (opposite_of e)
 
 -- what the cell's entry clashes with
 abbrev pub IsConflictOf : Sheet → Option Entry → Option (List Entry) → Type 0
 IsConflictOf sheet None found = found ≡ None
-IsConflictOf sheet (Some e) found = IsReasonFor sheet (record { cell = e.cell; value = e.value; holds = false }) found
+IsConflictOf sheet (Some e) found = IsReasonFor sheet (opposite_of e) found
 
 -- the reason why the cell has that value
 abbrev pub reason_of : Reasoning → CellId → ValueId → Option (List Entry)
