@@ -3,17 +3,18 @@ use Rattle.std.proofs.Common.{◌≡◌, ℕ, zero, suc, ◌+◌, ◌≤◌, Lis
 use Rattle.std.proofs.Math.ListN.{get_or-map}
 use Rattle.std.proofs.lemmas.List.{length-map, length-append}
 use Rattle.std.proofs.lemmas.List.Elements.{All-head, All-tail}
-use Rattle.pc_sheet.specs.Sheet.{Values, listed, range, Universe, Statement, Statements, no_statements, statement, compare, in_table, negation, all_of, some_of, implies, iff, for_all, exists, Sheet}
+use Rattle.pc_sheet.specs.Sheet.{Values, listed, range, Table, Universe, Statement, Statements, no_statements, statement, compare, in_table, negation, all_of, some_of, implies, iff, for_all, exists, Sheet}
 use Rattle.pc_sheet.specs.Truth.{count_of, depth_of, greatest_depth, size_of, values_of_sort}
-use Rattle.pc_sheet.specs.Entailment.{cell_sizes}
+use Rattle.pc_sheet.specs.Entailment.{AreWithin, cell_sizes}
 use Rattle.pc_sheet.specs.Views.{rule_of}
-use Rattle.pc_sheet.specs.WellFormed.{IsWellFormed, IsWellFormedUniverse, AreWellFormedRules, AreWellFormedEntries, AreWellFormedValues}
+use Rattle.pc_sheet.specs.WellFormed.{IsWellFormed, IsWellFormedTable, IsWellFormedUniverse, AreWellFormedRules, AreWellFormedEntries, AreWellFormedValues}
 use Rattle.pc_sheet.specs.WellSorted.{Variables, IsWellSorted, AreWellSorted}
 use Rattle.pc_sheet.specs.declared.formula.Rule.{Rule}
 use Rattle.pc_sheet.specs.declared.ids.Entry.{Entry}
-use Rattle.pc_logic.specs.SchemeView.{universe_of, family_of, sort_of, values_of}
+use Rattle.pc_logic.specs.SchemeView.{universe_of, family_of, sort_of, table_of, values_of}
 use Rattle.pc_logic.specs.Sound.{IsSound, AreCounted, AreShallow}
 use Rattle.pc_sheet.specs.declared.ids.SortId.{SortId}
+use Rattle.pc_sheet.specs.declared.ids.ValueId.{ValueId}
 use Rattle.pc_logic.specs.declared.scheme.Scheme.{Scheme}
 use Rattle.pc_logic.specs.declared.scheme.SortDecl.{SortDecl}
 use Rattle.pc_logic.proofs.CountLemmas.{total_is, sizes_count}
@@ -25,6 +26,15 @@ few_values : (v : Values) → AreWellFormedValues v → count_of v ≤ 256
 few_values (listed names) h = h.1
 few_values (range low high) h = h.3
 
+short_row : (ns : List ℕ) (vs : List ValueId) → AreWithin ns vs → length vs ≤ length ns
+short_row [] [] h = omega arith
+short_row [] (v ∷ vs) h = absurd h
+short_row (n ∷ ns) [] h = absurd h
+short_row (n ∷ ns) (v ∷ vs) h = let rest = short_row ns vs h.1 in omega (arith, rest)
+
+short_rows : (u : Universe) (t : Table) → IsWellFormedTable u t → All (λ r. length r ≤ 4) t.rows
+short_rows u t h k d l = let short = short_row (map (size_of u) t.sorts) (get_or t.rows k d) (h.rows k d l) in omega (arith, short, length-map t.sorts (size_of u), h.arity)
+
 pub sound_of : (s : Scheme) → IsWellFormedUniverse (universe_of s) → AreCounted (universe_of s) 0 s.families.items s.cells → IsSound s
 sound_of s h counted =
     let total = total_is (universe_of s) 0 s.families.items s.cells counted in
@@ -33,6 +43,7 @@ sound_of s h counted =
       sizes = All-unmap (λ t. count_of t.values ≤ 256) sort_of s.sorts.items (λ k d l. few_values _ (h.sorts k d l));
       counted = counted;
       few_cells = omega (arith, total, h.cell_limit);
+      rows = All-unmap (λ t. All (λ r. length r ≤ 4) t.rows) table_of s.tables.items (λ k d l. short_rows (universe_of s) (get_or (map table_of s.tables.items) k d) (h.tables k d l));
     }
 
 -- a well-sorted statement has a place for each of its quantifiers

@@ -12,3 +12,8 @@ pub mod RowLemmas
 pub mod TupleLemmas
 pub mod BoundedLemmas
 pub mod NodeLemmas
+pub mod AskingLemmas
+pub mod FollowLemmas
+pub mod TooLong
+pub mod WeightLemmas
+pub mod PartialLemmas

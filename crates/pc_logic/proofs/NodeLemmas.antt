@@ -1,13 +1,15 @@
 -- The parts of a statement, by their numbers.
-use Rattle.std.proofs.Common.{◌≡◌, ℕ, zero, suc, ◌<◌, ◌≤◌, List, [], ◌∷◌, map, length, get_or, slice_get, Some, None, Vec, Global, rules, arith, ap, ◌∙◌, sym, subst, refl}
+use Rattle.std.proofs.Common.{◌≡◌, ℕ, zero, suc, ◌<◌, ◌≤◌, List, [], ◌∷◌, map, length, get_or, slice_get, Some, None, Vec, Box, Global, rules, arith, ap, ◌∙◌, sym, subst, refl}
 use Rattle.pc_sheet.specs.Nodes.{root_of, part_at}
 use Rattle.pc_sheet.specs.Truth.{Scope}
 use Rattle.pc_sheet.specs.Views.{rule_of, statement_of, statements_of}
 use Rattle.pc_sheet.specs.WellSorted.{parts_in}
 use Rattle.pc_sheet.specs.WellFormed.{AreWellFormedRules}
-use Rattle.pc_sheet.specs.Sheet.{Universe, all_of, some_of}
-use Rattle.pc_sheet.specs.declared.formula.Formula.{Formula, And, Or, the_lemmas}
+use Rattle.pc_sheet.specs.Sheet.{Universe, all_of, some_of, for_all, exists}
+use Rattle.pc_sheet.specs.declared.formula.Formula.{Formula, And, Or, ForAll, Exists, the_lemmas}
 use Rattle.pc_sheet.specs.declared.formula.Rule.{Rule}
+use Rattle.pc_sheet.specs.declared.ids.SortId.{SortId}
+use Rattle.pc_name.specs.declared.name.Name.{Name}
 use Rattle.pc_logic.specs.Bounded.{IsBounded, AreBounded, AreAllBounded}
 use Rattle.pc_logic.proofs.BookLemmas.{All-unmap}
 use Rattle.pc_logic.proofs.BoundedLemmas.{bounded_of}
@@ -41,6 +43,18 @@ statement_of-And v = search (rules, the_lemmas)
 
 statement_of-Or : (v : Vec Formula Global) → statement_of (Or v) ≡ some_of (statements_of (map statement_of v.items))
 statement_of-Or v = search (rules, the_lemmas)
+
+statement_of-ForAll : (n : Name) (s : SortId) (b : Box Formula Global) → statement_of (ForAll n s b) ≡ for_all n s (statement_of b.value)
+statement_of-ForAll n s b = search (rules, the_lemmas)
+
+statement_of-Exists : (n : Name) (s : SortId) (b : Box Formula Global) → statement_of (Exists n s b) ≡ exists n s (statement_of b.value)
+statement_of-Exists n s b = search (rules, the_lemmas)
+
+pub for_all_is : (f : Formula) (n : Name) (s : SortId) (b : Box Formula Global) (body : Formula) → f ≡ ForAll n s b → body ≡ b.value → statement_of f ≡ for_all n s (statement_of body)
+for_all_is f n s b body is same = ap statement_of is ∙ statement_of-ForAll n s b ∙ ap (λ x. for_all n s (statement_of x)) (sym same)
+
+pub exists_is : (f : Formula) (n : Name) (s : SortId) (b : Box Formula Global) (body : Formula) → f ≡ Exists n s b → body ≡ b.value → statement_of f ≡ exists n s (statement_of body)
+exists_is f n s b body is same = ap statement_of is ∙ statement_of-Exists n s b ∙ ap (λ x. exists n s (statement_of x)) (sym same)
 
 pub and_is : (f : Formula) (v : Vec Formula Global) → f ≡ And v → statement_of f ≡ all_of (statements_of (map statement_of v.items))
 and_is f v is = ap statement_of is ∙ statement_of-And v

@@ -8,3 +8,6 @@ pub mod Edits
 pub mod Tuples
 pub mod Bounded
 pub mod Found
+pub mod Asking
+pub mod Cut
+pub mod Outcome

@@ -23,6 +23,7 @@ pub record IsSound (s : Scheme) : Type 0 where
   pub sizes : All (λ t. count_of (values_of t.values) ≤ 256) s.sorts.items
   pub counted : AreCounted (universe_of s) 0 s.families.items s.cells
   pub few_cells : s.cells ≤ 4096
+  pub rows : All (λ t. All (λ r. length r ≤ 4) t.rows) s.tables.items
 
 -- no rule has more than 16 quantifiers around one place
 abbrev pub AreShallow : List Rule → Type 0

@@ -1,16 +1,20 @@
 //! Books, seen as a universe, rules and entries.
-ghost use Rattle.std.specs.Prelude.{◌≡◌, ◌↔◌, ◌<◌, ◌≤◌, Contains, IsNone, IfSome, Some, IsTrue, IfOk, OnErr, OnOk, length, map, slice_get};
+ghost use Rattle.std.specs.Prelude.{◌≡◌, ◌↔◌, ◌<◌, ◌≤◌, All, Bool, Contains, IsNone, IfSome, Some, IsTrue, IfOk, OnErr, OnOk, length, map, slice_get};
 ghost use Rattle.std.specs.Option.{SomeIff};
 ghost use Rattle.pc_sheet.specs.Cells.{IsApplication};
 ghost use Rattle.pc_sheet.specs.Truth.{cell_number};
-ghost use Rattle.pc_sheet.specs.Entailment.{cell_sizes, Fits, RuleHolds};
+ghost use Rattle.pc_sheet.specs.Entailment.{cell_sizes, Fits, HaveDistinctCells, RuleHolds};
 ghost use Rattle.pc_sheet.specs.Nodes.{kind_at};
 ghost use Rattle.pc_sheet.specs.Sheet.{empty_sheet, with_rule};
-ghost use Rattle.pc_sheet.specs.Views.{rule_of};
+ghost use Rattle.pc_sheet.specs.Views.{path_of, rule_of};
+ghost use Rattle.pc_sheet.specs.Weight.{weight};
 ghost use Rattle.pc_sheet.specs.WellFormed.{IsEntryOf, IsWellFormed};
 ghost use Rattle.pc_sheet.specs.WellSorted.{declared_names, names_of_values};
+ghost use Rattle.pc_sheet.specs.declared.nodes.NodeKind.TheVariants.{Atom};
+ghost use Rattle.pc_logic.specs.Cut.{cut};
 ghost use Rattle.pc_logic.specs.Named.{IsNameOf, sort_keys};
 ghost use Rattle.pc_logic.specs.NameTable.{named_texts};
+ghost use Rattle.pc_logic.specs.Outcome.{AreTooFewAt, GiveTruthAt};
 ghost use Rattle.pc_logic.specs.SchemeView.{sort_of, table_of, values_of};
 ghost use Rattle.pc_logic.specs.declared.names.Named.{Named};
 ghost use Rattle.pc_logic.specs.Edits.{entered, family_from, listed_sort, range_sort, table_from, tables_with, with_family, with_row, with_sort, with_table, without_entry, without_rule};
@@ -21,8 +25,8 @@ use crate::entries::{clear, enter};
 use crate::names::{NameTable, Named, key_of, keys_of_list};
 use crate::rows::Rows;
 use crate::scheme::{self, FamilyDecl, Scheme, SortDecl, SortValues, TableDecl};
-use crate::{nodes, truth};
-use pc_sheet::{CellId, Entry, FamilyId, Name, NodeKind, Rule, SortId, TableId, ValueId};
+use crate::{nodes, partial, truth, weighing};
+use pc_sheet::{CellId, Entry, FamilyId, Name, NodeKind, NodePath, Rule, SortId, TableId, ValueId};
 use std::alloc::{AllocError, Global};
 use std::marker::Model;
 
@@ -349,4 +353,29 @@ pub fn node_at(book: &Book, rule: u32, steps: &[u32]) -> Option<NodeKind>
     ensures { result ≡ kind_at book.now rule steps.now }
 {
     nodes::kind_at(&book.scheme, &book.rules, rule as usize, steps)
+}
+
+/// The truth of the atom to which the path leads, each cell that its terms need having its value in the reads. There is
+/// none where such a cell is missing.
+pub fn eval_partial(book: &Book, path: &NodePath, reads: &[Entry]) -> Option<bool>
+    requires atom { kind_at book.now path.now.rule path.now.steps.items ≡ Some Atom }
+    requires distinct { HaveDistinctCells reads.now }
+    requires entries { All (IsEntryOf book.now.universe) reads.now }
+    ensures truth { (is : Bool) → (result ≡ Some is) ↔ GiveTruthAt book.now (path_of path.now) reads.now is }
+    ensures missing { IsNone result ↔ AreTooFewAt book.now (path_of path.now) reads.now }
+{
+    partial::truth_at(
+        &book.scheme,
+        reads,
+        &book.rules,
+        path.rule as usize,
+        &path.steps,
+    )
+}
+
+/// How many literals the book's axioms have, or 4,000,001 where there are more than 4,000,000.
+pub fn weight(book: &Book) -> u64
+    ensures { result ≡ cut (weight book.now) }
+{
+    weighing::weigh(&book.scheme, &book.rules)
 }

@@ -7,13 +7,16 @@ mod copies;
 mod entries;
 mod names;
 mod nodes;
+mod partial;
+mod reading;
 mod rows;
 mod scheme;
 mod truth;
 mod universe;
+mod weighing;
 
 pub use assignment::Assignment;
-pub use book::{Book, eval, node_at, satisfies};
+pub use book::{Book, eval, eval_partial, node_at, satisfies, weight};
 pub use names::Named;
 pub use pc_sheet::{
     CellId, Entry, FamilyId, Formula, Name, NodeKind, NodePath, Op, Rule, Side, Sign, SortId,

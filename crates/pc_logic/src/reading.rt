@@ -1,0 +1,212 @@
+//! Atoms under reads of some cells, with no memory of their own.
+ghost use Rattle.std.specs.Prelude.{◌≡◌, ◌*◌, ◌+◌, ◌^◌, ◌≤◌, ◌<◌, ◌∷◌, ◌++◌, [], ℕ, List, Bool, IfOk, IfErr, Some, length, map, min, slice_get, take};
+ghost use Rattle.pc_sheet.specs.Reads.{value_in};
+ghost use Rattle.pc_sheet.specs.Readings.{Reading, known, read, read_all, read_sum, is_row, read_comparison, read_row, atom_reading, after, StopsAt};
+ghost use Rattle.pc_sheet.specs.Truth.{size_of, number_of, rank_from};
+ghost use Rattle.pc_sheet.specs.Views.{item_of, items_of, sum_of, statement_of};
+ghost use Rattle.pc_sheet.specs.WellSorted.{IsWithin};
+ghost use Rattle.pc_sheet.specs.declared.ids.ValueId.{ValueId as TheValue};
+ghost use Rattle.pc_sheet.specs.declared.meaning.Meaning.{Meaning as TheMeaning};
+ghost use Rattle.pc_logic.specs.SchemeView.{universe_of};
+ghost use Rattle.pc_logic.specs.Sound.{IsSound};
+
+use crate::scheme::{Scheme, argument_sorts, first_cell, result_sort, size_of};
+use crate::truth::{added, compares, number_of, place_of, settled, variable_at};
+use pc_sheet::{Entry, Formula, Meaning, Op, Side, SortId, TableId, Term, ValueId};
+
+/// The value that the reads have for the cell.
+fn value_in(reads: &[Entry], cell: usize) -> Option<ValueId>
+    ensures { result ≡ value_in reads.now cell }
+{
+    for read in reads {
+        if usize::from(read.cell.0) == cell {
+            return Some(read.value);
+        }
+    }
+    None
+}
+
+fn number_of_place(place: ValueId) -> usize
+    ensures exact { result ≡ place.0 }
+    ensures small { result < 65536 }
+{
+    usize::from(place.0)
+}
+
+/// The place of a tuple among all of these sorts, the first part slowest.
+fn rank_at(scheme: &Scheme, sorts: &[SortId], places: &[ValueId]) -> usize
+    requires sound { IsSound scheme.now }
+    requires arity { length sorts.now ≤ 4 }
+    ensures exact { result ≡ rank_from 0 (map (size_of (universe_of scheme.now)) sorts.now) places.now }
+    ensures small { result < 2 ^ 48 }
+{
+    let mut rank = 0;
+    for (i, place) in places.iter().enumerate() {
+        if i == sorts.len() {
+            break;
+        }
+        rank = rank * size_of(scheme, sorts[i]) + number_of_place(*place);
+    }
+    rank
+}
+
+/// What a term stands for, or the first cell that it needs and that wasn't read.
+#[cycle(read)]
+fn read_term(
+    scheme: &Scheme,
+    reads: &[Entry],
+    scope: &[(SortId, ValueId)],
+    term: &Term,
+) -> Result<Meaning, usize>
+    requires { IsSound scheme.now }
+    ensures known { IfOk result (λ m. (next : TheMeaning → Reading) → after reads.now (read (universe_of scheme.now) scope.now (item_of term.now) next) ≡ after reads.now (next m)) }
+    ensures small { IfOk result (λ m. IsWithin (2 ^ 32) (number_of m)) }
+    ensures stopped { IfErr result (λ c. (next : TheMeaning → Reading) → StopsAt c (after reads.now (read (universe_of scheme.now) scope.now (item_of term.now) next))) }
+{
+    match term {
+        Term::Variable(k) => Ok(variable_at(scope, *k)),
+        Term::Value(sort, value) => Ok(Meaning::Value(*sort, *value)),
+        Term::Number(n) => Ok(Meaning::Whole(i128::from(*n))),
+        Term::Cell { family, args } => match read_terms(scheme, reads, scope, args) {
+            Err(cell) => Err(cell),
+            Ok(places) => {
+                let sorts = argument_sorts(scheme, *family);
+                let rank = rank_at(scheme, sorts, &places[..args.len().min(4)]);
+                let cell = first_cell(scheme, *family) + rank;
+                match value_in(reads, cell) {
+                    None => Err(cell),
+                    Some(value) => Ok(Meaning::Value(result_sort(scheme, *family), value)),
+                }
+            }
+        },
+    }
+}
+
+/// The places of the first four of these terms, in the first parts of an array.
+#[cycle(read)]
+fn read_terms(
+    scheme: &Scheme,
+    reads: &[Entry],
+    scope: &[(SortId, ValueId)],
+    terms: &[Term],
+) -> Result<[ValueId; 4], usize>
+    requires { IsSound scheme.now }
+    ensures known { IfOk result (λ places. (vs : List TheValue) × (length vs ≡ length terms.now) × (take (min (length terms.now) 4) places ≡ take 4 vs) × ((next : List TheValue → Reading) → after reads.now (read_all (universe_of scheme.now) scope.now (items_of (map item_of terms.now)) next) ≡ after reads.now (next vs))) }
+    ensures stopped { IfErr result (λ c. (next : List TheValue → Reading) → StopsAt c (after reads.now (read_all (universe_of scheme.now) scope.now (items_of (map item_of terms.now)) next))) }
+{
+    let mut places = [ValueId(0); 4];
+    for (i, term) in terms.iter().enumerate() {
+        match read_term(scheme, reads, scope, term) {
+            Err(cell) => return Err(cell),
+            Ok(m) => {
+                if i < 4 {
+                    places[i] = place_of(m);
+                }
+            }
+        }
+    }
+    Ok(places)
+}
+
+fn read_side(
+    scheme: &Scheme,
+    reads: &[Entry],
+    scope: &[(SortId, ValueId)],
+    side: &Side,
+) -> Result<Meaning, usize>
+    requires { IsSound scheme.now }
+    ensures known { IfOk result (λ m. (next : TheMeaning → Reading) → after reads.now (read_sum (universe_of scheme.now) scope.now (sum_of side.now) next) ≡ after reads.now (next m)) }
+    ensures stopped { IfErr result (λ c. (next : TheMeaning → Reading) → StopsAt c (after reads.now (read_sum (universe_of scheme.now) scope.now (sum_of side.now) next))) }
+{
+    match read_term(scheme, reads, scope, &side.first) {
+        Err(cell) => Err(cell),
+        Ok(first) => {
+            let mut total = settled(scheme, first);
+            let mut items = 1;
+            for (sign, term) in &side.rest {
+                match read_term(scheme, reads, scope, term) {
+                    Err(cell) => return Err(cell),
+                    Ok(m) => {
+                        let more = number_of(settled(scheme, m));
+                        total = Meaning::Whole(added(number_of(total), *sign, more, items));
+                        items += 1;
+                    }
+                }
+            }
+            Ok(total)
+        }
+    }
+}
+
+fn read_comparison(
+    scheme: &Scheme,
+    reads: &[Entry],
+    scope: &[(SortId, ValueId)],
+    left: &Side,
+    op: Op,
+    right: &Side,
+) -> Result<bool, usize>
+    requires { IsSound scheme.now }
+    ensures known { IfOk result (λ is. after reads.now (read_comparison (universe_of scheme.now) scope.now (sum_of left.now) op (sum_of right.now)) ≡ known is) }
+    ensures stopped { IfErr result (λ c. StopsAt c (after reads.now (read_comparison (universe_of scheme.now) scope.now (sum_of left.now) op (sum_of right.now)))) }
+{
+    match read_side(scheme, reads, scope, left) {
+        Err(cell) => Err(cell),
+        Ok(x) => match read_side(scheme, reads, scope, right) {
+            Err(cell) => Err(cell),
+            Ok(y) => Ok(compares(op, x, y)),
+        },
+    }
+}
+
+fn read_row(
+    scheme: &Scheme,
+    reads: &[Entry],
+    scope: &[(SortId, ValueId)],
+    table: TableId,
+    args: &[Term],
+) -> Result<bool, usize>
+    requires { IsSound scheme.now }
+    ensures known { IfOk result (λ is. after reads.now (read_row (universe_of scheme.now) scope.now table (items_of (map item_of args.now))) ≡ known is) }
+    ensures stopped { IfErr result (λ c. StopsAt c (after reads.now (read_row (universe_of scheme.now) scope.now table (items_of (map item_of args.now))))) }
+{
+    match read_terms(scheme, reads, scope, args) {
+        Err(cell) => Err(cell),
+        Ok(places) => {
+            if args.len() > 4 {
+                return Ok(false);
+            }
+            Ok(has_row(scheme, table, &places[..args.len()]))
+        }
+    }
+}
+
+/// Whether the tuple is a row of the table.
+fn has_row(scheme: &Scheme, table: TableId, places: &[ValueId]) -> bool
+    ensures { result ≡ is_row (universe_of scheme.now) table places.now }
+{
+    match scheme.tables.get(usize::from(table.0)) {
+        None => false,
+        Some(declared) => declared.rows.contains(places),
+    }
+}
+
+/// The truth of an atom, or the first cell that it needs and that wasn't read. At other formulas it is `false`.
+pub(crate) fn read_atom(
+    scheme: &Scheme,
+    reads: &[Entry],
+    scope: &[(SortId, ValueId)],
+    atom: &Formula,
+) -> Result<bool, usize>
+    requires { IsSound scheme.now }
+    ensures known { IfOk result (λ is. after reads.now (atom_reading (universe_of scheme.now) scope.now (statement_of atom.now)) ≡ known is) }
+    ensures stopped { IfErr result (λ c. StopsAt c (after reads.now (atom_reading (universe_of scheme.now) scope.now (statement_of atom.now)))) }
+{
+    match atom {
+        Formula::Compare { left, op, right } => {
+            read_comparison(scheme, reads, scope, left, *op, right)
+        }
+        Formula::InTable { table, args } => read_row(scheme, reads, scope, *table, args),
+        _ => Ok(false),
+    }
+}
