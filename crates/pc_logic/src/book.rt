@@ -1,12 +1,13 @@
 //! Books, seen as a universe, rules and entries.
-ghost use Rattle.std.specs.Prelude.{◌≡◌, ◌↔◌, ◌<◌, ◌≤◌, All, Bool, Contains, IsNone, IfSome, Some, IsTrue, IfOk, OnErr, OnOk, length, map, slice_get};
+ghost use Rattle.std.specs.Prelude.{◌≡◌, ◌↔◌, ◌<◌, ◌≤◌, All, Bool, Contains, IsNone, IfSome, Some, IsTrue, IfErr, IfOk, OnErr, OnOk, length, map, slice_get};
 ghost use Rattle.std.specs.Option.{SomeIff};
 ghost use Rattle.pc_sheet.specs.Cells.{IsApplication};
 ghost use Rattle.pc_sheet.specs.Truth.{cell_number};
 ghost use Rattle.pc_sheet.specs.Entailment.{cell_sizes, Fits, HaveDistinctCells, RuleHolds};
 ghost use Rattle.pc_sheet.specs.Nodes.{kind_at};
 ghost use Rattle.pc_sheet.specs.Sheet.{empty_sheet, with_rule};
-ghost use Rattle.pc_sheet.specs.Views.{path_of, rule_of};
+ghost use Rattle.pc_sheet.specs.Readings.{known, atom_reading, after, StopsAt};
+ghost use Rattle.pc_sheet.specs.Views.{statement_of, path_of, rule_of};
 ghost use Rattle.pc_sheet.specs.Weight.{weight};
 ghost use Rattle.pc_sheet.specs.WellFormed.{IsEntryOf, IsWellFormed};
 ghost use Rattle.pc_sheet.specs.WellSorted.{declared_names, names_of_values};
@@ -25,8 +26,8 @@ use crate::entries::{clear, enter};
 use crate::names::{NameTable, Named, key_of, keys_of_list};
 use crate::rows::Rows;
 use crate::scheme::{self, FamilyDecl, Scheme, SortDecl, SortValues, TableDecl};
-use crate::{nodes, partial, truth, weighing};
-use pc_sheet::{CellId, Entry, FamilyId, Name, NodeKind, NodePath, Rule, SortId, TableId, ValueId};
+use crate::{nodes, partial, reading, truth, weighing};
+use pc_sheet::{CellId, Entry, FamilyId, Formula, Name, NodeKind, NodePath, Rule, SortId, TableId, ValueId};
 use std::alloc::{AllocError, Global};
 use std::marker::Model;
 
@@ -378,4 +379,18 @@ pub fn weight(book: &Book) -> u64
     ensures { result ≡ cut (weight book.now) }
 {
     weighing::weigh(&book.scheme, &book.rules)
+}
+
+/// The truth of an atom under a scope, each cell that its terms need having its value in the reads; or the first cell, in
+/// the order in which the terms are read, that is missing there. At other formulas it is `false`.
+pub fn read_atom(
+    book: &Book,
+    reads: &[Entry],
+    scope: &[(SortId, ValueId)],
+    atom: &Formula,
+) -> Result<bool, usize>
+    ensures known { IfOk result (λ is. after reads.now (atom_reading book.now.universe scope.now (statement_of atom.now)) ≡ known is) }
+    ensures stopped { IfErr result (λ c. StopsAt c (after reads.now (atom_reading book.now.universe scope.now (statement_of atom.now)))) }
+{
+    reading::read_atom(&book.scheme, reads, scope, atom)
 }

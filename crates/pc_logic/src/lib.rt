@@ -16,7 +16,7 @@ mod universe;
 mod weighing;
 
 pub use assignment::Assignment;
-pub use book::{Book, eval, eval_partial, node_at, satisfies, weight};
+pub use book::{Book, eval, eval_partial, node_at, read_atom, satisfies, weight};
 pub use names::Named;
 pub use pc_sheet::{
     CellId, Entry, FamilyId, Formula, Name, NodeKind, NodePath, Op, Rule, Side, Sign, SortId,
