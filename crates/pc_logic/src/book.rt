@@ -27,7 +27,9 @@ use crate::names::{NameTable, Named, key_of, keys_of_list};
 use crate::rows::Rows;
 use crate::scheme::{self, FamilyDecl, Scheme, SortDecl, SortValues, TableDecl};
 use crate::{nodes, partial, reading, truth, weighing};
-use pc_sheet::{CellId, Entry, FamilyId, Formula, Name, NodeKind, NodePath, Rule, SortId, TableId, ValueId};
+use pc_sheet::{
+    CellId, Entry, FamilyId, Formula, Name, NodeKind, NodePath, Rule, SortId, TableId, ValueId,
+};
 use std::alloc::{AllocError, Global};
 use std::marker::Model;
 
