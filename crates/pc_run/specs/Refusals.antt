@@ -3,7 +3,9 @@ use Rattle.std.specs.Prelude.{ℕ, List, [], ◌++◌, codes, decimal}
 use Rattle.std.specs.declared.option.Option.{Option}
 use Rattle.std.specs.declared.option.Option.TheVariants.{Some, None}
 use Rattle.pc_run.specs.declared.refusal.Refusal.{Refusal}
-use Rattle.pc_run.specs.declared.refusal.Refusal.TheVariants.{NotUtf8, Syntax, NoBegin, WrongVersion, NotYet, TooDeep}
+use Rattle.pc_run.specs.declared.refusal.Refusal.TheVariants.{NotUtf8, Syntax, NoBegin, WrongVersion, UnknownName, DuplicateName, WrongArity, WrongSort, NotAValue, EmptySort, Limit, NoEntry, NotYet, TooDeep}
+use Rattle.pc_run.specs.declared.refusal.LimitWord.{LimitWord}
+use Rattle.pc_run.specs.declared.refusal.LimitWord.TheVariants.{Sorts, Values, Number, Tables, Families, Arity, Cells, Rows, Rules, Depth, Reads, Budget}
 use Rattle.pc_run.specs.declared.refusal.SheetRefusal.{SheetRefusal}
 
 -- the number and the word of a refusal
@@ -12,8 +14,36 @@ words_of NotUtf8 = codes "1 not-utf8"
 words_of Syntax = codes "2 syntax"
 words_of NoBegin = codes "3 no-begin"
 words_of WrongVersion = codes "4 wrong-version"
+words_of UnknownName = codes "5 unknown-name"
+words_of DuplicateName = codes "6 duplicate-name"
+words_of WrongArity = codes "7 wrong-arity"
+words_of WrongSort = codes "8 wrong-sort"
+words_of NotAValue = codes "9 not-a-value"
+words_of EmptySort = codes "10 empty-sort"
+words_of (Limit word) = codes "11 limit"
+words_of NoEntry = codes "16 no-entry"
 words_of NotYet = codes "20 not-yet"
 words_of TooDeep = codes "21 too-deep"
+
+-- what a limit is put on
+abbrev pub limit_word_of : LimitWord → List ℕ
+limit_word_of Sorts = codes "sorts"
+limit_word_of Values = codes "values"
+limit_word_of Number = codes "number"
+limit_word_of Tables = codes "tables"
+limit_word_of Families = codes "families"
+limit_word_of Arity = codes "arity"
+limit_word_of Cells = codes "cells"
+limit_word_of Rows = codes "rows"
+limit_word_of Rules = codes "rules"
+limit_word_of Depth = codes "depth"
+limit_word_of Reads = codes "reads"
+limit_word_of Budget = codes "budget"
+
+-- what is told further: the word of a limit
+abbrev pub further_text : Refusal → List ℕ
+further_text (Limit word) = codes " " ++ limit_word_of word
+further_text refusal = []
 
 -- the line that a sheet's refusal is for, where it is for one
 abbrev pub line_text : Option ℕ → List ℕ
@@ -22,8 +52,8 @@ line_text (Some number) = codes " line " ++ decimal number
 
 -- how a refused command is told
 abbrev pub refusal_text : Refusal → List ℕ
-refusal_text refusal = codes "refused " ++ (words_of refusal ++ codes "\n")
+refusal_text refusal = codes "refused " ++ (words_of refusal ++ (further_text refusal ++ codes "\n"))
 
 -- how a refused sheet is told
 abbrev pub sheet_refusal_text : SheetRefusal → List ℕ
-sheet_refusal_text refused = codes "sheet refused " ++ (words_of refused.refusal ++ (line_text refused.line ++ codes "\n"))
+sheet_refusal_text refused = codes "sheet refused " ++ (words_of refused.refusal ++ (line_text refused.line ++ (further_text refused.refusal ++ codes "\n")))

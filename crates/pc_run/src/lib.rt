@@ -16,7 +16,7 @@ mod status;
 mod tests;
 
 pub use machine::{LoadFault, Machine, Page, Reply};
-pub use refusal::{Refusal, SheetRefusal};
+pub use refusal::{LimitWord, Refusal, SheetRefusal};
 pub use replay::run;
 pub use status::Status;
 

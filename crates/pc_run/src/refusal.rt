@@ -1,10 +1,39 @@
 // Why texts are refused, and how that is told.
 ghost use Rattle.std.specs.Prelude.{◌≡◌};
 ghost use Rattle.pc_writer.specs.Writes.{Writes};
-ghost use Rattle.pc_run.specs.Refusals.{line_text, refusal_text, sheet_refusal_text, words_of};
+ghost use Rattle.pc_run.specs.Refusals.{further_text, limit_word_of, line_text, refusal_text, sheet_refusal_text, words_of};
 
 use pc_port::{Failed, Sink};
 use pc_writer::{write_integer, write_text};
+
+/// What a limit is put on, as a refusal names it.
+#[derive(Clone, Copy, Debug, PartialEq, Eq)]
+pub enum LimitWord {
+    /// The sorts of a sheet.
+    Sorts,
+    /// The values of a sort.
+    Values,
+    /// A bound of a range, or a whole number in a comparison.
+    Number,
+    /// The tables of a sheet.
+    Tables,
+    /// The families of a sheet.
+    Families,
+    /// The arguments of a table or family.
+    Arity,
+    /// The cells of a sheet.
+    Cells,
+    /// The rows of all tables.
+    Rows,
+    /// The rules of a sheet.
+    Rules,
+    /// The quantifiers around one place.
+    Depth,
+    /// The cell applications that are written in one atom.
+    Reads,
+    /// The propagations of an edit.
+    Budget,
+}
 
 /// Why a sheet or a command is refused.
 #[derive(Clone, Copy, Debug, PartialEq, Eq)]
@@ -17,6 +46,22 @@ pub enum Refusal {
     NoBegin,
     /// The sheet is of another version of the format.
     WrongVersion,
+    /// Nothing has a name that stands there.
+    UnknownName,
+    /// A name is taken.
+    DuplicateName,
+    /// There are more or fewer arguments than the table or family takes.
+    WrongArity,
+    /// A thing of another kind or sort stands there.
+    WrongSort,
+    /// A whole number isn't in the range.
+    NotAValue,
+    /// The sort has no value.
+    EmptySort,
+    /// A limit is passed.
+    Limit(LimitWord),
+    /// The cell has no entry.
+    NoEntry,
     /// It asks for nothing that is built.
     NotYet,
     /// The line nests too deep.
@@ -30,6 +75,28 @@ pub struct SheetRefusal {
     pub line: Option<u32>,
 }
 
+impl LimitWord {
+    // The word.
+    fn word(self) -> &'static [u8]
+        ensures { result.now ≡ limit_word_of self }
+    {
+        match self {
+            LimitWord::Sorts => b"sorts",
+            LimitWord::Values => b"values",
+            LimitWord::Number => b"number",
+            LimitWord::Tables => b"tables",
+            LimitWord::Families => b"families",
+            LimitWord::Arity => b"arity",
+            LimitWord::Cells => b"cells",
+            LimitWord::Rows => b"rows",
+            LimitWord::Rules => b"rules",
+            LimitWord::Depth => b"depth",
+            LimitWord::Reads => b"reads",
+            LimitWord::Budget => b"budget",
+        }
+    }
+}
+
 impl Refusal {
     // The number and the word.
     fn words(self) -> &'static [u8]
@@ -40,6 +107,14 @@ impl Refusal {
             Refusal::Syntax => b"2 syntax",
             Refusal::NoBegin => b"3 no-begin",
             Refusal::WrongVersion => b"4 wrong-version",
+            Refusal::UnknownName => b"5 unknown-name",
+            Refusal::DuplicateName => b"6 duplicate-name",
+            Refusal::WrongArity => b"7 wrong-arity",
+            Refusal::WrongSort => b"8 wrong-sort",
+            Refusal::NotAValue => b"9 not-a-value",
+            Refusal::EmptySort => b"10 empty-sort",
+            Refusal::Limit(_) => b"11 limit",
+            Refusal::NoEntry => b"16 no-entry",
             Refusal::NotYet => b"20 not-yet",
             Refusal::TooDeep => b"21 too-deep",
         }
@@ -57,12 +132,24 @@ fn write_line<O: Sink>(line: Option<u32>, out: &mut O) -> Result<(), Failed>
     write_integer(i64::from(number), out)
 }
 
+// Writes what is told further of a refusal.
+fn write_further<O: Sink>(refusal: Refusal, out: &mut O) -> Result<(), Failed>
+    ensures { Writes O.given O.faults out.old out.new result (further_text refusal) }
+{
+    let Refusal::Limit(word) = refusal else {
+        return Ok(());
+    };
+    write_text(b" ", out)?;
+    write_text(word.word(), out)
+}
+
 // Tells that a command is refused.
 pub(crate) fn write_refusal<O: Sink>(refusal: Refusal, out: &mut O) -> Result<(), Failed>
     ensures { Writes O.given O.faults out.old out.new result (refusal_text refusal) }
 {
     write_text(b"refused ", out)?;
     write_text(refusal.words(), out)?;
+    write_further(refusal, out)?;
     write_text(b"\n", out)
 }
 
@@ -73,5 +160,6 @@ pub(crate) fn write_sheet_refusal<O: Sink>(refused: SheetRefusal, out: &mut O) -
     write_text(b"sheet refused ", out)?;
     write_text(refused.refusal.words(), out)?;
     write_line(refused.line, out)?;
+    write_further(refused.refusal, out)?;
     write_text(b"\n", out)
 }

@@ -2,9 +2,10 @@
 // source is read again. The machine of these tests counts.
 ghost use Rattle.std.specs.Prelude.{◌<◌, ◌≢◌, length, slice_index, None};
 
+use crate::refusal::{write_refusal, write_sheet_refusal};
 use crate::{
-    LINE_LIMIT, LoadFault, MAX_LINES, Machine, Page, Refusal, Reply, SHEET_LIMIT, SheetRefusal,
-    Status, run,
+    LINE_LIMIT, LimitWord, LoadFault, MAX_LINES, Machine, Page, Refusal, Reply, SHEET_LIMIT,
+    SheetRefusal, Status, run,
 };
 use pc_port::{Failed, MemorySink, MemorySource, Sink, Source};
 use std::alloc::{AllocError, Global};
@@ -312,5 +313,50 @@ fn each_line_is_answered_before_the_next_read(rt: HostRuntime) -> Result<(), Fai
     );
     assert_eq!(rt; answers.get(), 8);
     assert!(rt; !early.get());
+    Ok(())
+}
+
+// Each refusal for the 207th line of a sheet; of a command it lacks the line.
+#[test]
+fn refusals(rt: HostRuntime) -> Result<(), Fail> {
+    let alloc = rt.alloc();
+    for (refusal, number, further) in [
+        (Refusal::NotUtf8, "1 not-utf8", ""),
+        (Refusal::Syntax, "2 syntax", ""),
+        (Refusal::WrongVersion, "4 wrong-version", ""),
+        (Refusal::UnknownName, "5 unknown-name", ""),
+        (Refusal::DuplicateName, "6 duplicate-name", ""),
+        (Refusal::WrongArity, "7 wrong-arity", ""),
+        (Refusal::WrongSort, "8 wrong-sort", ""),
+        (Refusal::NotAValue, "9 not-a-value", ""),
+        (Refusal::EmptySort, "10 empty-sort", ""),
+        (Refusal::Limit(LimitWord::Sorts), "11 limit", " sorts"),
+        (Refusal::Limit(LimitWord::Values), "11 limit", " values"),
+        (Refusal::Limit(LimitWord::Number), "11 limit", " number"),
+        (Refusal::Limit(LimitWord::Tables), "11 limit", " tables"),
+        (Refusal::Limit(LimitWord::Families), "11 limit", " families"),
+        (Refusal::Limit(LimitWord::Arity), "11 limit", " arity"),
+        (Refusal::Limit(LimitWord::Cells), "11 limit", " cells"),
+        (Refusal::Limit(LimitWord::Rows), "11 limit", " rows"),
+        (Refusal::Limit(LimitWord::Rules), "11 limit", " rules"),
+        (Refusal::Limit(LimitWord::Depth), "11 limit", " depth"),
+        (Refusal::Limit(LimitWord::Reads), "11 limit", " reads"),
+        (Refusal::Limit(LimitWord::Budget), "11 limit", " budget"),
+        (Refusal::NoEntry, "16 no-entry", ""),
+        (Refusal::NotYet, "20 not-yet", ""),
+        (Refusal::TooDeep, "21 too-deep", ""),
+    ] {
+        let want = format!(in alloc;
+            "refused {number}{further}\nsheet refused {number} line 207{further}\n"
+        )?;
+        let mut out = MemorySink::new(alloc, 4096, Vec::new(alloc))?;
+        let line = Some(207);
+        assert!(rt; write_refusal(refusal, &mut out).is_ok(), "{want}");
+        assert!(rt;
+            write_sheet_refusal(SheetRefusal { refusal, line }, &mut out).is_ok(),
+            "{want}"
+        );
+        assert_eq!(rt; out.bytes(), want.as_bytes(), "{want}");
+    }
     Ok(())
 }
