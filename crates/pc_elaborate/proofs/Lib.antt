@@ -1,0 +1,5 @@
+pub mod Testing
+pub mod Unique
+pub mod Values
+pub mod NamedAs
+pub mod CellWalk

@@ -7,16 +7,15 @@ use Rattle.pc_formula.specs.Tree.{for_all, exists, iff, implies, or, and, not, c
 use Rattle.pc_sheet.specs.Sheet as plain
 use Rattle.pc_sheet.specs.Sheet.{Universe}
 use Rattle.pc_sheet.specs.Truth.{values_at}
-use Rattle.pc_sheet.specs.WellSorted.{Variables, variable_name, declared_names, IsRange, IsOfSort, IsInteger, IsSmallNumber, AreComparable, IsWellSorted, AreWellSorted, ReadsFew, reads_in_sum, reads_in_items}
+use Rattle.pc_sheet.specs.WellSorted.{Variables, variable_name, declared_names, IsRange, IsOfSort, IsInteger, IsSmallNumber, AreComparable, IsWellSorted, ReadsFew, reads_in_sum, reads_in_items}
 use Rattle.pc_sheet.specs.declared.ids.SortId.{SortId}
 use Rattle.pc_sheet.specs.declared.ids.TableId.{TableId}
 use Rattle.pc_sheet.specs.declared.ids.FamilyId.{FamilyId}
-use Rattle.pc_sheet.specs.declared.ids.CellId.{CellId}
 use Rattle.pc_sheet.specs.declared.ids.ValueId.{ValueId}
 use Rattle.pc_elaborate.specs.declared.fault.SortFault.{SortFault}
 use Rattle.pc_elaborate.specs.declared.fault.SortFault.TheVariants.{UnknownName, DuplicateName, WrongArity, WrongSort, NotAValue, Limit}
 use Rattle.pc_elaborate.specs.declared.fault.Which.TheVariants.{Number, Depth, Reads}
-use Rattle.pc_elaborate.specs.Elaboration.{IsSortNamed, IsTableNamed, IsFamilyNamed, TakesArguments, IsValueOf, AreValuesOf, IsCell, IsItem, IsArgument, AreArguments, IsSum, IsStatement, AreStatements}
+use Rattle.pc_elaborate.specs.Elaboration.{IsSortNamed, IsTableNamed, IsFamilyNamed, TakesArguments, IsValueOf, IsItem, IsArgument, AreArguments, IsSum, IsStatement}
 use Rattle.pc_elaborate.specs.Tests.{no_test, test, part}
 
 -- ---- names
@@ -65,7 +64,7 @@ HasFamily u n Fails e = (f : FamilyId) × (ss : List SortId) × IsFamilyNamed u 
 abbrev pub IsCellFault : Universe → tree.Cell → SortFault → Type 0
 IsCellFault u c =
     part (IsSomeFamily u c.name) (IsNameFault u c.name (IsSomeFamily u c.name))
-      (HasFamily u c.name (λ ss. test (length c.args ≡ length ss) WrongArity (AreValuesFault u ss c.args)))
+    (HasFamily u c.name (λ ss. test (length c.args ≡ length ss) WrongArity (AreValuesFault u ss c.args)))
 
 -- ---- items
 
@@ -88,12 +87,12 @@ count_items (one_item a items) = 1 + count_items items
 abbrev pub IsNamedFault : Universe → Variables → List ℕ → tree.Items → (List SortId → SortFault → Type 0) → SortFault → Type 0
 IsNamedFault u vs n no_item Items =
     test (IsBound vs n ⊎ IsDeclared u n) UnknownName
-      (test (¬ (IsSomeSort u n ⊎ IsSomeTable u n)) WrongSort
-        (test (IsSomeFamily u n → (f : FamilyId) × IsFamilyNamed u n f × TakesArguments u f []) WrongArity no_test))
+    (test (¬ (IsSomeSort u n ⊎ IsSomeTable u n)) WrongSort
+    (test (IsSomeFamily u n → (f : FamilyId) × IsFamilyNamed u n f × TakesArguments u f []) WrongArity no_test))
 IsNamedFault u vs n (one_item a items) Items =
     test (IsBound vs n ⊎ IsDeclared u n) UnknownName
-      (test (IsSomeFamily u n) WrongSort
-        (HasFamily u n (λ ss. test (count_items (one_item a items) ≡ length ss) WrongArity (Items ss))))
+    (test (IsSomeFamily u n) WrongSort
+    (HasFamily u n (λ ss. test (count_items (one_item a items) ≡ length ss) WrongArity (Items ss))))
 
 abbrev mutual
   -- an argument of the sort is asked for
@@ -101,7 +100,7 @@ abbrev mutual
   IsArgumentFault u vs s (integer z) = IsValueFault u s (integer_value z)
   IsArgumentFault u vs s (named n items) =
       part (IsSortedItem u vs (named n items)) (IsNamedFault u vs n items (λ ss. AreArgumentsFault u vs ss items))
-        (test (IsSortedArgument u vs s (named n items)) WrongSort no_test)
+      (test (IsSortedArgument u vs s (named n items)) WrongSort no_test)
 
   -- arguments of as many sorts are asked for
   pub AreArgumentsFault : Universe → Variables → List SortId → tree.Items → SortFault → Type 0
@@ -157,9 +156,9 @@ AreSums u vs left right Fails e = (x : plain.Sum) × (y : plain.Sum) × IsSum u 
 abbrev pub IsComparisonFault : Universe → Variables → tree.Side → Op → tree.Side → SortFault → Type 0
 IsComparisonFault u vs left op right =
     part (IsSide u vs left) (IsSideFault u vs left)
-      (part (IsSide u vs right) (IsSideFault u vs right)
-        (AreSums u vs left right
-          (λ x y. test (ReadsFew (reads_in_sum x + reads_in_sum y)) (Limit Reads) (test (AreComparable u vs x op y) WrongSort no_test))))
+    (part (IsSide u vs right) (IsSideFault u vs right)
+    (AreSums u vs left right
+    (λ x y. test (ReadsFew (reads_in_sum x + reads_in_sum y)) (Limit Reads) (test (AreComparable u vs x op y) WrongSort no_test))))
 
 abbrev pub AreSortedArguments : Universe → Variables → List SortId → tree.Items → Type 0
 AreSortedArguments u vs ss no_item = Unit {0}
@@ -177,10 +176,10 @@ GivesArguments u vs ss items Fails e = (xs : plain.Items) × AreArguments u vs s
 abbrev pub IsTableAtomFault : Universe → Variables → List ℕ → tree.Items → SortFault → Type 0
 IsTableAtomFault u vs n items =
     part (IsSomeTable u n) (IsNameFault u n (IsSomeTable u n))
-      (HasTable u n
-        (λ ss. test (count_items items ≡ length ss) WrongArity
-          (part (AreSortedArguments u vs ss items) (AreArgumentsFault u vs ss items)
-            (GivesArguments u vs ss items (λ xs. test (ReadsFew (reads_in_items xs)) (Limit Reads) no_test)))))
+    (HasTable u n
+    (λ ss. test (count_items items ≡ length ss) WrongArity
+    (part (AreSortedArguments u vs ss items) (AreArgumentsFault u vs ss items)
+    (GivesArguments u vs ss items (λ xs. test (ReadsFew (reads_in_items xs)) (Limit Reads) no_test)))))
 
 -- ---- formulas
 
@@ -196,8 +195,8 @@ HasSort u n Fails e = (s : SortId) × IsSortNamed u n s × Fails s e
 abbrev pub IsQuantifierFault : Universe → Variables → List ℕ → List ℕ → (SortId → SortFault → Type 0) → SortFault → Type 0
 IsQuantifierFault u vs n sort Body =
     test (length vs < 16) (Limit Depth)
-      (test (¬ (IsDeclared u n ⊎ IsBound vs n)) DuplicateName
-        (part (IsSomeSort u sort) (IsSortNameFault u sort) (HasSort u sort Body)))
+    (test (¬ (IsDeclared u n ⊎ IsBound vs n)) DuplicateName
+    (part (IsSomeSort u sort) (IsSortNameFault u sort) (HasSort u sort Body)))
 
 abbrev mutual
   pub IsFormulaFault : Universe → Variables → tree.Formula → SortFault → Type 0

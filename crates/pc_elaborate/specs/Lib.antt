@@ -2,3 +2,4 @@ pub mod Elaboration
 pub mod Tests
 pub mod FormulaFaults
 pub mod Told
+pub mod Outcome

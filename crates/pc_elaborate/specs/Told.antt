@@ -1,17 +1,14 @@
 -- What the checks of trees tell.
 use Rattle.std.specs.Prelude.{◌≡◌, Result, Ok, Err}
-use Rattle.pc_formula.specs.Tree.{Formula, Cell, Value}
+use Rattle.pc_formula.specs.Tree.{Formula}
 use Rattle.pc_sheet.specs.Sheet.{Universe, Statement}
 use Rattle.pc_sheet.specs.Views.{statement_of}
 use Rattle.pc_sheet.specs.WellSorted.{Variables, IsWellSorted}
-use Rattle.pc_sheet.specs.declared.ids.CellId.{CellId}
-use Rattle.pc_sheet.specs.declared.ids.SortId.{SortId}
-use Rattle.pc_sheet.specs.declared.ids.ValueId.{ValueId}
 use Rattle.pc_sheet.specs.declared.formula.Formula as built
 use Rattle.pc_elaborate.specs.declared.fault.SortFault.{SortFault}
 use Rattle.pc_elaborate.specs.declared.fault.SortFault.TheVariants.{UnknownName, DuplicateName, WrongArity, WrongSort, NotAValue, EmptySort, Limit, Memory}
-use Rattle.pc_elaborate.specs.Elaboration.{IsCell, IsValueOf, IsStatement}
-use Rattle.pc_elaborate.specs.FormulaFaults.{IsCellFault, IsValueFault, IsFormulaFault}
+use Rattle.pc_elaborate.specs.Elaboration.{IsStatement}
+use Rattle.pc_elaborate.specs.FormulaFaults.{IsFormulaFault}
 
 -- it is one of these faults, unless memory ran out
 abbrev pub IsFaultOf : (SortFault → Type 0) → SortFault → Type 0

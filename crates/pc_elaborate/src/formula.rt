@@ -19,7 +19,11 @@ use std::alloc::Global;
 
 /// The statement that a closed formula stands for in the book, which is well sorted and nests as the formula does, or
 /// the first fault from left to right.
-pub fn check_formula(alloc: Global, book: &Book, formula: &FormulaTree) -> Result<Formula, SortFault>
+pub fn check_formula(
+    alloc: Global,
+    book: &Book,
+    formula: &FormulaTree,
+) -> Result<Formula, SortFault>
     requires sized { IsSized (formula_of formula.now) }
     ensures told { IsFormulaTold book.now.universe [] (formula_of formula.now) result }
     ensures nested { IfOk result (λ f. built.nesting_of (statement_of f) ≡ written.nesting_of (formula_of formula.now)) }
