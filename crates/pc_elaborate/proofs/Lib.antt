@@ -3,3 +3,7 @@ pub mod Unique
 pub mod Values
 pub mod NamedAs
 pub mod CellWalk
+pub mod Shapes
+pub mod Items
+pub mod Sides
+pub mod Formulas

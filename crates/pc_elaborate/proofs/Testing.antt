@@ -62,3 +62,10 @@ module _ {A : Type 0} (IsFound : A → Type 0) (Fails : SortFault → Type 0) (l
   pub tells : ¬ Fails Memory → (r : Result A SortFault) → IsOutcome IsFound Fails r → Tells IsFound Fails r
   tells ample (Ok x) h = tells_ok x h
   tells ample (Err e) h = tells_err e h ample
+
+-- the rest has one fault at most where the test passes
+pub test_one_if : (Passes : Type 0) (fault : SortFault) (rest : SortFault → Type 0) → (Passes → IsOne rest) → IsOne (test Passes fault rest)
+test_one_if Passes fault rest one e f (inl h) (inl k) = h.1 ∙ sym k.1
+test_one_if Passes fault rest one e f (inl h) (inr k) = absurd (h.0 k.0)
+test_one_if Passes fault rest one e f (inr h) (inl k) = absurd (k.0 h.0)
+test_one_if Passes fault rest one e f (inr h) (inr k) = one h.0 e f h.1 k.1

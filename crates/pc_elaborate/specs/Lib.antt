@@ -3,3 +3,5 @@ pub mod Tests
 pub mod FormulaFaults
 pub mod Told
 pub mod Outcome
+pub mod Scope
+pub mod Laws
