@@ -4,6 +4,14 @@ pub mod Values
 pub mod NamedAs
 pub mod CellWalk
 pub mod Shapes
-pub mod Items
-pub mod Sides
-pub mod Formulas
+pub mod ItemLaws
+pub mod SideLaws
+pub mod FormulaLaws
+pub mod ItemTold
+pub mod ScopeTold
+pub mod SideTold
+pub mod AtomTold
+pub mod ReadsTold
+pub mod NestingLaws
+pub mod FormulaTold
+pub mod FormulaViews

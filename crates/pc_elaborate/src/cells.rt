@@ -30,7 +30,7 @@ fn find_listed(book: &Book, sort: SortId, name: &Name) -> Result<ValueId, SortFa
 }
 
 /// The value of the sort that a whole number stands for, or why there is none.
-fn find_integer(book: &Book, sort: SortId, n: i64) -> Result<ValueId, SortFault>
+pub(crate) fn find_integer(book: &Book, sort: SortId, n: i64) -> Result<ValueId, SortFault>
     requires { sort.0 < length book.now.universe.sorts }
     ensures { IsOutcome (IsValueOf book.now.universe sort (integer_value n)) (IsValueFault book.now.universe sort (integer_value n)) result }
 {
@@ -78,7 +78,7 @@ pub fn find_values(
 }
 
 /// The sorts of a family's arguments, at most four.
-fn argument_sorts(book: &Book, family: FamilyId) -> &[SortId]
+pub(crate) fn argument_sorts(book: &Book, family: FamilyId) -> &[SortId]
     requires { family.0 < length book.now.universe.families }
     ensures takes { TakesArguments book.now.universe family result.now }
     ensures few { length result.now ≤ 4 }

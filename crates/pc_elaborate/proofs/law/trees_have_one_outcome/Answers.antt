@@ -1,7 +1,7 @@
 use Rattle.std.proofs.Common.{[]}
 use Rattle.pc_elaborate.proofs.Unique.{names_are_unique}
 use Rattle.pc_elaborate.proofs.Values.{sort_outcome, value_outcome, values_outcome, cell_outcome}
-use Rattle.pc_elaborate.proofs.Formulas.{no_scope, formula_outcome}
+use Rattle.pc_elaborate.proofs.FormulaLaws.{no_scope, formula_outcome}
 use Rattle.pc_elaborate.proofs.law.trees_have_one_outcome.Goals as goal
 
 pub returns : goal.returns

@@ -24,7 +24,7 @@ use Rattle.pc_elaborate.specs.FormulaFaults.{IsSomeTable, IsNameFault, IsSortedI
 use Rattle.pc_elaborate.proofs.Testing.{IsOne, IsNever, none_one, none_never, test_one, test_never, part_one, part_never}
 use Rattle.pc_elaborate.proofs.Values.{both_at, table_one, name_fault_one, name_fault_never}
 use Rattle.pc_elaborate.proofs.Shapes.{item_shape, arguments_shape}
-use Rattle.pc_elaborate.proofs.Items.{item_one, arguments_one, item_never, argument_never, item_fault_one, arguments_fault_one, as_many}
+use Rattle.pc_elaborate.proofs.ItemLaws.{item_one, arguments_one, item_never, argument_never, item_fault_one, arguments_fault_one, as_many}
 
 module _ (u : Universe) (vs : Variables) where
   named_no_number : (n : List ℕ) (items : tree.Items) (z : plain.Item) → IsItem u vs (named n items) z → IsInteger u vs z → (s : SortId) × IsOfSort u vs z s × IsRange (values_at u s)

@@ -20,8 +20,8 @@ use Rattle.pc_elaborate.specs.FormulaFaults.{IsDeclared, IsBound, IsSomeSort, Is
 use Rattle.pc_elaborate.proofs.Testing.{IsOne, IsNever, none_one, none_never, test_one_if, test_never, part_one, part_never}
 use Rattle.pc_elaborate.proofs.Values.{some_at, both_at, get_below, sort_one, table_one, name_fault_one, name_fault_never}
 use Rattle.pc_elaborate.proofs.Shapes.{shape, parts_shape}
-use Rattle.pc_elaborate.proofs.Items.{arguments_one, bound_at}
-use Rattle.pc_elaborate.proofs.Sides.{sum_one, comparison_one, comparison_never, table_atom_one, table_atom_never}
+use Rattle.pc_elaborate.proofs.ItemLaws.{arguments_one, bound_at}
+use Rattle.pc_elaborate.proofs.SideLaws.{sum_one, comparison_one, comparison_never, table_atom_one, table_atom_never}
 
 -- ---- one more variable
 
