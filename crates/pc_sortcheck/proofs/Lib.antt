@@ -1,0 +1,9 @@
+pub mod Lists
+pub mod NewNames
+pub mod Faults
+pub mod WithSort
+pub mod WithTable
+pub mod WithFamily
+pub mod WithRow
+pub mod WithRule
+pub mod DeclaredSorts

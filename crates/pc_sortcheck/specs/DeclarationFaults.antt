@@ -43,8 +43,8 @@ HasRoomForRow u t vs = IsSomeAnd (slice_get u.tables t.0) (λ table. Contains ta
 abbrev pub IsRowFault : Universe → List tree.Value → TableId → List SortId → SortFault → Type 0
 IsRowFault u values t ss =
     test (length values ≡ length ss) WrongArity
-      (part ((vs : List ValueId) × AreValuesOf u ss values vs) (AreValuesFault u ss values)
-        (λ e. (vs : List ValueId) × AreValuesOf u ss values vs × test (HasRoomForRow u t vs) (Limit Rows) no_test e))
+    (part ((vs : List ValueId) × AreValuesOf u ss values vs) (AreValuesFault u ss values)
+    (λ e. (vs : List ValueId) × AreValuesOf u ss values vs × test (HasRoomForRow u t vs) (Limit Rows) no_test e))
 
 -- the family's cells stand beside those of the families before it
 abbrev pub HasRoomForCells : Sheet → List ℕ → List SortId → SortId → Type 0
@@ -58,33 +58,33 @@ IsRuleFault old f rest =
 abbrev pub IsDeclarationFault : Sheet → tree.Declared → SortFault → Type 0
 IsDeclarationFault old (list_sort n values) =
     test (IsNew old.universe n) DuplicateName
-      (test (length old.universe.sorts < 256) (Limit Sorts)
-        (test (1 ≤ length values) EmptySort
-          (test (length values ≤ 256) (Limit Values) (test (AreNewValues old.universe n values) DuplicateName no_test))))
+    (test (length old.universe.sorts < 256) (Limit Sorts)
+    (test (1 ≤ length values) EmptySort
+    (test (length values ≤ 256) (Limit Values) (test (AreNewValues old.universe n values) DuplicateName no_test))))
 IsDeclarationFault old (range_sort n low high) =
     test (IsNew old.universe n) DuplicateName
-      (test (length old.universe.sorts < 256) (Limit Sorts)
-        (test (IsSmallNumber low × IsSmallNumber high) (Limit Number)
-          (test (low ≤ℤ high) EmptySort (test (count_of (range low high) ≤ 256) (Limit Values) no_test))))
+    (test (length old.universe.sorts < 256) (Limit Sorts)
+    (test (IsSmallNumber low × IsSmallNumber high) (Limit Number)
+    (test (low ≤ℤ high) EmptySort (test (count_of (range low high) ≤ 256) (Limit Values) no_test))))
 IsDeclarationFault old (table n sorts) =
     test (IsNew old.universe n) DuplicateName
-      (test (length old.universe.tables < 256) (Limit Tables)
-        (test ((1 ≤ length sorts) × (length sorts ≤ 4)) (Limit Arity) (AreSortNamesFault old.universe sorts)))
+    (test (length old.universe.tables < 256) (Limit Tables)
+    (test ((1 ≤ length sorts) × (length sorts ≤ 4)) (Limit Arity) (AreSortNamesFault old.universe sorts)))
 IsDeclarationFault old (row n values) =
     part (IsSomeTable old.universe n) (IsNameFault old.universe n (IsSomeTable old.universe n))
-      (λ e. (t : TableId) × (ss : List SortId) × IsTableOf old.universe n t ss × IsRowFault old.universe values t ss e)
+    (λ e. (t : TableId) × (ss : List SortId) × IsTableOf old.universe n t ss × IsRowFault old.universe values t ss e)
 IsDeclarationFault old (cell n sorts result) =
     test (IsNew old.universe n) DuplicateName
-      (test (length old.universe.families < 256) (Limit Families)
-        (test (length sorts ≤ 4) (Limit Arity)
-          (part (AreSomeSorts old.universe sorts) (AreSortNamesFault old.universe sorts)
-            (part (IsSomeSort old.universe result) (IsSortNameFault old.universe result)
-              (λ e. (ss : List SortId) × (r : SortId) × AreSortsNamed old.universe sorts ss × IsSortNamed old.universe result r
-                × test (HasRoomForCells old n ss r) (Limit Cells) no_test e)))))
+    (test (length old.universe.families < 256) (Limit Families)
+    (test (length sorts ≤ 4) (Limit Arity)
+    (part (AreSomeSorts old.universe sorts) (AreSortNamesFault old.universe sorts)
+    (part (IsSomeSort old.universe result) (IsSortNameFault old.universe result)
+    (λ e. (ss : List SortId) × (r : SortId) × AreSortsNamed old.universe sorts ss × IsSortNamed old.universe result r
+    × test (HasRoomForCells old n ss r) (Limit Cells) no_test e)))))
 IsDeclarationFault old (rule n f) = IsRuleFault old f (test (¬ Contains (map rule_name old.rules) n) DuplicateName no_test)
 IsDeclarationFault old (enter c v) =
     part ((k : CellId) × (s : SortId) × IsCell old.universe c k s) (IsCellFault old.universe c)
-      (λ e. (k : CellId) × (s : SortId) × IsCell old.universe c k s × IsValueFault old.universe s v e)
+    (λ e. (k : CellId) × (s : SortId) × IsCell old.universe c k s × IsValueFault old.universe s v e)
 
 -- the declaration of that line is the first at fault
 abbrev pub IsFirstFault : Sheet → List (ℕ × tree.Declared) → ℕ → SortFault → Type 0

@@ -1,2 +1,3 @@
 pub mod Declaring
 pub mod DeclarationFaults
+pub mod Fits

@@ -2,8 +2,10 @@
 #![tactic(auto)]
 
 mod fault;
+mod names;
 mod rule;
 mod sheet;
+mod sorts;
 
 pub use fault::SheetSortFault;
 pub use pc_elaborate::{SortFault, Which};
