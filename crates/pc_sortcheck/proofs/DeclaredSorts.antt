@@ -1,5 +1,5 @@
 -- What the line of a sort declares.
-use Rattle.std.proofs.Common.{◌≡◌, ◌≢◌, ℕ, suc, ℤ, ◌+◌, ◌<◌, ◌≤◌, ◌≤ℤ◌, List, [], ◌∷◌, length, get_or, All, Contains, arith, ap, ap₂, ◌∙◌, sym, subst, refl}
+use Rattle.std.proofs.Common.{◌≡◌, ℕ, suc, ℤ, ◌+◌, List, [], ◌∷◌, get_or, All, Contains, arith, ap, ap₂, ◌∙◌, sym, subst}
 use Rattle.std.proofs.lemmas.List.Elements.{All-nil, All-cons, All-head, All-contains}
 use Rattle.pc_name.specs.Names.{IsName}
 use Rattle.pc_syntax.specs.Tree as tree

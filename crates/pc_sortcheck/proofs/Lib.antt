@@ -7,3 +7,7 @@ pub mod WithFamily
 pub mod WithRow
 pub mod WithRule
 pub mod DeclaredSorts
+pub mod Rows
+pub mod FoundSorts
+pub mod DeclaredTables
+pub mod DeclaredFamilies

@@ -1,5 +1,5 @@
 -- A well-formed sheet with one more sort.
-use Rattle.std.proofs.Common.{◌≡◌, ◌≢◌, ℕ, zero, suc, ◌+◌, ◌<◌, ◌≤◌, List, [], ◌∷◌, ◌++◌, slice_get, IsSomeAnd, map, length, get_or, All, AllPairs, Contains, arith, ap, ap₂, ◌∙◌, sym, subst, refl, sum_by, replicate}
+use Rattle.std.proofs.Common.{◌≡◌, ℕ, zero, suc, ◌<◌, List, [], ◌∷◌, ◌++◌, slice_get, IsSomeAnd, map, length, get_or, All, arith, ap, ap₂, ◌∙◌, sym, subst, refl, sum_by, replicate}
 use Rattle.std.specs.List.{flat_map}
 use Rattle.std.proofs.lemmas.Grind.{flat_map-append}
 use Rattle.std.proofs.lemmas.List.{length-append, append-nil}

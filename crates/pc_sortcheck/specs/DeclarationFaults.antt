@@ -1,5 +1,5 @@
 -- Why declarations give no sheet: the tests of each kind of line, in order, and the first line at fault.
-use Rattle.std.specs.Prelude.{◌≡◌, ◌⊎◌, ℕ, ℤ, ◌<◌, ◌≤◌, ◌≤ℤ◌, List, [], ◌∷◌, map, length, sum_by, Contains, slice_get, IsSomeAnd}
+use Rattle.std.specs.Prelude.{◌≡◌, ◌⊎◌, ℕ, ◌<◌, ◌≤◌, ◌≤ℤ◌, List, [], ◌∷◌, map, length, sum_by, Contains, slice_get, IsSomeAnd}
 use Rattle.pc_syntax.specs.Tree as tree
 use Rattle.pc_syntax.specs.Tree.{list_sort, range_sort, table, row, cell, rule, enter}
 use Rattle.pc_sheet.specs.Sheet.{Sheet, Universe, range, empty_sheet}

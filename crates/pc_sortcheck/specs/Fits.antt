@@ -1,8 +1,17 @@
 -- When a declaration passes its tests behind those before it.
-use Rattle.std.specs.Prelude.{ℕ, ℤ, ◌<◌, ◌≤◌, ◌≤ℤ◌, List, length}
-use Rattle.pc_sheet.specs.Sheet.{Sheet, range}
+use Rattle.std.specs.Prelude.{◌≡◌, ℕ, ℤ, ◌<◌, ◌≤◌, ◌≤ℤ◌, List, length, slice_get, IsSomeAnd}
+use Rattle.pc_syntax.specs.Tree as tree
+use Rattle.pc_sheet.specs.Sheet.{Sheet, Universe, range}
 use Rattle.pc_sheet.specs.Truth.{count_of}
 use Rattle.pc_sheet.specs.WellSorted.{IsSmallNumber}
+use Rattle.pc_sheet.specs.declared.ids.SortId.{SortId}
+use Rattle.pc_sheet.specs.declared.ids.TableId.{TableId}
+use Rattle.pc_sheet.specs.declared.ids.ValueId.{ValueId}
+use Rattle.pc_elaborate.specs.declared.fault.SortFault.{SortFault}
+use Rattle.pc_elaborate.specs.declared.fault.SortFault.TheVariants.{WrongArity}
+use Rattle.pc_elaborate.specs.Elaboration.{AreValuesOf}
+use Rattle.pc_elaborate.specs.FormulaFaults.{AreValuesFault}
+use Rattle.pc_elaborate.specs.Tests.{test}
 use Rattle.pc_sortcheck.specs.DeclarationFaults.{IsNew, AreNewValues}
 
 -- from one to 256 values, with names that are new and different; at most 256 sorts
@@ -34,3 +43,13 @@ pub record FamilyFits (old : Sheet) (n : List ℕ) (sorts : List (List ℕ)) : T
   pub fresh : IsNew old.universe n
   pub families : length old.universe.families < 256
   pub limit : length sorts ≤ 4
+
+-- ---- what is named
+
+-- the values are a row of the table's sorts
+abbrev pub AreRowOf : Universe → TableId → List tree.Value → List ValueId → Type 0
+AreRowOf u t values vs = (ss : List SortId) × IsSomeAnd (slice_get u.tables t.0) (λ table. table.sorts ≡ ss) × AreValuesOf u ss values vs
+
+-- they are none: there are more or fewer of them, or one isn't of its sort
+abbrev pub AreNoRowOf : Universe → TableId → List tree.Value → SortFault → Type 0
+AreNoRowOf u t values e = (ss : List SortId) × IsSomeAnd (slice_get u.tables t.0) (λ table. table.sorts ≡ ss) × test (length values ≡ length ss) WrongArity (AreValuesFault u ss values) e

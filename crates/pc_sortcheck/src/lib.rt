@@ -1,11 +1,13 @@
 //! From trees to books: what declarations make of a sheet, or the first line that is at fault.
 #![tactic(auto)]
 
+mod cells;
 mod fault;
 mod names;
 mod rule;
 mod sheet;
 mod sorts;
+mod tables;
 
 pub use fault::SheetSortFault;
 pub use pc_elaborate::{SortFault, Which};

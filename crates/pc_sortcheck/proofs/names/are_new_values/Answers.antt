@@ -1,4 +1,4 @@
-use Rattle.std.proofs.Common.{arith, rules}
+use Rattle.std.proofs.Common.{rules}
 use Rattle.pc_sortcheck.proofs.NewNames.{new_values, each_new, sort_apart, values_different}
 use Rattle.pc_sortcheck.proofs.names.are_new_values.Goals as goal
 

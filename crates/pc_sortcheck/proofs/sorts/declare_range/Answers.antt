@@ -3,8 +3,6 @@ use Rattle.std.proofs.Common.{◌≡◌, arith, w32, w64}
 use Rattle.std.proofs.lemmas.Int.{ints, to_z-of_z}
 use Rattle.std.proofs.lemmas.Result.{err_from_is_err_and}
 use Rattle.pc_syntax.specs.Tree as tree
-use Rattle.pc_sheet.specs.WellFormed.{IsWellFormed}
-use Rattle.pc_logic.specs.Edits.{range_sort, with_sort}
 use Rattle.pc_sortcheck.specs.DeclarationFaults.{IsDeclarationFault}
 use Rattle.pc_sortcheck.proofs.DeclaredSorts.{range_formed, range_declared, range_at_fault, range_fits_so}
 use Rattle.pc_sortcheck.proofs.Faults.{handed_on}

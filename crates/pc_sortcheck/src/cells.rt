@@ -1,0 +1,109 @@
+//! Lines that declare a family or enter a value.
+ghost use Rattle.std.specs.Prelude.{◌≡◌, ◌↔◌, ◌+◌, ◌≤◌, ◌^◌, [], All, IsTrue, MatchResult, length, map};
+ghost use Rattle.pc_sheet.specs.Truth.{product, size_of};
+ghost use Rattle.pc_sheet.specs.Entailment.{cell_sizes};
+ghost use Rattle.pc_sheet.specs.WellFormed.{IsDeclaredSort};
+ghost use Rattle.pc_syntax.specs.Tree as tree;
+ghost use Rattle.pc_syntax.specs.Tree.{cell_of, value_of};
+ghost use Rattle.pc_elaborate.specs.Told.{IsFaultOf};
+ghost use Rattle.pc_sortcheck.specs.DeclarationFaults.{IsDeclarationFault};
+ghost use Rattle.pc_sortcheck.specs.Declaring.{Declares};
+ghost use Rattle.pc_sortcheck.specs.Fits.{FamilyFits};
+
+use crate::names::{is_name, is_new, keeps_form};
+use crate::tables::find_sorts;
+use pc_elaborate::{SortFault, Which, find_cell, find_sort, find_value};
+use pc_logic::{Book, Entry, Name, SortId};
+use pc_syntax::{CellTree, ValueTree};
+use std::alloc::Global;
+
+/// The tests of a family before its sorts, in their order.
+fn test_family(
+    book: &Book,
+    name: &Name,
+    sorts: &[Name],
+    result_sort: &Name,
+) -> Result<(), SortFault>
+    ensures { MatchResult result (λ _. FamilyFits book.now name.now sorts.now) (IsDeclarationFault book.now (tree.cell name.now sorts.now result_sort.now)) }
+{
+    if !is_new(book, name) {
+        return Err(SortFault::DuplicateName);
+    }
+    if book.families() >= 256 {
+        return Err(SortFault::Limit(Which::Families));
+    }
+    if sorts.len() > 4 {
+        return Err(SortFault::Limit(Which::Arity));
+    }
+    Ok(())
+}
+
+/// How many values a sort has.
+fn size_of_sort(book: &Book, sort: SortId) -> usize
+    requires { IsDeclaredSort book.now.universe sort }
+    ensures exact { result ≡ size_of book.now.universe sort }
+    ensures few { result ≤ 256 }
+{
+    keeps_form(book);
+    book.size_of(sort)
+}
+
+/// How many tuples of arguments of these sorts there are.
+fn count_tuples(book: &Book, sorts: &[SortId]) -> usize
+    requires arity { length sorts.now ≤ 4 }
+    requires declared { All (IsDeclaredSort book.now.universe) sorts.now }
+    ensures exact { result ≡ product (map (size_of book.now.universe) sorts.now) }
+    ensures small { result ≤ 2 ^ 32 }
+{
+    let mut tuples = 1;
+    for sort in sorts {
+        tuples *= size_of_sort(book, *sort);
+    }
+    tuples
+}
+
+/// Whether the cells of a family with these arguments fit behind those that stand.
+fn has_room_for_cells(book: &Book, sorts: &[SortId]) -> bool
+    requires arity { length sorts.now ≤ 4 }
+    requires declared { All (IsDeclaredSort book.now.universe) sorts.now }
+    ensures { IsTrue result ↔ (length (cell_sizes book.now.universe) + product (map (size_of book.now.universe) sorts.now) ≤ 4096) }
+{
+    book.cells() + count_tuples(book, sorts) <= 4096
+}
+
+pub(crate) fn declare_cell(
+    alloc: Global,
+    book: &mut Book,
+    name: &Name,
+    sorts: &[Name],
+    result_sort: &Name,
+) -> Result<(), SortFault>
+    requires { book.old.rules ≡ [] }
+    ensures { MatchResult result (λ _. Declares book.old (tree.cell name.now sorts.now result_sort.now) book.new) (IsFaultOf (IsDeclarationFault book.old (tree.cell name.now sorts.now result_sort.now))) }
+{
+    keeps_form(book);
+    is_name(name);
+    test_family(book, name, sorts, result_sort)?;
+    let sorts = find_sorts(alloc, book, sorts)?;
+    let result_sort = find_sort(book, result_sort)?;
+    if !has_room_for_cells(book, &sorts) {
+        return Err(SortFault::Limit(Which::Cells));
+    }
+    let name = name.clone()?;
+    book.add_family(name, sorts, result_sort)?;
+    Ok(())
+}
+
+pub(crate) fn declare_entry(
+    book: &mut Book,
+    cell: &CellTree,
+    value: &ValueTree,
+) -> Result<(), SortFault>
+    ensures { MatchResult result (λ _. Declares book.old (tree.enter (cell_of cell.now) (value_of value.now)) book.new) (IsFaultOf (IsDeclarationFault book.old (tree.enter (cell_of cell.now) (value_of value.now)))) }
+{
+    let cell = find_cell(book, cell)?;
+    let value = find_value(book, cell, value)?;
+    book.set_entry(Entry { cell, value })?;
+    keeps_form(book);
+    Ok(())
+}
