@@ -11,3 +11,9 @@ pub mod Rows
 pub mod FoundSorts
 pub mod DeclaredTables
 pub mod DeclaredFamilies
+pub mod DeclarationLaws
+pub mod SheetLaws
+pub mod Lines
+pub mod Outcomes
+pub mod DeclaredRules
+pub mod SheetOutcomes

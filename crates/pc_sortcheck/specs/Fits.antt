@@ -1,5 +1,8 @@
 -- When a declaration passes its tests behind those before it.
 use Rattle.std.specs.Prelude.{◌≡◌, ℕ, ℤ, ◌<◌, ◌≤◌, ◌≤ℤ◌, List, length, slice_get, IsSomeAnd}
+use Rattle.pc_formula.specs.Nesting.{nesting_of}
+use Rattle.pc_formula.specs.Sized.{IsSized}
+use Rattle.pc_formula.specs.Word.{most_nesting}
 use Rattle.pc_syntax.specs.Tree as tree
 use Rattle.pc_sheet.specs.Sheet.{Sheet, Universe, range}
 use Rattle.pc_sheet.specs.Truth.{count_of}
@@ -53,3 +56,10 @@ AreRowOf u t values vs = (ss : List SortId) × IsSomeAnd (slice_get u.tables t.0
 -- they are none: there are more or fewer of them, or one isn't of its sort
 abbrev pub AreNoRowOf : Universe → TableId → List tree.Value → SortFault → Type 0
 AreNoRowOf u t values e = (ss : List SortId) × IsSomeAnd (slice_get u.tables t.0) (λ table. table.sorts ≡ ss) × test (length values ≡ length ss) WrongArity (AreValuesFault u ss values) e
+
+-- ---- rules
+
+-- a rule's formula is sized, and doesn't nest too deep; nothing is asked of other declarations
+abbrev pub HasWrittenRule : tree.Declared → Type 0
+HasWrittenRule (tree.rule n f) = IsSized f × (nesting_of f ≤ most_nesting)
+HasWrittenRule d = Unit {0}

@@ -10,6 +10,6 @@ mod sorts;
 mod tables;
 
 pub use fault::SheetSortFault;
-pub use pc_elaborate::{SortFault, Which};
+pub use pc_elaborate::{SortFault, Which, check_formula, find_cell, find_value};
 pub use rule::check_rule;
 pub use sheet::check_sheet;

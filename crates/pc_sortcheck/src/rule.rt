@@ -1,19 +1,23 @@
-//! A rule that is to be added to a book.
-ghost use Rattle.std.specs.Prelude.{◌≡◌, [], IfOk, MatchResult};
+//! Lines that add a rule.
+ghost use Rattle.std.specs.Prelude.{◌≡◌, ◌≤◌, [], IfOk, MatchResult};
 ghost use Rattle.pc_formula.specs.Nesting as written;
 ghost use Rattle.pc_formula.specs.Sized.{IsSized};
+ghost use Rattle.pc_formula.specs.Word.{most_nesting};
 ghost use Rattle.pc_sheet.specs.Nesting as built;
 ghost use Rattle.pc_sheet.specs.Sheet.{Statement};
 ghost use Rattle.pc_sheet.specs.Views.{rule_of};
 ghost use Rattle.pc_sheet.specs.WellSorted.{IsWellSorted};
+ghost use Rattle.pc_syntax.specs.Tree as lines;
 ghost use Rattle.pc_syntax.specs.Tree.{formula_of};
 ghost use Rattle.pc_elaborate.specs.Elaboration.{IsStatement};
 ghost use Rattle.pc_elaborate.specs.Tests.{no_test};
 ghost use Rattle.pc_elaborate.specs.Told.{IsFaultOf, IsWantOfMemory, TellsFault};
 ghost use Rattle.pc_elaborate.specs.declared.fault.SortFault.{SortFault};
-ghost use Rattle.pc_sortcheck.specs.DeclarationFaults.{IsRuleFault};
+ghost use Rattle.pc_sortcheck.specs.DeclarationFaults.{IsDeclarationFault, IsRuleFault};
+ghost use Rattle.pc_sortcheck.specs.Declaring.{Declares};
 
-use pc_elaborate::SortFault;
+use crate::names::{is_name, is_rule_name, keeps_form};
+use pc_elaborate::{SortFault, Which, check_formula};
 use pc_logic::{Book, Rule};
 use pc_syntax::RuleTree;
 use std::alloc::Global;
@@ -27,5 +31,25 @@ pub fn check_rule(alloc: Global, book: &Book, tree: &RuleTree) -> Result<Rule, S
     ensures nested { IfOk result (λ rule. built.nesting_of (rule_of rule).states ≡ written.nesting_of (formula_of tree.now.formula)) }
     ensures fault { (e : SortFault) → IsRuleFault book.now (formula_of tree.now.formula) no_test e → TellsFault result e }
 {
-    Err(SortFault::Memory)
+    let formula = check_formula(alloc, book, &tree.formula)?;
+    if book.rules().len() >= 1024 {
+        return Err(SortFault::Limit(Which::Rules));
+    }
+    let name = tree.name.clone()?;
+    Ok(Rule { name, formula })
+}
+
+pub(crate) fn declare_rule(alloc: Global, book: &mut Book, tree: &RuleTree) -> Result<(), SortFault>
+    requires sized { IsSized (formula_of tree.now.formula) }
+    requires nested { written.nesting_of (formula_of tree.now.formula) ≤ most_nesting }
+    ensures { MatchResult result (λ _. Declares book.old (lines.rule tree.now.name (formula_of tree.now.formula)) book.new) (IsFaultOf (IsDeclarationFault book.old (lines.rule tree.now.name (formula_of tree.now.formula)))) }
+{
+    keeps_form(book);
+    is_name(&tree.name);
+    let rule = check_rule(alloc, book, tree)?;
+    if is_rule_name(book.rules(), &tree.name) {
+        return Err(SortFault::DuplicateName);
+    }
+    book.push_rule(rule)?;
+    Ok(())
 }
