@@ -1,5 +1,5 @@
 //! Lines that declare a family or enter a value.
-ghost use Rattle.std.specs.Prelude.{◌≡◌, ◌↔◌, ◌+◌, ◌≤◌, ◌^◌, [], All, IsTrue, MatchResult, length, map};
+ghost use Rattle.std.specs.Prelude.{ℕ, List, ◌≡◌, ◌↔◌, ◌+◌, ◌≤◌, ◌^◌, [], All, IsTrue, MatchResult, length, map};
 ghost use Rattle.pc_sheet.specs.Truth.{product, size_of};
 ghost use Rattle.pc_sheet.specs.Entailment.{cell_sizes};
 ghost use Rattle.pc_sheet.specs.WellFormed.{IsDeclaredSort};
@@ -18,13 +18,8 @@ use pc_syntax::{CellTree, ValueTree};
 use std::alloc::Global;
 
 /// The tests of a family before its sorts, in their order.
-fn test_family(
-    book: &Book,
-    name: &Name,
-    sorts: &[Name],
-    result_sort: &Name,
-) -> Result<(), SortFault>
-    ensures { MatchResult result (λ _. FamilyFits book.now name.now sorts.now) (IsDeclarationFault book.now (tree.cell name.now sorts.now result_sort.now)) }
+fn test_family(book: &Book, name: &Name, sorts: &[Name]) -> Result<(), SortFault>
+    ensures { MatchResult result (λ _. FamilyFits book.now name.now sorts.now) (λ e. (t : List ℕ) → IsDeclarationFault book.now (tree.cell name.now sorts.now t) e) }
 {
     if !is_new(book, name) {
         return Err(SortFault::DuplicateName);
@@ -83,7 +78,7 @@ pub(crate) fn declare_cell(
 {
     keeps_form(book);
     is_name(name);
-    test_family(book, name, sorts, result_sort)?;
+    test_family(book, name, sorts)?;
     let sorts = find_sorts(alloc, book, sorts)?;
     let result_sort = find_sort(book, result_sort)?;
     if !has_room_for_cells(book, &sorts) {

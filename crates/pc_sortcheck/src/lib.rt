@@ -13,3 +13,6 @@ pub use fault::SheetSortFault;
 pub use pc_elaborate::{SortFault, Which, check_formula, find_cell, find_value};
 pub use rule::check_rule;
 pub use sheet::check_sheet;
+
+#[cfg(test)]
+mod tests;

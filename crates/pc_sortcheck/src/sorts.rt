@@ -1,5 +1,5 @@
 //! Lines that declare a sort.
-ghost use Rattle.std.specs.Prelude.{◌≡◌, ◌↔◌, [], IsTrue, MatchResult};
+ghost use Rattle.std.specs.Prelude.{◌≡◌, ◌↔◌, ◌<◌, [], IsTrue, MatchResult, length};
 ghost use Rattle.pc_sheet.specs.WellSorted.{IsSmallNumber};
 ghost use Rattle.pc_syntax.specs.Tree as tree;
 ghost use Rattle.pc_elaborate.specs.Told.{IsFaultOf};
@@ -12,6 +12,13 @@ use pc_elaborate::{SortFault, Which};
 use pc_logic::{Book, Name};
 use std::alloc::Global;
 
+/// Whether there is room for one more sort.
+fn has_room_for_sort(book: &Book) -> bool
+    ensures { IsTrue result ↔ (length book.now.universe.sorts < 256) }
+{
+    book.sorts() < 256
+}
+
 /// The tests of a listed sort, in their order.
 fn test_list(book: &Book, name: &Name, values: &[Name]) -> Result<(), SortFault>
     ensures { MatchResult result (λ _. ListFits book.now name.now values.now) (IsDeclarationFault book.now (tree.list_sort name.now values.now)) }
@@ -19,7 +26,7 @@ fn test_list(book: &Book, name: &Name, values: &[Name]) -> Result<(), SortFault>
     if !is_new(book, name) {
         return Err(SortFault::DuplicateName);
     }
-    if book.sorts() >= 256 {
+    if !has_room_for_sort(book) {
         return Err(SortFault::Limit(Which::Sorts));
     }
     if values.is_empty() {
@@ -75,7 +82,7 @@ fn test_range(book: &Book, name: &Name, low: i64, high: i64) -> Result<(), SortF
     if !is_new(book, name) {
         return Err(SortFault::DuplicateName);
     }
-    if book.sorts() >= 256 {
+    if !has_room_for_sort(book) {
         return Err(SortFault::Limit(Which::Sorts));
     }
     if !is_small_number(low) {

@@ -14,7 +14,7 @@ use Rattle.pc_sortcheck.proofs.cells.declare_cell.Goals as goal
 pub returns-in_err-test_family : goal.returns-in_err-test_family
 returns-in_err-test_family c =
     let p = err_from_is_err_and c.from_residual.result c.from_residual.ensures.1 in
-    rw p.1 (handed_on (IsDeclarationFault c.args.book.now (tree.cell c.args.name.now c.args.sorts.now c.args.result_sort.now)) c.in_err-test_family.field-0.0 p.0 p.2 c.in_err-test_family.ensures)
+    rw p.1 (handed_on (IsDeclarationFault c.args.book.now (tree.cell c.args.name.now c.args.sorts.now c.args.result_sort.now)) c.in_err-test_family.field-0.0 p.0 p.2 (c.in_err-test_family.ensures c.args.result_sort.now))
 
 pub returns-in_err-result_sort : goal.returns-in_err-result_sort
 returns-in_err-result_sort c =

@@ -9,7 +9,7 @@ returns c =
     let high : IsSmallNumber c.args.high = subst IsSmallNumber (to_z-of_z w64 c.args.high c.ranges.high) (c.is_small_number-2.ensures.0 (search rules)) in
     record {
       fresh = c.is_new.ensures.0 (search rules);
-      sorts = omega arith;
+      sorts = c.has_room_for_sort.ensures.0 (search rules);
       low_bound = low;
       high_bound = high;
       some = omega (arith, ints);
