@@ -1,4 +1,5 @@
 pub mod Deciding
-pub mod Forms
+pub mod Editing
 pub mod Loading
 pub mod SameLines
+pub mod Telling

@@ -1,26 +1,38 @@
--- Which texts are sheets that are small enough to be tried out, why others are refused, what a command line asks in a
--- state, and what may answer it.
-use Rattle.std.specs.Prelude.{◌≡◌, ℕ, ◌≤◌, List}
+-- Which texts are sheets that can be tried out, why others are refused, what a command line asks in a state, and what may
+-- answer it.
+use Rattle.std.specs.Prelude.{◌≡◌, ℕ, ◌<◌, ◌≤◌, List, [], length, Any}
 use Rattle.std.specs.declared.option.Option.{Option}
 use Rattle.std.specs.declared.option.Option.TheVariants.{Some, None}
-use Rattle.pc_syntax.specs.Tree.{Declared, Cell, Value, Asked, asks_enter, asks_show, asks_dump}
+use Rattle.pc_syntax.specs.Tree.{Declared, enter, Cell, Asked, asks_enter, asks_clear, asks_rule, asks_drop, asks_budget, asks_show, asks_grid, asks_json, asks_why, asks_dump}
 use Rattle.pc_syntax.specs.Fault.{not_utf8, too_deep, syntax, wrong_version}
 use Rattle.pc_syntax.specs.Command.{IsCommandReading, no_command, asks, at_fault, TakesNoMemory}
 use Rattle.pc_syntax.specs.Sheet.{IsSheet, IsSheetReading, fault_at, no_begin}
-use Rattle.pc_sheet.specs.Sheet.{Sheet}
+use Rattle.pc_sheet.specs.Sheet.{Sheet, Universe}
 use Rattle.pc_sheet.specs.MaximalSets.{AreRulesConsistent}
+use Rattle.pc_sheet.specs.Weight.{weight}
+use Rattle.pc_sheet.specs.declared.ids.CellId.{CellId}
 use Rattle.pc_sheet.specs.declared.ids.Entry.{Entry}
-use Rattle.pc_logic.specs.Edits.{entered}
+use Rattle.pc_sheet.specs.declared.ids.SortId.{SortId}
+use Rattle.pc_logic.specs.Edits.{entered, without_entry}
+use Rattle.pc_elaborate.specs.declared.fault.SortFault.{SortFault}
+use Rattle.pc_elaborate.specs.declared.fault.SortFault.TheVariants as fault
+use Rattle.pc_elaborate.specs.declared.fault.Which.{Which}
+use Rattle.pc_elaborate.specs.declared.fault.Which.TheVariants as which
+use Rattle.pc_elaborate.specs.Elaboration.{IsCell}
+use Rattle.pc_elaborate.specs.FormulaFaults.{IsCellFault, IsSortedFormula}
+use Rattle.pc_elaborate.specs.Tests.{no_test, test}
 use Rattle.pc_sortcheck.specs.Declaring.{IsSheetOf, IsEntryNamed}
-use Rattle.pc_sortcheck.specs.Small.{HaveSmallForms, IsSmallCell, IsSmallValue}
+use Rattle.pc_sortcheck.specs.DeclarationFaults.{IsDeclarationFault, IsRuleFault, IsSheetFault}
 use Rattle.pc_trying.specs.Size.{tries_of}
 use Rattle.pc_writer.specs.SheetText.{sheet_text}
 use Rattle.pc_display.specs.Show.{IsShown}
 use Rattle.pc_run.specs.declared.machine.Page.{Page}
 use Rattle.pc_run.specs.declared.machine.Page.TheVariants.{Display, SheetText}
 use Rattle.pc_run.specs.declared.refusal.SheetRefusal.{SheetRefusal}
+use Rattle.pc_run.specs.declared.refusal.LimitWord.{LimitWord}
+use Rattle.pc_run.specs.declared.refusal.LimitWord.TheVariants.{Sorts, Values, Number, Tables, Families, Arity, Cells, Rows, Rules, Depth, Reads, Budget}
 use Rattle.pc_run.specs.declared.refusal.Refusal.{Refusal}
-use Rattle.pc_run.specs.declared.refusal.Refusal.TheVariants.{NotUtf8, Syntax, NoBegin, WrongVersion, NotYet, TooDeep}
+use Rattle.pc_run.specs.declared.refusal.Refusal.TheVariants.{NotUtf8, Syntax, NoBegin, WrongVersion, UnknownName, DuplicateName, WrongArity, WrongSort, NotAValue, EmptySort, Limit, NoEntry, NotYet, TooDeep}
 use Rattle.pc_run.specs.Answer.{Answer, silent, accepted, shown, refused, no_memory}
 
 -- a sheet, and the most propagations of an edit
@@ -32,27 +44,76 @@ pub record State : Type 0 where
 abbrev pub default_budget : ℕ
 default_budget = 100000000
 
+abbrev pub IsLight : Sheet → Type 0
+IsLight sheet = weight sheet ≤ 4000000
+
 -- few enough assignments and sublists of the entries to try them all
-abbrev pub CanBeTried : Sheet → Type 0
-CanBeTried sheet = tries_of sheet ≤ 4096
+abbrev pub HasFewTries : Sheet → Type 0
+HasFewTries sheet = tries_of sheet ≤ 4096
+
+-- what follows from the entries can be found by trying
+pub record CanBeTried (sheet : Sheet) : Type 0 where
+  pub light : IsLight sheet
+  pub few : HasFewTries sheet
+  pub consistent : AreRulesConsistent sheet
+
+-- ---- refusals for names and sorts
+
+-- what the word says that a limit is put on
+abbrev pub which_of : LimitWord → Which
+which_of Sorts = which.Sorts
+which_of Values = which.Values
+which_of Number = which.Number
+which_of Tables = which.Tables
+which_of Families = which.Families
+which_of Arity = which.Arity
+which_of Cells = which.Cells
+which_of Rows = which.Rows
+which_of Rules = which.Rules
+which_of Depth = which.Depth
+which_of Reads = which.Reads
+which_of Budget = which.Budget
+
+-- the refusal tells this fault of names or sorts
+abbrev pub IsSortRefusal : SortFault → Refusal → Type 0
+IsSortRefusal e UnknownName = e ≡ fault.UnknownName
+IsSortRefusal e DuplicateName = e ≡ fault.DuplicateName
+IsSortRefusal e WrongArity = e ≡ fault.WrongArity
+IsSortRefusal e WrongSort = e ≡ fault.WrongSort
+IsSortRefusal e NotAValue = e ≡ fault.NotAValue
+IsSortRefusal e EmptySort = e ≡ fault.EmptySort
+IsSortRefusal e (Limit word) = e ≡ fault.Limit (which_of word)
+IsSortRefusal e refusal = ⊥
+
+-- the refusal tells the first of these faults
+abbrev pub IsRefusalFor : (SortFault → Type 0) → Refusal → Type 0
+IsRefusalFor Fails refusal = (e : SortFault) × Fails e × IsSortRefusal e refusal
 
 -- ---- sheets
 
--- the text declares, in small forms alone, a sheet whose rules are consistent and which can be tried out
-pub record IsSmallSheet (text : List ℕ) (state : State) : Type 0 where
+-- the text is a sheet
+pub record IsSheetText (text : List ℕ) (sheet : Sheet) : Type 0 where
   pub declared : List (ℕ × Declared)
   pub is : IsSheet text declared
-  pub forms : HaveSmallForms declared
-  pub gives : IsSheetOf declared state.sheet
-  pub consistent : AreRulesConsistent state.sheet
-  pub few : CanBeTried state.sheet
+  pub gives : IsSheetOf declared sheet
+
+-- the text is a sheet that can be tried out, and a run starts from it
+pub record Starts (text : List ℕ) (state : State) : Type 0 where
+  pub reads : IsSheetText text state.sheet
+  pub can : CanBeTried state.sheet
   pub budget : state.budget ≡ default_budget
 
--- the text passes all tests of a text, and it isn't a small sheet
+-- the text is a sheet that can't be tried out
 pub record IsOtherSheet (text : List ℕ) : Type 0 where
+  pub sheet : Sheet
+  pub reads : IsSheetText text sheet
+  pub cannot : ¬ CanBeTried sheet
+
+-- the text passes all tests of a text, and the declaration of that line is the first with a fault of names or sorts
+pub record HasSortFault (text : List ℕ) (line : ℕ) (e : SortFault) : Type 0 where
   pub declared : List (ℕ × Declared)
   pub is : IsSheet text declared
-  pub none : (state : State) → ¬ IsSmallSheet text state
+  pub fails : IsSheetFault declared line e
 
 -- the text has this refusal, for the line if one is given
 abbrev pub HasRefusal : List ℕ → Refusal → Option ℕ → Type 0
@@ -60,53 +121,84 @@ HasRefusal text NotUtf8 (Some line) = IsSheetReading text (fault_at line not_utf
 HasRefusal text Syntax (Some line) = IsSheetReading text (fault_at line syntax)
 HasRefusal text WrongVersion (Some line) = IsSheetReading text (fault_at line wrong_version)
 HasRefusal text TooDeep (Some line) = IsSheetReading text (fault_at line too_deep)
+HasRefusal text refusal (Some line) = IsRefusalFor (HasSortFault text line) refusal
 HasRefusal text NoBegin None = IsSheetReading text no_begin
 HasRefusal text NotYet None = IsOtherSheet text
-HasRefusal text refusal line = ⊥
+HasRefusal text refusal None = ⊥
 
 abbrev pub RefusesText : List ℕ → SheetRefusal → Type 0
 RefusesText text why = HasRefusal text why.refusal why.line
 
--- ---- command lines
+-- ---- what a command asks
 
 -- what is built
 pub data Task : Type 0 where
-  nothing : Task
   enters : Entry → Task
+  clears : CellId → Task
   shows : Page → Task
 
--- the entry that a name and a value's name stand for, in a sheet that can still be tried out with it
-pub record IsSmallEntry (sheet : Sheet) (c : Cell) (v : Value) (e : Entry) : Type 0 where
-  pub cell : IsSmallCell c
-  pub value : IsSmallValue v
-  pub named : IsEntryNamed sheet.universe c v e
-  pub few : CanBeTried (entered sheet e)
+-- the written cell is that of the universe
+abbrev pub IsCellNamed : Universe → Cell → CellId → Type 0
+IsCellNamed u c k = (s : SortId) × IsCell u c k s
 
--- the command that shows a page
-abbrev pub command_for : Page → Asked
-command_for Display = asks_show
-command_for SheetText = asks_dump
+abbrev pub HasEntryOf : Sheet → CellId → Type 0
+HasEntryOf sheet k = Any (λ e. e.cell ≡ k) sheet.entries
+
+-- the command asks for this, and it is built
+abbrev pub IsTaskOf : Sheet → Asked → Task → Type 0
+IsTaskOf sheet (asks_enter c v) (enters e) = IsEntryNamed sheet.universe c v e × HasFewTries (entered sheet e)
+IsTaskOf sheet (asks_clear c) (clears k) = IsCellNamed sheet.universe c k × HasEntryOf sheet k
+IsTaskOf sheet asks_show (shows Display) = Unit {0}
+IsTaskOf sheet asks_dump (shows SheetText) = Unit {0}
+IsTaskOf sheet asked task = ⊥
+
+-- the faults of a command's names and sorts, or of its number
+abbrev pub IsAskedFault : Sheet → Asked → SortFault → Type 0
+IsAskedFault sheet (asks_enter c v) = IsDeclarationFault sheet (enter c v)
+IsAskedFault sheet (asks_why c v holds) = IsDeclarationFault sheet (enter c v)
+IsAskedFault sheet (asks_clear c) = IsCellFault sheet.universe c
+IsAskedFault sheet (asks_rule n f) = IsRuleFault sheet f no_test
+IsAskedFault sheet (asks_budget n) = test ((1 ≤ n) × (n ≤ 1000000000000)) (fault.Limit which.Budget) no_test
+IsAskedFault sheet asked = no_test
+
+-- the command has no such fault, and what it asks for isn't built or can't be tried out
+abbrev pub IsNotBuilt : Sheet → Asked → Type 0
+IsNotBuilt sheet (asks_enter c v) = (e : Entry) × IsEntryNamed sheet.universe c v e × (¬ HasFewTries (entered sheet e))
+IsNotBuilt sheet (asks_why c v holds) = (e : Entry) × IsEntryNamed sheet.universe c v e
+IsNotBuilt sheet (asks_rule n f) = IsSortedFormula sheet.universe [] f × (length sheet.rules < 1024)
+IsNotBuilt sheet (asks_budget n) = (1 ≤ n) × (n ≤ 1000000000000)
+IsNotBuilt sheet (asks_drop n) = Unit {0}
+IsNotBuilt sheet asks_grid = Unit {0}
+IsNotBuilt sheet asks_json = Unit {0}
+IsNotBuilt sheet asked = ⊥
+
+-- the command asks to clear a cell without an entry
+abbrev pub LacksEntry : Sheet → Asked → Type 0
+LacksEntry sheet (asks_clear c) = (k : CellId) × IsCellNamed sheet.universe c k × (¬ HasEntryOf sheet k)
+LacksEntry sheet asked = ⊥
+
+-- the command is refused so: for its names and sorts first, and then for what it asks
+abbrev pub IsRefusalOf : Sheet → Asked → Refusal → Type 0
+IsRefusalOf sheet asked NoEntry = LacksEntry sheet asked
+IsRefusalOf sheet asked NotYet = IsNotBuilt sheet asked
+IsRefusalOf sheet asked refusal = IsRefusalFor (IsAskedFault sheet asked) refusal
+
+-- ---- command lines
+
+-- the line is blank or a comment
+abbrev pub AsksNothing : List ℕ → Type 0
+AsksNothing line = IsCommandReading line no_command
 
 -- the text of a command line asks for this
 abbrev pub IsTask : State → List ℕ → Task → Type 0
-IsTask state line nothing = IsCommandReading line no_command
-IsTask state line (enters e) = (c : Cell) × (v : Value) × IsCommandReading line (asks (asks_enter c v)) × IsSmallEntry state.sheet c v e
-IsTask state line (shows page) = IsCommandReading line (asks (command_for page))
+IsTask state line task = (a : Asked) × IsCommandReading line (asks a) × IsTaskOf state.sheet a task
 
--- the line is a command, and one that asks for nothing that is built
-pub record IsOtherCommand (state : State) (line : List ℕ) : Type 0 where
-  pub asked : Asked
-  pub is : IsCommandReading line (asks asked)
-  pub none : (task : Task) → ¬ IsTask state line task
-
--- the command line is refused so
+-- the command line is refused so: for its text first
 abbrev pub IsRefused : State → List ℕ → Refusal → Type 0
 IsRefused state line NotUtf8 = IsCommandReading line (at_fault not_utf8)
 IsRefused state line TooDeep = IsCommandReading line (at_fault too_deep)
 IsRefused state line Syntax = IsCommandReading line (at_fault syntax)
-IsRefused state line NotYet = IsOtherCommand state line
-IsRefused state line NoBegin = ⊥
-IsRefused state line WrongVersion = ⊥
+IsRefused state line refusal = (a : Asked) × IsCommandReading line (asks a) × IsRefusalOf state.sheet a refusal
 
 -- ---- answers
 
@@ -115,10 +207,16 @@ abbrev pub IsPage : Page → State → List ℕ → Type 0
 IsPage Display state text = IsShown state.sheet text
 IsPage SheetText state text = text ≡ sheet_text state.sheet
 
+-- The task changes the sheet, to this one.
+abbrev pub IsEdit : Sheet → Task → Sheet → Type 0
+IsEdit old (enters e) new = new ≡ entered old e
+IsEdit old (clears k) new = new ≡ without_entry old k
+IsEdit old task new = ⊥
+
 -- In the state, the line may have this answer, and the next state follows. Any line but one that takes none may want memory instead.
 abbrev pub Allows : State → List ℕ → Answer → State → Type 0
-Allows old line silent new = IsTask old line nothing × (new ≡ old)
-Allows old line accepted new = (e : Entry) × IsTask old line (enters e) × (new ≡ record old { sheet = entered old.sheet e })
+Allows old line silent new = AsksNothing line × (new ≡ old)
+Allows old line accepted new = (task : Task) × IsTask old line task × (sheet : Sheet) × IsEdit old.sheet task sheet × (new ≡ record old { sheet = sheet })
 Allows old line (shown text) new = (page : Page) × IsTask old line (shows page) × IsPage page old text × (new ≡ old)
 Allows old line (refused why) new = IsRefused old line why × (new ≡ old)
 Allows old line no_memory new = (¬ TakesNoMemory line) × (new ≡ old)

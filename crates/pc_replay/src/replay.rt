@@ -2,7 +2,7 @@
 ghost use Rattle.std.specs.Prelude.{◌≡◌};
 ghost use Rattle.pc_port.specs.Port.{Rose};
 ghost use Rattle.pc_run.specs.Run.{Runs};
-ghost use Rattle.pc_replay.specs.Judgement.{Allows, IsSmallSheet, RefusesText};
+ghost use Rattle.pc_replay.specs.Judgement.{Allows, RefusesText, Starts};
 
 use crate::session::Session;
 use pc_port::{Sink, Source};
@@ -20,7 +20,7 @@ pub fn run<I: Source, O: Sink>(
     input: &mut I,
     out: &mut O,
 ) -> Status
-    ensures runs { Runs IsSmallSheet RefusesText Allows words.now result (I.left input.old) (I.left input.new) (O.given out.old) (O.given out.new) }
+    ensures runs { Runs Starts RefusesText Allows words.now result (I.left input.old) (I.left input.new) (O.given out.old) (O.given out.new) }
 
     // A fault is told only where that device was at fault.
     ensures read_fault { result ≡ Status.ReadFault → Rose (I.faults input.old) (I.faults input.new) }

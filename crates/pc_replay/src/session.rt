@@ -1,26 +1,33 @@
 // What answers the command lines.
-ghost use Rattle.std.specs.Prelude.{◌≡◌, ◌≤◌, ◌↔◌, ℕ, List, IfOk, IsTrue, length};
+ghost use Rattle.std.specs.Prelude.{◌≡◌, ◌≤◌, ◌↔◌, ℕ, Bool, List, IfOk, IsTrue, length};
 ghost use Rattle.pc_port.specs.Port.{HasCause, WriteGives};
-ghost use Rattle.pc_syntax.specs.Tree.{asked_of, cell_of, value_of};
+ghost use Rattle.pc_sheet.specs.WellFormed.{IsEntryOf};
+ghost use Rattle.pc_syntax.specs.Command.{asks};
+ghost use Rattle.pc_syntax.specs.Sized.{IsSized, IsSizedReading};
+ghost use Rattle.pc_syntax.specs.Tree.{Cell, Value, asked_of, asks_budget, asks_clear, asks_enter, asks_rule, asks_why, cell_of, formula_of, value_of};
+ghost use Rattle.pc_sortcheck.specs.Declaring.{IsEntryNamed};
 ghost use Rattle.pc_run.specs.Answer.{Answer, IsAnswer};
-ghost use Rattle.pc_replay.specs.Judgement.{Allows, CanBeTried, IsPage, State};
-ghost use Rattle.pc_replay.specs.Session.{Enters, Obeys, OpensAs, reply_to, start_of};
+ghost use Rattle.pc_replay.specs.Judgement.{Allows, HasEntryOf, IsCellNamed, IsPage, State};
+ghost use Rattle.pc_replay.specs.Session.{Obeys, OpensAs, Replaces, reply_to, start_of};
 
 use crate::load::load;
+use crate::names::find_entry;
+use crate::refusal::refuse;
+use crate::trying::{can_be_tried, has_few_tries};
 use pc_display::Supports;
-use pc_logic::Book;
+use pc_elaborate::find_cell;
+use pc_logic::{Book, CellId, Entry};
 use pc_port::{Failed, Sink};
 use pc_reasons::Tried;
-use pc_run::{LoadFault, Machine, Page, Refusal, Reply};
-use pc_sortcheck::{find_entry, is_small_entry};
-use pc_syntax::{CellTree, Command, CommandFault, ValueTree, parse_command};
-use pc_trying::{rules_are_consistent, trying_size};
+use pc_run::{LimitWord, LoadFault, Machine, Page, Refusal, Reply};
+use pc_sortcheck::check_rule;
+use pc_syntax::{CellTree, Command, CommandFault, RuleTree, ValueTree, parse_command};
 use pc_writer::write_sheet;
 use std::alloc::{AllocError, Global};
 use std::marker::Model;
 
-/// The most assignments and sublists of the entries that are tried.
-const MOST_TRIES: usize = 4096;
+/// The largest budget.
+const MOST_BUDGET: u64 = 1_000_000_000_000;
 
 /// The budget of a run that is given none.
 const DEFAULT_BUDGET: u64 = 100_000_000;
@@ -46,13 +53,6 @@ impl Model for Session {
     } };
 }
 
-// Whether there is little enough to try.
-fn can_be_tried(book: &Book) -> bool
-    ensures { IsTrue result ↔ CanBeTried book.now }
-{
-    trying_size(book) <= MOST_TRIES
-}
-
 // How the fault of a command line is told.
 fn reply_to(fault: CommandFault) -> Reply
     ensures { result ≡ reply_to fault }
@@ -63,6 +63,23 @@ fn reply_to(fault: CommandFault) -> Reply
         CommandFault::Syntax => Reply::Refused(Refusal::Syntax),
         CommandFault::Memory => Reply::Memory,
     }
+}
+
+// Refuses a budget: one out of bounds for that.
+fn refuse_budget(number: u64) -> Reply
+    ensures { (state : State) → Obeys state (asks_budget number) result state }
+{
+    if number < 1 || number > MOST_BUDGET {
+        return Reply::Refused(Refusal::Limit(LimitWord::Budget));
+    }
+    Reply::Refused(Refusal::NotYet)
+}
+
+// Whether the cell has an entry.
+fn has_entry(book: &Book, cell: CellId) -> bool
+    ensures { IsTrue result ↔ HasEntryOf book.now cell }
+{
+    book.entries().iter().any(|entry| entry.cell == cell)
 }
 
 impl Session {
@@ -76,37 +93,27 @@ impl Session {
         })
     }
 
-    // The session of a book, where its rules are consistent and there is little enough to try.
+    // The session of a book that can be tried out.
     pub(crate) fn open(alloc: Global, book: Book) -> Result<Option<Session>, AllocError>
         ensures { IfOk result (OpensAs book) }
     {
-        if !can_be_tried(&book) {
-            return Ok(None);
-        }
-        if !rules_are_consistent(alloc, &book)? {
+        if !can_be_tried(alloc, &book)? {
             return Ok(None);
         }
         let session = Session::new(alloc, book)?;
         Ok(Some(session))
     }
 
-    // Enters the value into the cell. At want of memory nothing changes.
-    fn enter(&mut self, alloc: Global, cell: &CellTree, value: &ValueTree) -> Reply
-        ensures { Enters self.old (cell_of cell.now) (value_of value.now) result self.new }
+    fn book(&self) -> &Book
+        ensures { self.now.sheet ≡ result.now }
     {
-        if !is_small_entry(cell, value) {
-            return Reply::Refused(Refusal::NotYet);
-        }
-        let book = self.tried.book();
-        let Some(entry) = find_entry(book, cell, value) else {
-            return Reply::Refused(Refusal::NotYet);
-        };
-        let Ok(book) = book.with_entry(alloc, entry) else {
-            return Reply::Memory;
-        };
-        if !can_be_tried(&book) {
-            return Reply::Refused(Refusal::NotYet);
-        }
+        self.tried.book()
+    }
+
+    // Puts the book in place of the present one. At want of memory nothing changes.
+    fn replace(&mut self, alloc: Global, book: Book) -> Reply
+        ensures { Replaces self.old book result self.new }
+    {
         match Tried::new(alloc, book) {
             Ok(tried) => {
                 self.tried = tried;
@@ -116,15 +123,95 @@ impl Session {
         }
     }
 
+    // Enters the entry, where the new book can be tried out.
+    fn put(&mut self, alloc: Global, entry: Entry) -> Reply
+        requires { IsEntryOf self.old.sheet.universe entry }
+        ensures { (c : Cell) (v : Value) → IsEntryNamed self.old.sheet.universe c v entry → Obeys self.old (asks_enter c v) result self.new }
+    {
+        let Ok(book) = self.book().with_entry(alloc, entry) else {
+            return Reply::Memory;
+        };
+        if !has_few_tries(&book) {
+            return Reply::Refused(Refusal::NotYet);
+        }
+        self.replace(alloc, book)
+    }
+
+    // Removes the cell's entry.
+    fn remove(&mut self, alloc: Global, cell: CellId) -> Reply
+        ensures { (c : Cell) → IsCellNamed self.old.sheet.universe c cell → HasEntryOf self.old.sheet cell → Obeys self.old (asks_clear c) result self.new }
+    {
+        let Ok(book) = self.book().without_entry(alloc, cell) else {
+            return Reply::Memory;
+        };
+        self.replace(alloc, book)
+    }
+
+    // Enters the value into the cell.
+    fn enter(&mut self, alloc: Global, cell: &CellTree, value: &ValueTree) -> Reply
+        ensures { Obeys self.old (asks_enter (cell_of cell.now) (value_of value.now)) result self.new }
+    {
+        match find_entry(self.book(), cell, value) {
+            Ok(entry) => self.put(alloc, entry),
+            Err(fault) => refuse(fault),
+        }
+    }
+
+    // Clears the cell.
+    fn clear(&mut self, alloc: Global, cell: &CellTree) -> Reply
+        ensures { Obeys self.old (asks_clear (cell_of cell.now)) result self.new }
+    {
+        let cell = match find_cell(self.book(), cell) {
+            Ok(cell) => cell,
+            Err(fault) => return refuse(fault),
+        };
+        if !has_entry(self.book(), cell) {
+            return Reply::Refused(Refusal::NoEntry);
+        }
+        self.remove(alloc, cell)
+    }
+
+    // Refuses to add the rule.
+    fn add_rule(&self, alloc: Global, rule: &RuleTree) -> Reply
+        requires { IsSized (formula_of rule.now.formula) }
+        ensures { Obeys self.now (asks_rule rule.now.name (formula_of rule.now.formula)) result self.now }
+    {
+        let fault = match check_rule(alloc, self.book(), rule) {
+            Ok(rule) => {
+                drop(rule);
+                return Reply::Refused(Refusal::NotYet);
+            }
+            Err(fault) => fault,
+        };
+        refuse(fault)
+    }
+
+    // Refuses to say why the cell has the value or not.
+    fn explain(&self, cell: &CellTree, value: &ValueTree) -> Reply
+        ensures { (holds : Bool) → Obeys self.now (asks_why (cell_of cell.now) (value_of value.now) holds) result self.now }
+    {
+        match find_entry(self.book(), cell, value) {
+            Ok(_) => Reply::Refused(Refusal::NotYet),
+            Err(fault) => refuse(fault),
+        }
+    }
+
     // Does what the command asks for.
     fn obey(&mut self, alloc: Global, command: &Command) -> Reply
+        requires { IsSizedReading (asks (asked_of command.now)) }
         ensures { Obeys self.old (asked_of command.now) result self.new }
     {
         match command {
             Command::Show => Reply::Shown(Page::Display),
             Command::Dump => Reply::Shown(Page::SheetText),
             Command::Enter(cell, value) => self.enter(alloc, cell, value),
-            _ => Reply::Refused(Refusal::NotYet),
+            Command::Clear(cell) => self.clear(alloc, cell),
+            Command::AddRule(rule) => self.add_rule(alloc, rule),
+            Command::Why { cell, value, .. } => self.explain(cell, value),
+            Command::Budget(number) => refuse_budget(*number),
+            Command::DropRule(_) => Reply::Refused(Refusal::NotYet),
+            Command::Grid => Reply::Refused(Refusal::NotYet),
+            Command::Json => Reply::Refused(Refusal::NotYet),
         }
     }
 
@@ -147,15 +234,15 @@ impl Session {
     {
         match page {
             Page::Display => self.tried.show(out),
-            Page::SheetText => write_sheet(self.tried.book(), out),
+            Page::SheetText => write_sheet(self.book(), out),
         }
     }
 }
 
 impl Machine for Session {
-    ghost use Rattle.pc_replay.specs.Judgement.{Allows, IsPage, IsSmallSheet, RefusesText};
+    ghost use Rattle.pc_replay.specs.Judgement.{Allows, IsPage, Starts, RefusesText};
 
-    ghost IsSheet = { IsSmallSheet };
+    ghost IsSheet = { Starts };
 
     ghost RefusesText = { RefusesText };
 

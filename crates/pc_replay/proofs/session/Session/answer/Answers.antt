@@ -1,4 +1,4 @@
-use Rattle.std.proofs.Common.{◌≡◌, Err, ap, ◌∙◌}
+use Rattle.std.proofs.Common.{Err, ap}
 use Rattle.pc_syntax.specs.Tree.{asked_of}
 use Rattle.pc_replay.proofs.Deciding.{silent_line, faulty_line, obeyed_line}
 use Rattle.pc_replay.proofs.session.Session.answer.Goals as goal
