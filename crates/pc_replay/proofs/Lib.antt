@@ -1,5 +1,7 @@
 pub mod Deciding
 pub mod Editing
 pub mod Loading
+pub mod OneRefusal
 pub mod SameLines
 pub mod Telling
+pub mod Verdicts

@@ -200,6 +200,17 @@ IsRefused state line TooDeep = IsCommandReading line (at_fault too_deep)
 IsRefused state line Syntax = IsCommandReading line (at_fault syntax)
 IsRefused state line refusal = (a : Asked) × IsCommandReading line (asks a) × IsRefusalOf state.sheet a refusal
 
+-- what a command line is judged
+pub data Verdict : Type 0 where
+  nothing : Verdict
+  does : Task → Verdict
+  refuses : Refusal → Verdict
+
+abbrev pub IsVerdict : State → List ℕ → Verdict → Type 0
+IsVerdict state line nothing = AsksNothing line
+IsVerdict state line (does task) = IsTask state line task
+IsVerdict state line (refuses why) = IsRefused state line why
+
 -- ---- answers
 
 -- what a page of a state says

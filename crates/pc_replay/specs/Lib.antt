@@ -1,3 +1,4 @@
 pub mod Judgement
+pub mod Laws
 pub mod Session
 pub mod State

@@ -4,6 +4,10 @@ ghost use Rattle.pc_lines.specs.Lines as run;
 ghost use Rattle.pc_syntax.specs.Sheet as sheet;
 ghost use Rattle.pc_syntax.specs.Line.{IsLine, begins};
 ghost use Rattle.pc_run.specs.SheetPart.{IsBegin};
+ghost use Rattle.pc_replay.specs.Laws.{LinesHaveOneVerdict};
+
+use pc_elaborate::trees_have_one_outcome;
+use pc_syntax::one_reading;
 
 /// The texts of the lines that a run takes are the lines of a sheet's text, and the line that ends the sheet's part of
 /// the input is the `begin` line of the text.
@@ -11,3 +15,11 @@ pub fn lines_are_the_same()
     ensures lines { (text : List ℕ) → map run.text_of (run.lines_of text) ≡ sheet.lines_of text }
     ensures begin { (line : List ℕ) → IsBegin line ↔ IsLine (run.text_of line) begins }
 {}
+
+/// A command line asks for nothing, or for one task, or has one refusal: two of these never hold together.
+pub fn lines_have_one_verdict()
+    ensures { LinesHaveOneVerdict }
+{
+    one_reading();
+    trees_have_one_outcome();
+}

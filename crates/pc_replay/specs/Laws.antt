@@ -1,0 +1,8 @@
+-- A law over the judgement.
+use Rattle.std.specs.Prelude.{◌≡◌, ℕ, List}
+use Rattle.pc_sheet.specs.WellFormed.{IsWellFormed}
+use Rattle.pc_replay.specs.Judgement.{State, Verdict, IsVerdict}
+
+-- in a well-formed state a command line has one verdict at most
+abbrev pub LinesHaveOneVerdict : Type 0
+LinesHaveOneVerdict = (state : State) → IsWellFormed state.sheet → (line : List ℕ) (x y : Verdict) → IsVerdict state line x → IsVerdict state line y → x ≡ y
