@@ -17,6 +17,9 @@ use pc_formula::{ItemTree, SideTree};
 use pc_logic::{Book, Formula, Name, Op, SortId, TableId};
 use std::alloc::Global;
 
+/// The most cell applications in one atom.
+const MOST_READS: usize = 16;
+
 /// What a comparison stands for.
 pub(crate) fn comparison(
     alloc: Global,
@@ -34,7 +37,7 @@ pub(crate) fn comparison(
     well_formed(book);
     let (left, kind) = find_side(alloc, book, variables, left)?;
     let (right, other) = find_side(alloc, book, variables, right)?;
-    if 16 < reads_in_side(&left) + reads_in_side(&right) {
+    if MOST_READS < reads_in_side(&left) + reads_in_side(&right) {
         return Err(SortFault::Limit(Which::Reads));
     }
     if !may_compare(kind, op, other) {
@@ -71,7 +74,7 @@ pub(crate) fn table_atom(
         return Err(SortFault::WrongArity);
     }
     let args = arguments(alloc, book, variables, sorts, args)?;
-    if 16 < reads_in_terms(&args) {
+    if MOST_READS < reads_in_terms(&args) {
         return Err(SortFault::Limit(Which::Reads));
     }
     Ok(Formula::InTable { table, args })

@@ -21,6 +21,9 @@ use pc_formula::FormulaTree;
 use pc_logic::{Book, Formula, Name, SortId};
 use std::alloc::Global;
 
+/// The most quantifiers around one place.
+const MOST_QUANTIFIERS: usize = 16;
+
 /// The sort of a quantifier's variable, which is a new one.
 fn variable_sort(
     book: &Book,
@@ -31,11 +34,11 @@ fn variable_sort(
     requires { IsScope book.now.universe (variables_of variables.now) }
     ensures { IsVariableTold book.now.universe (variables_of variables.now) name.now sort.now result }
 {
-    if variables.len() == 16 {
+    if variables.len() == MOST_QUANTIFIERS {
         return Err(SortFault::Limit(Which::Depth));
     }
     match book.look_up(name.as_str()) {
-        Some(_) => Err(SortFault::DuplicateName),
+        Some(_declared) => Err(SortFault::DuplicateName),
         None => match variable_named(variables, name) {
             Some(_) => Err(SortFault::DuplicateName),
             None => find_sort(book, sort),

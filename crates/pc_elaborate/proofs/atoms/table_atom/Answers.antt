@@ -21,16 +21,16 @@ returns-in_err-args c =
     let p = err_from_is_err_and c.from_residual-in_err-args.result c.from_residual-in_err-args.ensures.1 in
     rw (p.1, p.2) e
 
-pub returns-then-reads_in_terms-gt16 : goal.returns-then-reads_in_terms-gt16
-returns-then-reads_in_terms-gt16 c =
+pub returns-then-reads_in_terms-gt-MOST_READS : goal.returns-then-reads_in_terms-gt-MOST_READS
+returns-then-reads_in_terms-gt-MOST_READS c =
     let same : length (map tree.item_of c.args.args.now) ≡ length c.table_sorts-sorts.result.now = let n = length-map c.args.args.now tree.item_of in omega (arith, n, c.if-args-sorts.false) in
     let reads = ap (λ ts. reads_in_items (items_of (map item_of ts))) c.deref.ensures.value in
-    let many : 16 < reads_in_items (items_of (map item_of c.in_ok-args.args.items)) = omega (arith, reads, c.reads_in_terms.ensures, c.if-reads_in_terms-gt16.true) in
+    let many : 16 < reads_in_items (items_of (map item_of c.in_ok-args.args.items)) = omega (arith, reads, c.reads_in_terms.ensures, c.if-reads_in_terms-gt-MOST_READS.true) in
     table_reads_fail c.args.book.now.universe (variables_of c.args.variables.now) c.args.name.now (map tree.item_of c.args.args.now) c.in_ok-table.table c.table_sorts-sorts.result.now c.in_ok-table.ensures.told c.table_sorts-sorts.ensures.takes same (names_are_unique c.args.book.now.universe c.well_formed-2.ensures.universe.different) c.requires c.in_ok-args.args c.in_ok-args.ensures many
 
 pub returns : goal.returns
 returns c =
     let same : length (map tree.item_of c.args.args.now) ≡ length c.table_sorts-sorts.result.now = let n = length-map c.args.args.now tree.item_of in omega (arith, n, c.if-args-sorts.false) in
     let reads = ap (λ ts. reads_in_items (items_of (map item_of ts))) c.deref.ensures.value in
-    let few : reads_in_items (items_of (map item_of c.in_ok-args.args.items)) ≤ 16 = omega (arith, reads, c.reads_in_terms.ensures, c.if-reads_in_terms-gt16.false) in
+    let few : reads_in_items (items_of (map item_of c.in_ok-args.args.items)) ≤ 16 = omega (arith, reads, c.reads_in_terms.ensures, c.if-reads_in_terms-gt-MOST_READS.false) in
     table_told c.args.book.now.universe (variables_of c.args.variables.now) c.args.name.now (map tree.item_of c.args.args.now) c.in_ok-table.table c.table_sorts-sorts.result.now c.in_ok-table.ensures.told c.table_sorts-sorts.ensures.takes same (names_are_unique c.args.book.now.universe c.well_formed-2.ensures.universe.different) c.requires c.in_ok-args.args c.in_ok-args.ensures few
