@@ -17,7 +17,7 @@ use Rattle.pc_elaborate.specs.declared.fault.Which.TheVariants.{Cells}
 use Rattle.pc_elaborate.specs.Elaboration.{IsSortNamed}
 use Rattle.pc_elaborate.specs.FormulaFaults.{IsSortNameFault}
 use Rattle.pc_sortcheck.specs.Declaring.{Declares, AreSortsNamed}
-use Rattle.pc_sortcheck.specs.DeclarationFaults.{IsDeclarationFault, AreSortNamesFault, HasRoomForCells}
+use Rattle.pc_sortcheck.specs.DeclarationFaults.{IsDeclarationFault, HasRoomForCells}
 use Rattle.pc_sortcheck.specs.Fits.{FamilyFits}
 use Rattle.pc_sortcheck.proofs.FoundSorts.{as_many_sorts, sorts_declared, sort_declared}
 use Rattle.pc_sortcheck.proofs.WithFamily.{with_one_family}
@@ -54,9 +54,6 @@ module _ (s : Sheet) (n : List ℕ) (ss : List SortId) (r : SortId) where
 -- ---- a family
 
 module _ (s : Sheet) (n : List ℕ) (names : List (List ℕ)) (t : List ℕ) (fits : FamilyFits s n names) where
-  pub sorts_at_fault : (e : SortFault) → AreSortNamesFault s.universe names e → IsDeclarationFault s (tree.cell n names t) e
-  sorts_at_fault e h = inr (fits.fresh, inr (fits.families, inr (fits.limit, inl h)))
-
   module _ (ss : List SortId) (named : AreSortsNamed s.universe names ss) where
     pub few_sorts : length ss ≤ 4
     few_sorts = omega (arith, as_many_sorts s.universe names ss named, fits.limit)

@@ -2,21 +2,21 @@
 use Rattle.std.proofs.Common.{◌≡◌, inl, inr, ℕ, zero, suc, ◌<◌, List, [], ◌∷◌, Option, None, Some, slice_get, IsSomeAnd, length, map, arith, ap, ◌∙◌, sym, subst, refl}
 use Rattle.pc_name.specs.Names.{IsName}
 use Rattle.pc_syntax.specs.Tree as tree
-use Rattle.pc_sheet.specs.Sheet.{Sheet, Universe, Table, Values, listed, range}
-use Rattle.pc_sheet.specs.Truth.{size_of, values_at, count_of}
+use Rattle.pc_sheet.specs.Sheet.{Sheet, Universe, Table}
+use Rattle.pc_sheet.specs.Truth.{size_of}
 use Rattle.pc_sheet.specs.Entailment.{AreWithin}
 use Rattle.pc_sheet.specs.WellFormed.{IsWellFormed}
 use Rattle.pc_sheet.specs.declared.ids.SortId.{SortId}
 use Rattle.pc_sheet.specs.declared.ids.TableId.{TableId}
 use Rattle.pc_sheet.specs.declared.ids.ValueId.{ValueId}
 use Rattle.pc_logic.specs.Edits.{table_from, with_table, with_row}
-use Rattle.pc_elaborate.specs.declared.fault.SortFault.{SortFault}
 use Rattle.pc_elaborate.specs.declared.fault.SortFault.TheVariants.{Limit}
 use Rattle.pc_elaborate.specs.declared.fault.Which.TheVariants.{Rows}
-use Rattle.pc_elaborate.specs.Elaboration.{IsTableNamed, IsValueOf, IsValueAmong, AreValuesOf}
+use Rattle.pc_elaborate.specs.Elaboration.{IsTableNamed, AreValuesOf}
+use Rattle.pc_elaborate.proofs.Values.{value_below, as_many_values}
 use Rattle.pc_sortcheck.specs.Declaring.{Declares, AreSortsNamed}
 use Rattle.pc_sortcheck.specs.DeclarationFaults.{IsDeclarationFault, HasRoomForRow}
-use Rattle.pc_sortcheck.specs.Fits.{TableFits, AreRowOf, AreNoRowOf}
+use Rattle.pc_sortcheck.specs.Fits.{TableFits, AreRowOf}
 use Rattle.pc_sortcheck.proofs.FoundSorts.{as_many_sorts, sorts_declared}
 use Rattle.pc_sortcheck.proofs.WithTable.{with_one_table}
 use Rattle.pc_sortcheck.proofs.WithRow.{with_one_row}
@@ -35,28 +35,14 @@ module _ (s : Sheet) (n : List ℕ) (names : List (List ℕ)) (ss : List SortId)
 
 -- ---- a row
 
-get_below : {X : Type 0} (xs : List X) (k : ℕ) (x : X) → slice_get xs k ≡ Some x → k < length xs
-get_below [] k x h = cc
-get_below (y ∷ ys) zero x h = omega arith
-get_below (y ∷ ys) (suc k) x h = let r = get_below ys k x h in omega (arith, r)
-
 module _ (u : Universe) where
-  value_within : (s : SortId) (x : tree.Value) (v : ValueId) → IsValueOf u s x v → v.0 < size_of u s
-  value_within s x v h = among (values_at u s) x h
-    where
-      among : (vs : Values) (x : tree.Value) → IsValueAmong vs x v → v.0 < count_of vs
-      among (listed ns) (tree.name_value n) h = get_below ns v.0 n h
-      among (listed ns) (tree.integer_value z) h = absurd h
-      among (range low high) (tree.name_value n) h = absurd h
-      among (range low high) (tree.integer_value z) h = h.1
-
   values_within : (ss : List SortId) (xs : List tree.Value) (vs : List ValueId) → AreValuesOf u ss xs vs → AreWithin (map (size_of u) ss) vs
   values_within [] [] [] h = tt
   values_within [] [] (v ∷ vs) h = absurd h
   values_within [] (x ∷ xs) vs h = absurd h
   values_within (s ∷ ss) [] vs h = absurd h
   values_within (s ∷ ss) (x ∷ xs) [] h = absurd h
-  values_within (s ∷ ss) (x ∷ xs) (v ∷ vs) h = (value_within s x v h.0, values_within ss xs vs h.1)
+  values_within (s ∷ ss) (x ∷ xs) (v ∷ vs) h = (value_below u s x v h.0, values_within ss xs vs h.1)
 
   row_within : (t : TableId) (values : List tree.Value) (vs : List ValueId) → AreRowOf u t values vs → IsSomeAnd (slice_get u.tables t.0) (λ d. AreWithin (map (size_of u) d.sorts) vs)
   row_within t values vs h = by (slice_get u.tables t.0) h.1
@@ -80,15 +66,5 @@ module _ (s : Sheet) (n : List ℕ) (values : List tree.Value) (t : TableId) (na
   pub row_declared : (new : Sheet) (vs : List ValueId) → AreRowOf s.universe t values vs → new ≡ with_row s t vs → IsWellFormed (with_row s t vs) → Declares s (tree.row n values) new
   row_declared new vs row is h = ((t, row.0, vs, (named, row.1), row.2, is), subst IsWellFormed (sym is) h)
 
-  pub no_row : (e : SortFault) → AreNoRowOf s.universe t values e → IsDeclarationFault s (tree.row n values) e
-  no_row e h = inr ((t, named), (t, h.0, (named, h.1), elim h.2 [ inl a ↦ inl a | inr b ↦ inr (b.0, inl b.1) ]))
-
   pub no_room : (vs : List ValueId) → AreRowOf s.universe t values vs → ¬ HasRoomForRow s.universe t vs → IsDeclarationFault s (tree.row n values) (Limit Rows)
-  no_room vs row full = inr ((t, named), (t, row.0, (named, row.1), inr (as_many row.0 values vs row.2, inr ((vs, row.2), (vs, row.2, inl (full, refl))))))
-    where
-      as_many : (ss : List SortId) (xs : List tree.Value) (vs : List ValueId) → AreValuesOf s.universe ss xs vs → length xs ≡ length ss
-      as_many [] [] vs h = refl
-      as_many [] (x ∷ xs) vs h = absurd h
-      as_many (s ∷ ss) [] vs h = absurd h
-      as_many (s ∷ ss) (x ∷ xs) [] h = absurd h
-      as_many (s ∷ ss) (x ∷ xs) (v ∷ vs) h = let r = as_many ss xs vs h.1 in omega (arith, r)
+  no_room vs row full = inr ((t, named), (t, row.0, (named, row.1), inr (as_many_values s.universe row.0 values vs row.2, inr ((vs, row.2), (vs, row.2, inl (full, refl))))))

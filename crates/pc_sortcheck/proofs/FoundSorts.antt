@@ -1,6 +1,6 @@
 -- The sorts of names, one after another.
-use Rattle.std.proofs.Common.{◌≡◌, ℕ, zero, suc, ◌+◌, ◌<◌, ◌≤◌, List, [], ◌∷◌, ◌++◌, slice_get, IsSomeAnd, take, length, get_or, All, arith, ap, ◌∙◌, sym, subst, refl, inl, inr}
-use Rattle.std.proofs.lemmas.List.{take_more, take_all}
+use Rattle.std.proofs.Common.{◌≡◌, ℕ, zero, suc, ◌+◌, ◌<◌, List, [], ◌∷◌, ◌++◌, slice_get, IsSomeAnd, take, length, get_or, All, arith, ap, ◌∙◌, sym, subst, refl, inl, inr}
+use Rattle.std.proofs.lemmas.List.{take_more}
 use Rattle.std.proofs.lemmas.List.Elements.{All-nil, All-cons}
 use Rattle.pc_sheet.specs.Sheet.{Universe, Sort}
 use Rattle.pc_sheet.specs.WellFormed.{IsDeclaredSort}
@@ -20,9 +20,6 @@ module _ (u : Universe) where
 
   pub sorts_more : (ns : List (List ℕ)) (i : ℕ) (n : List ℕ) (ss : List SortId) (s : SortId) → n ≡ get_or ns i n → i < length ns → AreSortsNamed u (take i ns) ss → IsSortNamed u n s → AreSortsNamed u (take (i + 1) ns) (ss ++ s ∷ [])
   sorts_more ns i n ss s is l h k = subst (λ ms. AreSortsNamed u ms (ss ++ s ∷ [])) (sym (take_more ns i n l ∙ ap (λ m. take i ns ++ m ∷ []) (sym is))) (sorts_push (take i ns) ss n s h k)
-
-  pub sorts_all : (ns : List (List ℕ)) (i : ℕ) (ss : List SortId) → length ns ≤ i → AreSortsNamed u (take i ns) ss → AreSortsNamed u ns ss
-  sorts_all ns i ss l h = subst (λ ms. AreSortsNamed u ms ss) (take_all i ns l) h
 
   pub sort_fault_at : (ns : List (List ℕ)) (i : ℕ) (n : List ℕ) (ss : List SortId) (e : SortFault) → n ≡ get_or ns i n → i < length ns → AreSortsNamed u (take i ns) ss → IsSortNameFault u n e → AreSortNamesFault u ns e
   sort_fault_at [] i n ss e is l h k = absurd (omega arith)

@@ -1,7 +1,7 @@
 -- The lines of a sheet, one after another.
-use Rattle.std.proofs.Common.{◌≡◌, ◌⊎◌, ℕ, zero, suc, ◌+◌, ◌<◌, ◌≤◌, Bool, true, false, List, [], ◌∷◌, ◌++◌, map, take, drop, length, get_or, arith, ap, ◌∙◌, sym, subst, refl, inl, inr}
+use Rattle.std.proofs.Common.{◌≡◌, ◌⊎◌, ℕ, zero, suc, ◌+◌, ◌<◌, Bool, true, false, List, [], ◌∷◌, ◌++◌, map, take, drop, length, get_or, arith, ap, ◌∙◌, sym, subst, refl, inl, inr}
 use Rattle.std.proofs.Math.ListN.{get_or-map}
-use Rattle.std.proofs.lemmas.List.{take_more, take_all, drop_more, length-map}
+use Rattle.std.proofs.lemmas.List.{take_more, drop_more, length-map}
 use Rattle.pc_syntax.specs.Tree as tree
 use Rattle.pc_syntax.specs.Tree.{list_sort, range_sort, table, row, cell, rule, enter, declared_of}
 use Rattle.pc_syntax.specs.Sheet.{is_rule, is_of_universe, HasUniverseFirst, HasNoUniverse}
@@ -77,9 +77,6 @@ pub record So_far (ds : List Line) (i : ℕ) (s : Sheet) : Type 0 where
   pub ordered : HasUniverseFirst (drop i ds)
   pub order : (s.rules ≡ []) ⊎ HasNoUniverse (drop i ds)
 
-pub begins : (ds : List Line) (s : Sheet) → s ≡ empty_sheet → HasUniverseFirst ds → HasSizedRules ds → HasNestedRules ds → So_far ds 0 s
-begins ds s e ordered sized nested = subst (So_far ds 0) (sym e) (record { made = refl; sized = sized; nested = nested; ordered = ordered; order = inl refl })
-
 module _ (ds : List Line) (i : ℕ) (d : Line) (s : Sheet) (before : So_far ds i s) (is : d ≡ get_or ds i d) (l : i < length ds) where
   left : drop i ds ≡ d ∷ drop (i + 1) ds
   left = drop_more ds i d l ∙ ap (λ x. x ∷ drop (i + 1) ds) (sym is)
@@ -110,9 +107,6 @@ module _ (ds : List Line) (i : ℕ) (d : Line) (s : Sheet) (before : So_far ds i
       by false e (inl r) = inl (rules_stay s new d.1 h e r)
       by false e (inr n) = inr (subst HasNoUniverse left n).1
 
-pub ends : (ds : List Line) (i : ℕ) (s : Sheet) → length ds ≤ i → So_far ds i s → DeclareAll empty_sheet ds s
-ends ds i s l h = subst (λ es. DeclareAll empty_sheet es s) (take_all i ds l) h.made
-
 -- ---- the lines of a tree
 
 abbrev pub line_of : ℕ × Declaration → Line
@@ -123,6 +117,3 @@ line_at ps i p is = ap line_of is ∙ sym (get_or-map line_of ps i p)
 
 pub line_below : (ps : List (ℕ × Declaration)) (i : ℕ) → i < length ps → i < length (map line_of ps)
 line_below ps i l = omega (arith, l, length-map ps line_of)
-
-pub no_line_left : (ps : List (ℕ × Declaration)) (i : ℕ) → length ps ≤ i → length (map line_of ps) ≤ i
-no_line_left ps i l = omega (arith, l, length-map ps line_of)

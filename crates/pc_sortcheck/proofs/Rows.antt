@@ -1,5 +1,5 @@
 -- The rows of tables, counted and looked for.
-use Rattle.std.proofs.Common.{◌≡◌, ℕ, zero, suc, ◌+◌, ◌<◌, ◌≤◌, List, [], ◌∷◌, ◌++◌, Option, None, Some, slice_get, IsSomeAnd, take, drop, length, Contains, arith, ap, ◌∙◌, sym, subst, inl, inr, sum_by}
+use Rattle.std.proofs.Common.{◌≡◌, ℕ, zero, suc, ◌+◌, ◌≤◌, List, [], ◌∷◌, ◌++◌, Option, None, Some, slice_get, IsSomeAnd, take, drop, length, Contains, arith, ap, ◌∙◌, sym, subst, inl, inr, sum_by}
 use Rattle.std.proofs.lemmas.List.{take_all, drop_all, append-nil}
 use Rattle.std.proofs.lemmas.List.Sums.{sum_by-cons}
 use Rattle.std.proofs.lemmas.List.Elements.{Contains-push_cases}
@@ -29,21 +29,9 @@ rows_below [] (suc i) = omega arith
 rows_below (t ∷ ts) zero = omega arith
 rows_below (t ∷ ts) (suc i) = let r = rows_below ts i in omega (arith, r, sum_by-cons rows_in t (take i ts), sum_by-cons rows_in t ts)
 
-pub rows_all : (ts : List Table) (i : ℕ) → length ts ≤ i → sum_by rows_in (take i ts) ≡ sum_by rows_in ts
-rows_all ts i l = ap (sum_by rows_in) (take_all i ts l)
-
 -- ---- looked for
 
 module _ (row : List ValueId) where
-  pub none_yet : (ts : List Table) (k : ℕ) → k < length ts → IsSomeAnd (slice_get ts k) (λ d. ¬ Contains (take 0 d.rows) row)
-  none_yet [] k l = absurd (omega arith)
-  none_yet (t ∷ ts) zero l = empty t.rows
-    where
-      empty : (rows : List (List ValueId)) → ¬ Contains (take 0 rows) row
-      empty [] (k, l, e) = absurd (omega arith)
-      empty (r ∷ rs) (k, l, e) = absurd (omega arith)
-  none_yet (t ∷ ts) (suc k) l = none_yet ts k (omega arith)
-
   more_rows : (rows : List (List ValueId)) (i : ℕ) (r : List ValueId) → slice_get rows i ≡ Some r → take (i + 1) rows ≡ take i rows ++ r ∷ []
   more_rows [] i r h = absurd (cc)
   more_rows (x ∷ xs) zero r h = let e : x ≡ r = cc in ap (λ y. y ∷ []) e

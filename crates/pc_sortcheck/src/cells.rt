@@ -1,5 +1,5 @@
 //! Lines that declare a family or enter a value.
-ghost use Rattle.std.specs.Prelude.{ℕ, List, ◌≡◌, ◌↔◌, ◌+◌, ◌≤◌, ◌^◌, [], All, IsTrue, MatchResult, length, map};
+ghost use Rattle.std.specs.Prelude.{◌≡◌, ◌↔◌, ◌+◌, ◌≤◌, ◌^◌, ℕ, List, [], All, IsTrue, MatchResult, length, map};
 ghost use Rattle.pc_sheet.specs.Truth.{product, size_of};
 ghost use Rattle.pc_sheet.specs.Entailment.{cell_sizes};
 ghost use Rattle.pc_sheet.specs.WellFormed.{IsDeclaredSort};

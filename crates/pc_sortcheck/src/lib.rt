@@ -10,7 +10,7 @@ mod sorts;
 mod tables;
 
 pub use fault::SheetSortFault;
-pub use pc_elaborate::{SortFault, Which, check_formula, find_cell, find_value};
+pub use pc_elaborate::{SortFault, Which, find_cell, find_value};
 pub use rule::check_rule;
 pub use sheet::check_sheet;
 

@@ -1,10 +1,10 @@
 //! The book of a sheet's declarations.
-ghost use Rattle.std.specs.Prelude.{◌≡◌, ℕ, true, [], MatchResult, IfOk, OnErr};
+ghost use Rattle.std.specs.Prelude.{◌≡◌, ℕ, true, [], MatchResult};
 ghost use Rattle.pc_sheet.specs.Sheet.{Sheet};
 ghost use Rattle.pc_syntax.specs.Sheet.{HasUniverseFirst, is_of_universe};
 ghost use Rattle.pc_syntax.specs.Sized.{HasNestedRules, HasSizedRules};
 ghost use Rattle.pc_syntax.specs.Tree.{declared_of, sheet_of};
-ghost use Rattle.pc_elaborate.specs.Told.{IsFault, IsFaultOf, IsWantOfMemory};
+ghost use Rattle.pc_elaborate.specs.Told.{IsFaultOf, IsWantOfMemory};
 ghost use Rattle.pc_elaborate.specs.declared.fault.SortFault.{SortFault};
 ghost use Rattle.pc_sortcheck.specs.DeclarationFaults.{IsDeclarationFault, IsSheetFault};
 ghost use Rattle.pc_sortcheck.specs.Declaring.{Declares, IsSheetOf};

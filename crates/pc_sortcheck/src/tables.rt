@@ -1,5 +1,5 @@
 //! Lines that declare a table or one of its rows.
-ghost use Rattle.std.specs.Prelude.{◌≡◌, ◌↔◌, ◌<◌, ◌≤◌, [], All, Contains, IsTrue, MatchResult, IsSomeAnd, length, map, slice_get, sum_by};
+ghost use Rattle.std.specs.Prelude.{◌≡◌, ◌↔◌, ◌<◌, [], All, Contains, IsTrue, MatchResult, IsSomeAnd, length, map, slice_get, sum_by};
 ghost use Rattle.pc_sheet.specs.WellFormed.{IsDeclaredSort, rows_in};
 ghost use Rattle.pc_syntax.specs.Tree as tree;
 ghost use Rattle.pc_syntax.specs.Tree.{value_of};

@@ -1,11 +1,10 @@
-use Rattle.std.proofs.Common.{◌≤◌, ◌+◌, length, map, All, sym, subst, rules}
+use Rattle.std.proofs.Common.{◌≤◌, ◌+◌, List, length, map, All, sym, subst, rules}
 use Rattle.std.proofs.lemmas.Result.{err_from_is_err_and}
 use Rattle.pc_syntax.specs.Tree as tree
 use Rattle.pc_sheet.specs.Truth.{product, size_of}
 use Rattle.pc_sheet.specs.Entailment.{cell_sizes}
 use Rattle.pc_sheet.specs.WellFormed.{IsDeclaredSort}
 use Rattle.pc_sheet.specs.declared.ids.SortId.{SortId}
-use Rattle.std.proofs.Common.{List}
 use Rattle.pc_sortcheck.specs.DeclarationFaults.{IsDeclarationFault}
 use Rattle.pc_sortcheck.proofs.Faults.{handed_on}
 use Rattle.pc_sortcheck.proofs.DeclaredFamilies.{few_sorts, all_declared, result_at_fault, no_cells, family_formed, family_declared}
