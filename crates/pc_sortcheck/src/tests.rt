@@ -1,6 +1,14 @@
 // Sheets that each fail one test of a line, or two tests next to one another, with the line and the fault that are told.
-use crate::check_sheet;
-use pc_syntax::parse_sheet;
+ghost use Rattle.std.specs.Prelude.{◌≤◌};
+ghost use Rattle.pc_formula.specs.Nesting.{nesting_of};
+ghost use Rattle.pc_formula.specs.Word.{most_nesting};
+ghost use Rattle.pc_syntax.specs.Sized.{IsSized};
+ghost use Rattle.pc_syntax.specs.Tree.{formula_of};
+
+use crate::names::{is_name, is_rule_name, keeps_form};
+use crate::{check_rule, check_sheet};
+use pc_logic::{Book, weight};
+use pc_syntax::{Command, RuleTree, parse_command, parse_sheet};
 use std::alloc::Global;
 use std::test::Fail;
 
@@ -232,5 +240,96 @@ fn rows_are_counted(rt: HostRuntime) -> Result<(), Fail> {
         let all = format!(in rt.alloc(); "{lines}{after}")?;
         assert_eq!(rt; told(rt.alloc(), all.as_str())?.as_str(), want, "{after}");
     }
+    Ok(())
+}
+
+// The book of the sheet with these lines.
+fn book_of(alloc: Global, lines: &str) -> Result<Book, Fail> {
+    let text = format!(in alloc; "sheet 1\n{lines}\nbegin\n")?;
+    if text.len() > 4_194_304 {
+        return Err("too long".into());
+    }
+    let Ok(tree) = parse_sheet(alloc, text.as_bytes()) else {
+        return Err("no sheet".into());
+    };
+    match check_sheet(alloc, &tree) {
+        Ok(book) => Ok(book),
+        Err(_) => Err("at fault".into()),
+    }
+}
+
+// The book with one more rule, whose name is new.
+fn with_one_more(alloc: Global, book: &Book, tree: &RuleTree) -> Result<Book, Fail>
+    requires sized { IsSized (formula_of tree.now.formula) }
+    requires nested { nesting_of (formula_of tree.now.formula) ≤ most_nesting }
+{
+    keeps_form(book);
+    is_name(&tree.name);
+    let Ok(rule) = check_rule(alloc, book, tree) else {
+        return Err("at fault".into());
+    };
+    if is_rule_name(book.rules(), &tree.name) {
+        return Err("a rule of that name".into());
+    }
+    Ok(book.with_rule(alloc, rule)?)
+}
+
+// The same by a command line.
+fn with_command(alloc: Global, book: &Book, line: &str) -> Result<Book, Fail> {
+    if line.len() > 4096 {
+        return Err("too long".into());
+    }
+    match parse_command(alloc, line.as_bytes()) {
+        Ok(Some(Command::AddRule(tree))) => with_one_more(alloc, book, &tree),
+        _ => Err("no rule".into()),
+    }
+}
+
+// Three cells that have to be equal.
+const EQUAL: &str =
+    "sort color = red green\ncell a : color\ncell b : color\ncell c : color\nrule ab : a = b\nrule bc : b = c";
+
+// Two hundred blocks of four colored slots.
+const BLOCKS: &str =
+    "sort block = 1 .. 200\nsort slot = 1 .. 4\nsort color = red green blue\ncell x(block, slot) : color\nrule chain : forall b:block . x(b, 1) = x(b, 2) & x(b, 2) = x(b, 3)\nrule other : forall b:block . x(b, 3) != x(b, 4)";
+
+// Sixteen quantifiers over 256 values.
+const DEEP: &str =
+    "sort v = 0 .. 255\ncell c : v\nrule deep : forall a:v . exists b:v . forall d:v . exists e:v . forall f:v . exists g:v . forall h:v . exists i:v . forall j:v . exists k:v . forall l:v . exists m:v . forall n:v . exists o:v . forall p:v . exists q:v . a + q = c";
+
+#[test]
+fn weights(rt: HostRuntime) -> Result<(), Fail> {
+    let alloc = rt.alloc();
+    let third = format!(in alloc; "{EQUAL}\nrule t : a = red | b = red")?;
+    for (lines, want) in [
+        ("", 0),
+        (EQUAL, 38),
+        (third.as_str(), 54),
+        (
+            "sort n = 1 .. 200\nsort i = 1 .. 100\ncell c(i) : n",
+            4_000_000,
+        ),
+        (
+            "sort n = 1 .. 200\nsort i = 1 .. 100\ncell c(i) : n\nsort u = 1 .. 1\ncell d : u",
+            4_000_001,
+        ),
+        (BLOCKS, 26_004),
+        (DEEP, 4_000_001),
+    ] {
+        assert_eq!(rt; weight(&book_of(alloc, lines)?), want, "{lines}");
+    }
+    Ok(())
+}
+
+#[test]
+fn rules_come_and_go(rt: HostRuntime) -> Result<(), Fail> {
+    let alloc = rt.alloc();
+    let book = book_of(alloc, EQUAL)?;
+    let more = with_command(alloc, &book, "rule t : a = red | b = red")?;
+    assert_eq!(rt; weight(&more), 54);
+    assert_eq!(rt; more.rules().len(), 3);
+    let less = more.without_rule(alloc, 2)?;
+    assert_eq!(rt; weight(&less), 38);
+    assert_eq!(rt; weight(&less.copy(alloc)?), 38);
     Ok(())
 }
