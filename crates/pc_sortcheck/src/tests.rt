@@ -32,7 +32,7 @@ fn told(alloc: Global, lines: &str) -> Result<String, Fail> {
 const BASE: &str = "sort s = v w\nsort n = 1 .. 3\ntable t(s, n)\ncell c : s\ncell f(n) : n\n";
 
 // Lines behind those, and what is told.
-const LINES: [(&str, &str); 64] = [
+const LINES: [(&str, &str); 70] = [
     ("", "ok"),
     ("sort s =", "7 DuplicateName"),
     ("sort v = a", "7 DuplicateName"),
@@ -94,6 +94,15 @@ const LINES: [(&str, &str); 64] = [
         "8 Limit(Cells)",
     ),
     ("sort k = 1 .. 4\ncell x(k, k, k, k) : n", "ok"),
+    ("rule r : a = v", "7 UnknownName"),
+    ("rule r : c = 1", "7 WrongSort"),
+    ("rule r : c = v\nrule r : c = a", "8 UnknownName"),
+    ("rule r : c = v\nrule r : f(1) < 2", "8 DuplicateName"),
+    ("rule c : c = v\nrule s : f(1) < 2", "ok"),
+    (
+        "rule r : forall x : n . t(c, x) -> f(x) = x\nenter c = v",
+        "ok",
+    ),
     ("enter a(4) = a", "7 UnknownName"),
     ("enter t(4) = a", "7 WrongSort"),
     ("enter c(a) = a", "7 WrongArity"),
@@ -121,7 +130,7 @@ fn the_first_fault_is_told(rt: HostRuntime) -> Result<(), Fail> {
 }
 
 // Lines, a line's start and end that stand so many times with a number between, further lines, and what is told.
-const MANY: [(&str, &str, usize, &str, &str, &str); 17] = [
+const MANY: [(&str, &str, usize, &str, &str, &str); 21] = [
     ("sort x =", " v", 256, "", "", "ok"),
     ("sort x =", " v", 257, "", "", "2 Limit(Values)"),
     ("sort x =", " v", 257, "", " v1", "2 Limit(Values)"),
@@ -208,6 +217,38 @@ const MANY: [(&str, &str, usize, &str, &str, &str); 17] = [
         "(k, k) : k\n",
         "cell x : c1",
         "19 WrongSort",
+    ),
+    (
+        "sort k = 1 .. 2\ncell c : k\n",
+        "rule r",
+        1023,
+        " : c = 1\n",
+        "rule x : c = 2",
+        "ok",
+    ),
+    (
+        "sort k = 1 .. 2\ncell c : k\n",
+        "rule r",
+        1023,
+        " : c = 1\n",
+        "rule r1 : c = 2",
+        "1027 DuplicateName",
+    ),
+    (
+        "sort k = 1 .. 2\ncell c : k\n",
+        "rule r",
+        1024,
+        " : c = 1\n",
+        "rule r1 : c = 1",
+        "1028 Limit(Rules)",
+    ),
+    (
+        "sort k = 1 .. 2\ncell c : k\n",
+        "rule r",
+        1024,
+        " : c = 1\n",
+        "rule r1 : c = a",
+        "1028 UnknownName",
     ),
 ];
 
