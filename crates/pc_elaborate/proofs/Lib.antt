@@ -15,3 +15,4 @@ pub mod ReadsTold
 pub mod NestingLaws
 pub mod FormulaTold
 pub mod FormulaViews
+pub mod WorkedFaults

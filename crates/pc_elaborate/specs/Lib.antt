@@ -5,3 +5,4 @@ pub mod Told
 pub mod Outcome
 pub mod Scope
 pub mod Laws
+pub mod Examples

@@ -15,7 +15,7 @@ mod sides;
 pub use cells::{find_cell, find_sort_value, find_value, find_values};
 pub use fault::{SortFault, Which};
 pub use formula::check_formula;
-pub use law::trees_have_one_outcome;
+pub use law::{trees_have_one_outcome, worked_faults};
 pub use names::{
     family_named, find_family, find_sort, find_table, sort_named, table_named, value_named,
 };
