@@ -3,5 +3,6 @@ pub mod Editing
 pub mod Loading
 pub mod OneRefusal
 pub mod SameLines
+pub mod SheetVerdicts
 pub mod Telling
 pub mod Verdicts

@@ -78,7 +78,7 @@ refused_as old a e (Shown page) may is told = absurd told
 pub refused_in : (old : State) (book : Sheet) (a : Asked) (e : SortFault) (reply : Reply) → old.sheet ≡ book → MayWantMemory a → IsFaultOf (IsAskedFault book a) e → IsToldAs e reply → Obeys old a reply old
 refused_in old book a e reply same may is told = refused_as old a e reply may (subst (λ (s : Sheet). IsFaultOf (IsAskedFault s a) e) (sym same) is) told
 
-of_fault : (Fails : SortFault → Type 0) (e : SortFault) → Fails e → IsFaultOf Fails e
+pub of_fault : (Fails : SortFault → Type 0) (e : SortFault) → Fails e → IsFaultOf Fails e
 of_fault Fails sort_fault.UnknownName is = is
 of_fault Fails sort_fault.DuplicateName is = is
 of_fault Fails sort_fault.WrongArity is = is

@@ -129,6 +129,15 @@ HasRefusal text refusal None = ⊥
 abbrev pub RefusesText : List ℕ → SheetRefusal → Type 0
 RefusesText text why = HasRefusal text why.refusal why.line
 
+-- what a sheet's text is judged
+pub data SheetVerdict : Type 0 where
+  opens : State → SheetVerdict
+  rejects : SheetRefusal → SheetVerdict
+
+abbrev pub IsSheetVerdict : List ℕ → SheetVerdict → Type 0
+IsSheetVerdict text (opens state) = Starts text state
+IsSheetVerdict text (rejects why) = RefusesText text why
+
 -- ---- what a command asks
 
 -- what is built

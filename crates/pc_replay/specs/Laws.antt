@@ -1,8 +1,12 @@
--- A law over the judgement.
+-- Laws over the judgement: it leaves no choice.
 use Rattle.std.specs.Prelude.{◌≡◌, ℕ, List}
 use Rattle.pc_sheet.specs.WellFormed.{IsWellFormed}
-use Rattle.pc_replay.specs.Judgement.{State, Verdict, IsVerdict}
+use Rattle.pc_replay.specs.Judgement.{State, Verdict, IsVerdict, SheetVerdict, IsSheetVerdict}
 
 -- in a well-formed state a command line has one verdict at most
 abbrev pub LinesHaveOneVerdict : Type 0
 LinesHaveOneVerdict = (state : State) → IsWellFormed state.sheet → (line : List ℕ) (x y : Verdict) → IsVerdict state line x → IsVerdict state line y → x ≡ y
+
+-- a sheet's text has one verdict at most
+abbrev pub TextsHaveOneVerdict : Type 0
+TextsHaveOneVerdict = (text : List ℕ) (x y : SheetVerdict) → IsSheetVerdict text x → IsSheetVerdict text y → x ≡ y

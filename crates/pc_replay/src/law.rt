@@ -4,7 +4,7 @@ ghost use Rattle.pc_lines.specs.Lines as run;
 ghost use Rattle.pc_syntax.specs.Sheet as sheet;
 ghost use Rattle.pc_syntax.specs.Line.{IsLine, begins};
 ghost use Rattle.pc_run.specs.SheetPart.{IsBegin};
-ghost use Rattle.pc_replay.specs.Laws.{LinesHaveOneVerdict};
+ghost use Rattle.pc_replay.specs.Laws.{LinesHaveOneVerdict, TextsHaveOneVerdict};
 
 use pc_elaborate::trees_have_one_outcome;
 use pc_syntax::one_reading;
@@ -19,6 +19,14 @@ pub fn lines_are_the_same()
 /// A command line asks for nothing, or for one task, or has one refusal: two of these never hold together.
 pub fn lines_have_one_verdict()
     ensures { LinesHaveOneVerdict }
+{
+    one_reading();
+    trees_have_one_outcome();
+}
+
+/// A text is a sheet with one state to start from, or it has one refusal: two of these never hold together.
+pub fn texts_have_one_verdict()
+    ensures { TextsHaveOneVerdict }
 {
     one_reading();
     trees_have_one_outcome();

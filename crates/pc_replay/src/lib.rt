@@ -14,7 +14,7 @@ mod session;
 mod tests;
 mod trying;
 
-pub use law::{lines_are_the_same, lines_have_one_verdict};
+pub use law::{lines_are_the_same, lines_have_one_verdict, texts_have_one_verdict};
 pub use pc_run::Status;
 pub use replay::run;
 pub use session::Session;

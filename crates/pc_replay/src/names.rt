@@ -5,9 +5,8 @@ ghost use Rattle.pc_syntax.specs.Tree.{cell_of, value_of, enter};
 ghost use Rattle.pc_sortcheck.specs.Declaring.{IsEntryNamed};
 ghost use Rattle.pc_sortcheck.specs.DeclarationFaults.{IsDeclarationFault};
 
-use pc_elaborate::{find_cell, find_value};
 use pc_logic::{Book, Entry};
-use pc_sortcheck::SortFault;
+use pc_sortcheck::{SortFault, find_cell, find_value};
 use pc_syntax::{CellTree, ValueTree};
 
 /// The entry that a cell and a value stand for, or the first fault, of the cell and then of the value.
