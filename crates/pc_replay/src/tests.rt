@@ -74,7 +74,7 @@ fn worked_sheets(rt: HostRuntime) -> Result<(), Fail> {
         (
             EQUAL,
             "\n; a comment\nenter a = blue\n",
-            "refused 20 not-yet\n",
+            "refused 5 unknown-name\n",
             Status::SomeRefused,
         ),
         (
@@ -86,20 +86,14 @@ fn worked_sheets(rt: HostRuntime) -> Result<(), Fail> {
         (
             EQUAL,
             "clear b\nenter a(red) = red\nenter a = 1\ngrid\n",
-            "refused 20 not-yet\nrefused 20 not-yet\nrefused 20 not-yet\nrefused 20 not-yet\n",
+            "refused 16 no-entry\nrefused 7 wrong-arity\nrefused 8 wrong-sort\nrefused 20 not-yet\n",
             Status::SomeRefused,
         ),
         (
-            "sheet 1\nsort size = 1 .. 3\nbegin\n",
+            "sheet 1\nsort size = 1 .. 3\ncell f(size) : size\nbegin\n",
             "show\n",
-            "sheet refused 20 not-yet\n",
-            Status::SheetRefused,
-        ),
-        (
-            "sheet 1\nsort f = rot grün\nbegin\n",
-            "show\n",
-            "sheet refused 20 not-yet\n",
-            Status::SheetRefused,
+            "f(1) : -\nf(2) : -\nf(3) : -\n",
+            Status::Done,
         ),
         (
             "sheet 1\nsort color = red\ncell a : color\nrule no : a != red\nbegin\n",
@@ -216,6 +210,151 @@ fn the_largest_sheet_to_try(rt: HostRuntime) -> Result<(), Fail> {
         let mut out = MemorySink::new(alloc, 4096, Vec::new(alloc))?;
         assert_eq!(rt; run(alloc, &words, &mut input, &mut out), status);
         assert_eq!(rt; out.bytes(), want.as_slice());
+    }
+    Ok(())
+}
+
+// Three numbers of which two have a sum.
+const SUM: &str =
+    "sheet 1\nsort n = 0 .. 3\ncell x : n\ncell y : n\ncell z : n\nrule sum : x + y = z\nbegin\n";
+
+// Who works when, of those that are trained for it. A table and a rule may share a name.
+const SHIFTS: &str =
+    "sheet 1\nsort shift = early late\nsort person = ann bob\ntable trained(person, shift)\nrow trained(ann, early)\nrow trained(ann, late)\nrow trained(bob, late)\nrow trained(ann, late)\ncell on(shift) : person\nrule trained : forall s:shift . exists p:person . on(s) = p & trained(p, s)\nrule both : exists s:shift . on(s) = bob\nbegin\n";
+
+// Numbers, tables, families and quantifiers; entries that are cleared; texts that aren't ASCII.
+#[test]
+fn sheets_of_every_form(rt: HostRuntime) -> Result<(), Fail> {
+    let alloc = rt.alloc();
+    for (sheet, commands, want) in [
+        (
+            EQUAL,
+            "enter a = red\nenter c = red\nshow\nclear a\nshow\n",
+            "ok\nok\na : red\n  = red because a = red\nb : -\n  = red because a = red\nc : red\n  = red because a = red\nok\na : -\n  = red because c = red\nb : -\n  = red because c = red\nc : red\n  = red because c = red\n",
+        ),
+        (
+            SUM,
+            "enter x = 2\nenter z = 3\nshow\nclear z\nenter y = 2\nshow\n",
+            "ok\nok\nx : 2\n  = 2 because x = 2\ny : -\n  = 1 because x = 2, z = 3\nz : 3\n  = 3 because z = 3\nok\nok\nx : 2 !\n  = 2 because x = 2\n  ! against y = 2\ny : 2 !\n  = 2 because y = 2\n  ! against x = 2\nz : -\n",
+        ),
+        (
+            SHIFTS,
+            "show\nenter on(late) = ann\nshow\ndump\n",
+            "on(early) : -\n  = ann always\non(late) : -\n  = bob always\nok\non(early) : -\n  = ann always\non(late) : ann !\n  = bob always\n  ! against the rules\nsheet 1\nsort shift = early late\nsort person = ann bob\ntable trained(person, shift)\nrow trained(ann, early)\nrow trained(ann, late)\nrow trained(bob, late)\ncell on(shift) : person\nrule trained : forall s:shift . exists p:person . on(s) = p & trained(p, s)\nrule both : exists s:shift . on(s) = bob\nenter on(late) = ann\nbegin\n",
+        ),
+        (
+            "sheet 1\nsort f = rot grün\ncell wände : f\nrule r : wände = grün\nbegin\n",
+            "show\n",
+            "wände : -\n  = grün always\n",
+        ),
+        (
+            "sheet 1\nsort n = -2 .. 1\ncell a(n) : n\nenter a( -1 ) = - 2\nbegin\n",
+            "enter a(1) = 0\nenter a(-2) = 1\nclear a(1)\ndump\n",
+            "ok\nok\nok\nsheet 1\nsort n = -2 .. 1\ncell a(n) : n\nenter a(-1) = -2\nenter a(-2) = 1\nbegin\n",
+        ),
+        (
+            EQUAL,
+            "enter c = red\nenter a = green\nenter b = red\nenter c = green\ndump\n",
+            "ok\nok\nok\nok\nsheet 1\nsort color = red green\ncell a : color\ncell b : color\ncell c : color\nrule ab : a = b\nrule bc : b = c\nenter a = green\nenter b = red\nenter c = green\nbegin\n",
+        ),
+    ] {
+        let mut bytes = sheet.as_bytes().to_vec(alloc)?;
+        bytes.extend_from_slice(commands.as_bytes())?;
+        let (status, text) = replay(alloc, &bytes)?;
+        assert_eq!(rt; status, Status::Done, "{sheet}{commands}");
+        assert_eq!(rt; text.as_slice(), want.as_bytes(), "{sheet}{commands}");
+    }
+    Ok(())
+}
+
+// The two parts of the sheet of three equal cells.
+const COLORS: &str = "sheet 1\nsort color = red green\n";
+
+const CELLS: &str =
+    "cell a : color\ncell b : color\ncell c : color\nrule ab : a = b\nrule bc : b = c\nbegin\n";
+
+// A line behind the second of three equal cells is the first at fault; a cell declared twice is so at its second line.
+#[test]
+fn sheets_with_faults_of_sorts(rt: HostRuntime) -> Result<(), Fail> {
+    let alloc = rt.alloc();
+    for (line, want) in [
+        ("sort day = 5 .. 1", "10 empty-sort line 3"),
+        ("sort day = 0 .. 256", "11 limit line 3 values"),
+        ("sort day = 1 .. 1000001", "11 limit line 3 number"),
+        ("cell red : color", "6 duplicate-name line 3"),
+        ("cell e(colour) : color", "5 unknown-name line 3"),
+        ("cell a : color", "6 duplicate-name line 4"),
+        ("table t(color)\nrow t(1)", "8 wrong-sort line 4"),
+        (
+            "cell e(color) : color\nenter e = red",
+            "7 wrong-arity line 4",
+        ),
+        (
+            "sort m = 1 .. 2\ncell e : m\nenter e = 3",
+            "9 not-a-value line 5",
+        ),
+    ] {
+        let sheet = format!(in alloc; "{COLORS}{line}\n{CELLS}show\n")?;
+        let want = format!(in alloc; "sheet refused {want}\n")?;
+        let (status, text) = replay(alloc, sheet.as_bytes())?;
+        assert_eq!(rt; status, Status::SheetRefused, "{line}");
+        assert_eq!(rt; text.as_slice(), want.as_bytes(), "{line}");
+    }
+    Ok(())
+}
+
+// What can't be tried: too many assignments, too much weight, rules that contradict each other.
+#[test]
+fn sheets_that_are_not_tried(rt: HostRuntime) -> Result<(), Fail> {
+    let alloc = rt.alloc();
+    for sheet in [
+        "sheet 1\nsort n = 1 .. 17\ncell f(n) : n\nbegin\n",
+        "sheet 1\nsort n = 1 .. 200\nrule r : forall a:n . forall b:n . forall c:n . a = a\nbegin\n",
+        "sheet 1\nsort n = 1 .. 2\ncell a : n\nrule r : forall b:n . a != b\nbegin\n",
+    ] {
+        let (status, text) = replay(alloc, sheet.as_bytes())?;
+        assert_eq!(rt; status, Status::SheetRefused, "{sheet}");
+        assert_eq!(rt;
+            text.as_slice(),
+            b"sheet refused 20 not-yet\n".as_slice(),
+            "{sheet}"
+        );
+    }
+    Ok(())
+}
+
+// Each line alone, over three equal cells and one number, all of which have no entry.
+#[test]
+fn commands_with_faults_of_sorts(rt: HostRuntime) -> Result<(), Fail> {
+    let alloc = rt.alloc();
+    for (command, want) in [
+        ("enter d = red", "5 unknown-name"),
+        ("enter d = 1", "5 unknown-name"),
+        ("enter a = 1", "8 wrong-sort"),
+        ("enter a(red) = red", "7 wrong-arity"),
+        ("enter e = 4", "9 not-a-value"),
+        ("clear b", "16 no-entry"),
+        ("clear d", "5 unknown-name"),
+        ("clear a(red)", "7 wrong-arity"),
+        ("rule q : a < b", "8 wrong-sort"),
+        ("rule q : forall a:color . b = a", "6 duplicate-name"),
+        ("rule q : forall x:n . x = e -> a = b", "20 not-yet"),
+        ("budget 0", "11 limit budget"),
+        ("budget 1000000000001", "11 limit budget"),
+        ("budget 1000000000000", "20 not-yet"),
+        ("why d = red", "5 unknown-name"),
+        ("why a != 1", "8 wrong-sort"),
+        ("why a != red", "20 not-yet"),
+        ("drop ab", "20 not-yet"),
+        ("json", "20 not-yet"),
+    ] {
+        let sheet = format!(in alloc;
+            "{COLORS}sort n = 0 .. 3\ncell e : n\n{CELLS}{command}\nshow"
+        )?;
+        let want = format!(in alloc; "refused {want}\ne : -\na : -\nb : -\nc : -\n")?;
+        let (status, text) = replay(alloc, sheet.as_bytes())?;
+        assert_eq!(rt; status, Status::SomeRefused, "{command}");
+        assert_eq!(rt; text.as_slice(), want.as_bytes(), "{command}");
     }
     Ok(())
 }
