@@ -1,0 +1,7 @@
+//! What the axioms of a sheet are called by those that speak of them: certificates, and what the search derives.
+#![tactic(auto)]
+
+mod axiom_name;
+
+pub use axiom_name::AxiomName;
+pub use pc_sheet::{CellId, Entry, NodePath, ValueId};
