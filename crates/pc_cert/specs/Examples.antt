@@ -1,0 +1,60 @@
+-- Examples of the definitions.
+use Rattle.std.specs.Prelude.{◌≡◌, Bool, true, false, List, [], ◌∷◌, ◌++◌, codes}
+use Rattle.std.specs.Str.Lines.{lines}
+use Rattle.pc_cert.specs.Texts.{texts_of, pieces_of, is_negated, without_negation, is_path}
+use Rattle.pc_cert.specs.Order.{LineKind, empty_line, heading_line, target_line, inconsistent_line, use_line, value_line, numbered_line, end_line, all_may_stand}
+use Rattle.pc_cert.specs.Line.{IsLine}
+use Rattle.pc_cert.specs.Written.{nothing, heading, claims_inconsistent, derives, ends, WrittenPart, written_step}
+use Rattle.pc_cert.specs.Text.{place_meant}
+
+-- a claim on a target, what is used, an assignment, and a derivation of two lines
+abbrev pub in_order : List LineKind
+in_order = heading_line ∷ target_line ∷ use_line ∷ use_line ∷ value_line ∷ numbered_line 1 ∷ empty_line ∷ numbered_line 2 ∷ end_line ∷ empty_line ∷ []
+
+abbrev pub stands : List LineKind → Bool
+stands kinds = all_may_stand [] kinds
+
+pub record OrderExamples : Type 0 where
+  pub whole : stands in_order ≡ true
+  pub blank_first : stands (empty_line ∷ in_order) ≡ true
+  pub without_lines : stands (heading_line ∷ target_line ∷ end_line ∷ []) ≡ true
+  pub inconsistent : stands (heading_line ∷ inconsistent_line ∷ numbered_line 1 ∷ end_line ∷ []) ≡ true
+  pub used_by_none : stands (heading_line ∷ inconsistent_line ∷ use_line ∷ []) ≡ false
+  pub value_of_none : stands (heading_line ∷ inconsistent_line ∷ value_line ∷ []) ≡ false
+  pub no_heading : stands (target_line ∷ []) ≡ false
+  pub two_headings : stands (heading_line ∷ heading_line ∷ []) ≡ false
+  pub two_claims : stands (heading_line ∷ target_line ∷ inconsistent_line ∷ []) ≡ false
+  pub late_use : stands (heading_line ∷ target_line ∷ value_line ∷ use_line ∷ []) ≡ false
+  pub late_value : stands (heading_line ∷ target_line ∷ numbered_line 1 ∷ value_line ∷ []) ≡ false
+  pub from_two : stands (heading_line ∷ target_line ∷ numbered_line 2 ∷ []) ≡ false
+  pub gap : stands (heading_line ∷ target_line ∷ numbered_line 1 ∷ numbered_line 3 ∷ []) ≡ false
+  pub behind_end : stands (heading_line ∷ target_line ∷ end_line ∷ numbered_line 1 ∷ []) ≡ false
+
+pub record TextExamples : Type 0 where
+  pub parted : texts_of (codes " 4  step ~a=red :") ≡ codes "4" ∷ codes "step" ∷ codes "~a=red" ∷ codes ":" ∷ []
+  pub blank : texts_of (codes "  ") ≡ []
+  pub in_lines : lines (codes "end" ++ 13 ∷ 10 ∷ 10 ∷ codes "x") ≡ codes "end" ∷ [] ∷ codes "x" ∷ []
+  pub last_line : lines (codes "end" ++ 10 ∷ []) ≡ codes "end" ∷ []
+  pub pieces : pieces_of (codes "@ab/0/12") ≡ codes "@ab" ∷ codes "0" ∷ codes "12" ∷ []
+  pub negated : is_negated (codes "~a=red") ≡ true
+  pub behind : without_negation (codes "~a=red") ≡ codes "a=red"
+  pub path : is_path (codes "@ab") ≡ true
+  pub read : is_path (codes "a=red") ≡ false
+  pub meant : place_meant 3 1 ≡ 0
+  pub nothing_meant : place_meant 3 0 ≡ 3
+
+pub record LineExamples : Type 0 where
+  pub empty : IsLine (codes " ") nothing
+  pub first : IsLine (codes "certificate 1") heading
+  pub by_value : IsLine (codes "certificate 01") heading
+  pub second_version : ¬ IsLine (codes "certificate 2") heading
+  pub none_holds : IsLine (codes "claim inconsistent") claims_inconsistent
+  pub last : IsLine (codes "end ") ends
+  pub not_last : ¬ IsLine (codes "end 1") ends
+  -- an empty clause that is derived from the first line
+  pub empty_step : IsLine (codes "2 step : 1") (derives 2 (written_step [] (1 ∷ [])))
+  -- a hint 0 is written, though it means no line
+  pub zero_hint : IsLine (codes "2 step : 0") (derives 2 (written_step [] (0 ∷ [])))
+  pub no_hints : IsLine (codes "1 step :") (derives 1 (written_step [] []))
+  pub no_colon : (ls : WrittenPart) → ¬ IsLine (codes "1 step") (derives 1 ls)
+  pub no_word : (p : WrittenPart) → ¬ IsLine (codes "1") (derives 1 p)

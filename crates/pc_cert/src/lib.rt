@@ -1,0 +1,11 @@
+//! Certificates, and the reading of their text.
+#![tactic(auto)]
+
+mod cert;
+mod law;
+
+pub use cert::{Cert, CertFault, CertLine, CertPart, Claim, Said, Symbol};
+pub use law::worked_lines;
+pub use pc_lits::{Lit, Var};
+pub use pc_names::AxiomName;
+pub use pc_sheet::{CellId, Entry, NodePath, Target, ValueId};
