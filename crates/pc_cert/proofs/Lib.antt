@@ -1,1 +1,6 @@
+mod Symbols
+mod Words
 mod Worked
+mod Lists
+mod Numbers
+mod Spelling

@@ -1,10 +1,11 @@
 -- The examples of lines.
-use Rattle.std.proofs.Common.{rules, refl, subst, ◌≡◌, ℕ, List, [], ◌∷◌, codes}
+use Rattle.std.proofs.Common.{rules, refl, sym, subst, ◌≡◌, ℕ, List, [], ◌∷◌, ◌++◌, codes}
 use Rattle.std.specs.Str.Parse.{digits_value}
 use Rattle.pc_cert.specs.Examples.{LineExamples}
 use Rattle.pc_cert.specs.Texts.{IsNumberText}
-use Rattle.pc_cert.specs.Line.{IsDerivation, IsPart, step_form, IsStep, only_hints}
-use Rattle.pc_cert.specs.Written.{WrittenPart, WrittenLiteral}
+use Rattle.pc_cert.specs.Line.{IsDerivation, IsPart, IsStep}
+use Rattle.pc_cert.specs.Written.{WrittenPart, WrittenLiteral, written_some, written_one, written_rule, written_node_clause, written_atom, written_step}
+use Rattle.pc_cert.proofs.Words.{starts_otherwise, tails}
 
 one : IsNumberText (codes "1") 1
 one = record { digits = search rules; short = search rules; value = refl }
@@ -26,19 +27,28 @@ only_one number e v =
     cc
 
 nothing_written : (p : WrittenPart) → IsPart [] p → ⊥
-nothing_written p h = elim h [ ]
+nothing_written p h = absurd (cc (h.are))
+
+no_parts : (xs ys : List (List ℕ)) → [] ≡ xs ++ codes ":" ∷ ys → ⊥
+no_parts [] ys e = absurd (cc)
+no_parts (x ∷ xs) ys e = absurd (cc)
 
 no_step : (ls : List WrittenLiteral) (hints : List ℕ) → IsStep [] ls hints → ⊥
-no_step ls hints h = elim h [ ]
+no_step ls hints h = no_parts h.literals h.hints h.parted
 
 no_colon_written : (p : WrittenPart) → IsPart (codes "step" ∷ []) p → ⊥
-no_colon_written p (step_form s) = no_step _ _ s
+no_colon_written (written_step ls hints) h = let none = sym (tails (codes "step") (codes "step") [] h.more h.are) in no_step ls hints (subst (λ x. IsStep x ls hints) none h.follows)
+no_colon_written (written_some c) h = starts_otherwise (codes "step") (codes "some") _ _ refl h.are
+no_colon_written (written_one c v w) h = starts_otherwise (codes "step") (codes "one") _ _ refl h.are
+no_colon_written (written_rule n) h = starts_otherwise (codes "step") (codes "rule") _ _ refl h.are
+no_colon_written (written_node_clause p i) h = starts_otherwise (codes "step") (codes "node") _ _ refl h.are
+no_colon_written (written_atom p reads) h = starts_otherwise (codes "step") (codes "atom") _ _ refl h.are
 
 alone : (p : WrittenPart) → IsDerivation (codes "1" ∷ []) 1 p → ⊥
-alone p h = let none : h.more ≡ [] = cc in nothing_written p (subst (λ x. IsPart x p) none h.is)
+alone p h = let none = sym (tails (codes "1") h.number [] h.more h.are) in nothing_written p (subst (λ x. IsPart x p) none h.is)
 
 before_step : (p : WrittenPart) → IsDerivation (codes "1" ∷ codes "step" ∷ []) 1 p → ⊥
-before_step p h = let none : h.more ≡ codes "step" ∷ [] = cc in no_colon_written p (subst (λ x. IsPart x p) none h.is)
+before_step p h = let none = sym (tails (codes "1") h.number (codes "step" ∷ []) h.more h.are) in no_colon_written p (subst (λ x. IsPart x p) none h.is)
 
 pub line_examples : LineExamples
 line_examples = record {
@@ -49,9 +59,9 @@ line_examples = record {
   none_holds = refl;
   last = refl;
   not_last = λ h. cc;
-  empty_step = record { number = codes "2"; more = codes "step" ∷ codes ":" ∷ codes "1" ∷ []; are = refl; counts = two; is = step_form (only_hints (one, tt)) };
-  zero_hint = record { number = codes "2"; more = codes "step" ∷ codes ":" ∷ codes "0" ∷ []; are = refl; counts = two; is = step_form (only_hints (nought, tt)) };
-  no_hints = record { number = codes "1"; more = codes "step" ∷ codes ":" ∷ []; are = refl; counts = one; is = step_form (only_hints tt) };
+  empty_step = record { number = codes "2"; more = codes "step" ∷ codes ":" ∷ codes "1" ∷ []; are = refl; counts = two; is = record { more = codes ":" ∷ codes "1" ∷ []; are = refl; follows = record { literals = []; hints = codes "1" ∷ []; parted = refl; first = tt; clause = tt; lines = (one, tt) } } };
+  zero_hint = record { number = codes "2"; more = codes "step" ∷ codes ":" ∷ codes "0" ∷ []; are = refl; counts = two; is = record { more = codes ":" ∷ codes "0" ∷ []; are = refl; follows = record { literals = []; hints = codes "0" ∷ []; parted = refl; first = tt; clause = tt; lines = (nought, tt) } } };
+  no_hints = record { number = codes "1"; more = codes "step" ∷ codes ":" ∷ []; are = refl; counts = one; is = record { more = codes ":" ∷ []; are = refl; follows = record { literals = []; hints = []; parted = refl; first = tt; clause = tt; lines = tt } } };
   no_colon = λ p h. before_step p h;
   no_word = λ p h. alone p h;
 }

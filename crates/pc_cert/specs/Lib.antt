@@ -4,5 +4,6 @@ pub mod Line
 pub mod Order
 pub mod Meaning
 pub mod Text
+pub mod Trees
 pub mod Views
 pub mod Examples

@@ -1,31 +1,75 @@
 -- The forms of a certificate's line. A line that isn't UTF-8 has none, since each of its texts is a word or is spelled.
-use Rattle.std.specs.Prelude.{◌≡◌, ◌≢◌, ℕ, ◌≤◌, Bool, true, false, List, [], ◌∷◌, codes}
+use Rattle.std.specs.Prelude.{◌≡◌, ◌≢◌, ℕ, ◌≤◌, Bool, true, false, List, [], ◌∷◌, ◌++◌, codes}
+use Rattle.std.specs.List.{AllByRecursion}
 use Rattle.pc_token.specs.declared.token.Kind.{Kind}
 use Rattle.pc_token.specs.declared.token.Kind.TheVariants.{Equal, NotEqual}
 use Rattle.pc_formula.specs.Word.{Word, name}
 use Rattle.pc_formula.specs.Tree.{Cell, Value}
-use Rattle.pc_name.specs.Names.{IsName}
 use Rattle.pc_cert.specs.Written.{nothing, heading, claims, claims_inconsistent, uses, assigns, derives, ends, WrittenPair, WrittenPath, WrittenLiteral, WrittenPart, written_some, written_one, written_rule, written_node_clause, written_atom, written_step, WrittenLine}
-use Rattle.pc_cert.specs.Texts.{texts_of, DerivesPair, Spells, IsCellText, IsValueText, IsReadText, IsNumberText, AreAll, IsPathText, IsLiteralText}
+use Rattle.pc_cert.specs.Texts.{texts_of, IsWholePair, Spells, IsCellText, IsValueText, IsReadText, IsNumberText, IsNameText, AreAll, IsPathText, IsLiteralText}
 
 -- ---- what stands behind the number of a line of the derivation
 
 -- LIT { LIT } `:` { H }: literals up to the first colon, and then hints
-pub data IsStep : List (List ℕ) → List WrittenLiteral → List ℕ → Type 0 where
-  only_hints : {texts : List (List ℕ)} {hints : List ℕ} → AreAll IsNumberText texts hints → IsStep (codes ":" ∷ texts) [] hints
-  one_literal : {text : List ℕ} {texts : List (List ℕ)} {l : WrittenLiteral} {ls : List WrittenLiteral} {hints : List ℕ} → text ≢ codes ":" → IsLiteralText text l → IsStep texts ls hints → IsStep (text ∷ texts) (l ∷ ls) hints
+pub record IsStep (texts : List (List ℕ)) (ls : List WrittenLiteral) (numbers : List ℕ) : Type 0 where
+  pub literals : List (List ℕ)
+  pub hints : List (List ℕ)
+  pub parted : texts ≡ literals ++ codes ":" ∷ hints
+  pub first : AllByRecursion (λ text. text ≢ codes ":") literals
+  pub clause : AreAll IsLiteralText literals ls
+  pub lines : AreAll IsNumberText hints numbers
 
 -- the highest number of a clause of a node
 abbrev pub highest_number : ℕ
 highest_number = 4294967295
 
-pub data IsPart : List (List ℕ) → WrittenPart → Type 0 where
-  some_form : {cell : List ℕ} {c : Cell} → IsCellText cell c → IsPart (codes "some" ∷ cell ∷ []) (written_some c)
-  one_form : {cell first second : List ℕ} {c : Cell} {v w : Value} → IsCellText cell c → IsValueText first v → IsValueText second w → IsPart (codes "one" ∷ cell ∷ first ∷ second ∷ []) (written_one c v w)
-  rule_form : {rule : List ℕ} → IsName rule → IsPart (codes "rule" ∷ rule ∷ []) (written_rule rule)
-  node_form : {path number : List ℕ} {p : WrittenPath} {i : ℕ} → IsPathText path p → IsNumberText number i → i ≤ highest_number → IsPart (codes "node" ∷ path ∷ number ∷ []) (written_node_clause p i)
-  atom_form : {path : List ℕ} {reads : List (List ℕ)} {p : WrittenPath} {ps : List WrittenPair} → IsPathText path p → AreAll IsReadText reads ps → IsPart (codes "atom" ∷ path ∷ reads) (written_atom p ps)
-  step_form : {texts : List (List ℕ)} {ls : List WrittenLiteral} {hints : List ℕ} → IsStep texts ls hints → IsPart (codes "step" ∷ texts) (written_step ls hints)
+-- VALUE VALUE behind CELL
+pub record IsOneForm (texts : List (List ℕ)) (c : Cell) (v w : Value) : Type 0 where
+  pub cell : List ℕ
+  pub values : List (List ℕ)
+  pub are : texts ≡ cell ∷ values
+  pub is_cell : IsCellText cell c
+  pub are_values : AreAll IsValueText values (v ∷ w ∷ [])
+
+-- a number behind PATH
+pub record IsNodeForm (texts : List (List ℕ)) (p : WrittenPath) (i : ℕ) : Type 0 where
+  pub path : List ℕ
+  pub number : List ℕ
+  pub are : texts ≡ path ∷ number ∷ []
+  pub is_path : IsPathText path p
+  pub is_number : IsNumberText number i
+  pub within : i ≤ highest_number
+
+-- READs behind PATH
+pub record IsAtomForm (texts : List (List ℕ)) (p : WrittenPath) (reads : List WrittenPair) : Type 0 where
+  pub path : List ℕ
+  pub others : List (List ℕ)
+  pub are : texts ≡ path ∷ others
+  pub is_path : IsPathText path p
+  pub are_reads : AreAll IsReadText others reads
+
+-- the word that starts a part
+abbrev pub part_word : WrittenPart → List ℕ
+part_word (written_some c) = codes "some"
+part_word (written_one c v w) = codes "one"
+part_word (written_rule n) = codes "rule"
+part_word (written_node_clause p i) = codes "node"
+part_word (written_atom p reads) = codes "atom"
+part_word (written_step ls hints) = codes "step"
+
+-- what stands behind it
+abbrev pub FollowsPart : WrittenPart → List (List ℕ) → Type 0
+FollowsPart (written_some c) texts = AreAll IsCellText texts (c ∷ [])
+FollowsPart (written_one c v w) texts = IsOneForm texts c v w
+FollowsPart (written_rule n) texts = (texts ≡ n ∷ []) × IsNameText n
+FollowsPart (written_node_clause p i) texts = IsNodeForm texts p i
+FollowsPart (written_atom p reads) texts = IsAtomForm texts p reads
+FollowsPart (written_step ls hints) texts = IsStep texts ls hints
+
+pub record IsPart (texts : List (List ℕ)) (p : WrittenPart) : Type 0 where
+  pub more : List (List ℕ)
+  pub are : texts ≡ part_word p ∷ more
+  pub follows : FollowsPart p more
 
 -- ---- lines
 
@@ -38,7 +82,7 @@ equality false = NotEqual
 pub record SpellsPair (line word : List ℕ) (k : Kind) (p : WrittenPair) : Type 0 where
   pub words : List Word
   pub spells : Spells line (name word ∷ words)
-  pub pair : DerivesPair k words p []
+  pub pair : IsWholePair k words p
 
 -- the first of the texts
 pub record StartsWithText (texts : List (List ℕ)) (text : List ℕ) : Type 0 where

@@ -20,9 +20,17 @@ texts_of line = filter (λ text. nat_lt 0 (length text)) (slice_split is_blank l
 
 -- ---- by tokens
 
+abbrev pub IsWholeCell : List Word → Cell → Type 0
+IsWholeCell words c = DerivesCell words c []
+
+abbrev pub IsWholeValue : List Word → Value → Type 0
+IsWholeValue words v = DerivesValue words v []
+
 -- CELL, the sign, VALUE
-pub data DerivesPair (k : Kind) : List Word → WrittenPair → List Word → Type 0 where
-  a_pair : {ws mid rest : List Word} {c : Cell} {v : Value} → DerivesCell ws c (sign k ∷ mid) → DerivesValue mid v rest → DerivesPair k ws (record { cell = c; value = v }) rest
+pub record IsWholePair (k : Kind) (words : List Word) (p : WrittenPair) : Type 0 where
+  pub rest : List Word
+  pub cell : DerivesCell words p.cell (sign k ∷ rest)
+  pub value : DerivesValue rest p.value []
 
 -- UTF-8 that splits into these words, and is no longer than the text of a name may be
 pub record Spells (text : List ℕ) (ws : List Word) : Type 0 where
@@ -30,29 +38,34 @@ pub record Spells (text : List ℕ) (ws : List Word) : Type 0 where
   pub within : length text ≤ most_name_bytes
   pub has : HasWords text ws
 
--- all words of the text are what is derived
-pub record SpellsAll {A : Type 0} (D : List Word → A → List Word → Type 0) (text : List ℕ) (a : A) : Type 0 where
+-- the words of the text are this
+pub record SpellsThis {A : Type 0} (Is : List Word → A → Type 0) (text : List ℕ) (a : A) : Type 0 where
   pub words : List Word
   pub spells : Spells text words
-  pub derives : D words a []
+  pub is : Is words a
 
 abbrev pub IsCellText : List ℕ → Cell → Type 0
-IsCellText = SpellsAll DerivesCell
+IsCellText = SpellsThis IsWholeCell
 
 abbrev pub IsValueText : List ℕ → Value → Type 0
-IsValueText = SpellsAll DerivesValue
+IsValueText = SpellsThis IsWholeValue
 
 -- a READ: CELL = VALUE
 abbrev pub IsReadText : List ℕ → WrittenPair → Type 0
-IsReadText = SpellsAll (DerivesPair Equal)
+IsReadText = SpellsThis (IsWholePair Equal)
 
--- ---- numbers and paths
+-- ---- numbers, names and paths
 
 -- a run of 1 to 18 digits
 pub record IsNumberText (text : List ℕ) (n : ℕ) : Type 0 where
   pub digits : IsNumeral 10 text
   pub short : length text ≤ 18
   pub value : n ≡ digits_value 10 text
+
+-- a NAME
+pub record IsNameText (text : List ℕ) : Type 0 where
+  pub utf8 : IsUtf8 text
+  pub name : IsName text
 
 -- text after text is an X
 abbrev pub AreAll : {A : Type 0} → (List ℕ → A → Type 0) → List (List ℕ) → List A → Type 0
@@ -69,7 +82,7 @@ pieces_of text = slice_split (λ b. b == 47) text
 pub record IsPathText (text : List ℕ) (p : WrittenPath) : Type 0 where
   pub numbers : List (List ℕ)
   pub pieces : pieces_of text ≡ (codes "@" ++ p.rule) ∷ numbers
-  pub name : IsName p.rule
+  pub name : IsNameText p.rule
   pub steps : AreAll IsNumberText numbers p.steps
 
 -- ---- literals

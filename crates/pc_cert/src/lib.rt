@@ -3,6 +3,12 @@
 
 mod cert;
 mod law;
+mod literal;
+mod number;
+mod path;
+mod spelled;
+mod texts;
+mod tree;
 
 pub use cert::{Cert, CertFault, CertLine, CertPart, Claim, Said, Symbol};
 pub use law::worked_lines;

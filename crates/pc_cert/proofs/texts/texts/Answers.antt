@@ -1,0 +1,10 @@
+use Rattle.std.proofs.Common.{rules, tests, ◌<◌, length, nat_lt}
+use Rattle.std.proofs.lemmas.Iterator.Consumers.{map_from_collect, YieldsList-from_filter}
+use Rattle.std.proofs.lemmas.Iterator.Splits.{YieldsList-from_slice_split}
+use Rattle.pc_token.specs.Token.{is_blank}
+use Rattle.pc_cert.proofs.texts.texts.Goals as goal
+
+pub returns : goal.returns
+returns c =
+    map_from_collect _ c.collect.ensures.ran
+    (YieldsList-from_filter {s = c.filter.result} _ (λ t. nat_lt 0 (length t)) (YieldsList-from_slice_split _ is_blank c.args.line.now (cc) (cc) (cc) (λ x b q k. search (rules, tests))) c.filter.ensures.closure (λ x b q k. search (rules, tests)))

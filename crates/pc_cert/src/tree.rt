@@ -1,0 +1,55 @@
+// What the lines of a certificate say, as trees: names aren't looked up yet.
+use pc_formula::{CellTree, Name, ValueTree};
+
+/// A cell and a value.
+#[derive(Debug, Drop)]
+pub struct PairTree {
+    pub cell: CellTree,
+    pub value: ValueTree,
+}
+
+/// A rule's name, and the child numbers on the way from its root.
+#[derive(Debug, Drop)]
+pub struct PathTree {
+    pub rule: Name,
+    pub steps: Vec<u64>,
+}
+
+#[derive(Debug, Drop)]
+pub enum SymbolTree {
+    Pair(PairTree),
+    Node(PathTree),
+}
+
+#[derive(Debug, Drop)]
+pub struct LiteralTree {
+    pub what: SymbolTree,
+    pub sign: bool,
+}
+
+/// What stands behind the number of a line of the derivation.
+#[derive(Debug, Drop)]
+pub enum PartTree {
+    Any(CellTree),
+    One(CellTree, ValueTree, ValueTree),
+    Rule(Name),
+    Node(PathTree, u32),
+    Atom(PathTree, Vec<PairTree>),
+    Step {
+        clause: Vec<LiteralTree>,
+        hints: Vec<u64>,
+    },
+}
+
+/// A line by its form.
+#[derive(Debug, Drop)]
+pub enum LineTree {
+    Nothing,
+    Heading,
+    Claims(PairTree, bool),
+    ClaimsInconsistent,
+    Uses(PairTree),
+    Assigns(PairTree),
+    Derives(u64, PartTree),
+    Ends,
+}
