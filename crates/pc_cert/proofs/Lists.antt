@@ -1,5 +1,6 @@
 -- One reader after another over the texts of a list.
-use Rattle.std.proofs.Common.{◌≡◌, ℕ, ◌+◌, ◌<◌, zero, suc, List, [], ◌∷◌, ◌++◌, length, map, take, drop, get_or, Bor, refl, sym, ◌∙◌, ap, subst, arith}
+use Rattle.std.proofs.Common.{◌≡◌, ℕ, ◌+◌, ◌-◌, ◌<◌, zero, suc, List, [], ◌∷◌, ◌++◌, length, map, take, drop, get_or, Bor, refl, sym, ◌∙◌, ap, subst, arith}
+use Rattle.std.proofs.lemmas.List.{take_rest}
 use Rattle.pc_cert.specs.Texts.{AreAll}
 use Rattle.pc_cert.specs.Trees.{seen}
 
@@ -33,6 +34,11 @@ module _ {A : Type 0} (X : List ℕ → A → Type 0) (texts : List (Bor (List �
 
   pub all_none : ((x : A) → X (get_or texts i d).now x → ⊥) → (xs : List A) → AreAll X (seen texts) xs → ⊥
   all_none none xs all = all_stops X (seen (take i texts)) (get_or texts i d).now (seen (drop (i + 1) texts)) none xs (subst (λ ts. AreAll X ts xs) (seen_at texts i d inside) all)
+
+-- the same, where the text there is known
+pub cut_at : (texts : List (Bor (List ℕ))) (i : ℕ) (d : Bor (List ℕ)) (text : List ℕ) → i < length texts → (get_or texts i d).now ≡ text → seen texts ≡ seen (take i texts) ++ text ∷ seen (take (length texts - (i + 1)) (drop (i + 1) texts))
+cut_at texts i d text inside is =
+    seen_at texts i d inside ∙ ap (λ t. seen (take i texts) ++ t ∷ seen (drop (i + 1) texts)) is ∙ ap (λ ts. seen (take i texts) ++ text ∷ seen ts) (sym (take_rest texts (i + 1)))
 
 map_push : {A B : Type 0} (f : A → B) (xs : List A) (x : A) → map f (xs ++ x ∷ []) ≡ map f xs ++ f x ∷ []
 map_push f [] x = refl

@@ -18,3 +18,6 @@ differ a b other e = false_no_true (bytes_eq a b) other ((bytes_eq-Decides a b).
 -- a list doesn't start with another word than it does
 pub starts_otherwise : (a b : List ℕ) (xs ys : List (List ℕ)) → bytes_eq a b ≡ false → a ∷ xs ≡ b ∷ ys → ⊥
 starts_otherwise a b xs ys other e = differ a b other (heads a b xs ys e)
+
+pub differs : (b : Bool) (A : Type 0) → (IsTrue b ↔ A) → b ≡ false → A → ⊥
+differs b A both stays is = false_no_true b stays (both.1 is)

@@ -1,5 +1,5 @@
 -- What the trees of lines stand for.
-use Rattle.std.specs.Prelude.{ℕ, List, map, ◌≡◌, Result, Ok, Err}
+use Rattle.std.specs.Prelude.{ℕ, Bool, List, map}
 use denote.Ref.{Bor}
 use Rattle.pc_formula.specs.Tree.{cell_of, value_of}
 use Rattle.pc_cert.specs.Written.{nothing, heading, claims, claims_inconsistent, uses, assigns, derives, ends, WrittenPair, WrittenPath, WrittenSymbol, written_pair, written_node, WrittenLiteral, WrittenPart, written_some, written_one, written_rule, written_node_clause, written_atom, written_step, WrittenLine}
@@ -15,6 +15,10 @@ use Rattle.pc_cert.specs.declared.tree.LineTree.TheVariants as line
 
 abbrev pub pair_of : PairTree → WrittenPair
 pair_of t = record { cell = cell_of t.cell; value = value_of t.value }
+
+-- with whether it is claimed to hold
+abbrev pub claimed_of : PairTree × Bool → WrittenPair × Bool
+claimed_of q = (pair_of q.0, q.1)
 
 abbrev pub path_of : PathTree → WrittenPath
 path_of t = record { rule = t.rule; steps = t.steps.items }

@@ -3,8 +3,10 @@
 
 mod cert;
 mod law;
+mod line;
 mod literal;
 mod number;
+mod part;
 mod path;
 mod spelled;
 mod texts;

@@ -1,9 +1,11 @@
 // The readers of texts that are split into tokens: cells, values, and cells with values.
-ghost use Rattle.std.specs.Prelude.{◌≡◌, [], OnOk, IfOk};
+ghost use Rattle.std.specs.Prelude.{◌≡◌, ◌∷◌, [], Bool, OnOk, IfOk, MatchOption};
+ghost use Rattle.pc_formula.specs.Word.{sign, NotFirst};
 ghost use Rattle.pc_formula.specs.Tree.{Cell, Value, cell_of, value_of};
 ghost use Rattle.pc_cert.specs.Written.{WrittenPair};
-ghost use Rattle.pc_cert.specs.Texts.{IsWholeCell, IsWholeValue, IsWholePair, IsCellText, IsValueText, IsReadText};
-ghost use Rattle.pc_cert.specs.Trees.{pair_of};
+ghost use Rattle.pc_cert.specs.Texts.{SpellsThis, IsWholeCell, IsWholeValue, IsWholePair, IsCellText, IsValueText, IsReadText};
+ghost use Rattle.pc_cert.specs.Line.{equality, IsWordPair, IsClaim, SpellsPair};
+ghost use Rattle.pc_cert.specs.Trees.{pair_of, claimed_of};
 
 use crate::texts::{spelled, split};
 use crate::tree::PairTree;
@@ -93,4 +95,84 @@ pub fn read_pair_text(alloc: Global, text: &[u8]) -> Result<PairTree, Refusal>
     let found = split(alloc, line)?;
     let mut words = Words::new(line, found.as_slice());
     whole_pair(alloc, &mut words)
+}
+
+// Takes `=` or `!=`, where it is the first word.
+fn take_equality(words: &mut Words<'_>) -> Option<bool>
+    ensures { MatchOption result ((holds : Bool) → NotFirst (equality holds) words.old) (λ holds. words.old ≡ sign (equality holds) ∷ words.new) }
+{
+    if words.take_sign(Kind::Equal) {
+        return Some(true);
+    }
+    if words.take_sign(Kind::NotEqual) {
+        return Some(false);
+    }
+    None
+}
+
+// Reads CELL = VALUE or CELL != VALUE and the end.
+fn whole_question(alloc: Global, words: &mut Words<'_>) -> Result<(PairTree, bool), Refusal>
+    ensures told { IfOk result (λ q. IsWholePair (equality q.1) words.old (pair_of q.0)) }
+    ensures none { result ≡ Err Refusal.Syntax → (p : WrittenPair) (holds : Bool) → IsWholePair (equality holds) words.old p → ⊥ }
+{
+    let cell = read_cell(alloc, words)?;
+    let Some(holds) = take_equality(words) else {
+        return Err(Refusal::Syntax);
+    };
+    let value = whole_value(alloc, words)?;
+    Ok((PairTree { cell, value }, holds))
+}
+
+// Reads the word, CELL = VALUE and the end.
+fn word_pair(alloc: Global, words: &mut Words<'_>, word: &str) -> Result<PairTree, Refusal>
+    ensures told { IfOk result (λ p. IsWordPair word.now Kind.Equal words.old (pair_of p)) }
+    ensures none { result ≡ Err Refusal.Syntax → (p : WrittenPair) → IsWordPair word.now Kind.Equal words.old p → ⊥ }
+{
+    let Some(first) = words.take_name() else {
+        return Err(Refusal::Syntax);
+    };
+    if first != word {
+        return Err(Refusal::Syntax);
+    }
+    whole_pair(alloc, words)
+}
+
+// Reads `claim`, CELL = VALUE or CELL != VALUE and the end.
+fn claim_words(alloc: Global, words: &mut Words<'_>) -> Result<(PairTree, bool), Refusal>
+    ensures told { IfOk result (λ q. IsClaim words.old (claimed_of q)) }
+    ensures none { result ≡ Err Refusal.Syntax → (q : WrittenPair × Bool) → IsClaim words.old q → ⊥ }
+{
+    let Some(first) = words.take_name() else {
+        return Err(Refusal::Syntax);
+    };
+    if first != "claim" {
+        return Err(Refusal::Syntax);
+    }
+    whole_question(alloc, words)
+}
+
+/// The cell with a value that stands behind the word that starts the line.
+pub fn read_word_pair(alloc: Global, text: &[u8], word: &str) -> Result<PairTree, Refusal>
+    ensures told { IfOk result (λ p. SpellsPair text.now word.now (pair_of p)) }
+    ensures none { result ≡ Err Refusal.Syntax → (p : WrittenPair) → SpellsPair text.now word.now p → ⊥ }
+{
+    let Some(line) = spelled(text) else {
+        return Err(Refusal::Syntax);
+    };
+    let found = split(alloc, line)?;
+    let mut words = Words::new(line, found.as_slice());
+    word_pair(alloc, &mut words, word)
+}
+
+/// What the line claims of a cell and a value.
+pub fn read_claim(alloc: Global, text: &[u8]) -> Result<(PairTree, bool), Refusal>
+    ensures told { IfOk result (λ q. SpellsThis IsClaim text.now (claimed_of q)) }
+    ensures none { result ≡ Err Refusal.Syntax → (q : WrittenPair × Bool) → SpellsThis IsClaim text.now q → ⊥ }
+{
+    let Some(line) = spelled(text) else {
+        return Err(Refusal::Syntax);
+    };
+    let found = split(alloc, line)?;
+    let mut words = Words::new(line, found.as_slice());
+    claim_words(alloc, &mut words)
 }

@@ -1,0 +1,13 @@
+use Rattle.std.proofs.Common.{◌≡◌, Err, ap}
+use Rattle.std.proofs.lemmas.Result.{err_from_is_err_and}
+use Rattle.pc_formula.specs.declared.refusal.Refusal.TheVariants.{Syntax}
+use Rattle.pc_cert.specs.Trees.{seen}
+use Rattle.pc_cert.proofs.Words.{differs}
+use Rattle.pc_cert.proofs.Forms.{only_claims}
+use Rattle.pc_cert.proofs.line.claim_line.Goals as goal
+
+pub returns-in_err-pair-clause-none : goal.returns-in_err-pair-clause-none
+returns-in_err-pair-clause-none c = λ e f is.
+    let p = err_from_is_err_and c.from_residual.result c.from_residual.ensures.1 in
+    let same : c.in_err-pair.field-0.0 ≡ Syntax = cc (e, p.1, p.2) in
+    only_claims c.args.line.now (seen c.args.rest.now) (λ e. absurd (differs c.is_one_word.result _ c.is_one_word.ensures c.if-is_one_word.false e)) (c.in_err-pair.ensures.none (ap Err same)) f is
