@@ -2,7 +2,9 @@ mod Symbols
 mod Words
 mod Worked
 mod Forms
+mod Found
 mod Lists
 mod Numbers
 mod Parted
+mod RuleNames
 mod Spelling

@@ -1,6 +1,7 @@
 -- What the trees of lines stand for.
 use Rattle.std.specs.Prelude.{ℕ, Bool, List, map}
 use denote.Ref.{Bor}
+use Rattle.pc_sheet.specs.declared.formula.Rule.{Rule}
 use Rattle.pc_formula.specs.Tree.{cell_of, value_of}
 use Rattle.pc_cert.specs.Written.{nothing, heading, claims, claims_inconsistent, uses, assigns, derives, ends, WrittenPair, WrittenPath, WrittenSymbol, written_pair, written_node, WrittenLiteral, WrittenPart, written_some, written_one, written_rule, written_node_clause, written_atom, written_step, WrittenLine}
 use Rattle.pc_cert.specs.declared.tree.PairTree.{PairTree}
@@ -51,3 +52,7 @@ line_of line.Ends = ends
 -- the texts that slices point to
 abbrev pub seen : List (Bor (List ℕ)) → List (List ℕ)
 seen texts = map (λ t. t.now) texts
+
+-- the name of a rule
+abbrev pub named_by : Rule → List ℕ
+named_by r = r.name

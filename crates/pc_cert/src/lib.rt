@@ -5,6 +5,7 @@ mod cert;
 mod law;
 mod line;
 mod literal;
+mod lookup;
 mod number;
 mod part;
 mod path;
