@@ -1,5 +1,5 @@
 -- What is found, from what is told of the cell and of its values.
-use Rattle.std.proofs.Common.{◌≡◌, ◌↔◌, Option, Some, None, Result, Ok, Err, refl, sym, ◌∙◌, ap, subst}
+use Rattle.std.proofs.Common.{◌≡◌, ◌↔◌, Option, Some, None, Result, Ok, Err, sym, ◌∙◌, ap, subst}
 use Rattle.pc_formula.specs.Tree.{Cell, Value}
 use Rattle.pc_sheet.specs.Sheet.{Universe}
 use Rattle.pc_sheet.specs.declared.ids.SortId.{SortId}
@@ -10,7 +10,6 @@ use Rattle.pc_elaborate.specs.declared.fault.SortFault.{SortFault}
 use Rattle.pc_elaborate.specs.Elaboration.{IsCell, IsValueOf}
 use Rattle.pc_elaborate.specs.FormulaFaults.{IsCellFault, IsValueFault}
 use Rattle.pc_elaborate.specs.Outcome.{IsOutcome, Tells, sort_of_cell}
-use Rattle.pc_cert.specs.Written.{WrittenPair}
 use Rattle.pc_cert.specs.Meaning.{IsCellNamed, IsEntryNamed, AreValuesNamed}
 
 no_error : {A E : Type 0} (r : Result A E) (a : A) (e : E) → r ≡ Ok a → r ≡ Err e → ⊥

@@ -1,6 +1,7 @@
 mod Symbols
 mod Words
 mod Worked
+mod Beyond
 mod Forms
 mod Found
 mod Lists

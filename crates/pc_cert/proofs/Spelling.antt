@@ -5,7 +5,7 @@ use Rattle.pc_name.specs.Names.{most_name_bytes}
 use Rattle.pc_token.specs.Token.{split}
 use Rattle.pc_token.proofs.Once.{one_reading}
 use Rattle.pc_formula.specs.Word.{Word, words_of, HasWords}
-use Rattle.pc_cert.specs.Texts.{Spells, SpellsThis}
+use Rattle.pc_cert.specs.Texts.{SpellsThis}
 
 -- a text splits into one list of words
 pub one_words : (text : List ℕ) (ws vs : List Word) → HasWords text ws → HasWords text vs → ws ≡ vs

@@ -1,10 +1,10 @@
 -- What a text may be about.
-use Rattle.std.proofs.Common.{◌≡◌, ℕ, Bool, true, false, List, [], ◌∷◌, ◌++◌, codes, refl, sym, ◌∙◌, ap, if◌then◌else◌}
-use Rattle.std.specs.List.{slice_split, onto_first}
+use Rattle.std.proofs.Common.{◌≡◌, ℕ, Bool, true, false, List, [], ◌∷◌, ◌++◌, codes, sym, ◌∙◌, ap}
+use Rattle.std.specs.List.{onto_first}
 use Rattle.std.specs.Prelude.{cond, ◌==◌}
 use Rattle.pc_cert.specs.Written.{WrittenPair, WrittenSymbol, written_pair, written_node}
 use Rattle.pc_cert.specs.Texts.{is_path, IsReadText, IsSymbolText, pieces_of}
-use Rattle.pc_cert.proofs.Words.{differ, heads}
+use Rattle.pc_cert.proofs.Words.{heads}
 
 absent : (b : Bool) → b ≡ false → b ≡ true → ⊥
 absent b e f = cc

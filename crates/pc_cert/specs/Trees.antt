@@ -2,6 +2,7 @@
 use Rattle.std.specs.Prelude.{ℕ, Bool, List, map}
 use denote.Ref.{Bor}
 use Rattle.pc_sheet.specs.declared.formula.Rule.{Rule}
+use Rattle.pc_sheet.specs.declared.nodes.NodePath.{NodePath}
 use Rattle.pc_formula.specs.Tree.{cell_of, value_of}
 use Rattle.pc_cert.specs.Written.{nothing, heading, claims, claims_inconsistent, uses, assigns, derives, ends, WrittenPair, WrittenPath, WrittenSymbol, written_pair, written_node, WrittenLiteral, WrittenPart, written_some, written_one, written_rule, written_node_clause, written_atom, written_step, WrittenLine}
 use Rattle.pc_cert.specs.declared.tree.PairTree.{PairTree}
@@ -56,3 +57,7 @@ seen texts = map (λ t. t.now) texts
 -- the name of a rule
 abbrev pub named_by : Rule → List ℕ
 named_by r = r.name
+
+-- a node's rule and steps
+abbrev pub place_of : NodePath → ℕ × List ℕ
+place_of p = (p.rule, p.steps.items)

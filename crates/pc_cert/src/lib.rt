@@ -6,6 +6,7 @@ mod law;
 mod line;
 mod literal;
 mod lookup;
+mod node;
 mod number;
 mod part;
 mod path;
@@ -18,3 +19,6 @@ pub use law::worked_lines;
 pub use pc_lits::{Lit, Var};
 pub use pc_names::AxiomName;
 pub use pc_sheet::{CellId, Entry, NodePath, Target, ValueId};
+
+#[cfg(test)]
+mod tests;

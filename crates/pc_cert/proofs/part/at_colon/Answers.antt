@@ -1,4 +1,4 @@
-use Rattle.std.proofs.Common.{◌≡◌, ◌≢◌, ◌≤◌, ◌++◌, ◌∷◌, length, codes, arith, subst, ap, ◌∙◌, sym}
+use Rattle.std.proofs.Common.{◌≢◌, codes, arith, subst, ap, ◌∙◌}
 use Rattle.std.proofs.lemmas.List.{take_all}
 use Rattle.std.specs.List.{AllByRecursion}
 use Rattle.pc_cert.specs.Trees.{seen}

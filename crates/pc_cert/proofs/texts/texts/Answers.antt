@@ -1,4 +1,4 @@
-use Rattle.std.proofs.Common.{rules, tests, ◌<◌, length, nat_lt}
+use Rattle.std.proofs.Common.{rules, tests, length, nat_lt}
 use Rattle.std.proofs.lemmas.Iterator.Consumers.{map_from_collect, YieldsList-from_filter}
 use Rattle.std.proofs.lemmas.Iterator.Splits.{YieldsList-from_slice_split}
 use Rattle.pc_token.specs.Token.{is_blank}
