@@ -2,6 +2,7 @@ mod Symbols
 mod Words
 mod Worked
 mod Beyond
+mod EachNamed
 mod Forms
 mod Found
 mod Lists

@@ -1,4 +1,7 @@
 -- What the trees of lines stand for.
+use Rattle.std.specs.Prelude.{Vec}
+use Rattle.std.specs.declared.alloc.Global.{Global}
+use Rattle.pc_sheet.specs.declared.ids.Entry.{Entry}
 use Rattle.std.specs.Prelude.{ℕ, Bool, List, map}
 use denote.Ref.{Bor}
 use Rattle.pc_sheet.specs.declared.formula.Rule.{Rule}
@@ -61,3 +64,6 @@ named_by r = r.name
 -- a node's rule and steps
 abbrev pub place_of : NodePath → ℕ × List ℕ
 place_of p = (p.rule, p.steps.items)
+
+abbrev pub entries_in : Vec Entry Global → List Entry
+entries_in v = v.items

@@ -2,6 +2,7 @@
 #![tactic(auto)]
 
 mod cert;
+mod entries;
 mod law;
 mod line;
 mod literal;
