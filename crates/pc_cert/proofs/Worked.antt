@@ -1,7 +1,9 @@
 -- The examples of lines.
 use Rattle.std.proofs.Common.{rules, refl, sym, subst, ◌≡◌, ℕ, List, [], ◌∷◌, ◌++◌, codes}
 use Rattle.std.specs.Str.Parse.{digits_value}
-use Rattle.pc_cert.specs.Examples.{LineExamples}
+use Rattle.std.proofs.Common.{inl, inr, ⊎_elim, arith}
+use Rattle.pc_cert.specs.Views.{AppearInOrder}
+use Rattle.pc_cert.specs.Examples.{LineExamples, ViewExamples}
 use Rattle.pc_cert.specs.Texts.{IsNumberText}
 use Rattle.pc_cert.specs.Line.{IsDerivation, IsPart, IsStep}
 use Rattle.pc_cert.specs.Written.{WrittenPart, WrittenLiteral, written_some, written_one, written_rule, written_node_clause, written_atom, written_step}
@@ -64,4 +66,14 @@ line_examples = record {
   no_hints = record { number = codes "1"; more = codes "step" ∷ codes ":" ∷ []; are = refl; counts = one; is = record { more = codes ":" ∷ []; are = refl; follows = record { literals = []; hints = []; parted = refl; first = tt; clause = tt; lines = tt } } };
   no_colon = λ p h. before_step p h;
   no_word = λ p h. alone p h;
+}
+
+none_skipped : AppearInOrder 0 (1 ∷ []) 2 → ⊥
+none_skipped h = ⊎_elim (λ l. absurd (omega (arith, l.0))) (λ r. absurd (omega (arith, r.0))) h
+
+pub view_examples : ViewExamples
+view_examples = record {
+  numbered = inr (refl, inr (refl, inl (omega arith, inr (refl, refl))));
+  skipped = λ h. none_skipped h;
+  memory = λ sheet text. tt;
 }

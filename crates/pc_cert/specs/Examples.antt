@@ -6,6 +6,10 @@ use Rattle.pc_cert.specs.Order.{LineKind, empty_line, heading_line, target_line,
 use Rattle.pc_cert.specs.Line.{IsLine}
 use Rattle.pc_cert.specs.Written.{nothing, heading, claims_inconsistent, derives, ends, WrittenPart, written_step}
 use Rattle.pc_cert.specs.Text.{place_meant}
+use Rattle.pc_cert.specs.Views.{AppearInOrder, IsCertTold}
+use Rattle.pc_cert.specs.declared.cert.CertFault.TheVariants.{Memory}
+use Rattle.pc_sheet.specs.Sheet.{Sheet}
+use Rattle.std.specs.Prelude.{ℕ, Err}
 
 -- a claim on a target, what is used, an assignment, and a derivation of two lines
 abbrev pub in_order : List LineKind
@@ -58,3 +62,11 @@ pub record LineExamples : Type 0 where
   pub no_hints : IsLine (codes "1 step :") (derives 1 (written_step [] []))
   pub no_colon : (ls : WrittenPart) → ¬ IsLine (codes "1 step") (derives 1 ls)
   pub no_word : (p : WrittenPart) → ¬ IsLine (codes "1") (derives 1 p)
+
+pub record ViewExamples : Type 0 where
+  -- three symbols, of which the first appears again
+  pub numbered : AppearInOrder 0 (0 ∷ 1 ∷ 0 ∷ 2 ∷ []) 3
+  -- the second symbol can't appear first
+  pub skipped : ¬ AppearInOrder 0 (1 ∷ []) 2
+  -- want of memory tells nothing
+  pub memory : (sheet : Sheet) (text : List ℕ) → IsCertTold sheet text (Err Memory)
