@@ -1,0 +1,9 @@
+pub mod ListLemmas
+pub mod ClaimLemmas
+pub mod HintLemmas
+pub mod DerivationLemmas
+pub mod ClaimVerdict
+pub mod Derivations
+pub mod CheckedLines
+pub mod CheckVerdict
+pub mod Acceptance

@@ -1,0 +1,102 @@
+//! The tests of the derivation: its lines in order, and where it ends.
+
+ghost use Rattle.std.specs.Prelude.{◌≡◌, ◌<◌, ◌↔◌, All, Contains, IsTrue, List, length};
+ghost use Rattle.pc_values.specs.Values.{IsInRange};
+ghost use Rattle.pc_checker.specs.Parts.{IsStepBy, IsGoodPart, IsFirstBad, EndsAmong};
+
+use crate::hints::{HintsByNumber, are_earlier};
+use pc_cert::{CertLine, CertPart};
+use pc_lits::{ClauseStore, Lit};
+use pc_values::{Values, is_good_step};
+
+/// The first line that is neither marked as an axiom nor a good step by earlier lines.
+pub(crate) fn first_bad(
+    lines: &[CertLine],
+    axioms: &[bool],
+    clauses: &ClauseStore,
+    values: &mut Values,
+) -> Option<usize>
+    requires count { length clauses.now ≡ length lines.now }
+    requires marks { length axioms.now ≡ length lines.now }
+    requires clauses { All (All (IsInRange values.old)) clauses.now }
+    ensures first { IsFirstBad clauses.now axioms.now lines.now result }
+    ensures room { length values.new ≡ length values.old }
+{
+    for (place, line) in lines.iter().enumerate() {
+        if !is_good(place, &line.part, axioms, clauses, values) {
+            return Some(place);
+        }
+    }
+    None
+}
+
+// Whether the line of that place is marked as an axiom, or a good step.
+fn is_good(
+    place: usize,
+    part: &CertPart,
+    axioms: &[bool],
+    clauses: &ClauseStore,
+    values: &mut Values,
+) -> bool
+    requires place { place < length clauses.now }
+    requires marks { place < length axioms.now }
+    requires clauses { All (All (IsInRange values.old)) clauses.now }
+    ensures good { IsTrue result ↔ IsGoodPart clauses.now axioms.now place part.now }
+    ensures room { length values.new ≡ length values.old }
+{
+    match part {
+        CertPart::Axiom(_) => axioms[place],
+        CertPart::Step { hints, .. } => is_step(place, hints, clauses, values),
+    }
+}
+
+// Whether the clause of that place is a good step by hints that number earlier ones.
+fn is_step(place: usize, hints: &[u64], clauses: &ClauseStore, values: &mut Values) -> bool
+    requires place { place < length clauses.now }
+    requires clauses { All (All (IsInRange values.old)) clauses.now }
+    ensures good { IsTrue result ↔ IsStepBy clauses.now place hints.now }
+    ensures room { length values.new ≡ length values.old }
+{
+    if are_earlier(hints, place) {
+        let hinted = HintsByNumber {
+            clauses,
+            numbers: hints,
+        };
+        is_good_step(clauses.get(place), &hinted, values)
+    } else {
+        false
+    }
+}
+
+/// Whether there is a last clause, and its literals are among these.
+pub(crate) fn ends_among(clauses: &ClauseStore, allowed: &[Lit]) -> bool
+    ensures { IsTrue result ↔ EndsAmong clauses.now allowed.now }
+{
+    let count = clauses.len();
+    if count == 0 {
+        return false;
+    }
+    are_among(clauses.get(count - 1), allowed)
+}
+
+fn are_among(clause: &[Lit], allowed: &[Lit]) -> bool
+    ensures { IsTrue result ↔ All (Contains allowed.now) clause.now }
+{
+    for lit in clause {
+        if !is_one_of(*lit, allowed) {
+            return false;
+        }
+    }
+    true
+}
+
+fn is_one_of(lit: Lit, allowed: &[Lit]) -> bool
+    ensures { IsTrue result ↔ Contains allowed.now lit }
+{
+    for other in allowed {
+        if *other == lit {
+            return true;
+        }
+    }
+    false
+}

@@ -1,0 +1,8 @@
+//! Laws of verdicts. Each function is a law: its contract holds for every value, and it does nothing.
+
+ghost use Rattle.pc_checker.specs.Laws.{AcceptedIsAccepts};
+
+/// A certificate is accepted exactly where the definition of acceptance takes it.
+pub fn accepted_is_accepts()
+    ensures { AcceptedIsAccepts }
+{}

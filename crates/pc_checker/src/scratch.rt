@@ -1,0 +1,21 @@
+//! What a check needs of memory.
+
+use pc_lits::{ClauseStore, Lit};
+use pc_logic::Assignment;
+use pc_values::Values;
+
+/// What is prepared for the check of one certificate, so that the check itself takes no memory. The symbols of all
+/// clauses have numbers, the certificate's own first.
+#[derive(Drop)]
+pub struct Scratch {
+    // The values of the certificate's `value` lines.
+    pub(crate) assignment: Assignment,
+    // The clause of each line of the derivation.
+    pub(crate) clauses: ClauseStore,
+    // Whether each line may be taken as an axiom.
+    pub(crate) axioms: Vec<bool>,
+    // The literals that the last clause may have.
+    pub(crate) allowed: Vec<Lit>,
+    // The truth values by which a step is tested.
+    pub(crate) values: Values,
+}
