@@ -3,7 +3,12 @@ pub mod ClaimLemmas
 pub mod HintLemmas
 pub mod DerivationLemmas
 pub mod ClaimVerdict
+pub mod KeyLemmas
+pub mod DraftLemmas
 pub mod Derivations
+pub mod AxiomLemmas
+pub mod RoomLemmas
+pub mod Made
 pub mod CheckedLines
 pub mod CheckVerdict
 pub mod Acceptance

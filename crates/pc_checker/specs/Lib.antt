@@ -4,3 +4,8 @@ pub mod Laws
 pub mod Made
 pub mod Parts
 pub mod Numbers
+pub mod Keys
+pub mod KeysView
+pub mod Drafts
+pub mod Written
+pub mod Prepared

@@ -3,6 +3,7 @@ use Rattle.std.specs.Prelude.{◌≡◌, ◌<◌, ℕ, Bool, false, MatchBool, L
 use Rattle.pc_sheet.specs.Sheet.{Sheet}
 use Rattle.pc_sheet.specs.Entailment.{cell_sizes}
 use Rattle.pc_sheet.specs.WellFormed.{IsEntryOf}
+use Rattle.pc_sheet.specs.declared.ids.ValueId.{ValueId}
 use Rattle.pc_lits.specs.declared.literal.Lit.{Lit}
 use Rattle.pc_accept.specs.Literals.{Symbol, Literal}
 use Rattle.pc_accept.specs.Axioms.{IsClauseOf}
@@ -24,6 +25,9 @@ use Rattle.pc_checker.specs.Laws.{IsBare}
 
 abbrev pub IsSaidOf : Sheet → Said → Type 0
 IsSaidOf sheet s = IsEntryOf sheet.universe s.entry
+
+abbrev pub value_said : Said → ValueId
+value_said s = s.entry.value
 
 -- the axiom speaks of cells and values of the sheet
 abbrev pub IsOver : Sheet → AxiomName → Type 0

@@ -1,15 +1,22 @@
 //! The check of a certificate: whether its entries, its assignment and its derivation show what it claims.
 #![tactic(auto)]
 
+mod axiom;
 mod checking;
 mod claim;
 mod derivation;
+mod draft;
 mod hints;
 mod law;
+mod node;
+mod numbering;
+mod room;
 mod scratch;
+mod taken;
 mod verdict;
 
 pub use checking::check;
 pub use law::accepted_is_accepts;
+pub use room::room_for;
 pub use scratch::Scratch;
 pub use verdict::Verdict;

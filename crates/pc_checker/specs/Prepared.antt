@@ -1,0 +1,26 @@
+-- Lines that are prepared one after the other.
+use Rattle.std.specs.Prelude.{◌≡◌, ℕ, ◌<◌, Bool, false, List, [], ◌∷◌, ◌++◌, length, slice_index_or, All}
+use Rattle.pc_sheet.specs.Sheet.{Sheet}
+use Rattle.pc_lits.specs.declared.literal.Lit.{Lit}
+use Rattle.pc_accept.specs.Literals.{Symbol}
+use Rattle.pc_cert.specs.declared.cert.CertPart.{CertPart}
+use Rattle.pc_cert.specs.declared.cert.CertLine.{CertLine}
+use Rattle.pc_checker.specs.Named.{IsNamedIn}
+use Rattle.pc_checker.specs.Made.{IsPrepared}
+use Rattle.pc_checker.specs.Drafts.{Grows}
+
+-- one clause more is stored, which is prepared for the part
+pub record IsLinePrepared (sheet : Sheet) (part : CertPart) (old new : List Symbol) (before after : List (List Lit)) (good : Bool) : Type 0 where
+  pub grows : Grows old new
+  pub clause : List Lit
+  pub pushed : after ≡ before ++ clause ∷ []
+  pub within : All (IsNamedIn new) clause
+  pub prepared : IsPrepared sheet new clause good part
+
+-- the first n lines are prepared
+pub record ArePrepared (sheet : Sheet) (lines : List CertLine) (n : ℕ) (symbols names : List Symbol) (clauses : List (List Lit)) (axioms : List Bool) : Type 0 where
+  pub grows : Grows symbols names
+  pub count : length clauses ≡ n
+  pub marks : length axioms ≡ n
+  pub within : All (All (IsNamedIn names)) clauses
+  pub each : (i : ℕ) (d : CertLine) → i < n → IsPrepared sheet names (slice_index_or clauses i []) (slice_index_or axioms i false) (slice_index_or lines i d).part

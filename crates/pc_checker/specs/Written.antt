@@ -1,0 +1,46 @@
+-- When an axiom's clause was written.
+use Rattle.std.specs.Prelude.{◌≡◌, ◌≢◌, ℕ, Bool, true, false, not, MatchBool, List, [], ◌∷◌, ◌++◌, All, Contains}
+use Rattle.pc_sheet.specs.Sheet.{Sheet}
+use Rattle.pc_sheet.specs.declared.ids.CellId.{CellId}
+use Rattle.pc_sheet.specs.declared.ids.Entry.{Entry}
+use Rattle.pc_sheet.specs.declared.nodes.NodeKind.{NodeKind}
+use Rattle.pc_sheet.specs.declared.nodes.NodeKind.TheVariants.{Atom, Not, And, Or, Implies, Iff, ForAll, Exists}
+use Rattle.pc_accept.specs.Literals.{Symbol, Literal, positive, negative}
+use Rattle.pc_accept.specs.Axioms.{Axiom, IsClauseOf, IsNumbered, each_below, clauses_of_all, clauses_of_some}
+use Rattle.pc_checker.specs.Drafts.{Grows, Draft}
+
+-- more symbols are numbered, and the clause is the axiom's; or there is no such clause
+pub record IsAxiomWritten (sheet : Sheet) (a : Axiom) (old new : Draft) (good : Bool) : Type 0 where
+  pub grows : Grows old.symbols new.symbols
+  pub clause : MatchBool good (IsClauseOf sheet a new.clause) ((c : List Literal) → ¬ IsClauseOf sheet a c)
+
+-- the clauses of a node of that kind, with its children
+abbrev pub clauses_of_kind : Symbol → (ℕ → Symbol) → NodeKind → List (List Literal)
+clauses_of_kind p child Atom = []
+clauses_of_kind p child Not = (negative p ∷ negative (child 0) ∷ []) ∷ (positive p ∷ positive (child 0) ∷ []) ∷ []
+clauses_of_kind p child (And n) = clauses_of_all p child n
+clauses_of_kind p child (Or n) = clauses_of_some p child n
+clauses_of_kind p child Implies =
+    (negative p ∷ negative (child 0) ∷ positive (child 1) ∷ []) ∷ (positive p ∷ positive (child 0) ∷ []) ∷ (positive p ∷ negative (child 1) ∷ []) ∷ []
+clauses_of_kind p child Iff =
+    (negative p ∷ negative (child 0) ∷ positive (child 1) ∷ []) ∷ (negative p ∷ positive (child 0) ∷ negative (child 1) ∷ []) ∷
+    (positive p ∷ positive (child 0) ∷ positive (child 1) ∷ []) ∷ (positive p ∷ negative (child 0) ∷ negative (child 1) ∷ []) ∷ []
+clauses_of_kind p child (ForAll n) = clauses_of_all p child n
+clauses_of_kind p child (Exists n) = clauses_of_some p child n
+
+-- more symbols are numbered, and the clause is the one of that number, from 1; or there is none
+pub record IsNumberWritten (clauses : List (List Literal)) (i : ℕ) (old new : Draft) (good : Bool) : Type 0 where
+  pub grows : Grows old.symbols new.symbols
+  pub clause : MatchBool good (IsNumbered clauses i new.clause) ((c : List Literal) → ¬ IsNumbered clauses i c)
+
+-- each child's clause, in which the child has this sign and the node the other, and then one of all children, in which the
+-- node has this sign and each child the other
+abbrev pub clauses_of_many : Symbol → (ℕ → Symbol) → Bool → ℕ → List (List Literal)
+clauses_of_many p child sign n =
+    each_below n (λ k. (record { what = p; sign = not sign }) ∷ (record { what = child k; sign = sign }) ∷ []) ++
+    ((record { what = p; sign = sign }) ∷ each_below n (λ k. record { what = child k; sign = not sign })) ∷ []
+
+-- some read is of the cell; or none is
+abbrev pub IsCellRead : List Entry → CellId → Bool → Type 0
+IsCellRead reads cell true = (r : Entry) × Contains reads r × (r.cell ≡ cell)
+IsCellRead reads cell false = All (λ r. r.cell ≢ cell) reads

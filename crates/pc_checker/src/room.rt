@@ -1,0 +1,163 @@
+//! All that a check needs of memory.
+
+ghost use Rattle.std.specs.Prelude.{◌≡◌, [], IfOk, OnOk, All, length, map};
+ghost use Rattle.pc_accept.specs.Axioms.{negated_entry};
+ghost use Rattle.pc_cert.specs.Text.{entry_said};
+ghost use Rattle.pc_cert.specs.Views.{reading_of, said_of, symbol_of};
+ghost use Rattle.pc_checker.specs.Drafts.{AreWritten};
+ghost use Rattle.pc_checker.specs.Made.{IsMadeFor, IsPartOver, IsReadFor, value_said};
+ghost use Rattle.pc_checker.specs.Keys.{IsNumberedAs};
+ghost use Rattle.pc_checker.specs.Named.{AreDistinct};
+ghost use Rattle.pc_checker.specs.Prepared.{IsLinePrepared, ArePrepared};
+ghost use Rattle.pc_checker.specs.Verdicts.{allowed_in};
+
+use crate::draft::ClauseDraft;
+use crate::numbering::Numbering;
+use crate::scratch::Scratch;
+use crate::taken::write_axiom;
+use pc_cert::{Cert, CertLine, CertPart, Claim, Said, Symbol};
+use pc_lits::ClauseStore;
+use pc_logic::{Assignment, Book};
+use pc_values::Values;
+use std::alloc::{AllocError, Global};
+
+/// Takes all memory for the check of a certificate that was read for this book.
+pub fn room_for(alloc: Global, book: &Book, cert: &Cert) -> Result<Scratch, AllocError>
+    requires { IsReadFor book.now cert.now }
+    ensures { IfOk result (IsMadeFor book.now cert.now) }
+{
+    let names = number_symbols(alloc, &cert.symbols)?;
+    let mut draft = ClauseDraft::new(alloc, names);
+    let mut clauses = ClauseStore::new(alloc);
+    let mut axioms = Vec::new(alloc);
+    prepare_lines(
+        alloc,
+        book,
+        &cert.lines,
+        &mut draft,
+        &mut clauses,
+        &mut axioms,
+    )?;
+    draft.begin();
+    write_allowed(alloc, cert, &mut draft)?;
+    let allowed = Vec::from_slice(alloc, draft.literals())?;
+    let values = Values::new(alloc, draft.symbols())?;
+    let assignment = assignment_of(alloc, &cert.values)?;
+    Ok(Scratch {
+        assignment,
+        clauses,
+        axioms,
+        allowed,
+        values,
+    })
+}
+
+// Gives the certificate's symbols their places as numbers.
+fn number_symbols(alloc: Global, symbols: &[Symbol]) -> Result<Numbering, AllocError>
+    requires { AreDistinct (map symbol_of symbols.now) }
+    ensures { IfOk result (λ names. names ≡ map symbol_of symbols.now) }
+{
+    let mut names = Numbering::new(alloc);
+    for symbol in symbols {
+        number_symbol(alloc, symbol, &mut names)?;
+    }
+    Ok(names)
+}
+
+fn number_symbol(alloc: Global, symbol: &Symbol, names: &mut Numbering) -> Result<u32, AllocError>
+    ensures { IfOk result (IsNumberedAs names.old names.new (symbol_of symbol.now)) }
+{
+    match symbol {
+        Symbol::Pair(cell, value) => {
+            names.number(alloc, &[0, u32::from(cell.0), u32::from(value.0)])
+        }
+        Symbol::Node(path) => {
+            let mut key = Vec::new(alloc);
+            key.push(1)?;
+            key.push(path.rule)?;
+            key.extend_from_slice(&path.steps)?;
+            names.number(alloc, &key)
+        }
+    }
+}
+
+// Stores the clause of each line, and marks which of them may be taken as axioms.
+fn prepare_lines(
+    alloc: Global,
+    book: &Book,
+    lines: &[CertLine],
+    draft: &mut ClauseDraft,
+    clauses: &mut ClauseStore,
+    axioms: &mut Vec<bool>,
+) -> Result<(), AllocError>
+    requires over { All (λ l. IsPartOver book.now draft.old.symbols l.part) lines.now }
+    requires no_clauses { clauses.old ≡ [] }
+    requires no_marks { axioms.old.items ≡ [] }
+    ensures { OnOk result (ArePrepared book.now lines.now (length lines.now) draft.old.symbols draft.new.symbols clauses.new axioms.new.items) }
+{
+    for line in lines {
+        let good = prepare_line(alloc, book, &line.part, draft, clauses)?;
+        axioms.push(good)?;
+    }
+    Ok(())
+}
+
+// Stores the clause of a part, and answers whether it may be taken as an axiom.
+fn prepare_line(
+    alloc: Global,
+    book: &Book,
+    part: &CertPart,
+    draft: &mut ClauseDraft,
+    clauses: &mut ClauseStore,
+) -> Result<bool, AllocError>
+    requires { IsPartOver book.now draft.old.symbols part.now }
+    ensures { IfOk result (IsLinePrepared book.now part.now draft.old.symbols draft.new.symbols clauses.old clauses.new) }
+{
+    match part {
+        CertPart::Axiom(axiom) => {
+            draft.begin();
+            let good = write_axiom(alloc, book, axiom, draft)?;
+            clauses.push(draft.literals())?;
+            Ok(good)
+        }
+        CertPart::Step { clause, .. } => {
+            clauses.push(clause)?;
+            Ok(false)
+        }
+    }
+}
+
+// Writes the literals that the last clause may have.
+fn write_allowed(alloc: Global, cert: &Cert, draft: &mut ClauseDraft) -> Result<(), AllocError>
+    ensures { OnOk result (AreWritten draft.old draft.new (allowed_in (reading_of cert.now))) }
+{
+    match cert.claim {
+        Claim::Implied(target) => {
+            write_uses(alloc, &cert.uses, draft)?;
+            draft.push_pair(alloc, target.cell, target.value, target.holds)?;
+            Ok(())
+        }
+        Claim::Inconsistent => Ok(()),
+    }
+}
+
+// Writes that some used entry doesn't hold.
+fn write_uses(alloc: Global, uses: &[Said], draft: &mut ClauseDraft) -> Result<(), AllocError>
+    ensures { OnOk result (AreWritten draft.old draft.new (map negated_entry (map entry_said (map said_of uses.now)))) }
+{
+    for said in uses {
+        draft.push_pair(alloc, said.entry.cell, said.entry.value, false)?;
+    }
+    Ok(())
+}
+
+// The values, one after the other.
+fn assignment_of(alloc: Global, values: &[Said]) -> Result<Assignment, AllocError>
+    ensures { IfOk result (λ a. a ≡ map value_said values.now) }
+{
+    let mut assigned = Vec::new(alloc);
+    for said in values {
+        assigned.push(said.entry.value)?;
+    }
+    Ok(Assignment::new(assigned))
+}
