@@ -12,3 +12,4 @@ pub mod Made
 pub mod CheckedLines
 pub mod CheckVerdict
 pub mod Acceptance
+pub mod OneVerdict

@@ -16,7 +16,7 @@ mod taken;
 mod verdict;
 
 pub use checking::check;
-pub use law::accepted_is_accepts;
+pub use law::{accepted_is_accepts, verdicts_are_one};
 pub use room::room_for;
 pub use scratch::Scratch;
 pub use verdict::Verdict;
