@@ -22,14 +22,14 @@ use std::alloc::{AllocError, Global};
 pub(crate) fn write_axiom(
     alloc: Global,
     book: &Book,
-    axiom: &AxiomName,
+    name: &AxiomName,
     draft: &mut ClauseDraft,
 ) -> Result<bool, AllocError>
-    requires over { IsOver book.now axiom.now }
+    requires over { IsOver book.now name.now }
     requires blank { draft.old.clause ≡ [] }
-    ensures { IfOk result (IsAxiomWritten book.now (axiom_of axiom.now) draft.old draft.new) }
+    ensures { IfOk result (IsAxiomWritten book.now (axiom_of name.now) draft.old draft.new) }
 {
-    match axiom {
+    match name {
         AxiomName::Any(cell) => {
             write_values(alloc, *cell, book.values_of(*cell), draft)?;
             Ok(true)
