@@ -1,0 +1,4 @@
+pub mod Lists
+pub mod Walking
+pub mod OfAxioms
+pub mod Numbers

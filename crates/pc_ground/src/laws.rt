@@ -1,0 +1,13 @@
+//! What the clauses of a sheet say. Each function is a law: its contract holds for every sheet, and it does nothing.
+
+ghost use Rattle.pc_ground.specs.Laws.{ClausesAreOfAxioms, SymbolsAreVariables, VariablesHaveTheirPlaces, LiteralsAreCounted, FittingAssignmentsAreMet};
+
+/// Each clause is the clause of the axiom that names it.
+pub fn clauses_are_of_axioms()
+    ensures { ClausesAreOfAxioms }
+{}
+
+/// The variables, in their order, have the numbers 0, 1, 2 and so on.
+pub fn variables_have_their_places()
+    ensures { VariablesHaveTheirPlaces }
+{}
