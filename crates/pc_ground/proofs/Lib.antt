@@ -2,3 +2,4 @@ pub mod Lists
 pub mod Walking
 pub mod OfAxioms
 pub mod Numbers
+pub mod Weighing

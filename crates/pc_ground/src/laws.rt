@@ -11,3 +11,8 @@ pub fn clauses_are_of_axioms()
 pub fn variables_have_their_places()
     ensures { VariablesHaveTheirPlaces }
 {}
+
+/// The clauses have as many literals as the sheet weighs.
+pub fn literals_are_counted()
+    ensures { LiteralsAreCounted }
+{}
