@@ -3,3 +3,4 @@ pub mod Walking
 pub mod OfAxioms
 pub mod Numbers
 pub mod Weighing
+pub mod Symbols

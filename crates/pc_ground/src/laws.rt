@@ -16,3 +16,8 @@ pub fn variables_have_their_places()
 pub fn literals_are_counted()
     ensures { LiteralsAreCounted }
 {}
+
+/// Each literal of a clause is of one of the sheet's variables.
+pub fn symbols_are_variables()
+    ensures { SymbolsAreVariables }
+{}
