@@ -4,3 +4,7 @@ pub mod OfAxioms
 pub mod Numbers
 pub mod Weighing
 pub mod Symbols
+pub mod LookedUp
+pub mod Made
+pub mod NodesRight
+pub mod Same

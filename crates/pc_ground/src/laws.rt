@@ -21,3 +21,9 @@ pub fn literals_are_counted()
 pub fn symbols_are_variables()
     ensures { SymbolsAreVariables }
 {}
+
+/// The truth values that make all clauses of a book true are, cut to the cells, exactly the assignments that make every
+/// rule true, each with the truth of each node.
+pub fn fitting_assignments_are_met()
+    ensures { FittingAssignmentsAreMet }
+{}
