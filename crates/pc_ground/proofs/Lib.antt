@@ -8,3 +8,6 @@ pub mod LookedUp
 pub mod Made
 pub mod NodesRight
 pub mod Same
+pub mod Adding
+pub mod ByNumbers
+pub mod Few

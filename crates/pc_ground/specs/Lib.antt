@@ -1,3 +1,7 @@
 pub mod Variables
 pub mod Ground
 pub mod Laws
+pub mod ByNumber
+pub mod CellsView
+pub mod GroundView
+pub mod Grounded
