@@ -11,3 +11,4 @@ pub mod Same
 pub mod Adding
 pub mod ByNumbers
 pub mod Few
+pub mod WorkedHold

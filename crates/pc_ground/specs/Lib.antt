@@ -5,3 +5,4 @@ pub mod ByNumber
 pub mod CellsView
 pub mod GroundView
 pub mod Grounded
+pub mod Worked

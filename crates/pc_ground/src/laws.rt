@@ -1,6 +1,7 @@
 //! What the clauses of a sheet say. Each function is a law: its contract holds for every sheet, and it does nothing.
 
 ghost use Rattle.pc_ground.specs.Laws.{ClausesAreOfAxioms, SymbolsAreVariables, VariablesHaveTheirPlaces, LiteralsAreCounted, FittingAssignmentsAreMet};
+ghost use Rattle.pc_ground.specs.Worked.{WorkedClauses};
 
 /// Each clause is the clause of the axiom that names it.
 pub fn clauses_are_of_axioms()
@@ -26,4 +27,9 @@ pub fn symbols_are_variables()
 /// rule true, each with the truth of each node.
 pub fn fitting_assignments_are_met()
     ensures { FittingAssignmentsAreMet }
+{}
+
+/// The variables, axioms and clauses of small sheets.
+pub fn worked_clauses()
+    ensures { WorkedClauses }
 {}

@@ -9,5 +9,7 @@ pub mod laws;
 mod leaves;
 mod nodes;
 mod sheet;
+#[cfg(test)]
+mod tests;
 
 pub use ground::{Ground, GroundFault, ground_book};

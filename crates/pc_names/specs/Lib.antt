@@ -1,1 +1,3 @@
 pub mod Views
+pub mod Listed
+pub mod Shown

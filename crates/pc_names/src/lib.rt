@@ -2,6 +2,9 @@
 #![tactic(auto)]
 
 mod axiom_name;
+mod names;
 
 pub use axiom_name::AxiomName;
+pub use names::{Names, VarName};
+pub use pc_lits::Var;
 pub use pc_sheet::{CellId, Entry, NodePath, ValueId};
