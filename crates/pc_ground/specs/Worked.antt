@@ -1,5 +1,5 @@
 -- Worked clauses of small sheets.
-use Rattle.std.specs.Prelude.{◌≡◌, true, false, List, [], ◌∷◌, length, map, sum_by}
+use Rattle.std.specs.Prelude.{◌≡◌, true, false, [], ◌∷◌, length, map, sum_by}
 use Rattle.pc_sheet.specs.Sheet.{Sheet}
 use Rattle.pc_laws.specs.Examples.{red, green, entry, chain}
 use Rattle.pc_laws.specs.Weights.{a_is_red, either, of_one_rule, with_either}
