@@ -6,7 +6,7 @@ ghost use Rattle.pc_syntax.specs.Sized.{IsSized};
 ghost use Rattle.pc_syntax.specs.Tree.{formula_of};
 
 use crate::names::{is_name, is_rule_name, keeps_form};
-use crate::{check_rule, check_sheet};
+use crate::{SortFault, check_rule, check_sheet};
 use pc_logic::{Book, weight};
 use pc_syntax::{Command, RuleTree, parse_command, parse_sheet};
 use std::alloc::Global;
@@ -300,19 +300,18 @@ fn book_of(alloc: Global, lines: &str) -> Result<Book, Fail> {
 }
 
 // The book with one more rule, whose name is new.
-fn with_one_more(alloc: Global, book: &Book, tree: &RuleTree) -> Result<Book, Fail>
+fn with_one_more(alloc: Global, book: &Book, tree: &RuleTree) -> Result<Book, SortFault>
     requires sized { IsSized (formula_of tree.now.formula) }
     requires nested { nesting_of (formula_of tree.now.formula) ≤ most_nesting }
 {
     keeps_form(book);
     is_name(&tree.name);
-    let Ok(rule) = check_rule(alloc, book, tree) else {
-        return Err("at fault".into());
-    };
+    let rule = check_rule(alloc, book, tree)?;
     if is_rule_name(book.rules(), &tree.name) {
-        return Err("a rule of that name".into());
+        return Err(SortFault::DuplicateName);
     }
-    Ok(book.with_rule(alloc, rule)?)
+    let more = book.with_rule(alloc, rule)?;
+    Ok(more)
 }
 
 // The same by a command line.
@@ -321,7 +320,10 @@ fn with_command(alloc: Global, book: &Book, line: &str) -> Result<Book, Fail> {
         return Err("too long".into());
     }
     match parse_command(alloc, line.as_bytes()) {
-        Ok(Some(Command::AddRule(tree))) => with_one_more(alloc, book, &tree),
+        Ok(Some(Command::AddRule(tree))) => match with_one_more(alloc, book, &tree) {
+            Ok(more) => Ok(more),
+            Err(_) => Err("at fault".into()),
+        },
         _ => Err("no rule".into()),
     }
 }
