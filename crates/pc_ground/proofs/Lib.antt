@@ -12,3 +12,5 @@ pub mod Adding
 pub mod ByNumbers
 pub mod Few
 pub mod WorkedHold
+pub mod NamesAdded
+pub mod NodesNamed
