@@ -14,3 +14,4 @@ pub mod Few
 pub mod WorkedHold
 pub mod NamesAdded
 pub mod NodesNamed
+pub mod ByName

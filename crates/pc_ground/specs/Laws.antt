@@ -1,5 +1,5 @@
 -- What the clauses of a sheet say.
-use Rattle.std.specs.Prelude.{◌≡◌, ◌↔◌, Bool, true, List, length, sum_by, All, Contains}
+use Rattle.std.specs.Prelude.{◌≡◌, ◌↔◌, ℕ, Bool, true, List, length, map, sum_by, Some, slice_get, All, Contains}
 use Rattle.pc_lits.specs.declared.literal.Var.{Var}
 use Rattle.pc_lits.specs.Truth.{IsTrueUnder}
 use Rattle.pc_sheet.specs.Sheet.{Sheet}
@@ -8,9 +8,10 @@ use Rattle.pc_sheet.specs.Weight.{weight}
 use Rattle.pc_sheet.specs.WellFormed.{IsWellFormed}
 use Rattle.pc_sheet.specs.declared.ids.ValueId.{ValueId}
 use Rattle.pc_accept.specs.Literals.{Symbol, Literal, SymbolHolds}
-use Rattle.pc_accept.specs.Axioms.{IsClauseOf}
-use Rattle.pc_ground.specs.Variables.{variables, number, VariablesAreNumbered}
-use Rattle.pc_ground.specs.Ground.{GroundAxiom, axioms, clauses}
+use Rattle.pc_accept.specs.Axioms.{Axiom, IsClauseOf}
+use Rattle.pc_ground.specs.Variables.{variables, variable_count, number, VariablesAreNumbered}
+use Rattle.pc_ground.specs.Ground.{GroundAxiom, axioms, clauses, lit_of}
+use Rattle.pc_ground.specs.Naming.{names_of}
 
 -- each clause is that of the axiom that names it
 abbrev pub ClausesAreOfAxioms : Type 0
@@ -22,6 +23,17 @@ SymbolsAreVariables = (sheet : Sheet) (g : GroundAxiom) → Contains (axioms she
 
 abbrev pub VariablesHaveTheirPlaces : Type 0
 VariablesHaveTheirPlaces = (sheet : Sheet) → VariablesAreNumbered sheet
+
+-- There are as many names as variables and as clauses; each variable's is of the pair or node that has its number, each clause's of an axiom that has this clause.
+pub record NamesAreByNumber (sheet : Sheet) : Type 0 where
+  pub many_variables : length (names_of sheet).variables ≡ variable_count sheet
+  pub each_variable : (i : ℕ) (x : Symbol) → slice_get (names_of sheet).variables i ≡ Some x → number sheet x ≡ i
+  pub many_axioms : length (names_of sheet).axioms ≡ length (clauses sheet)
+  pub each_axiom : (i : ℕ) (a : Axiom) → slice_get (names_of sheet).axioms i ≡ Some a
+      → (clause : List Literal) × IsClauseOf sheet a clause × (slice_get (clauses sheet) i ≡ Some (map (lit_of sheet) clause))
+
+abbrev pub AllAreNamed : Type 0
+AllAreNamed = (sheet : Sheet) → NamesAreByNumber sheet
 
 -- there are as many literals as the sheet weighs
 abbrev pub LiteralsAreCounted : Type 0

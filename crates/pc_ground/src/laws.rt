@@ -1,6 +1,6 @@
 //! What the clauses of a sheet say. Each function is a law: its contract holds for every sheet, and it does nothing.
 
-ghost use Rattle.pc_ground.specs.Laws.{ClausesAreOfAxioms, SymbolsAreVariables, VariablesHaveTheirPlaces, LiteralsAreCounted, FittingAssignmentsAreMet};
+ghost use Rattle.pc_ground.specs.Laws.{AllAreNamed, ClausesAreOfAxioms, SymbolsAreVariables, VariablesHaveTheirPlaces, LiteralsAreCounted, FittingAssignmentsAreMet};
 ghost use Rattle.pc_ground.specs.Worked.{WorkedClauses};
 
 /// Each clause is the clause of the axiom that names it.
@@ -11,6 +11,11 @@ pub fn clauses_are_of_axioms()
 /// The variables, in their order, have the numbers 0, 1, 2 and so on.
 pub fn variables_have_their_places()
     ensures { VariablesHaveTheirPlaces }
+{}
+
+/// Each variable's name is that of the pair or node of its number, and each clause's that of an axiom that has this clause.
+pub fn names_are_by_number()
+    ensures { AllAreNamed }
 {}
 
 /// The clauses have as many literals as the sheet weighs.
