@@ -123,57 +123,83 @@ pub(crate) fn name_formula(
     names.add_node(path_to(alloc, rule, path)?)?;
     match formula {
         Formula::Compare { .. } => {
-            name_leaves(alloc, names, cells, book, rule, path, scope, formula, &[])?;
-            Ok(())
+            name_leaves(alloc, names, cells, book, rule, path, scope, formula, &[])
         }
         Formula::InTable { .. } => {
-            name_leaves(alloc, names, cells, book, rule, path, scope, formula, &[])?;
-            Ok(())
+            name_leaves(alloc, names, cells, book, rule, path, scope, formula, &[])
         }
         Formula::Not(part) => {
             name_own(alloc, names, rule, path, 2)?;
-            name_child(alloc, names, cells, book, rule, path, 0, scope, part)?;
-            Ok(())
+            name_child(alloc, names, cells, book, rule, path, 0, scope, part)
         }
-        Formula::And(parts) => {
-            name_own(alloc, names, rule, path, parts.len() as u32 + 1)?;
-            name_parts(alloc, names, cells, book, rule, path, scope, parts)?;
-            Ok(())
-        }
-        Formula::Or(parts) => {
-            name_own(alloc, names, rule, path, parts.len() as u32 + 1)?;
-            name_parts(alloc, names, cells, book, rule, path, scope, parts)?;
-            Ok(())
-        }
+        Formula::And(parts) => name_joined(alloc, names, cells, book, rule, path, scope, parts),
+        Formula::Or(parts) => name_joined(alloc, names, cells, book, rule, path, scope, parts),
         Formula::Implies(left, right) => {
             name_own(alloc, names, rule, path, 3)?;
             name_child(alloc, names, cells, book, rule, path, 0, scope, left)?;
-            name_child(alloc, names, cells, book, rule, path, 1, scope, right)?;
-            Ok(())
+            name_child(alloc, names, cells, book, rule, path, 1, scope, right)
         }
         Formula::Iff(left, right) => {
             name_own(alloc, names, rule, path, 4)?;
             name_child(alloc, names, cells, book, rule, path, 0, scope, left)?;
-            name_child(alloc, names, cells, book, rule, path, 1, scope, right)?;
-            Ok(())
+            name_child(alloc, names, cells, book, rule, path, 1, scope, right)
         }
         Formula::ForAll { sort, body, .. } => {
-            let size = size_at(book, *sort);
-            name_own(alloc, names, rule, path, size as u32 + 1)?;
-            name_values(
-                alloc, names, cells, book, rule, path, scope, *sort, body, size,
-            )?;
-            Ok(())
+            name_instances(alloc, names, cells, book, rule, path, scope, *sort, body)
         }
         Formula::Exists { sort, body, .. } => {
-            let size = size_at(book, *sort);
-            name_own(alloc, names, rule, path, size as u32 + 1)?;
-            name_values(
-                alloc, names, cells, book, rule, path, scope, *sort, body, size,
-            )?;
-            Ok(())
+            name_instances(alloc, names, cells, book, rule, path, scope, *sort, body)
         }
     }
+}
+
+/// Names the axioms of a conjunction or disjunction, and then its parts' nodes and their axioms.
+#[cycle(name)]
+fn name_joined(
+    alloc: Global,
+    names: &mut Names,
+    cells: &Cells,
+    book: &Book,
+    rule: u32,
+    path: &[u32],
+    scope: &[(SortId, ValueId)],
+    parts: &[Formula],
+) -> Result<(), AllocError>
+    requires cells { cells.now ≡ cell_sizes book.now.universe }
+    requires sorted { AreSortedIn book.now.universe (length scope.now) (statements_of (map statement_of parts.now)) }
+    requires few { length parts.now < 4194304 }
+    ensures { OnOk result (names.new ≡ named names.old (parts_below book.now.universe rule path.now 0 (statements_of (map statement_of parts.now))) (own_names rule path.now (length parts.now + 1) ++ map name_of (parts_axioms book.now.universe rule path.now scope.now 0 (statements_of (map statement_of parts.now))))) }
+{
+    name_own(alloc, names, rule, path, parts.len() as u32 + 1)?;
+    name_parts(alloc, names, cells, book, rule, path, scope, parts)?;
+    Ok(())
+}
+
+/// Names the axioms of a quantifier, and then the nodes of its body's instances and their axioms.
+#[cycle(name)]
+fn name_instances(
+    alloc: Global,
+    names: &mut Names,
+    cells: &Cells,
+    book: &Book,
+    rule: u32,
+    path: &[u32],
+    scope: &[(SortId, ValueId)],
+    sort: SortId,
+    body: &Formula,
+) -> Result<(), AllocError>
+    requires cells { cells.now ≡ cell_sizes book.now.universe }
+    requires sort { sort.0 < length book.now.universe.sorts }
+    requires depth { length scope.now < 16 }
+    requires sorted { IsSortedIn book.now.universe (length scope.now + 1) (statement_of body.now) }
+    ensures { OnOk result (names.new ≡ named names.old (flat_map (λ v. nodes_below book.now.universe rule (path.now ++ v.0 ∷ []) (statement_of body.now)) (values_below (size_of book.now.universe sort))) (own_names rule path.now (size_of book.now.universe sort + 1) ++ map name_of (flat_map (λ v. node_axioms book.now.universe rule (path.now ++ v.0 ∷ []) (scope.now ++ (sort, v) ∷ []) (statement_of body.now)) (values_below (size_of book.now.universe sort))))) }
+{
+    let size = size_at(book, sort);
+    name_own(alloc, names, rule, path, size as u32 + 1)?;
+    name_values(
+        alloc, names, cells, book, rule, path, scope, sort, body, size,
+    )?;
+    Ok(())
 }
 
 /// Names the nodes of a child and their axioms.
