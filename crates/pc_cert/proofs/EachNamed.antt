@@ -17,7 +17,7 @@ module _ {A B : Type 0} (Names : A → B → Type 0) where
       let rest = last_split ws x ys all.1 in
       (y ∷ rest.0, rest.1, ap (λ l. y ∷ l) rest.2, (all.0, rest.3), rest.4)
 
-  joined : (xs : List A) (x : A) (zs : List B) (y : B) → Are xs zs → Names x y → Are (xs ++ x ∷ []) (zs ++ y ∷ [])
+  pub joined : (xs : List A) (x : A) (zs : List B) (y : B) → Are xs zs → Names x y → Are (xs ++ x ∷ []) (zs ++ y ∷ [])
   joined [] x [] y all is = (is, tt)
   joined [] x (z ∷ zs) y all is = absurd all
   joined (w ∷ ws) x [] y all is = absurd all
@@ -40,7 +40,7 @@ module _ {A B : Type 0} (Names : A → B → Type 0) where
   stops (w ∷ ws) x more none (y ∷ ys) all = stops ws x more none ys all.1
 
   module _ {T : Type 0} (f : T → A) where
-    front : (xs : List T) (i : ℕ) (x : T) → i < length xs → x ≡ get_or xs i x → map f (take (i + 1) xs) ≡ map f (take i xs) ++ f x ∷ []
+    pub front : (xs : List T) (i : ℕ) (x : T) → i < length xs → x ≡ get_or xs i x → map f (take (i + 1) xs) ≡ map f (take i xs) ++ f x ∷ []
     front [] i x inside is = absurd (omega (arith, inside))
     front (t ∷ ts) zero x inside is = ap (λ y. f y ∷ []) (sym is)
     front (t ∷ ts) (suc i) x inside is = let e : suc i + 1 ≡ suc (i + 1) = omega arith in rw e (ap (λ ys. f t ∷ ys) (front ts i x (omega (arith, inside)) is))
@@ -59,6 +59,10 @@ module _ {A B : Type 0} (Names : A → B → Type 0) where
       pub stopped : (x : T) → i < length xs → x ≡ get_or xs i x → ((z : B) → (None ≡ Some z) ↔ Names (f x) z) → (ys : List B) → (◌≡◌ {A = Option (List B)} None (Some ys)) ↔ Are (map f xs) ys
       stopped x inside is none ys =
           (λ e. absurd (cc), λ all. absurd (stops (map f (take i xs)) (f x) (map f (drop (i + 1) xs)) none ys (subst (λ l. Are l ys) (whole xs i x inside is) all)))
+
+      pub fails : (x : T) → i < length xs → x ≡ get_or xs i x → ((z : B) → Names (f x) z → ⊥) → (ys : List B) → Are (map f xs) ys → ⊥
+      fails x inside is never ys all =
+          stops (map f (take i xs)) (f x) (map f (drop (i + 1) xs)) (λ z. (λ e. absurd (cc), λ n. absurd (never z n))) ys (subst (λ l. Are l ys) (whole xs i x inside is) all)
 
       pub finished : length xs ≤ i → (found : List B) → ((ys : List B) → (ys ≡ found) ↔ Are (map f (take i xs)) ys) → (ys : List B) → (Some found ≡ Some ys) ↔ Are (map f xs) ys
       finished over found exact ys =

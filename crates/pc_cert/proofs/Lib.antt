@@ -10,3 +10,10 @@ mod Numbers
 mod Parted
 mod RuleNames
 mod Spelling
+mod Images
+mod KeyLemmas
+mod Numbered
+mod Gathered
+mod Taken
+mod Finished
+mod TextLines

@@ -6,4 +6,11 @@ pub mod Meaning
 pub mod Text
 pub mod Trees
 pub mod Views
+pub mod ReadFor
 pub mod Examples
+pub mod Keys
+pub mod KeysView
+pub mod Numbered
+pub mod Standing
+pub mod Gathered
+pub mod Taken

@@ -72,9 +72,12 @@ abbrev pub AppearInOrder : ℕ → List ℕ → ℕ → Type 0
 AppearInOrder n [] all = n ≡ all
 AppearInOrder n (k ∷ ks) all = ((k < n) × AppearInOrder n ks all) ⊎ ((k ≡ n) × AppearInOrder (n + 1) ks all)
 
+abbrev pub AreDistinct : List plain.Symbol → Type 0
+AreDistinct symbols = (i j : ℕ) → i < j → j < length symbols → symbol_at symbols i ≢ symbol_at symbols j
+
 -- the symbols are all different, and are those of the clauses in the order in which they first appear
 pub record IsNumbered (symbols : List plain.Symbol) (places : List ℕ) : Type 0 where
-  pub different : (i j : ℕ) → i < j → j < length symbols → symbol_at symbols i ≢ symbol_at symbols j
+  pub different : AreDistinct symbols
   pub appear : AppearInOrder 0 places (length symbols)
 
 -- ---- what the reading of a text tells

@@ -1,7 +1,10 @@
 //! Certificates, and the reading of their text.
 #![tactic(auto)]
 
+mod axiom;
 mod cert;
+mod derived;
+mod draft;
 mod entries;
 mod law;
 mod line;
@@ -9,17 +12,27 @@ mod literal;
 mod lookup;
 mod node;
 mod number;
+mod numbering;
+mod order;
 mod part;
 mod path;
+mod read;
 mod spelled;
+mod split;
+mod table;
 mod texts;
 mod tree;
 
 pub use cert::{Cert, CertFault, CertLine, CertPart, Claim, Said, Symbol};
 pub use law::worked_lines;
+pub use numbering::Numbering;
 pub use pc_lits::{Lit, Var};
 pub use pc_names::AxiomName;
 pub use pc_sheet::{CellId, Entry, NodePath, Target, ValueId};
+pub use read::read_cert;
+
+/// The most bytes that the text of a certificate may have.
+pub const CERT_LIMIT: usize = 67_108_864;
 
 #[cfg(test)]
 mod tests;

@@ -1,6 +1,8 @@
 use crate::line::read_line;
 use crate::tree::{LineTree, PartTree};
+use crate::{CERT_LIMIT, Cert, CertFault, read_cert};
 use pc_formula::Refusal;
+use pc_logic::Book;
 use std::test::Fail;
 
 // Lines, each with its form. The first ten are a certificate; those after it stand alone.
@@ -81,6 +83,61 @@ fn lines_have_their_forms(rt: HostRuntime) -> Result<(), Fail> {
             Err(Refusal::Syntax) => assert_eq!(rt; "none", want, "{text}"),
             Err(Refusal::Memory) => assert_eq!(rt; "memory", want, "{text}"),
         }
+    }
+    Ok(())
+}
+
+// Texts, each with what it is for a book with nothing in it, and with the number of the line behind the last claim or of the
+// line at fault.
+const TEXTS: [(&str, &str, u32); 12] = [
+    ("certificate 1\nclaim inconsistent\nend", "0 parts", 3),
+    (
+        "\n certificate 1\r\n\nclaim inconsistent\n1 step :\n\n2 step : 1 0\nend\n\n",
+        "2 parts",
+        5,
+    ),
+    ("", "syntax", 1),
+    ("\n", "syntax", 2),
+    ("certificate 1\nclaim inconsistent\n1 step :", "syntax", 4),
+    ("certificate 1\nclaim inconsistent\n1 step :\n", "syntax", 4),
+    (
+        "certificate 1\nclaim inconsistent\n\n2 step :\nend",
+        "syntax",
+        4,
+    ),
+    (
+        "certificate 1\nclaim inconsistent\nuse a = red\nend",
+        "syntax",
+        3,
+    ),
+    ("certificate 1\nend", "syntax", 2),
+    ("certificate 1\nclaim inconsistent\nend\nend", "syntax", 4),
+    ("certificate 1\nclaim a = red\nend 1", "unknown name", 2),
+    (
+        "certificate 1\nclaim inconsistent\n1 rule ab\nend",
+        "unknown name",
+        3,
+    ),
+];
+
+fn outcome(read: &Result<Cert, CertFault>) -> (&str, u32) {
+    match read {
+        Ok(cert) if cert.lines.is_empty() => ("0 parts", cert.after),
+        Ok(cert) if cert.lines.len() == 2 => ("2 parts", cert.after),
+        Ok(cert) => ("parts", cert.after),
+        Err(CertFault::Syntax { line }) => ("syntax", *line),
+        Err(CertFault::UnknownName { line }) => ("unknown name", *line),
+        Err(CertFault::Memory) => ("memory", 0),
+    }
+}
+
+#[test]
+fn texts_are_read(rt: HostRuntime) -> Result<(), Fail> {
+    let book = Book::new(rt.alloc())?;
+    for (text, want, number) in TEXTS {
+        assert!(rt; text.len() <= CERT_LIMIT);
+        let read = read_cert(rt.alloc(), &book, text.as_bytes());
+        assert_eq!(rt; outcome(&read), (want, number), "{text}");
     }
     Ok(())
 }

@@ -6,7 +6,8 @@ use Rattle.pc_sheet.specs.Entailment.{HasEntry}
 use Rattle.pc_accept.specs.Accepts.{Claim, implied, inconsistent, Derives, AcceptsClaim}
 use Rattle.pc_cert.specs.Text.{Reading, entry_said, lines_from}
 use Rattle.pc_checker.specs.Verdicts.{values_in, allowed_by, ClaimStands}
-use Rattle.pc_checker.specs.Laws.{IsBare, AcceptedIsAccepts}
+use Rattle.pc_checker.specs.Laws.{AcceptedIsAccepts}
+use Rattle.pc_cert.specs.ReadFor.{IsBare}
 use Rattle.pc_checker.proofs.ListLemmas.{all_mapped}
 
 accepts : (sheet : Sheet) (t : Reading) (claim : Claim) → IsBare t claim

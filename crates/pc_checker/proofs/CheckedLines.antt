@@ -16,8 +16,10 @@ use Rattle.pc_cert.specs.Views.{literal_of, part_of, numbered_part_of}
 use Rattle.pc_cert.specs.declared.cert.CertPart.{CertPart}
 use Rattle.pc_cert.specs.declared.cert.CertPart.TheVariants.{Axiom, Step}
 use Rattle.pc_cert.specs.declared.cert.CertLine.{CertLine}
-use Rattle.pc_checker.specs.Named.{AreDistinct, IsNamedIn}
-use Rattle.pc_checker.specs.Made.{IsPartOver, IsPrepared}
+use Rattle.pc_cert.specs.Views.{AreDistinct}
+use Rattle.pc_cert.specs.ReadFor.{IsNamedIn}
+use Rattle.pc_checker.specs.Made.{IsPrepared}
+use Rattle.pc_cert.specs.ReadFor.{IsPartOver}
 use Rattle.pc_checker.specs.Parts.{places_meant, IsGoodPart, AreGoodBelow, EndsAmong, fault_by}
 use Rattle.pc_checker.specs.Verdicts.{Numbered, IsFirstAtFault, ClaimStands, IsVerdict}
 use Rattle.pc_checker.proofs.ListLemmas.{cut_at}

@@ -1,5 +1,5 @@
 -- The verdict on the used entries and the assignment, from what each test found.
-use Rattle.std.proofs.Common.{◌≡◌, ℕ, ◌<◌, inl, inr, List, map, length, get_or, slice_get, All, Contains, refl, sym, subst, arith, Option, None, Some}
+use Rattle.std.proofs.Common.{◌≡◌, ℕ, ◌<◌, inl, inr, List, map, length, get_or, slice_get, All, refl, sym, subst, arith, Option, None, Some}
 use Rattle.std.proofs.lemmas.List.Elements.{All-map}
 use Rattle.pc_sheet.specs.Sheet.{Sheet}
 use Rattle.pc_sheet.specs.Entailment.{cell_sizes}
@@ -11,7 +11,7 @@ use Rattle.pc_cert.specs.Views.{said_of, reading_of}
 use Rattle.pc_cert.specs.declared.cert.Cert.{Cert}
 use Rattle.pc_cert.specs.declared.cert.Said.{Said}
 use Rattle.pc_checker.specs.declared.verdict.Verdict.TheVariants.{UseNotEntered, BadValues, UseNotHeld, RuleBroken}
-use Rattle.pc_checker.specs.Made.{IsReadFor}
+use Rattle.pc_cert.specs.ReadFor.{IsReadFor}
 use Rattle.pc_checker.specs.Parts.{IsFirstLine, IsLineOfValues, IsRuleBroken, IsTargetVerdict}
 use Rattle.pc_checker.specs.Verdicts.{Numbered, IsEntered, AreEntered, AreValues, AreHeld, IsHeld, Stands, values_in}
 use Rattle.pc_checker.proofs.ClaimLemmas.{some_and, values_assign, within_length}
@@ -25,11 +25,8 @@ module _ (sheet : Sheet) (c : Cert) (read : IsReadFor sheet c) where
   said = All-map (λ (e : Numbered Entry). IsEntryOf sheet.universe e.1) said_of c.values.items read.values
 
   -- what each test answered of the parts of the certificate
-  pub entered_answer : (entries : List Entry) (uses : List Said) (o : Option ℕ) → entries ≡ sheet.entries → uses ≡ c.uses.items → IsFirstLine (λ e. Contains entries e.1) (map said_of uses) o
-      → IsFirstLine (IsEntered sheet) r.uses o
-  entered_answer entries uses o same_entries same_uses h =
-      let P : List Entry → List Said → Type 0 = λ es us. IsFirstLine (λ e. Contains es e.1) (map said_of us) o in
-      subst (P sheet.entries) same_uses (subst (λ es. P es uses) same_entries h)
+  pub entered_answer : (uses : List Said) (o : Option ℕ) → uses ≡ c.uses.items → IsFirstLine (IsEntered sheet) (map said_of uses) o → IsFirstLine (IsEntered sheet) r.uses o
+  entered_answer uses o same h = subst (λ us. IsFirstLine (IsEntered sheet) (map said_of us) o) same h
 
   pub values_answer : (cells : ℕ) (values : List Said) (o : Option ℕ) → values ≡ c.values.items → IsLineOfValues cells (map said_of values) c.after o → IsLineOfValues cells r.values r.after o
   values_answer cells values o same h = subst (λ vs. IsLineOfValues cells (map said_of vs) c.after o) same h
@@ -49,6 +46,17 @@ module _ (sheet : Sheet) (c : Cert) (read : IsReadFor sheet c) where
 
   pub held : (o : Option ℕ) → o ≡ None → IsFirstLine (IsHeld (values_in r)) r.uses o → AreHeld r
   held o none h = subst (IsFirstLine (IsHeld (values_in r)) r.uses) none h
+
+  pub entered_requires : (entered : List (Option ValueId)) (uses : List Said) → length entered ≡ length (cell_sizes sheet.universe) → uses ≡ c.uses.items
+      → All (λ (s : Said). s.entry.cell.0 < length entered) uses
+  entered_requires entered uses each_cell same_uses =
+      let here : All (λ (s : Said). s.entry.cell.0 < length entered) c.uses.items =
+      λ k d within.
+      let s = get_or c.uses.items k d in
+      let size = some_and (slice_get (cell_sizes sheet.universe) s.entry.cell.0) (λ n. s.entry.value.0 < n) (read.uses k d within) in
+      omega (arith, each_cell, slice_get_within (cell_sizes sheet.universe) s.entry.cell.0 size.0 size.1)
+      in
+      subst (All (λ (s : Said). s.entry.cell.0 < length entered)) (sym same_uses) here
 
   pub held_requires : AreValues sheet r → (a : List ValueId) (uses : List Said) → a ≡ values_in r → uses ≡ c.uses.items → All (λ (s : Said). s.entry.cell.0 < length a) uses
   held_requires values a uses same_values same_uses =

@@ -17,7 +17,8 @@ use Rattle.pc_accept.specs.Accepts.{IsLineClause, IsDerivation, EndsWithin}
 use Rattle.pc_cert.specs.Written.{Part}
 use Rattle.pc_cert.specs.Text.{line_of, lines_from}
 use Rattle.pc_cert.specs.Views.{symbol_at, literal_of}
-use Rattle.pc_checker.specs.Named.{AreDistinct, IsNamedIn}
+use Rattle.pc_cert.specs.Views.{AreDistinct}
+use Rattle.pc_cert.specs.ReadFor.{IsNamedIn}
 use Rattle.pc_checker.specs.Parts.{EndsAmong}
 use Rattle.pc_checker.specs.Verdicts.{Numbered}
 

@@ -8,8 +8,8 @@ use Rattle.pc_lits.specs.declared.literal.Lit.{Lit}
 use Rattle.pc_accept.specs.Literals.{Symbol, node, Literal}
 use Rattle.pc_accept.specs.Axioms.{each_below}
 use Rattle.pc_cert.specs.Views.{literal_of}
-use Rattle.pc_checker.specs.Named.{IsNamedIn}
-use Rattle.pc_checker.specs.Keys.{IsNumberedAs}
+use Rattle.pc_cert.specs.ReadFor.{IsNamedIn}
+use Rattle.pc_cert.specs.Keys.{IsNumberedAs}
 use Rattle.pc_checker.specs.Drafts.{Grows, Draft, IsWritten, AreWritten}
 use Rattle.pc_checker.proofs.Derivations.{kept_names}
 

@@ -1,9 +1,10 @@
 pub mod ListLemmas
 pub mod ClaimLemmas
+pub mod EnteredLemmas
+pub mod MarkLemmas
 pub mod HintLemmas
 pub mod DerivationLemmas
 pub mod ClaimVerdict
-pub mod KeyLemmas
 pub mod DraftLemmas
 pub mod Derivations
 pub mod AxiomLemmas

@@ -6,8 +6,11 @@ use Rattle.pc_cert.specs.Views.{literal_of, symbols_of, reading_of}
 use Rattle.pc_cert.specs.declared.cert.Cert.{Cert}
 use Rattle.pc_cert.specs.declared.cert.CertLine.{CertLine}
 use Rattle.pc_checker.specs.declared.scratch.Scratch.{Scratch}
-use Rattle.pc_checker.specs.Named.{AreDistinct, IsNamedIn}
-use Rattle.pc_checker.specs.Made.{IsReadFor, IsPrepared, IsMadeFor}
+use Rattle.pc_cert.specs.Views.{AreDistinct}
+use Rattle.pc_cert.specs.ReadFor.{IsNamedIn}
+use Rattle.pc_checker.specs.Entered.{AreEnteredValues}
+use Rattle.pc_checker.specs.Made.{IsPrepared, IsMadeFor}
+use Rattle.pc_cert.specs.ReadFor.{IsReadFor}
 use Rattle.pc_checker.specs.Drafts.{Grows, Draft, AreWritten}
 use Rattle.pc_checker.specs.Prepared.{ArePrepared}
 use Rattle.pc_checker.specs.Verdicts.{values_in, allowed_in}
@@ -16,8 +19,8 @@ use Rattle.pc_checker.proofs.RoomLemmas.{prepared_grown}
 pub made : (sheet : Sheet) (c : Cert) (s : Scratch) (lines : List CertLine) (start mid last : Draft) (first : List Symbol) → IsReadFor sheet c → lines ≡ c.lines.items → first ≡ symbols_of c
     → ArePrepared sheet lines (length lines) first mid.symbols s.clauses s.axioms.items → start.symbols ≡ mid.symbols → start.clause ≡ [] → AreWritten start last (allowed_in (reading_of c))
     → map (literal_of last.symbols) s.allowed.items ≡ last.clause → All (IsNamedIn last.symbols) s.allowed.items → length s.values ≡ length last.symbols → AreDistinct last.symbols
-    → s.assignment ≡ values_in (reading_of c) → IsMadeFor sheet c s
-made sheet c s lines start mid last first read same_lines same_first are begun blank written literals within room distinct values =
+    → s.assignment ≡ values_in (reading_of c) → AreEnteredValues sheet s.entered.items → IsMadeFor sheet c s
+made sheet c s lines start mid last first read same_lines same_first are begun blank written literals within room distinct values entered =
     let grows : Grows mid.symbols last.symbols = subst (λ (xs : List Symbol). Grows xs last.symbols) begun written.grows in
     let ready = prepared_grown sheet c.lines.items (length c.lines.items) (symbols_of c) mid.symbols last.symbols s.clauses s.axioms.items grows
     (subst (λ (xs : List Symbol). ArePrepared sheet c.lines.items (length c.lines.items) xs mid.symbols s.clauses s.axioms.items) same_first
@@ -30,6 +33,7 @@ made sheet c s lines start mid last first read same_lines same_first are begun b
         more = names.0;
         distinct = subst AreDistinct names.1 distinct;
         room = room ∙ ap length names.1;
+        entered = entered;
         assignment = values;
         count = ready.count;
         marks = ready.marks;

@@ -16,9 +16,10 @@ use Rattle.pc_cert.specs.declared.cert.Said.{Said}
 use Rattle.pc_cert.specs.declared.cert.CertPart.{CertPart}
 use Rattle.pc_cert.specs.declared.cert.CertPart.TheVariants.{Axiom, Step}
 use Rattle.pc_cert.specs.declared.cert.CertLine.{CertLine}
-use Rattle.pc_checker.specs.Named.{AreDistinct, IsNamedIn}
+use Rattle.pc_cert.specs.Views.{AreDistinct}
+use Rattle.pc_cert.specs.ReadFor.{IsNamedIn}
 use Rattle.pc_checker.specs.Made.{IsPrepared, value_said}
-use Rattle.pc_checker.specs.Keys.{IsNumberedAs}
+use Rattle.pc_cert.specs.Keys.{IsNumberedAs}
 use Rattle.pc_checker.specs.Drafts.{Grows}
 use Rattle.pc_checker.specs.Prepared.{IsLinePrepared, ArePrepared}
 use Rattle.pc_checker.proofs.AxiomLemmas.{match_along}

@@ -1,16 +1,12 @@
 -- What verdicts are.
-use Rattle.std.specs.Prelude.{◌≡◌, ◌↔◌, []}
+use Rattle.std.specs.Prelude.{◌≡◌, ◌↔◌}
 use Rattle.pc_sheet.specs.Sheet.{Sheet}
-use Rattle.pc_accept.specs.Accepts.{Claim, implied, inconsistent, Accepts}
+use Rattle.pc_accept.specs.Accepts.{Accepts}
 use Rattle.pc_cert.specs.Text.{Reading, certificate_of}
+use Rattle.pc_cert.specs.ReadFor.{IsBare}
 use Rattle.pc_checker.specs.declared.verdict.Verdict.{Verdict}
 use Rattle.pc_checker.specs.declared.verdict.Verdict.TheVariants.{Accepted}
 use Rattle.pc_checker.specs.Verdicts.{IsVerdict}
-
--- with a claim of inconsistency there are neither used entries nor values
-abbrev pub IsBare : Reading → Claim → Type 0
-IsBare r (implied t) = Unit {0}
-IsBare r inconsistent = (r.uses ≡ []) × (r.values ≡ [])
 
 -- the verdict is that of acceptance exactly where the sheet accepts the certificate
 abbrev pub AcceptedIsAccepts : Type 0

@@ -1,11 +1,9 @@
-pub mod Named
 pub mod Verdicts
 pub mod Laws
+pub mod Entered
 pub mod Made
 pub mod Parts
 pub mod Numbers
-pub mod Keys
-pub mod KeysView
 pub mod Drafts
 pub mod Written
 pub mod Prepared

@@ -1,5 +1,5 @@
 -- What the parts of the check answer.
-use Rattle.std.specs.Prelude.{◌≡◌, ℕ, ◌<◌, ◌≤◌, ◌-◌, ◌⊎◌, Bool, false, IsTrue, List, [], map, length, slice_index_or, All, Contains, Option, None, Some}
+use Rattle.std.specs.Prelude.{◌≡◌, ◌↔◌, ℕ, ◌<◌, ◌≤◌, ◌-◌, ◌⊎◌, Bool, false, IsTrue, List, [], map, length, slice_index_or, All, Contains, Option, None, Some}
 use Rattle.pc_sheet.specs.Sheet.{Sheet}
 use Rattle.pc_sheet.specs.Entailment.{Fits}
 use Rattle.pc_sheet.specs.declared.ids.ValueId.{ValueId}
@@ -8,6 +8,7 @@ use Rattle.pc_lits.specs.declared.literal.Lit.{Lit}
 use Rattle.pc_lits.specs.Literals.{negated}
 use Rattle.pc_lits.specs.Steps.{IsGoodStep}
 use Rattle.pc_values.specs.Hints.{clauses_at}
+use Rattle.pc_values.specs.Values.{MakesTrue, IsInRange}
 use Rattle.pc_accept.specs.Accepts.{AreInCellOrder}
 use Rattle.pc_cert.specs.declared.cert.CertPart.{CertPart}
 use Rattle.pc_cert.specs.declared.cert.CertPart.TheVariants.{Axiom, Step}
@@ -74,6 +75,14 @@ IsFirstBad clauses axioms lines (Some k) =
 -- there is a last clause, and its literals are among these
 abbrev pub EndsAmong : List (List Lit) → List Lit → Type 0
 EndsAmong clauses allowed = (0 < length clauses) × All (Contains allowed) (slice_index_or clauses (length clauses - 1) [])
+
+-- where it is of that sign, it is one of these
+abbrev pub IsAmongOf : Bool → List Lit → Lit → Type 0
+IsAmongOf sign lits l = l.sign ≡ sign → Contains lits l
+
+-- of the literals of that sign exactly these are true
+abbrev pub AreMarked : Bool → List Lit → List (Option Bool) → Type 0
+AreMarked sign lits values = (l : Lit) → IsInRange values l → l.sign ≡ sign → MakesTrue values l ↔ Contains lits l
 
 -- the verdict on a line at fault
 abbrev pub fault_by : ℕ → CertPart → Verdict

@@ -5,7 +5,7 @@ use Rattle.pc_lits.specs.declared.literal.Lit.{Lit}
 use Rattle.pc_accept.specs.Literals.{Symbol}
 use Rattle.pc_cert.specs.declared.cert.CertPart.{CertPart}
 use Rattle.pc_cert.specs.declared.cert.CertLine.{CertLine}
-use Rattle.pc_checker.specs.Named.{IsNamedIn}
+use Rattle.pc_cert.specs.ReadFor.{IsNamedIn}
 use Rattle.pc_checker.specs.Made.{IsPrepared}
 use Rattle.pc_checker.specs.Drafts.{Grows}
 

@@ -20,7 +20,7 @@ pub fn check(book: &Book, cert: &Cert, scratch: &mut Scratch) -> Verdict
     ensures verdict { IsVerdict book.now (reading_of cert.now) result }
     ensures kept { IsMadeFor book.now cert.now scratch.new }
 {
-    if let Some(verdict) = claim_verdict(book, cert, &scratch.assignment) {
+    if let Some(verdict) = claim_verdict(book, cert, &scratch.entered, &scratch.assignment) {
         return verdict;
     }
     let bad = first_bad(
@@ -32,7 +32,7 @@ pub fn check(book: &Book, cert: &Cert, scratch: &mut Scratch) -> Verdict
     if let Some(place) = bad {
         return fault_of(&cert.lines[place]);
     }
-    if ends_among(&scratch.clauses, &scratch.allowed) {
+    if ends_among(&scratch.clauses, &scratch.allowed, &mut scratch.values) {
         Verdict::Accepted
     } else {
         Verdict::WrongEnd

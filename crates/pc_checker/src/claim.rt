@@ -1,36 +1,50 @@
 //! The tests of a claim on a target: its used entries and its assignment.
 
-ghost use Rattle.std.specs.Prelude.{◌≡◌, ◌<◌, ◌≤◌, ◌↔◌, All, Contains, IsTrue, length, map};
-ghost use Rattle.pc_checker.specs.Made.{IsReadFor};
+ghost use Rattle.std.specs.Prelude.{◌≡◌, ◌<◌, ◌≤◌, All, Contains, List, length, map};
+ghost use Rattle.pc_sheet.specs.declared.ids.Entry.{Entry as TheEntry};
+ghost use Rattle.pc_cert.specs.ReadFor.{IsReadFor};
+ghost use Rattle.pc_checker.specs.Entered.{AreByCell, AreEnteredValues};
 ghost use Rattle.pc_checker.specs.Parts.{IsFirstLine, IsLineOfValues, IsRuleBroken, IsClaimVerdict, IsTargetVerdict};
 ghost use Rattle.pc_checker.specs.Verdicts.{IsHeld, values_in};
 ghost use Rattle.pc_cert.specs.Views.{reading_of, said_of};
 
+use crate::entered::is_entered;
 use crate::verdict::Verdict;
 use pc_cert::{Cert, Claim, Said};
 use pc_logic::{Assignment, Book, eval};
-use pc_sheet::{Entry, ValueId};
+use pc_sheet::ValueId;
 
 /// The verdict, if the used entries or the assignment don't stand.
-pub(crate) fn claim_verdict(book: &Book, cert: &Cert, values: &Assignment) -> Option<Verdict>
+pub(crate) fn claim_verdict(
+    book: &Book,
+    cert: &Cert,
+    entered: &[Option<ValueId>],
+    values: &Assignment,
+) -> Option<Verdict>
     requires read { IsReadFor book.now cert.now }
+    requires entered { AreEnteredValues book.now entered.now }
     requires values { values.now ≡ values_in (reading_of cert.now) }
     ensures { IsClaimVerdict book.now (reading_of cert.now) result }
 {
     match cert.claim {
-        Claim::Implied(_) => fault_of_claim(book, cert, values),
+        Claim::Implied(_) => fault_of_claim(book, cert, entered, values),
         Claim::Inconsistent => None,
     }
 }
 
 // The first of the four tests that fails.
-fn fault_of_claim(book: &Book, cert: &Cert, values: &Assignment) -> Option<Verdict>
+fn fault_of_claim(
+    book: &Book,
+    cert: &Cert,
+    entered: &[Option<ValueId>],
+    values: &Assignment,
+) -> Option<Verdict>
     requires read { IsReadFor book.now cert.now }
+    requires entered { AreEnteredValues book.now entered.now }
     requires values { values.now ≡ values_in (reading_of cert.now) }
     ensures { IsTargetVerdict book.now (reading_of cert.now) result }
 {
-    let entries = book.entries();
-    if let Some(line) = first_not_entered(entries, &cert.uses) {
+    if let Some(line) = first_not_entered(entered, &cert.uses) {
         return Some(Verdict::UseNotEntered { line });
     }
     if let Some(line) = fault_of_values(book.cells(), &cert.values, cert.after) {
@@ -39,6 +53,8 @@ fn fault_of_claim(book: &Book, cert: &Cert, values: &Assignment) -> Option<Verdi
     if let Some(line) = first_not_held(values.values(), &cert.uses) {
         return Some(Verdict::UseNotHeld { line });
     }
+    // Every book is well formed, which bounds its rules.
+    let _entries = book.entries();
     if let Some(rule) = first_broken(book, values) {
         return Some(Verdict::RuleBroken { rule });
     }
@@ -46,26 +62,16 @@ fn fault_of_claim(book: &Book, cert: &Cert, values: &Assignment) -> Option<Verdi
 }
 
 // The line of the first used entry that isn't entered.
-fn first_not_entered(entries: &[Entry], uses: &[Said]) -> Option<u32>
-    ensures { IsFirstLine (λ e. Contains entries.now e.1) (map said_of uses.now) result }
+fn first_not_entered(entered: &[Option<ValueId>], uses: &[Said]) -> Option<u32>
+    requires { All (λ s. s.entry.cell.0 < length entered.now) uses.now }
+    ensures { (entries : List TheEntry) → AreByCell entries entered.now → IsFirstLine (λ e. Contains entries e.1) (map said_of uses.now) result }
 {
     for said in uses {
-        if !is_among(entries, said.entry) {
+        if !is_entered(entered, said.entry) {
             return Some(said.line);
         }
     }
     None
-}
-
-fn is_among(entries: &[Entry], entry: Entry) -> bool
-    ensures { IsTrue result ↔ Contains entries.now entry }
-{
-    for other in entries {
-        if *other == entry {
-            return true;
-        }
-    }
-    false
 }
 
 // The line of the first value that isn't of the cell whose turn it is, or the one at which a value is missing.

@@ -1,8 +1,9 @@
 //! The tests of the derivation: its lines in order, and where it ends.
 
 ghost use Rattle.std.specs.Prelude.{◌≡◌, ◌<◌, ◌↔◌, All, Contains, IsTrue, List, length};
+ghost use Rattle.pc_lits.specs.declared.literal.Lit.{Lit as TheLit};
 ghost use Rattle.pc_values.specs.Values.{IsInRange};
-ghost use Rattle.pc_checker.specs.Parts.{IsStepBy, IsGoodPart, IsFirstBad, EndsAmong};
+ghost use Rattle.pc_checker.specs.Parts.{IsStepBy, IsGoodPart, IsFirstBad, EndsAmong, IsAmongOf, AreMarked};
 
 use crate::hints::{HintsByNumber, are_earlier};
 use pc_cert::{CertLine, CertPart};
@@ -69,34 +70,70 @@ fn is_step(place: usize, hints: &[u64], clauses: &ClauseStore, values: &mut Valu
 }
 
 /// Whether there is a last clause, and its literals are among these.
-pub(crate) fn ends_among(clauses: &ClauseStore, allowed: &[Lit]) -> bool
-    ensures { IsTrue result ↔ EndsAmong clauses.now allowed.now }
+pub(crate) fn ends_among(clauses: &ClauseStore, allowed: &[Lit], values: &mut Values) -> bool
+    requires clauses { All (All (IsInRange values.old)) clauses.now }
+    requires allowed { All (IsInRange values.old) allowed.now }
+    ensures among { IsTrue result ↔ EndsAmong clauses.now allowed.now }
+    ensures room { length values.new ≡ length values.old }
 {
     let count = clauses.len();
     if count == 0 {
         return false;
     }
-    are_among(clauses.get(count - 1), allowed)
+    are_among(clauses.get(count - 1), allowed, values)
 }
 
-fn are_among(clause: &[Lit], allowed: &[Lit]) -> bool
-    ensures { IsTrue result ↔ All (Contains allowed.now) clause.now }
+// Whether the literals of the clause are allowed. A variable may be allowed with both signs, so each sign has its turn.
+fn are_among(clause: &[Lit], allowed: &[Lit], values: &mut Values) -> bool
+    requires clause { All (IsInRange values.old) clause.now }
+    requires allowed { All (IsInRange values.old) allowed.now }
+    ensures among { IsTrue result ↔ All (Contains allowed.now) clause.now }
+    ensures room { length values.new ≡ length values.old }
 {
+    if !are_among_of(true, clause, allowed, values) {
+        return false;
+    }
+    are_among_of(false, clause, allowed, values)
+}
+
+// Whether the clause's literals of that sign are allowed.
+fn are_among_of(sign: bool, clause: &[Lit], allowed: &[Lit], values: &mut Values) -> bool
+    requires clause { All (IsInRange values.old) clause.now }
+    requires allowed { All (IsInRange values.old) allowed.now }
+    ensures among { IsTrue result ↔ All (IsAmongOf sign allowed.now) clause.now }
+    ensures room { length values.new ≡ length values.old }
+{
+    mark(sign, allowed, values);
     for lit in clause {
-        if !is_one_of(*lit, allowed) {
+        if !is_marked(sign, *lit, values) {
             return false;
         }
     }
     true
 }
 
-fn is_one_of(lit: Lit, allowed: &[Lit]) -> bool
-    ensures { IsTrue result ↔ Contains allowed.now lit }
+// Makes the literals of that sign true, and no other.
+fn mark(sign: bool, lits: &[Lit], values: &mut Values)
+    requires { All (IsInRange values.old) lits.now }
+    ensures marks { AreMarked sign lits.now values.new }
+    ensures room { length values.new ≡ length values.old }
 {
-    for other in allowed {
-        if *other == lit {
-            return true;
+    values.clear();
+    for lit in lits {
+        if lit.is_positive() == sign {
+            values.assign(*lit);
         }
     }
-    false
+}
+
+// Whether the literal is of the other sign or marked.
+fn is_marked(sign: bool, lit: Lit, values: &Values) -> bool
+    requires { IsInRange values.now lit }
+    ensures { (lits : List TheLit) → AreMarked sign lits values.now → (IsTrue result ↔ IsAmongOf sign lits lit) }
+{
+    if lit.is_positive() == sign {
+        values.is_true(lit)
+    } else {
+        true
+    }
 }

@@ -5,10 +5,11 @@ ghost use Rattle.pc_accept.specs.Literals.{pair, node};
 ghost use Rattle.pc_accept.specs.Axioms.{child_of};
 ghost use Rattle.pc_cert.specs.Views.{literal_of};
 ghost use Rattle.pc_checker.specs.Drafts.{IsWritten};
-ghost use Rattle.pc_checker.specs.Keys.{IsKey, symbol_by};
-ghost use Rattle.pc_checker.specs.Named.{AreDistinct, IsNamedIn};
+ghost use Rattle.pc_cert.specs.Keys.{IsKey, symbol_by};
+ghost use Rattle.pc_cert.specs.Views.{AreDistinct};
+ghost use Rattle.pc_cert.specs.ReadFor.{IsNamedIn};
 
-use crate::numbering::Numbering;
+use pc_cert::Numbering;
 use pc_lits::{Lit, Var};
 use pc_sheet::{CellId, NodePath, ValueId};
 use std::alloc::{AllocError, Global};
@@ -24,7 +25,7 @@ pub(crate) struct ClauseDraft {
 impl Model for ClauseDraft {
     ghost use Rattle.pc_cert.specs.Views.{literal_of};
     ghost use Rattle.pc_checker.specs.Drafts.{Draft};
-    ghost use Rattle.pc_checker.specs.Named.{IsNamedIn};
+    ghost use Rattle.pc_cert.specs.ReadFor.{IsNamedIn};
     ghost use Rattle.std.specs.Prelude.{All, map};
 
     ghost Value = { Draft };

@@ -5,17 +5,18 @@ ghost use Rattle.pc_accept.specs.Axioms.{negated_entry};
 ghost use Rattle.pc_cert.specs.Text.{entry_said};
 ghost use Rattle.pc_cert.specs.Views.{reading_of, said_of, symbol_of};
 ghost use Rattle.pc_checker.specs.Drafts.{AreWritten};
-ghost use Rattle.pc_checker.specs.Made.{IsMadeFor, IsPartOver, IsReadFor, value_said};
-ghost use Rattle.pc_checker.specs.Keys.{IsNumberedAs};
-ghost use Rattle.pc_checker.specs.Named.{AreDistinct};
+ghost use Rattle.pc_checker.specs.Made.{IsMadeFor, value_said};
+ghost use Rattle.pc_cert.specs.ReadFor.{IsPartOver, IsReadFor};
+ghost use Rattle.pc_cert.specs.Keys.{IsNumberedAs};
+ghost use Rattle.pc_cert.specs.Views.{AreDistinct};
 ghost use Rattle.pc_checker.specs.Prepared.{IsLinePrepared, ArePrepared};
 ghost use Rattle.pc_checker.specs.Verdicts.{allowed_in};
 
 use crate::draft::ClauseDraft;
-use crate::numbering::Numbering;
+use crate::entered::entered_values;
 use crate::scratch::Scratch;
 use crate::taken::write_axiom;
-use pc_cert::{Cert, CertLine, CertPart, Claim, Said, Symbol};
+use pc_cert::{Cert, CertLine, CertPart, Claim, Numbering, Said, Symbol};
 use pc_lits::ClauseStore;
 use pc_logic::{Assignment, Book};
 use pc_values::Values;
@@ -42,8 +43,10 @@ pub fn room_for(alloc: Global, book: &Book, cert: &Cert) -> Result<Scratch, Allo
     write_allowed(alloc, cert, &mut draft)?;
     let allowed = Vec::from_slice(alloc, draft.literals())?;
     let values = Values::new(alloc, draft.symbols())?;
+    let entered = entered_values(alloc, book)?;
     let assignment = assignment_of(alloc, &cert.values)?;
     Ok(Scratch {
+        entered,
         assignment,
         clauses,
         axioms,

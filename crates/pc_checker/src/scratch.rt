@@ -2,12 +2,15 @@
 
 use pc_lits::{ClauseStore, Lit};
 use pc_logic::Assignment;
+use pc_sheet::ValueId;
 use pc_values::Values;
 
 /// What is prepared for the check of one certificate, so that the check itself takes no memory. The symbols of all
 /// clauses have numbers, the certificate's own first.
 #[derive(Drop)]
 pub struct Scratch {
+    // The value that each cell is entered with.
+    pub(crate) entered: Vec<Option<ValueId>>,
     // The values of the certificate's `value` lines.
     pub(crate) assignment: Assignment,
     // The clause of each line of the derivation.

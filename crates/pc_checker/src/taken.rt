@@ -7,7 +7,7 @@ ghost use Rattle.pc_sheet.specs.Entailment.{HaveDistinctCells};
 ghost use Rattle.pc_sheet.specs.Nodes.{kind_at};
 ghost use Rattle.pc_sheet.specs.WellFormed.{IsEntryOf};
 ghost use Rattle.pc_sheet.specs.declared.nodes.NodeKind.{NodeKind};
-ghost use Rattle.pc_checker.specs.Made.{IsOver};
+ghost use Rattle.pc_cert.specs.ReadFor.{IsOver};
 ghost use Rattle.pc_checker.specs.Written.{IsAxiomWritten, IsCellRead};
 
 use crate::axiom::{write_reads, write_values};

@@ -6,19 +6,19 @@ use Rattle.pc_checker.proofs.checking.check.Goals as goal
 pub returns-in-Some-bad-clause-verdict : goal.returns-in-Some-bad-clause-verdict
 returns-in-Some-bad-clause-verdict c =
     let stands = claim_stands c.args.book.now (reading_of c.args.cert.now) c.claim_verdict.result (none_from c.claim_verdict.result c.in_default.not-Some) c.claim_verdict.ensures in
-    at_fault c.args.book.now c.args.cert.now c.args.scratch.now c.requires stands c.deref.result.now c.deref-2.result.now c.first_bad-bad.result c.in-Some-bad.place c.index.result.now
-    c.fault_of.result c.deref.ensures.value c.deref-2.ensures.value c.in-Some-bad.is c.first_bad-bad.ensures.first c.index.ensures c.fault_of.ensures
+    at_fault c.args.book.now c.args.cert.now c.args.scratch.now c.requires stands c.deref-2.result.now c.deref-3.result.now c.first_bad-bad.result c.in-Some-bad.place c.index.result.now
+    c.fault_of.result c.deref-2.ensures.value c.deref-3.ensures.value c.in-Some-bad.is c.first_bad-bad.ensures.first c.index.ensures c.fault_of.ensures
 
 pub returns-then-ends_among-clause-verdict : goal.returns-then-ends_among-clause-verdict
 returns-then-ends_among-clause-verdict c =
     let stands = claim_stands c.args.book.now (reading_of c.args.cert.now) c.claim_verdict.result (none_from c.claim_verdict.result c.in_default.not-Some) c.claim_verdict.ensures in
-    accepted c.args.book.now c.args.cert.now c.args.scratch.now c.requires stands c.deref.result.now c.deref-2.result.now c.first_bad-bad.result c.deref-3.result.now c.ends_among.result
-    c.deref.ensures.value c.deref-2.ensures.value (none_from c.first_bad-bad.result c.in_default-bad.not-Some) c.first_bad-bad.ensures.first c.deref-3.ensures.value c.ends_among.ensures
+    accepted c.args.book.now c.args.cert.now c.args.scratch.now c.requires stands c.deref-2.result.now c.deref-3.result.now c.first_bad-bad.result c.deref-4.result.now c.ends_among.result
+    c.deref-2.ensures.value c.deref-3.ensures.value (none_from c.first_bad-bad.result c.in_default-bad.not-Some) c.first_bad-bad.ensures.first c.deref-4.ensures.value c.ends_among.ensures.among
     c.if-ends_among.true
 
 pub returns-else-ends_among-clause-verdict : goal.returns-else-ends_among-clause-verdict
 returns-else-ends_among-clause-verdict c =
     let stands = claim_stands c.args.book.now (reading_of c.args.cert.now) c.claim_verdict.result (none_from c.claim_verdict.result c.in_default.not-Some) c.claim_verdict.ensures in
-    wrong_end c.args.book.now c.args.cert.now c.args.scratch.now c.requires stands c.deref.result.now c.deref-2.result.now c.first_bad-bad.result c.deref-3.result.now c.ends_among.result
-    c.deref.ensures.value c.deref-2.ensures.value (none_from c.first_bad-bad.result c.in_default-bad.not-Some) c.first_bad-bad.ensures.first c.deref-3.ensures.value c.ends_among.ensures
+    wrong_end c.args.book.now c.args.cert.now c.args.scratch.now c.requires stands c.deref-2.result.now c.deref-3.result.now c.first_bad-bad.result c.deref-4.result.now c.ends_among.result
+    c.deref-2.ensures.value c.deref-3.ensures.value (none_from c.first_bad-bad.result c.in_default-bad.not-Some) c.first_bad-bad.ensures.first c.deref-4.ensures.value c.ends_among.ensures.among
     c.if-ends_among.false

@@ -1,14 +1,16 @@
-use Rattle.std.proofs.Common.{All, Contains, refl}
-use Rattle.std.proofs.lemmas.List.{take_all}
-use Rattle.std.proofs.lemmas.List.Elements.{All-more}
-use Rattle.pc_lits.proofs.LitLemmas.{past_lit}
+use Rattle.std.proofs.Common.{true, false}
+use Rattle.std.proofs.lemmas.Bool.{iff_false, false≢true}
+use Rattle.pc_checker.proofs.MarkLemmas.{among_both, among_of}
 use Rattle.pc_checker.proofs.derivation.are_among.Goals as goal
 
-pub loop-lit-preserved : goal.loop-lit-preserved
-loop-lit-preserved c =
-    All-more (Contains c.args.allowed.now) c.args.clause.now c.loop-lit.lit-index past_lit c.loop-lit-test.true c.loop-lit.invariant (c.is_one_of.ensures.0 c.if-not-is_one_of.false)
+pub returns-then-not-are_among_of-clause-among : goal.returns-then-not-are_among_of-clause-among
+returns-then-not-are_among_of-clause-among c = (
+  λ none. absurd (false≢true none),
+  λ all. absurd (iff_false c.are_among_of.ensures.among c.if-not-are_among_of.true (among_of true c.args.allowed.now c.args.clause.now all)),
+)
 
-pub returns : goal.returns
-returns c =
-    let all : All (Contains c.args.allowed.now) c.args.clause.now = rw (take_all c.loop-lit.lit-index c.args.clause.now c.loop-lit-test.false) at c.loop-lit.invariant in
-    (λ _. all, λ _. refl)
+pub returns-clause-among : goal.returns-clause-among
+returns-clause-among c = (
+  λ is. among_both c.args.allowed.now c.args.clause.now (c.are_among_of.ensures.among.0 c.if-not-are_among_of.false) (c.are_among_of-2.ensures.among.0 is),
+  λ all. c.are_among_of-2.ensures.among.1 (among_of false c.args.allowed.now c.args.clause.now all),
+)

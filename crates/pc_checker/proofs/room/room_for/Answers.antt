@@ -3,7 +3,7 @@ use Rattle.std.proofs.lemmas.List.{length-replicate}
 use Rattle.pc_lits.specs.declared.literal.Lit.{Lit}
 use Rattle.pc_cert.specs.Views.{symbol_of, literal_of}
 use Rattle.pc_checker.specs.Made.{value_said}
-use Rattle.pc_checker.specs.Named.{IsNamedIn}
+use Rattle.pc_cert.specs.ReadFor.{IsNamedIn}
 use Rattle.pc_checker.proofs.Made.{made}
 use Rattle.pc_checker.proofs.RoomLemmas.{values_mapped}
 use Rattle.pc_checker.proofs.room.room_for.Goals as goal
@@ -19,3 +19,4 @@ returns c =
     (ap length c.in_ok-values.ensures ∙ length-replicate _ _ ∙ c.symbols.ensures.count)
     c.symbols.ensures.distinct
     (c.in_ok-assignment.ensures ∙ ap (map value_said) c.deref-3.ensures.value ∙ values_mapped c.args.cert.now.values.items)
+    c.in_ok-entered.ensures

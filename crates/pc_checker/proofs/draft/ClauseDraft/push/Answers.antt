@@ -1,6 +1,6 @@
 use Rattle.std.proofs.Common.{All, sym, subst}
-use Rattle.pc_checker.specs.Keys.{symbol_by}
-use Rattle.pc_checker.specs.Named.{IsNamedIn}
+use Rattle.pc_cert.specs.Keys.{symbol_by}
+use Rattle.pc_cert.specs.ReadFor.{IsNamedIn}
 use Rattle.pc_checker.proofs.DraftLemmas.{pushed_within, written}
 use Rattle.pc_checker.proofs.draft.ClauseDraft.push.Goals as goal
 

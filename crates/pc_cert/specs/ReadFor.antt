@@ -1,0 +1,50 @@
+-- What a certificate is that was read for a sheet.
+use Rattle.std.specs.Prelude.{◌≡◌, ◌<◌, List, [], length, All}
+use Rattle.pc_sheet.specs.Sheet.{Sheet}
+use Rattle.pc_sheet.specs.Entailment.{cell_sizes}
+use Rattle.pc_sheet.specs.WellFormed.{IsEntryOf}
+use Rattle.pc_lits.specs.declared.literal.Lit.{Lit}
+use Rattle.pc_accept.specs.Literals.{Symbol}
+use Rattle.pc_accept.specs.Accepts as accepts
+use Rattle.pc_names.specs.declared.axiom_name.AxiomName.{AxiomName}
+use Rattle.pc_names.specs.declared.axiom_name.AxiomName.TheVariants.{Any, One, Rule, Node, Atom}
+use Rattle.pc_cert.specs.declared.cert.Cert.{Cert}
+use Rattle.pc_cert.specs.declared.cert.CertPart.{CertPart}
+use Rattle.pc_cert.specs.declared.cert.CertPart.TheVariants.{Axiom, Step}
+use Rattle.pc_cert.specs.declared.cert.Said.{Said}
+use Rattle.pc_cert.specs.Text.{Reading}
+use Rattle.pc_cert.specs.Views.{symbols_of, reading_of, AreDistinct}
+
+abbrev pub IsSaidOf : Sheet → Said → Type 0
+IsSaidOf sheet s = IsEntryOf sheet.universe s.entry
+
+-- the literal's number is that of one of these symbols
+abbrev pub IsNamedIn : List Symbol → Lit → Type 0
+IsNamedIn names l = l.variable.0 < length names
+
+-- the axiom speaks of cells and values of the sheet
+abbrev pub IsOver : Sheet → AxiomName → Type 0
+IsOver sheet (Any c) = c.0 < length (cell_sizes sheet.universe)
+IsOver sheet (One c v w) = IsEntryOf sheet.universe (record { cell = c; value = v }) × IsEntryOf sheet.universe (record { cell = c; value = w })
+IsOver sheet (Rule r) = Unit {0}
+IsOver sheet (Node p i) = Unit {0}
+IsOver sheet (Atom p reads) = All (IsEntryOf sheet.universe) reads.items
+
+-- an axiom over the sheet, or a step whose literals are of these symbols
+abbrev pub IsPartOver : Sheet → List Symbol → CertPart → Type 0
+IsPartOver sheet symbols (Axiom a) = IsOver sheet a
+IsPartOver sheet symbols (Step clause hints) = All (IsNamedIn symbols) clause.items
+
+-- with a claim of inconsistency there are neither used entries nor values
+abbrev pub IsBare : Reading → accepts.Claim → Type 0
+IsBare r (accepts.implied t) = Unit {0}
+IsBare r accepts.inconsistent = (r.uses ≡ []) × (r.values ≡ [])
+
+-- entries of the sheet, different symbols, literals of these, and neither used entries nor values beside a claim of
+-- inconsistency
+pub record IsReadFor (sheet : Sheet) (c : Cert) : Type 0 where
+  pub uses : All (IsSaidOf sheet) c.uses.items
+  pub values : All (IsSaidOf sheet) c.values.items
+  pub distinct : AreDistinct (symbols_of c)
+  pub parts : All (λ l. IsPartOver sheet (symbols_of c) l.part) c.lines.items
+  pub bare : IsBare (reading_of c) (reading_of c).claim
