@@ -1,0 +1,173 @@
+-- What is read for a sheet is of that sheet.
+use Rattle.std.proofs.Common.{◌≡◌, ℕ, ◌+◌, ◌<◌, ◌≤◌, List, [], ◌∷◌, ◌++◌, length, map, Some, Ok, arith, sym, ◌∙◌, subst, inl, inr}
+use Rattle.std.specs.List.{AllByRecursion}
+use Rattle.pc_sheet.specs.Sheet.{Sheet}
+use Rattle.pc_sheet.specs.Entailment.{cell_sizes}
+use Rattle.pc_sheet.specs.Cells.{CellsAreNumberedInOrder}
+use Rattle.pc_sheet.specs.WellFormed.{IsEntryOf}
+use Rattle.pc_accept.specs.Literals.{Symbol}
+use Rattle.pc_accept.specs.Axioms.{Axiom, some_value, not_both, true_rule, parts, by_reads}
+use Rattle.pc_accept.specs.Accepts as accepts
+use Rattle.pc_names.specs.declared.axiom_name.AxiomName.{AxiomName}
+use Rattle.pc_names.specs.declared.axiom_name.AxiomName.TheVariants as name
+use Rattle.pc_names.specs.Views.{axiom_of}
+use Rattle.pc_cert.specs.declared.cert.Cert.{Cert}
+use Rattle.pc_cert.specs.declared.cert.CertLine.{CertLine}
+use Rattle.pc_cert.specs.declared.cert.CertPart.{CertPart}
+use Rattle.pc_cert.specs.declared.cert.CertPart.TheVariants as part
+use Rattle.pc_cert.specs.Written.{nothing, heading, claims, claims_inconsistent, uses, assigns, derives, ends, WrittenLine, WrittenPart, written_some, written_one, written_atom, Part, taken, derived, SaidLine}
+use Rattle.pc_cert.specs.Order.{LineKind, kind_of}
+use Rattle.pc_cert.specs.Meaning.{IsPartNamed, IsLineNamed}
+use Rattle.pc_cert.specs.Text.{Reading, certificate, IsTextReading, whole, AllSay, SayTogether, uses_from, values_from, parts_from, claim_in}
+use Rattle.pc_cert.specs.Views.{IsCertTold, symbols_of, reading_of, said_of, part_of, numbered_part_of, place_of, places_in, places_of, AppearInOrder, IsNumbered}
+use Rattle.pc_cert.specs.ReadFor.{IsSaidOf, IsNamedIn, IsOver, IsPartOver, IsBare, IsReadFor}
+use Rattle.pc_one_reading.proofs.Entries.{each_at, each_image, cell_below, entry_of, entry_named, entries_named}
+use Rattle.pc_one_reading.proofs.Standing.{bare_beside}
+
+-- ---- places of literals
+
+module _ (P : ℕ → Type 0) where
+  front_all : (xs ys : List ℕ) → AllByRecursion P (xs ++ ys) → AllByRecursion P xs
+  front_all [] ys all = tt
+  front_all (x ∷ xs) ys all = (all.0, front_all xs ys all.1)
+
+  back_all : (xs ys : List ℕ) → AllByRecursion P (xs ++ ys) → AllByRecursion P ys
+  back_all [] ys all = all
+  back_all (x ∷ xs) ys all = back_all xs ys all.1
+
+-- no place is past the symbols
+record AreBelow (n : ℕ) (ks : List ℕ) (all : ℕ) : Type 0 where
+  first : n ≤ all
+  each : AllByRecursion (λ k. k < all) ks
+
+appear_below : (n : ℕ) (ks : List ℕ) (all : ℕ) → AppearInOrder n ks all → AreBelow n ks all
+appear_below n [] all is = record { first = omega (arith, is); each = tt }
+appear_below n (k ∷ ks) all (inl is) =
+    let rest = appear_below n ks all is.1 in
+    let low = rest.first in
+    let here = is.0 in
+    record { first = low; each = (omega (arith, low, here), rest.each) }
+appear_below n (k ∷ ks) all (inr is) =
+    let rest = appear_below (n + 1) ks all is.1 in
+    let low = rest.first in
+    let here = is.0 in
+    record { first = omega (arith, low); each = (omega (arith, low, here), rest.each) }
+
+module _ (sheet : Sheet) where
+  -- ---- what a line says
+
+  abbrev IsAxiomOver : Axiom → Type 0
+  IsAxiomOver (some_value c) = c.0 < length (cell_sizes sheet.universe)
+  IsAxiomOver (not_both c v w) = IsEntryOf sheet.universe (record { cell = c; value = v }) × IsEntryOf sheet.universe (record { cell = c; value = w })
+  IsAxiomOver (true_rule r) = Unit {0}
+  IsAxiomOver (parts r p i) = Unit {0}
+  IsAxiomOver (by_reads r p es) = AllByRecursion (IsEntryOf sheet.universe) es
+
+  abbrev IsSaidPartOver : Part → Type 0
+  IsSaidPartOver (taken a) = IsAxiomOver a
+  IsSaidPartOver (derived ls hints) = Unit {0}
+
+  abbrev IsLineOver : SaidLine → Type 0
+  IsLineOver (uses e) = IsEntryOf sheet.universe e
+  IsLineOver (assigns e) = IsEntryOf sheet.universe e
+  IsLineOver (derives n p) = IsSaidPartOver p
+  IsLineOver l = Unit {0}
+
+  -- ---- the lists
+
+  uses_over : (n : ℕ) (ls : List SaidLine) → AllByRecursion IsLineOver ls → AllByRecursion (λ p. IsEntryOf sheet.universe p.1) (uses_from n ls)
+  uses_over n [] all = tt
+  uses_over n (uses e ∷ ls) all = (all.0, uses_over (n + 1) ls all.1)
+  uses_over n (l ∷ ls) all = uses_over (n + 1) ls all.1
+
+  values_over : (n : ℕ) (ls : List SaidLine) → AllByRecursion IsLineOver ls → AllByRecursion (λ p. IsEntryOf sheet.universe p.1) (values_from n ls)
+  values_over n [] all = tt
+  values_over n (assigns e ∷ ls) all = (all.0, values_over (n + 1) ls all.1)
+  values_over n (l ∷ ls) all = values_over (n + 1) ls all.1
+
+  parts_over : (n : ℕ) (ls : List SaidLine) → AllByRecursion IsLineOver ls → AllByRecursion (λ p. IsSaidPartOver p.1) (parts_from n ls)
+  parts_over n [] all = tt
+  parts_over n (derives k p ∷ ls) all = (all.0, parts_over (n + 1) ls all.1)
+  parts_over n (l ∷ ls) all = parts_over (n + 1) ls all.1
+
+  -- ---- the certificate
+
+  axiom_over : (a : AxiomName) → IsAxiomOver (axiom_of a) → IsOver sheet a
+  axiom_over (name.Any c) is = is
+  axiom_over (name.One c v w) is = is
+  axiom_over (name.Rule r) is = tt
+  axiom_over (name.Node p i) is = tt
+  axiom_over (name.Atom p reads) is = each_at (IsEntryOf sheet.universe) reads.items is
+
+  module _ (symbols : List Symbol) where
+    abbrev IsBelow : ℕ → Type 0
+    IsBelow k = k < length symbols
+
+    part_over : (p : CertPart) → IsSaidPartOver (part_of symbols p) → AllByRecursion IsBelow (places_in p) → IsPartOver sheet symbols p
+    part_over (part.Axiom a) is below = axiom_over a is
+    part_over (part.Step clause hints) is below = each_at (IsNamedIn symbols) clause.items (each_image place_of IsBelow clause.items below)
+
+    lines_over : (ls : List CertLine) → AllByRecursion (λ p. IsSaidPartOver p.1) (map (numbered_part_of symbols) ls) → AllByRecursion IsBelow (places_of ls) → AllByRecursion (λ l. IsPartOver sheet symbols l.part) ls
+    lines_over [] all below = tt
+    lines_over (l ∷ ls) all below = (part_over l.part all.0 (front_all IsBelow (places_in l.part) (places_of ls) below), lines_over ls all.1 (back_all IsBelow (places_in l.part) (places_of ls) below))
+
+  bare_for : (r : Reading) (ls : List SaidLine) (lines : List (List ℕ)) (c : accepts.Claim) → AllSay sheet [] lines ls → claim_in ls ≡ Some c → r.uses ≡ uses_from 1 ls → r.values ≡ values_from 1 ls → IsBare r c
+  bare_for r ls lines (accepts.implied t) all claimed used valued = tt
+  bare_for r ls lines accepts.inconsistent all claimed used valued = let none = bare_beside sheet lines ls 1 all claimed in (used ∙ none.0, valued ∙ none.1)
+
+  module _ (ordered : CellsAreNumberedInOrder) where
+    taken_over : (w : WrittenPart) (a : Axiom) → IsPartNamed sheet w (taken a) → IsAxiomOver a
+    taken_over (written_some c) (some_value id) is = cell_below sheet.universe ordered c id is
+    taken_over (written_one c v w) (not_both id first second) is = (
+      entry_of sheet.universe ordered c v is.sort (record { cell = id; value = first }) is.cell is.first_value,
+      entry_of sheet.universe ordered c w is.sort (record { cell = id; value = second }) is.cell is.second_value,
+    )
+    taken_over w (true_rule r) is = tt
+    taken_over w (parts r p i) is = tt
+    taken_over (written_atom p reads) (by_reads r steps es) is = entries_named sheet.universe ordered reads es is.1
+    taken_over w a is = absurd is
+
+    said_part_over : (w : WrittenPart) (p : Part) → IsPartNamed sheet w p → IsSaidPartOver p
+    said_part_over w (taken a) is = taken_over w a is
+    said_part_over w (derived clause hints) is = tt
+
+    line_over : (f : WrittenLine) (l : SaidLine) → IsLineNamed sheet f l → IsLineOver l
+    line_over f nothing is = tt
+    line_over f heading is = tt
+    line_over f (claims e holds) is = tt
+    line_over f claims_inconsistent is = tt
+    line_over f ends is = tt
+    line_over (uses p) (uses e) is = entry_named sheet.universe ordered p e is
+    line_over (assigns p) (assigns e) is = entry_named sheet.universe ordered p e is
+    line_over (derives n w) (derives m p) is = said_part_over w p is.1
+    line_over f l is = absurd is
+
+    all_over : (before : List LineKind) (lines : List (List ℕ)) (ls : List SaidLine) → AllSay sheet before lines ls → AllByRecursion IsLineOver ls
+    all_over before [] [] all = tt
+    all_over before [] (l ∷ ls) all = absurd all
+    all_over before (line ∷ lines) [] all = tt
+    all_over before (line ∷ lines) (l ∷ ls) all = (line_over all.0.form l all.0.named, all_over (before ++ kind_of l ∷ []) lines ls all.1)
+
+    read_for : (c : Cert) (lines : List (List ℕ)) (ls : List SaidLine) → AllSay sheet [] lines ls → SayTogether ls (reading_of c) → IsNumbered (symbols_of c) (places_of c.lines.items) → IsReadFor sheet c
+    read_for c lines ls all together numbered =
+        let over = all_over [] lines ls all in
+        let used = subst (λ ps. AllByRecursion (λ p. IsEntryOf sheet.universe p.1) ps) (sym together.uses) (uses_over 1 ls over) in
+        let valued = subst (λ ps. AllByRecursion (λ p. IsEntryOf sheet.universe p.1) ps) (sym together.values) (values_over 1 ls over) in
+        let said = subst (λ ps. AllByRecursion (λ p. IsSaidPartOver p.1) ps) (sym together.parts) (parts_over 1 ls over) in
+        let below = appear_below 0 (places_of c.lines.items) (length (symbols_of c)) numbered.appear in
+        record {
+          uses = each_at (IsSaidOf sheet) c.uses.items (each_image said_of (λ p. IsEntryOf sheet.universe p.1) c.uses.items used);
+          values = each_at (IsSaidOf sheet) c.values.items (each_image said_of (λ p. IsEntryOf sheet.universe p.1) c.values.items valued);
+          distinct = numbered.different;
+          parts = each_at (λ l. IsPartOver sheet (symbols_of c) l.part) c.lines.items (lines_over (symbols_of c) c.lines.items said below.each);
+          bare = bare_for (reading_of c) ls lines (reading_of c).claim all together.claim together.uses together.values;
+        }
+
+    by_text : (text : List ℕ) (c : Cert) → IsTextReading sheet text (certificate (reading_of c)) → IsNumbered (symbols_of c) (places_of c.lines.items) → IsReadFor sheet c
+    by_text text c (whole ls all closed together) numbered = read_for c _ ls all together numbered
+
+pub what_is_read : CellsAreNumberedInOrder → (sheet : Sheet) (text : List ℕ) (c : Cert) → IsCertTold sheet text (Ok c) → IsReadFor sheet c
+what_is_read ordered sheet text c told = by_text sheet ordered text c told.0 told.1
+
+pub bare_text : (sheet : Sheet) (text : List ℕ) (r : Reading) → IsTextReading sheet text (certificate r) → IsBare r r.claim
+bare_text sheet text r (whole ls all closed together) = bare_for sheet r ls _ r.claim all together.claim together.uses together.values

@@ -1,0 +1,144 @@
+-- A line has one form at most.
+use Rattle.std.proofs.Common.{◌≡◌, ℕ, ◌≤◌, Bool, true, false, List, [], ◌∷◌, refl, sym, ◌∙◌, ap, ap₂, subst, arith, if◌then◌else◌}
+use Rattle.std.specs.Prelude.{codes, bytes_eq}
+use Rattle.std.specs.Char.{digit_value}
+use Rattle.std.proofs.lemmas.Slice.Eq.{bytes_eq-Decides}
+use Rattle.pc_token.specs.declared.token.Kind.TheVariants.{Equal}
+use Rattle.pc_formula.specs.Word.{Word, name, sign}
+use Rattle.pc_formula.specs.Front.{StopsAt}
+use Rattle.pc_cert.specs.Written.{nothing, heading, claims, claims_inconsistent, uses, assigns, derives, ends, WrittenPair, WrittenLine}
+use Rattle.pc_cert.specs.Texts.{texts_of, IsWholePair, SpellsThis, IsNumberText}
+use Rattle.pc_cert.specs.Line.{equality, IsWordPair, IsClaim, SpellsPair, IsForm, IsLine}
+use Rattle.pc_one_reading.proofs.Words.{tails}
+use Rattle.pc_one_reading.proofs.Texts.{IsUnambiguous, equal_stops, pair_once, spelled_once}
+use Rattle.pc_one_reading.proofs.Parts.{derivation_once}
+use Rattle.pc_one_reading.proofs.Signs.{claim_no_word}
+
+-- ---- the first text of a form
+
+data Start : Type 0 where
+  by_nothing : Start
+  by_certificate : Start
+  by_claim : Start
+  by_use : Start
+  by_value : Start
+  by_end : Start
+  by_number : Start
+
+-- by the tests against the words
+abbrev chosen : Bool → Bool → Bool → Bool → Bool → Start
+chosen certificate claim use_word value end_word =
+    if certificate then by_certificate
+    else (if claim then by_claim
+    else (if use_word then by_use
+    else (if value then by_value
+    else (if end_word then by_end else by_number))))
+
+abbrev start_of_text : List ℕ → Start
+start_of_text t = chosen (bytes_eq t (codes "certificate")) (bytes_eq t (codes "claim")) (bytes_eq t (codes "use")) (bytes_eq t (codes "value")) (bytes_eq t (codes "end"))
+
+abbrev start_of_texts : List (List ℕ) → Start
+start_of_texts [] = by_nothing
+start_of_texts (t ∷ ts) = start_of_text t
+
+abbrev start_of : WrittenLine → Start
+start_of nothing = by_nothing
+start_of heading = by_certificate
+start_of (claims p holds) = by_claim
+start_of claims_inconsistent = by_claim
+start_of (uses p) = by_use
+start_of (assigns p) = by_value
+start_of (derives n part) = by_number
+start_of ends = by_end
+
+-- ---- a number is none of the words
+
+not_true : (b : Bool) → (b ≡ true → ⊥) → b ≡ false
+not_true true never = absurd (never refl)
+not_true false never = refl
+
+no_digit : (c : ℕ) (cs : List ℕ) (n : ℕ) → 10 ≤ digit_value c → IsNumberText (c ∷ cs) n → ⊥
+no_digit c cs n large is = omega (arith, large, is.digits.1.0)
+
+number_no_word : (text : List ℕ) (n : ℕ) (c : ℕ) (cs : List ℕ) → 10 ≤ digit_value c → IsNumberText text n → bytes_eq text (c ∷ cs) ≡ false
+number_no_word text n c cs large is =
+    not_true (bytes_eq text (c ∷ cs)) (λ e. no_digit c cs n large (subst (λ t. IsNumberText t n) ((bytes_eq-Decides text (c ∷ cs)).0 e) is))
+
+chosen_none : (a b c d e : Bool) → a ≡ false → b ≡ false → c ≡ false → d ≡ false → e ≡ false → chosen a b c d e ≡ by_number
+chosen_none a b c d e p q r s t =
+    ap (λ x. chosen x b c d e) p ∙ ap (λ x. chosen false x c d e) q ∙ ap (λ x. chosen false false x d e) r ∙ ap (λ x. chosen false false false x e) s ∙ ap (λ x. chosen false false false false x) t
+
+number_starts : (text : List ℕ) (n : ℕ) → IsNumberText text n → start_of_text text ≡ by_number
+number_starts text n is =
+    chosen_none (bytes_eq text (codes "certificate")) (bytes_eq text (codes "claim")) (bytes_eq text (codes "use")) (bytes_eq text (codes "value")) (bytes_eq text (codes "end"))
+    (number_no_word text n 99 (codes "ertificate") (omega arith) is)
+    (number_no_word text n 99 (codes "laim") (omega arith) is)
+    (number_no_word text n 117 (codes "se") (omega arith) is)
+    (number_no_word text n 118 (codes "alue") (omega arith) is)
+    (number_no_word text n 101 (codes "nd") (omega arith) is)
+
+form_starts : (line : List ℕ) (texts : List (List ℕ)) (f : WrittenLine) → IsForm line texts f → start_of_texts texts ≡ start_of f
+form_starts line texts nothing is = ap start_of_texts is
+form_starts line texts heading is = ap start_of_texts is.are
+form_starts line texts (claims p holds) is = ap start_of_texts is.0.is
+form_starts line texts claims_inconsistent is = ap start_of_texts is
+form_starts line texts (uses p) is = ap start_of_texts is.0.is
+form_starts line texts (assigns p) is = ap start_of_texts is.0.is
+form_starts line texts (derives n part) is = ap start_of_texts is.are ∙ number_starts is.number n is.counts
+form_starts line texts ends is = ap start_of_texts is
+
+-- ---- a word, and then a cell, a sign and a value
+
+claim_stops : (holds : Bool) (rest : List Word) → StopsAt 1 (sign (equality holds) ∷ rest)
+claim_stops true rest = omega arith
+claim_stops false rest = omega arith
+
+same_claim : (g h : Bool) → equality g ≡ equality h → g ≡ h
+same_claim true true e = refl
+same_claim true false e = absurd (cc)
+same_claim false true e = absurd (cc)
+same_claim false false e = refl
+
+abbrev claim_line : WrittenPair → Bool → WrittenLine
+claim_line p holds = claims p holds
+
+abbrev claimed : WrittenPair → Bool → WrittenPair × Bool
+claimed p holds = (p, holds)
+
+module _ (laws : IsUnambiguous) where
+  word_pair_once : (word : List ℕ) (ws : List Word) (p q : WrittenPair) → IsWordPair word Equal ws p → IsWordPair word Equal ws q → p ≡ q
+  word_pair_once word ws p q a b =
+      let rest = tails (name word) (name word) a.rest b.rest (sym a.are ∙ b.are) in
+      (pair_once laws Equal Equal b.rest p q equal_stops equal_stops (subst (λ r. IsWholePair Equal r p) rest a.pair) b.pair).1
+
+  claim_once : (ws : List Word) (p q : WrittenPair × Bool) → IsClaim ws p → IsClaim ws q → p ≡ q
+  claim_once ws p q a b =
+      let rest = tails (name (codes "claim")) (name (codes "claim")) a.rest b.rest (sym a.are ∙ b.are) in
+      let both = pair_once laws (equality p.1) (equality q.1) b.rest p.0 q.0 (claim_stops p.1) (claim_stops q.1) (subst (λ r. IsWholePair (equality p.1) r p.0) rest a.pair) b.pair in
+      ap₂ claimed both.1 (same_claim p.1 q.1 both.0)
+
+  spells_once : (line word : List ℕ) (p q : WrittenPair) → SpellsPair line word p → SpellsPair line word q → p ≡ q
+  spells_once line word p q a b = spelled_once laws (IsWordPair word Equal) (word_pair_once word) line p q a b
+
+  -- ---- lines
+
+  claims_once : (line : List ℕ) (p q : WrittenPair) (g h : Bool) → SpellsThis IsClaim line (p, g) → SpellsThis IsClaim line (q, h) → claim_line p g ≡ claim_line q h
+  claims_once line p q g h a b =
+      let same = spelled_once laws IsClaim claim_once line (p, g) (q, h) a b in
+      ap₂ claim_line (ap (λ r. r.0) same) (ap (λ r. r.1) same)
+
+  form_once : (line : List ℕ) (f g : WrittenLine) → start_of f ≡ start_of g → IsLine line f → IsLine line g → f ≡ g
+  form_once line nothing nothing e a b = refl
+  form_once line heading heading e a b = refl
+  form_once line (claims p g) (claims q h) e a b = claims_once line p q g h a.1 b.1
+  form_once line (claims p g) claims_inconsistent e a b = absurd (claim_no_word line p g b a.1)
+  form_once line claims_inconsistent (claims q h) e a b = absurd (claim_no_word line q h a b.1)
+  form_once line claims_inconsistent claims_inconsistent e a b = refl
+  form_once line (uses p) (uses q) e a b = ap (λ r. uses r) (spells_once line (codes "use") p q a.1 b.1)
+  form_once line (assigns p) (assigns q) e a b = ap (λ r. assigns r) (spells_once line (codes "value") p q a.1 b.1)
+  form_once line (derives m p) (derives n q) e a b = let same = derivation_once laws (texts_of line) m n p q a b in ap₂ (λ k r. derives k r) same.0 same.1
+  form_once line ends ends e a b = refl
+  form_once line f g e a b = absurd (cc)
+
+  pub line_once : (line : List ℕ) (f g : WrittenLine) → IsLine line f → IsLine line g → f ≡ g
+  line_once line f g a b = form_once line f g (sym (form_starts line (texts_of line) f a) ∙ form_starts line (texts_of line) g b) a b

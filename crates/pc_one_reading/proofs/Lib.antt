@@ -1,0 +1,10 @@
+mod Words
+mod Entries
+mod Standing
+mod ForTheSheet
+mod Texts
+mod Parts
+mod Signs
+mod Forms
+mod Named
+mod Readings
