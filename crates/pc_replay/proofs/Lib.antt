@@ -1,7 +1,7 @@
 pub mod Deciding
 pub mod Editing
 pub mod Loading
-pub mod OneRefusal
+pub mod OneMode
 pub mod SameLines
 pub mod SheetVerdicts
 pub mod Telling

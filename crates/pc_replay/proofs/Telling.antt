@@ -1,5 +1,5 @@
 -- What a refusal for names and sorts tells.
-use Rattle.std.proofs.Common.{◌≡◌, ℕ, ◌<◌, List, [], length, Some, sym, subst, refl, arith, inl, inr}
+use Rattle.std.proofs.Common.{◌≡◌, ℕ, ◌<◌, List, [], length, sym, subst, refl, arith, inl, inr}
 use Rattle.std.proofs.lemmas.Bool.{cases_lt}
 use Rattle.pc_syntax.specs.Tree.{Asked, asks_rule, Formula}
 use Rattle.pc_sheet.specs.Sheet.{Sheet}
@@ -14,42 +14,10 @@ use Rattle.pc_run.specs.declared.refusal.Refusal.{Refusal}
 use Rattle.pc_run.specs.declared.refusal.Refusal.TheVariants.{NotUtf8, Syntax, NoBegin, WrongVersion, UnknownName, DuplicateName, WrongArity, WrongSort, NotAValue, EmptySort, Limit, NoEntry, NotYet, TooDeep}
 use Rattle.pc_run.specs.declared.machine.Reply.{Reply}
 use Rattle.pc_run.specs.declared.machine.Reply.TheVariants.{Silent, Accepted, Shown, Refused, Memory}
-use Rattle.pc_replay.specs.Judgement.{State, IsSortRefusal, HasSortFault, HasRefusal, IsAskedFault, IsNotBuilt, IsRefusalOf}
+use Rattle.pc_load.specs.Refusals.{IsSortRefusal}
+use Rattle.pc_load.proofs.Telling.{fails, of_fault}
+use Rattle.pc_replay.specs.Judgement.{State, IsAskedFault, IsNotBuilt, IsRefusalOf}
 use Rattle.pc_replay.specs.Session.{IsToldAs, MayWantMemory, Obeys}
-
--- what is refused is a fault, and no want of memory
-pub fails : (Fails : SortFault → Type 0) (e : SortFault) (refusal : Refusal) → IsSortRefusal e refusal → IsFaultOf Fails e → Fails e
-fails Fails e UnknownName tells is = subst Fails (sym tells) (subst (IsFaultOf Fails) tells is)
-fails Fails e DuplicateName tells is = subst Fails (sym tells) (subst (IsFaultOf Fails) tells is)
-fails Fails e WrongArity tells is = subst Fails (sym tells) (subst (IsFaultOf Fails) tells is)
-fails Fails e WrongSort tells is = subst Fails (sym tells) (subst (IsFaultOf Fails) tells is)
-fails Fails e NotAValue tells is = subst Fails (sym tells) (subst (IsFaultOf Fails) tells is)
-fails Fails e EmptySort tells is = subst Fails (sym tells) (subst (IsFaultOf Fails) tells is)
-fails Fails e (Limit word) tells is = subst Fails (sym tells) (subst (IsFaultOf Fails) tells is)
-fails Fails e NotUtf8 tells is = absurd tells
-fails Fails e Syntax tells is = absurd tells
-fails Fails e NoBegin tells is = absurd tells
-fails Fails e WrongVersion tells is = absurd tells
-fails Fails e NoEntry tells is = absurd tells
-fails Fails e NotYet tells is = absurd tells
-fails Fails e TooDeep tells is = absurd tells
-
--- the text has the refusal of its fault
-pub has_refusal : (text : List ℕ) (line : ℕ) (e : SortFault) (refusal : Refusal) → IsSortRefusal e refusal → HasSortFault text line e → HasRefusal text refusal (Some line)
-has_refusal text line e UnknownName tells is = (e, is, tells)
-has_refusal text line e DuplicateName tells is = (e, is, tells)
-has_refusal text line e WrongArity tells is = (e, is, tells)
-has_refusal text line e WrongSort tells is = (e, is, tells)
-has_refusal text line e NotAValue tells is = (e, is, tells)
-has_refusal text line e EmptySort tells is = (e, is, tells)
-has_refusal text line e (Limit word) tells is = (e, is, tells)
-has_refusal text line e NotUtf8 tells is = absurd tells
-has_refusal text line e Syntax tells is = absurd tells
-has_refusal text line e NoBegin tells is = absurd tells
-has_refusal text line e WrongVersion tells is = absurd tells
-has_refusal text line e NoEntry tells is = absurd tells
-has_refusal text line e NotYet tells is = absurd tells
-has_refusal text line e TooDeep tells is = absurd tells
 
 -- the command has the refusal of its fault
 is_refusal : (sheet : Sheet) (a : Asked) (e : SortFault) (refusal : Refusal) → IsSortRefusal e refusal → IsAskedFault sheet a e → IsRefusalOf sheet a refusal
@@ -77,16 +45,6 @@ refused_as old a e (Shown page) may is told = absurd told
 
 pub refused_in : (old : State) (book : Sheet) (a : Asked) (e : SortFault) (reply : Reply) → old.sheet ≡ book → MayWantMemory a → IsFaultOf (IsAskedFault book a) e → IsToldAs e reply → Obeys old a reply old
 refused_in old book a e reply same may is told = refused_as old a e reply may (subst (λ (s : Sheet). IsFaultOf (IsAskedFault s a) e) (sym same) is) told
-
-pub of_fault : (Fails : SortFault → Type 0) (e : SortFault) → Fails e → IsFaultOf Fails e
-of_fault Fails sort_fault.UnknownName is = is
-of_fault Fails sort_fault.DuplicateName is = is
-of_fault Fails sort_fault.WrongArity is = is
-of_fault Fails sort_fault.WrongSort is = is
-of_fault Fails sort_fault.NotAValue is = is
-of_fault Fails sort_fault.EmptySort is = is
-of_fault Fails (sort_fault.Limit which) is = is
-of_fault Fails sort_fault.Memory is = tt
 
 pub refused_for : (old : State) (book : Sheet) (a : Asked) (e : SortFault) (reply : Reply) → old.sheet ≡ book → MayWantMemory a → IsAskedFault book a e → IsToldAs e reply → Obeys old a reply old
 refused_for old book a e reply same may is told = refused_in old book a e reply same may (of_fault (IsAskedFault book a) e is) told

@@ -1,5 +1,5 @@
 -- That a command line has one verdict at most.
-use Rattle.std.proofs.Common.{◌≡◌, ℕ, ◌<◌, ◌⊎◌, List, [], length, Option, Some, None, refl, sym, ap, ap₂, subst, inl, inr, ◌∙◌}
+use Rattle.std.proofs.Common.{◌≡◌, ℕ, ◌<◌, List, [], length, Option, Some, None, refl, sym, ap, ap₂, subst, inl, inr, ◌∙◌}
 use Rattle.pc_syntax.specs.Fault.{Fault, not_utf8, too_deep, syntax, wrong_version}
 use Rattle.pc_syntax.specs.Tree.{Cell, Value, Formula, Asked, enter, asks_enter, asks_clear, asks_rule, asks_drop, asks_budget, asks_show, asks_grid, asks_json, asks_why, asks_dump}
 use Rattle.pc_syntax.specs.Command.{CommandReading, no_command, asks, at_fault, IsCommandReading}
@@ -16,13 +16,13 @@ use Rattle.pc_elaborate.specs.Laws.{HaveOneOutcome, TreesHaveOneOutcome}
 use Rattle.pc_elaborate.specs.Tests.{no_test, test}
 use Rattle.pc_sortcheck.specs.Declaring.{IsEntryNamed}
 use Rattle.pc_sortcheck.specs.DeclarationFaults.{IsDeclarationFault, IsRuleFault}
-use Rattle.pc_run.specs.declared.machine.Page.{Page}
 use Rattle.pc_run.specs.declared.machine.Page.TheVariants.{Display, SheetText}
 use Rattle.pc_run.specs.declared.refusal.Refusal.{Refusal}
 use Rattle.pc_run.specs.declared.refusal.Refusal.TheVariants.{NotUtf8, Syntax, NoBegin, WrongVersion, UnknownName, DuplicateName, WrongArity, WrongSort, NotAValue, EmptySort, Limit, NoEntry, NotYet, TooDeep}
-use Rattle.pc_replay.specs.Judgement.{State, Task, enters, clears, shows, HasFewTries, HasEntryOf, IsCellNamed, IsTaskOf, IsAskedFault, IsNotBuilt, LacksEntry, IsRefusalOf, IsSortRefusal, Verdict, nothing, does, refuses, IsVerdict}
+use Rattle.pc_load.specs.Refusals.{IsSortRefusal}
+use Rattle.pc_load.proofs.OneRefusal.{one_refusal, some_is}
+use Rattle.pc_replay.specs.Judgement.{State, Task, enters, clears, shows, HasFewTries, HasEntryOf, IsCellNamed, IsTaskOf, IsAskedFault, IsNotBuilt, LacksEntry, IsRefusalOf, Verdict, nothing, does, refuses, IsVerdict}
 use Rattle.pc_replay.specs.Laws.{LinesHaveOneVerdict}
-use Rattle.pc_replay.proofs.OneRefusal.{one_refusal, some_is}
 
 -- ---- cells, entries and rules
 

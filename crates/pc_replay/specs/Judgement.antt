@@ -1,12 +1,10 @@
 -- Which texts are sheets that can be tried out, why others are refused, what a command line asks in a state, and what may
 -- answer it.
-use Rattle.std.specs.Prelude.{◌≡◌, ℕ, ◌<◌, ◌≤◌, List, [], length, Any}
-use Rattle.std.specs.declared.option.Option.{Option}
-use Rattle.std.specs.declared.option.Option.TheVariants.{Some, None}
-use Rattle.pc_syntax.specs.Tree.{Declared, enter, Cell, Asked, asks_enter, asks_clear, asks_rule, asks_drop, asks_budget, asks_show, asks_grid, asks_json, asks_why, asks_dump}
-use Rattle.pc_syntax.specs.Fault.{not_utf8, too_deep, syntax, wrong_version}
+use Rattle.std.specs.Prelude.{◌≡◌, ℕ, ◌<◌, ◌≤◌, ◌⊎◌, List, [], length, Any}
+use Rattle.std.specs.declared.option.Option.TheVariants.{None}
+use Rattle.pc_syntax.specs.Tree.{enter, Cell, Asked, asks_enter, asks_clear, asks_rule, asks_drop, asks_budget, asks_show, asks_grid, asks_json, asks_why, asks_dump}
+use Rattle.pc_syntax.specs.Fault.{not_utf8, too_deep, syntax}
 use Rattle.pc_syntax.specs.Command.{IsCommandReading, no_command, asks, at_fault, TakesNoMemory}
-use Rattle.pc_syntax.specs.Sheet.{IsSheet, IsSheetReading, fault_at, no_begin}
 use Rattle.pc_sheet.specs.Sheet.{Sheet, Universe}
 use Rattle.pc_sheet.specs.MaximalSets.{AreRulesConsistent}
 use Rattle.pc_sheet.specs.Weight.{weight}
@@ -16,23 +14,22 @@ use Rattle.pc_sheet.specs.declared.ids.SortId.{SortId}
 use Rattle.pc_logic.specs.Edits.{entered, without_entry}
 use Rattle.pc_elaborate.specs.declared.fault.SortFault.{SortFault}
 use Rattle.pc_elaborate.specs.declared.fault.SortFault.TheVariants as fault
-use Rattle.pc_elaborate.specs.declared.fault.Which.{Which}
 use Rattle.pc_elaborate.specs.declared.fault.Which.TheVariants as which
 use Rattle.pc_elaborate.specs.Elaboration.{IsCell}
 use Rattle.pc_elaborate.specs.FormulaFaults.{IsCellFault, IsSortedFormula}
 use Rattle.pc_elaborate.specs.Tests.{no_test, test}
-use Rattle.pc_sortcheck.specs.Declaring.{IsSheetOf, IsEntryNamed}
-use Rattle.pc_sortcheck.specs.DeclarationFaults.{IsDeclarationFault, IsRuleFault, IsSheetFault}
+use Rattle.pc_sortcheck.specs.Declaring.{IsEntryNamed}
+use Rattle.pc_sortcheck.specs.DeclarationFaults.{IsDeclarationFault, IsRuleFault}
 use Rattle.pc_trying.specs.Size.{tries_of}
 use Rattle.pc_writer.specs.SheetText.{sheet_text}
 use Rattle.pc_display.specs.Show.{IsShown}
 use Rattle.pc_run.specs.declared.machine.Page.{Page}
 use Rattle.pc_run.specs.declared.machine.Page.TheVariants.{Display, SheetText}
 use Rattle.pc_run.specs.declared.refusal.SheetRefusal.{SheetRefusal}
-use Rattle.pc_run.specs.declared.refusal.LimitWord.{LimitWord}
-use Rattle.pc_run.specs.declared.refusal.LimitWord.TheVariants.{Sorts, Values, Number, Tables, Families, Arity, Cells, Rows, Rules, Depth, Reads, Budget}
 use Rattle.pc_run.specs.declared.refusal.Refusal.{Refusal}
-use Rattle.pc_run.specs.declared.refusal.Refusal.TheVariants.{NotUtf8, Syntax, NoBegin, WrongVersion, UnknownName, DuplicateName, WrongArity, WrongSort, NotAValue, EmptySort, Limit, NoEntry, NotYet, TooDeep}
+use Rattle.pc_run.specs.declared.refusal.Refusal.TheVariants.{NotUtf8, Syntax, NoEntry, NotYet, TooDeep}
+use Rattle.pc_load.specs.Refusals.{IsRefusalFor}
+use Rattle.pc_load.specs.Outcome.{ReadsAs, HasFault}
 use Rattle.pc_run.specs.Answer.{Answer, silent, accepted, shown, refused, no_memory}
 
 -- a sheet, and the most propagations of an edit
@@ -57,77 +54,27 @@ pub record CanBeTried (sheet : Sheet) : Type 0 where
   pub few : HasFewTries sheet
   pub consistent : AreRulesConsistent sheet
 
--- ---- refusals for names and sorts
-
--- what the word says that a limit is put on
-abbrev pub which_of : LimitWord → Which
-which_of Sorts = which.Sorts
-which_of Values = which.Values
-which_of Number = which.Number
-which_of Tables = which.Tables
-which_of Families = which.Families
-which_of Arity = which.Arity
-which_of Cells = which.Cells
-which_of Rows = which.Rows
-which_of Rules = which.Rules
-which_of Depth = which.Depth
-which_of Reads = which.Reads
-which_of Budget = which.Budget
-
--- the refusal tells this fault of names or sorts
-abbrev pub IsSortRefusal : SortFault → Refusal → Type 0
-IsSortRefusal e UnknownName = e ≡ fault.UnknownName
-IsSortRefusal e DuplicateName = e ≡ fault.DuplicateName
-IsSortRefusal e WrongArity = e ≡ fault.WrongArity
-IsSortRefusal e WrongSort = e ≡ fault.WrongSort
-IsSortRefusal e NotAValue = e ≡ fault.NotAValue
-IsSortRefusal e EmptySort = e ≡ fault.EmptySort
-IsSortRefusal e (Limit word) = e ≡ fault.Limit (which_of word)
-IsSortRefusal e refusal = ⊥
-
--- the refusal tells the first of these faults
-abbrev pub IsRefusalFor : (SortFault → Type 0) → Refusal → Type 0
-IsRefusalFor Fails refusal = (e : SortFault) × Fails e × IsSortRefusal e refusal
-
 -- ---- sheets
-
--- the text is a sheet
-pub record IsSheetText (text : List ℕ) (sheet : Sheet) : Type 0 where
-  pub declared : List (ℕ × Declared)
-  pub is : IsSheet text declared
-  pub gives : IsSheetOf declared sheet
 
 -- the text is a sheet that can be tried out, and a run starts from it
 pub record Starts (text : List ℕ) (state : State) : Type 0 where
-  pub reads : IsSheetText text state.sheet
+  pub reads : ReadsAs text state.sheet
   pub can : CanBeTried state.sheet
   pub budget : state.budget ≡ default_budget
 
 -- the text is a sheet that can't be tried out
 pub record IsOtherSheet (text : List ℕ) : Type 0 where
   pub sheet : Sheet
-  pub reads : IsSheetText text sheet
+  pub reads : ReadsAs text sheet
   pub cannot : ¬ CanBeTried sheet
 
--- the text passes all tests of a text, and the declaration of that line is the first with a fault of names or sorts
-pub record HasSortFault (text : List ℕ) (line : ℕ) (e : SortFault) : Type 0 where
-  pub declared : List (ℕ × Declared)
-  pub is : IsSheet text declared
-  pub fails : IsSheetFault declared line e
+-- how a sheet is refused that is read and can't be tried out
+abbrev pub other_refusal : SheetRefusal
+other_refusal = record { refusal = NotYet; line = None }
 
--- the text has this refusal, for the line if one is given
-abbrev pub HasRefusal : List ℕ → Refusal → Option ℕ → Type 0
-HasRefusal text NotUtf8 (Some line) = IsSheetReading text (fault_at line not_utf8)
-HasRefusal text Syntax (Some line) = IsSheetReading text (fault_at line syntax)
-HasRefusal text WrongVersion (Some line) = IsSheetReading text (fault_at line wrong_version)
-HasRefusal text TooDeep (Some line) = IsSheetReading text (fault_at line too_deep)
-HasRefusal text refusal (Some line) = IsRefusalFor (HasSortFault text line) refusal
-HasRefusal text NoBegin None = IsSheetReading text no_begin
-HasRefusal text NotYet None = IsOtherSheet text
-HasRefusal text refusal None = ⊥
-
+-- the text is refused so: for its first fault, or as a sheet that can't be tried out
 abbrev pub RefusesText : List ℕ → SheetRefusal → Type 0
-RefusesText text why = HasRefusal text why.refusal why.line
+RefusesText text why = HasFault text why ⊎ ((why ≡ other_refusal) × IsOtherSheet text)
 
 -- what a sheet's text is judged
 pub data SheetVerdict : Type 0 where

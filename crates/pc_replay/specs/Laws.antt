@@ -1,7 +1,8 @@
--- Laws over the judgement: it leaves no choice.
+-- Laws over the words and the judgement: they leave no choice.
 use Rattle.std.specs.Prelude.{◌≡◌, ℕ, List}
 use Rattle.pc_sheet.specs.WellFormed.{IsWellFormed}
 use Rattle.pc_replay.specs.Judgement.{State, Verdict, IsVerdict, SheetVerdict, IsSheetVerdict}
+use Rattle.pc_replay.specs.Words.{Mode, Asks}
 
 -- in a well-formed state a command line has one verdict at most
 abbrev pub LinesHaveOneVerdict : Type 0
@@ -10,3 +11,7 @@ LinesHaveOneVerdict = (state : State) → IsWellFormed state.sheet → (line : L
 -- a sheet's text has one verdict at most
 abbrev pub TextsHaveOneVerdict : Type 0
 TextsHaveOneVerdict = (text : List ℕ) (x y : SheetVerdict) → IsSheetVerdict text x → IsSheetVerdict text y → x ≡ y
+
+-- words ask for one thing at most
+abbrev pub WordsAskForOneMode : Type 0
+WordsAskForOneMode = (words : List (List ℕ)) (x y : Mode) → Asks words x → Asks words y → x ≡ y

@@ -1,9 +1,7 @@
 -- What a session does at a line.
-use Rattle.std.specs.Prelude.{◌≡◌, ℕ, List}
+use Rattle.std.specs.Prelude.{◌≡◌, List, ℕ}
 use Rattle.std.specs.declared.option.Option.{Option}
 use Rattle.std.specs.declared.option.Option.TheVariants.{Some, None}
-use Rattle.pc_syntax.specs.declared.tree.SheetFault.{SheetFault}
-use Rattle.pc_syntax.specs.declared.tree.SheetFault.TheVariants as sheet_fault
 use Rattle.pc_syntax.specs.declared.tree.CommandFault.{CommandFault}
 use Rattle.pc_syntax.specs.declared.tree.CommandFault.TheVariants as command_fault
 use Rattle.pc_syntax.specs.Tree.{Asked, asks_enter, asks_clear, asks_rule, asks_why}
@@ -13,11 +11,10 @@ use Rattle.pc_elaborate.specs.declared.fault.SortFault.TheVariants as sort_fault
 use Rattle.pc_run.specs.declared.machine.Reply.{Reply}
 use Rattle.pc_run.specs.declared.machine.Reply.TheVariants.{Silent, Accepted, Shown, Refused, Memory}
 use Rattle.pc_run.specs.declared.machine.LoadFault.{LoadFault}
-use Rattle.pc_run.specs.declared.machine.LoadFault.TheVariants as load_fault
-use Rattle.pc_run.specs.declared.refusal.Refusal.{Refusal}
-use Rattle.pc_run.specs.declared.refusal.Refusal.TheVariants.{NotUtf8, Syntax, NoBegin, WrongVersion, NotYet, TooDeep}
+use Rattle.pc_run.specs.declared.refusal.Refusal.TheVariants.{NotUtf8, Syntax, TooDeep}
 use Rattle.pc_run.specs.Answer.{RefusesBy}
-use Rattle.pc_replay.specs.Judgement.{State, default_budget, CanBeTried, IsSortRefusal, Starts, RefusesText, Task, shows, IsTaskOf, IsRefusalOf, IsEdit}
+use Rattle.pc_load.specs.Refusals.{IsSortRefusal}
+use Rattle.pc_replay.specs.Judgement.{State, default_budget, CanBeTried, Starts, RefusesText, Task, shows, IsTaskOf, IsRefusalOf, IsEdit}
 
 -- ---- loading
 
@@ -28,28 +25,6 @@ start_of sheet = record { sheet = sheet; budget = default_budget }
 -- no state is made of the text: for a refusal that it has, or for want of memory
 abbrev pub IsNotLoaded : List ℕ → LoadFault → Type 0
 IsNotLoaded text fault = RefusesBy (λ why. RefusesText text why × ((state : State) → ¬ Starts text state)) fault
-
--- the text is refused so, for the line if one is given
-abbrev pub refused_for : Refusal → Option ℕ → LoadFault
-refused_for refusal line = load_fault.Refused (record { refusal = refusal; line = line })
-
--- how the fault of a text is told
-abbrev pub load_fault_of : SheetFault → LoadFault
-load_fault_of (sheet_fault.NotUtf8 line) = refused_for NotUtf8 (Some line)
-load_fault_of (sheet_fault.Syntax line) = refused_for Syntax (Some line)
-load_fault_of sheet_fault.NoBegin = refused_for NoBegin None
-load_fault_of (sheet_fault.WrongVersion line) = refused_for WrongVersion (Some line)
-load_fault_of (sheet_fault.TooDeep line) = refused_for TooDeep (Some line)
-load_fault_of sheet_fault.Memory = load_fault.Memory
-
--- the line's fault of names or sorts is told so
-abbrev pub IsSortFaultTold : ℕ → SortFault → LoadFault → Type 0
-IsSortFaultTold line e (load_fault.Refused why) = IsSortRefusal e why.refusal × (why.line ≡ Some line)
-IsSortFaultTold line e load_fault.Memory = e ≡ sort_fault.Memory
-
--- how a sheet is refused that is read and can't be tried out
-abbrev pub other_sheet : LoadFault
-other_sheet = refused_for NotYet None
 
 -- the session that starts from the sheet, or none where it can't start
 abbrev pub OpensAs : Sheet → Option State → Type 0

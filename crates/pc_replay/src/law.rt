@@ -4,9 +4,10 @@ ghost use Rattle.pc_lines.specs.Lines as run;
 ghost use Rattle.pc_syntax.specs.Sheet as sheet;
 ghost use Rattle.pc_syntax.specs.Line.{IsLine, begins};
 ghost use Rattle.pc_run.specs.SheetPart.{IsBegin};
-ghost use Rattle.pc_replay.specs.Laws.{LinesHaveOneVerdict, TextsHaveOneVerdict};
+ghost use Rattle.pc_replay.specs.Laws.{LinesHaveOneVerdict, TextsHaveOneVerdict, WordsAskForOneMode};
 
 use pc_elaborate::trees_have_one_outcome;
+use pc_load::texts_have_one_outcome;
 use pc_syntax::one_reading;
 
 /// The texts of the lines that a run takes are the lines of a sheet's text, and the line that ends the sheet's part of
@@ -28,6 +29,11 @@ pub fn lines_have_one_verdict()
 pub fn texts_have_one_verdict()
     ensures { TextsHaveOneVerdict }
 {
-    one_reading();
-    trees_have_one_outcome();
+    texts_have_one_outcome();
 }
+
+/// Words ask to run a sheet and its commands, or to check a certificate for one file, or they don't fit: two of these never
+/// hold together.
+pub fn words_ask_for_one_mode()
+    ensures { WordsAskForOneMode }
+{}

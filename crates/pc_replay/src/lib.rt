@@ -1,7 +1,8 @@
-//! The run of the program: a sheet and its commands, from bytes to bytes.
+//! The run of the program: from its words, its input and its files to what it prints and its status.
 //!
-//! A [`Session`] is what answers the command lines: it tries every assignment and every sublist of the entries, so its
-//! sheets have few of them. How lines are taken and answers written is `pc_run`.
+//! With `replay` it is a sheet and its commands. A [`Session`] is what answers the command lines: it tries every assignment
+//! and every sublist of the entries, so its sheets have few of them. How lines are taken and answers written is `pc_run`.
+//! With `check FILE` it is `pc_judge`.
 #![tactic(auto)]
 
 mod law;
@@ -13,8 +14,11 @@ mod session;
 #[cfg(test)]
 mod tests;
 mod trying;
+mod words;
 
-pub use law::{lines_are_the_same, lines_have_one_verdict, texts_have_one_verdict};
+pub use law::{
+    lines_are_the_same, lines_have_one_verdict, texts_have_one_verdict, words_ask_for_one_mode,
+};
 pub use pc_run::Status;
 pub use replay::run;
 pub use session::Session;

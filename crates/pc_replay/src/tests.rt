@@ -1,6 +1,7 @@
 // Worked sheets from their bytes to the printed text, with ample memory.
 use crate::{Status, run};
-use pc_port::{MemorySink, MemorySource};
+use pc_port::{MemoryShelf, MemorySink, MemorySource};
+use pc_run::SHEET_LIMIT;
 use std::alloc::{AllocError, Global};
 use std::test::Fail;
 
@@ -16,16 +17,28 @@ const PAIRS: &str =
 const BOTH: &str =
     "sheet 1\nsort color = red green\ncell a : color\ncell b : color\ncell c : color\nrule both : a = red & b = red -> c = red\nbegin\n";
 
-fn replay_word(alloc: Global) -> Result<Vec<String>, AllocError> {
+// The words, parted by spaces.
+fn parted(alloc: Global, text: &str) -> Result<Vec<String>, AllocError> {
     let mut words = Vec::new(alloc);
-    words.push("replay".to_string(alloc)?)?;
+    for word in text.split(' ') {
+        words.push(word.to_string(alloc)?)?;
+    }
     Ok(words)
+}
+
+// A run of the word `replay` over the bytes, which come in parts: its status, and what it prints.
+fn replay(alloc: Global, bytes: &[u8]) -> Result<(Status, Vec<u8>), AllocError> {
+    let words = parted(alloc, "replay")?;
+    let mut input = MemorySource::new(bytes.to_vec(alloc)?, 100, Vec::new(alloc));
+    let mut shelf = MemoryShelf::new(Vec::new(alloc), Vec::new(alloc));
+    let mut out = MemorySink::new(alloc, 4096, Vec::new(alloc))?;
+    let status = run(alloc, &words, &mut input, &mut shelf, &mut out);
+    Ok((status, out.bytes().to_vec(alloc)?))
 }
 
 #[test]
 fn worked_sheets(rt: HostRuntime) -> Result<(), Fail> {
     let alloc = rt.alloc();
-    let words = replay_word(alloc)?;
     for (sheet, commands, want, status) in [
         ("sheet 1\nbegin\n", "show\n", "", Status::Done),
         (
@@ -104,25 +117,11 @@ fn worked_sheets(rt: HostRuntime) -> Result<(), Fail> {
     ] {
         let mut bytes = sheet.as_bytes().to_vec(alloc)?;
         bytes.extend_from_slice(commands.as_bytes())?;
-        let mut input = MemorySource::new(bytes, 100, Vec::new(alloc));
-        let mut out = MemorySink::new(alloc, 4096, Vec::new(alloc))?;
-        assert_eq!(rt;
-            run(alloc, &words, &mut input, &mut out),
-            status,
-            "{sheet}{commands}"
-        );
-        assert_eq!(rt; out.bytes(), want.as_bytes(), "{sheet}{commands}");
+        let (ended, text) = replay(alloc, &bytes)?;
+        assert_eq!(rt; ended, status, "{sheet}{commands}");
+        assert_eq!(rt; text.as_slice(), want.as_bytes(), "{sheet}{commands}");
     }
     Ok(())
-}
-
-// A run over the bytes, which come in parts: its status, and what it prints.
-fn replay(alloc: Global, bytes: &[u8]) -> Result<(Status, Vec<u8>), AllocError> {
-    let words = replay_word(alloc)?;
-    let mut input = MemorySource::new(bytes.to_vec(alloc)?, 100, Vec::new(alloc));
-    let mut out = MemorySink::new(alloc, 4096, Vec::new(alloc))?;
-    let status = run(alloc, &words, &mut input, &mut out);
-    Ok((status, out.bytes().to_vec(alloc)?))
 }
 
 #[test]
@@ -192,7 +191,6 @@ fn cut_sheets(rt: HostRuntime) -> Result<(), Fail> {
 #[test]
 fn the_largest_sheet_to_try(rt: HostRuntime) -> Result<(), Fail> {
     let alloc = rt.alloc();
-    let words = replay_word(alloc)?;
     for (cells, status) in [(12, Status::SomeRefused), (13, Status::SheetRefused)] {
         let mut bytes = b"sheet 1\nsort t = y n\n".to_vec(alloc)?;
         let mut want = Vec::new(alloc);
@@ -206,10 +204,9 @@ fn the_largest_sheet_to_try(rt: HostRuntime) -> Result<(), Fail> {
         } else {
             want = b"sheet refused 20 not-yet\n".to_vec(alloc)?;
         }
-        let mut input = MemorySource::new(bytes, 4096, Vec::new(alloc));
-        let mut out = MemorySink::new(alloc, 4096, Vec::new(alloc))?;
-        assert_eq!(rt; run(alloc, &words, &mut input, &mut out), status);
-        assert_eq!(rt; out.bytes(), want.as_slice());
+        let (ended, text) = replay(alloc, &bytes)?;
+        assert_eq!(rt; ended, status);
+        assert_eq!(rt; text.as_slice(), want.as_slice());
     }
     Ok(())
 }
@@ -272,6 +269,10 @@ const COLORS: &str = "sheet 1\nsort color = red green\n";
 
 const CELLS: &str =
     "cell a : color\ncell b : color\ncell c : color\nrule ab : a = b\nrule bc : b = c\nbegin\n";
+
+// The second part with an entry.
+const ENTERED: &str =
+    "cell a : color\ncell b : color\ncell c : color\nrule ab : a = b\nrule bc : b = c\nenter a = red\nbegin\n";
 
 // A line behind the second of three equal cells is the first at fault; a cell declared twice is so at its second line.
 #[test]
@@ -355,6 +356,208 @@ fn commands_with_faults_of_sorts(rt: HostRuntime) -> Result<(), Fail> {
         let (status, text) = replay(alloc, sheet.as_bytes())?;
         assert_eq!(rt; status, Status::SomeRefused, "{command}");
         assert_eq!(rt; text.as_slice(), want.as_bytes(), "{command}");
+    }
+    Ok(())
+}
+
+// A run of the words over a shelf of one file, `k.sheet`, and an input: its status, and what it prints.
+fn run_with(
+    alloc: Global,
+    words: &str,
+    sheet: &[u8],
+    input: &[u8],
+) -> Result<(Status, Vec<u8>), AllocError> {
+    let words = parted(alloc, words)?;
+    let mut files = Vec::new(alloc);
+    files.push(("k.sheet".to_string(alloc)?, sheet.to_vec(alloc)?))?;
+    let mut shelf = MemoryShelf::new(files, Vec::new(alloc));
+    let mut input = MemorySource::new(input.to_vec(alloc)?, 100, Vec::new(alloc));
+    let mut out = MemorySink::new(alloc, 4096, Vec::new(alloc))?;
+    let status = run(alloc, &words, &mut input, &mut shelf, &mut out);
+    Ok((status, out.bytes().to_vec(alloc)?))
+}
+
+// Certificates that an entry implies its neighbour's value, with one line that varies.
+#[test]
+fn certificates(rt: HostRuntime) -> Result<(), Fail> {
+    let alloc = rt.alloc();
+    let sheet = format!(in alloc; "{COLORS}{ENTERED}")?;
+    let step = "4 step ~a=red b=red : 3 1 2\n";
+    for (used, value, last, want, status) in [
+        ("a = red", "red", step, "accepted\n", Status::Done),
+        (
+            "a = red",
+            "green",
+            step,
+            "refused rule-broken bc\n",
+            Status::CertRefused,
+        ),
+        (
+            "c = red",
+            "red",
+            step,
+            "refused use-not-entered line 3\n",
+            Status::CertRefused,
+        ),
+        (
+            "d = red",
+            "red",
+            step,
+            "refused unknown-name line 3\n",
+            Status::CertRefused,
+        ),
+        (
+            "a = red",
+            "red",
+            "4 step ~a=red b=red : 2 1 3\n",
+            "refused bad-step line 10\n",
+            Status::CertRefused,
+        ),
+        (
+            "a = red",
+            "red",
+            "4 step ~a=red b=red : 3 1 99\n",
+            "refused bad-step line 10\n",
+            Status::CertRefused,
+        ),
+        (
+            "a = red",
+            "red",
+            "4 step ~a=red b=red : 4\n",
+            "refused bad-step line 10\n",
+            Status::CertRefused,
+        ),
+        (
+            "a = red",
+            "red",
+            "4 stop\n",
+            "refused syntax line 10\n",
+            Status::CertRefused,
+        ),
+        (
+            "a = red",
+            "red",
+            "",
+            "refused wrong-end\n",
+            Status::CertRefused,
+        ),
+    ] {
+        let certificate = format!(in alloc;
+            "certificate 1\nclaim b = red\nuse {used}\nvalue a = red\nvalue b = red\nvalue c = {value}\n1 rule ab\n2 atom @ab a=red b=green\n3 some b\n{last}end\n"
+        )?;
+        let (ended, text) = run_with(
+            alloc,
+            "check k.sheet",
+            sheet.as_bytes(),
+            certificate.as_bytes(),
+        )?;
+        assert_eq!(rt; ended, status, "{want}");
+        assert_eq!(rt; text.as_slice(), want.as_bytes(), "{want}");
+    }
+    Ok(())
+}
+
+// A certificate that is cut anywhere before its last letter has a fault of text.
+#[test]
+fn cut_certificates(rt: HostRuntime) -> Result<(), Fail> {
+    let alloc = rt.alloc();
+    let sheet = format!(in alloc; "{COLORS}{ENTERED}")?;
+    let certificate =
+        b"certificate 1\nclaim b = red\nuse a = red\nvalue a = red\nvalue b = red\nvalue c = red\n1 rule ab\n2 atom @ab a=red b=green\n3 some b\n4 step ~a=red b=red : 3 1 2\nen";
+    for end in 0..certificate.len() {
+        let (ended, text) = run_with(
+            alloc,
+            "check k.sheet",
+            sheet.as_bytes(),
+            &certificate[..end],
+        )?;
+        assert_eq!(rt; ended, Status::CertRefused, "{end}");
+        let told = text.as_slice();
+        assert!(rt;
+            told.starts_with(b"refused syntax line ")
+                || told.starts_with(b"refused unknown-name line "),
+            "{end}"
+        );
+    }
+    Ok(())
+}
+
+// Rules that contradict each other have a certificate, though their sheet can't be tried out.
+#[test]
+fn a_refutation(rt: HostRuntime) -> Result<(), Fail> {
+    let alloc = rt.alloc();
+    let sheet = format!(in alloc;
+        "{COLORS}cell a : color\ncell b : color\ncell c : color\nrule ab : a = b\nrule bc : b = c\nrule bad : a != c\nbegin\n"
+    )?;
+    let certificate =
+        "certificate 1\nclaim inconsistent\n1 rule ab\n2 rule bc\n3 rule bad\n4 atom @ab a=red b=green\n5 atom @bc b=red c=green\n6 atom @bad a=red c=red\n7 some b\n8 some c\n9 step ~a=red : 1 4 7 2 5 8 3 6\n10 atom @ab a=green b=red\n11 atom @bc b=green c=red\n12 atom @bad a=green c=green\n13 some a\n14 step : 9 13 1 10 7 2 11 8 3 12\nend\n";
+    let (status, text) = run_with(
+        alloc,
+        "check k.sheet",
+        sheet.as_bytes(),
+        certificate.as_bytes(),
+    )?;
+    assert_eq!(rt; status, Status::Done);
+    assert_eq!(rt; text.as_slice(), b"accepted\n".as_slice());
+    Ok(())
+}
+
+// What ends a check before its certificate, and words that don't fit.
+#[test]
+fn words_and_files(rt: HostRuntime) -> Result<(), Fail> {
+    let alloc = rt.alloc();
+    let usage = "usage: predicalc replay / edit FILE / check FILE / demo N [--budget K]\n";
+    for (words, sheet, want, status) in [
+        ("check other", EQUAL.as_bytes(), "", Status::ReadFault),
+        (
+            "check k.sheet",
+            b"sheet 1\nsort color = red ..\nbegin\n".as_slice(),
+            "sheet refused 2 syntax line 2\n",
+            Status::SheetRefused,
+        ),
+        (
+            "check k.sheet",
+            b"sheet 1\ncell a : color\nbegin\n",
+            "sheet refused 5 unknown-name line 2\n",
+            Status::SheetRefused,
+        ),
+        (
+            "check k.sheet",
+            EQUAL.as_bytes(),
+            "refused syntax line 1\n",
+            Status::CertRefused,
+        ),
+        ("check", b"", usage, Status::Usage),
+        ("check ", b"", usage, Status::Usage),
+        ("check -k", b"", usage, Status::Usage),
+        ("check k.sheet x", b"", usage, Status::Usage),
+        ("relay", b"", usage, Status::Usage),
+        ("replay x", b"", usage, Status::Usage),
+        ("", b"", usage, Status::Usage),
+    ] {
+        let (ended, text) = run_with(alloc, words, sheet, b"begin\nshow\n")?;
+        assert_eq!(rt; ended, status, "{words} {want}");
+        assert_eq!(rt; text.as_slice(), want.as_bytes(), "{words} {want}");
+    }
+    Ok(())
+}
+
+// A comment of the size that a sheet may have, and of one byte more.
+#[test]
+fn large_files(rt: HostRuntime) -> Result<(), Fail> {
+    let alloc = rt.alloc();
+    for (size, want, status) in [
+        (
+            SHEET_LIMIT,
+            "sheet refused 3 no-begin\n",
+            Status::SheetRefused,
+        ),
+        (SHEET_LIMIT + 1, "refused 19 too-long\n", Status::TooLong),
+    ] {
+        let sheet = vec![in alloc; b';'; size]?;
+        let (ended, text) = run_with(alloc, "check k.sheet", &sheet, b"")?;
+        assert_eq!(rt; ended, status, "{size}");
+        assert_eq!(rt; text.as_slice(), want.as_bytes(), "{size}");
     }
     Ok(())
 }

@@ -1,10 +1,9 @@
 -- How a run ends before its command lines, and how it goes on with them.
-use Rattle.std.proofs.Common.{◌≡◌, ℕ, List, [], ◌≤◌, ◌++◌, length, refl, sym, subst, inl, inr, Option, Some, None, String, ap}
-use Rattle.std.specs.declared.alloc.Global.{Global}
+use Rattle.std.proofs.Common.{◌≡◌, ℕ, List, [], ◌≤◌, ◌++◌, length, refl, sym, subst, inl, inr, Option, Some, None, ap}
 use Rattle.std.specs.Io.KnownBytes.{Appends, prepend_known}
 use Rattle.std.proofs.KnownBytes.{Appends-nil}
 use Rattle.pc_run.specs.declared.status.Status.{Status}
-use Rattle.pc_run.specs.declared.status.Status.TheVariants.{Done, SomeRefused, Usage, SheetRefused, ReadFault, WriteFault, Memory, TooLong}
+use Rattle.pc_run.specs.declared.status.Status.TheVariants.{Done, SomeRefused, Usage, SheetRefused, ReadFault, WriteFault, Memory, TooLong, CertRefused}
 use Rattle.pc_port.specs.Port.{AppendsFront}
 use Rattle.pc_lines.specs.declared.TheConstants.{CHUNK}
 use Rattle.pc_run.specs.declared.refusal.SheetRefusal.{SheetRefusal}
@@ -12,7 +11,7 @@ use Rattle.pc_run.specs.Refusals.{sheet_refusal_text}
 use Rattle.pc_run.specs.Answer.{Answer, Printing, printed}
 use Rattle.pc_run.specs.Transcript.{too_long_text}
 use Rattle.pc_run.specs.SheetPart.{TakesSheet, StopsInSheet, PassesSheetLimit, HasTaken}
-use Rattle.pc_run.specs.Run.{AreReplay, Answers, AnswersBy, IsWritten, LacksRoom, LacksMemoryForSheet, RefusesSheet, HasLongSheet, TellsUsage, IsCut, at_memory, at_sheet_memory, at_sheet, at_long_sheet, at_limit, at_answer, Replays, Replayed, Runs, Tells, AppendsPart, usage_text, memory_text, sheet_memory_text}
+use Rattle.pc_run.specs.Run.{Answers, AnswersBy, IsWritten, LacksRoom, LacksMemoryForSheet, RefusesSheet, HasLongSheet, IsCut, at_memory, at_sheet_memory, at_sheet, at_long_sheet, at_limit, at_answer, Replays, Replayed, Tells, AppendsPart, memory_text, sheet_memory_text}
 use Rattle.pc_run.proofs.Ends.{read_ahead}
 use Rattle.pc_run.proofs.SheetLines.{has_taken}
 
@@ -78,6 +77,7 @@ answered IsSheet Refuses Allows start WriteFault sheet text source rest source' 
     ]
 answered IsSheet Refuses Allows start Usage sheet text source rest source' is takes by = absurd by
 answered IsSheet Refuses Allows start SheetRefused sheet text source rest source' is takes by = absurd by
+answered IsSheet Refuses Allows start CertRefused sheet text source rest source' is takes by = absurd by
 
 pub opens : {S : Type 0} (IsSheet : List ℕ → S → Type 0) (Refuses : List ℕ → SheetRefusal → Type 0) (Allows : S → List ℕ → Answer → S → Type 0) (start : S) (status : Status) (sheet : List ℕ) (source rest source' sink sink' : Option (List ℕ))
     → IsSheet sheet start → TakesSheet sheet source rest → Answers Allows start status rest source' sink sink' → Replayed IsSheet Refuses Allows status source source' sink sink'
@@ -86,21 +86,6 @@ opens IsSheet Refuses Allows start status sheet source rest source' sink sink' i
   course = answered IsSheet Refuses Allows start status sheet answers.text source rest source' is takes answers.course;
   written = answers.written;
 }
-
--- ---- the words
-
-pub declines : {S : Type 0} (IsSheet : List ℕ → S → Type 0) (Refuses : List ℕ → SheetRefusal → Type 0) (Allows : S → List ℕ → Answer → S → Type 0) (words : List (String Global)) (result : Status) (source sink sink' : Option (List ℕ))
-    → ¬ AreReplay words → Tells Usage usage_text result sink sink' → Runs IsSheet Refuses Allows words result source source sink sink'
-declines IsSheet Refuses Allows words result source sink sink' other tells =
-    let usage : TellsUsage (printed [] usage_text) source source = record { unread = refl; text_is = refl } in
-    elim tells [
-      | inl w ↦ subst (λ (s : Status). Runs IsSheet Refuses Allows words s source source sink sink') (sym w.0) record { text = printed [] usage_text; course = inr (other, usage); written = w.1 }
-      | inr w ↦ subst (λ (s : Status). Runs IsSheet Refuses Allows words s source source sink sink') (sym w.0) record { text = printed [] usage_text; course = inr (other, usage); written = cut_short w.1 }
-    ]
-
-pub replays : {S : Type 0} (IsSheet : List ℕ → S → Type 0) (Refuses : List ℕ → SheetRefusal → Type 0) (Allows : S → List ℕ → Answer → S → Type 0) (words : List (String Global)) (status : Status) (source source' sink sink' : Option (List ℕ))
-    → AreReplay words → Replayed IsSheet Refuses Allows status source source' sink sink' → Runs IsSheet Refuses Allows words status source source' sink sink'
-replays IsSheet Refuses Allows words status source source' sink sink' fit replayed = record { text = replayed.text; course = inl (fit, replayed.course); written = replayed.written }
 
 -- a reader that holds nothing adds nothing to what its source has left
 pub holds_nothing : (held : List ℕ) (left : Option (List ℕ)) → held ≡ [] → prepend_known held left ≡ left

@@ -1,23 +1,15 @@
 -- What a run says by its status: what was to be printed, and how much of it was.
-use Rattle.std.specs.Prelude.{◌≡◌, ℕ, ◌⊎◌, List, [], ◌∷◌, ◌++◌, codes, String, string_bytes, map, take}
-use Rattle.std.specs.declared.alloc.Global.{Global}
+use Rattle.std.specs.Prelude.{◌≡◌, ℕ, ◌⊎◌, List, [], ◌++◌, codes, take}
 use Rattle.std.specs.declared.option.Option.{Option}
 use Rattle.std.specs.Io.KnownBytes.{Appends}
 use Rattle.pc_port.specs.Port.{AppendsFront}
 use Rattle.pc_run.specs.declared.status.Status.{Status}
-use Rattle.pc_run.specs.declared.status.Status.TheVariants.{Done, SomeRefused, Usage, SheetRefused, ReadFault, WriteFault, Memory, TooLong}
+use Rattle.pc_run.specs.declared.status.Status.TheVariants.{Done, SomeRefused, Usage, SheetRefused, ReadFault, WriteFault, Memory, TooLong, CertRefused}
 use Rattle.pc_run.specs.declared.refusal.SheetRefusal.{SheetRefusal}
 use Rattle.pc_run.specs.Refusals.{sheet_refusal_text}
 use Rattle.pc_run.specs.Answer.{Answer, Printing, printed, ended}
 use Rattle.pc_run.specs.Transcript.{AnswersAll, AnswersTaken, StopsAtLimit, AnswersSome, too_long_text}
 use Rattle.pc_run.specs.SheetPart.{IsReadAhead, TakesSheet, StopsInSheet, PassesSheetLimit, HasTaken}
-
--- the one word `replay`
-abbrev pub AreReplay : List (String Global) → Type 0
-AreReplay words = map string_bytes words ≡ codes "replay" ∷ []
-
-abbrev pub usage_text : List ℕ
-usage_text = ended (codes "usage: predicalc replay / edit FILE / check FILE / demo N [--budget K]")
 
 abbrev pub memory_text : List ℕ
 memory_text = ended (codes "refused 15 memory")
@@ -65,11 +57,6 @@ pub record FailsInSheet (text : Printing) (source source' : Option (List ℕ)) :
   pub stops : StopsInSheet source source'
   pub text_is : text ≡ printed [] []
 
--- the words don't fit: the input is left as it was
-pub record TellsUsage (text : Printing) (source source' : Option (List ℕ)) : Type 0 where
-  pub unread : source' ≡ source
-  pub text_is : text ≡ printed [] usage_text
-
 -- what was to be printed where a write failed
 pub data IsCut {S : Type 0} (IsSheet : List ℕ → S → Type 0) (Refuses : List ℕ → SheetRefusal → Type 0) (Allows : S → List ℕ → Answer → S → Type 0) (text : Printing) (source source' : Option (List ℕ)) : Type 0 where
   at_memory : LacksRoom text source source' → IsCut IsSheet Refuses Allows text source source'
@@ -79,7 +66,7 @@ pub data IsCut {S : Type 0} (IsSheet : List ℕ → S → Type 0) (Refuses : Lis
   at_limit : Opens IsSheet (λ start rest. StopsAtLimit Allows start text rest source') source → IsCut IsSheet Refuses Allows text source source'
   at_answer : Opens IsSheet (λ start rest. AnswersSome Allows start text rest source') source → IsCut IsSheet Refuses Allows text source source'
 
--- With the word `replay`: what was taken from the input at this status, and the text that was to be printed.
+-- What was taken from the input at this status, and the text that was to be printed.
 abbrev pub Replays : {S : Type 0} → (List ℕ → S → Type 0) → (List ℕ → SheetRefusal → Type 0) → (S → List ℕ → Answer → S → Type 0) → Status → Printing → Option (List ℕ) → Option (List ℕ) → Type 0
 Replays IsSheet Refuses Allows Done text source source' = Opens IsSheet (λ start rest. AnswersAll Allows start Done text rest source') source
 Replays IsSheet Refuses Allows SomeRefused text source source' = Opens IsSheet (λ start rest. AnswersAll Allows start SomeRefused text rest source') source
@@ -90,12 +77,7 @@ Replays IsSheet Refuses Allows WriteFault text source source' = IsCut IsSheet Re
 Replays IsSheet Refuses Allows Memory text source source' =
     LacksRoom text source source' ⊎ LacksMemoryForSheet text source source' ⊎ Opens IsSheet (λ start rest. AnswersAll Allows start Memory text rest source') source
 Replays IsSheet Refuses Allows TooLong text source source' = HasLongSheet text source source' ⊎ Opens IsSheet (λ start rest. StopsAtLimit Allows start text rest source') source
-
--- With other words the usage line alone is printed.
-abbrev pub Declines : Status → Printing → Option (List ℕ) → Option (List ℕ) → Type 0
-Declines Usage text source source' = TellsUsage text source source'
-Declines WriteFault text source source' = TellsUsage text source source'
-Declines status text source source' = ⊥
+Replays IsSheet Refuses Allows CertRefused text source source' = ⊥
 
 -- the text was written but for the last piece, of which a front was
 pub record AppendsPart (sink sink' : Option (List ℕ)) (text : Printing) : Type 0 where
@@ -107,16 +89,10 @@ abbrev pub IsWritten : Status → Option (List ℕ) → Option (List ℕ) → Pr
 IsWritten WriteFault sink sink' text = AppendsPart sink sink' text
 IsWritten status sink sink' text = Appends sink sink' (text.before ++ text.last)
 
--- what was to be printed with the word `replay`, and how much of it was
+-- what was to be printed for the sheet and its commands, and how much of it was
 pub record Replayed {S : Type 0} (IsSheet : List ℕ → S → Type 0) (Refuses : List ℕ → SheetRefusal → Type 0) (Allows : S → List ℕ → Answer → S → Type 0) (status : Status) (source source' sink sink' : Option (List ℕ)) : Type 0 where
   pub text : Printing
   pub course : Replays IsSheet Refuses Allows status text source source'
-  pub written : IsWritten status sink sink' text
-
--- what was to be printed with these words, and how much of it was
-pub record Runs {S : Type 0} (IsSheet : List ℕ → S → Type 0) (Refuses : List ℕ → SheetRefusal → Type 0) (Allows : S → List ℕ → Answer → S → Type 0) (words : List (String Global)) (status : Status) (source source' sink sink' : Option (List ℕ)) : Type 0 where
-  pub text : Printing
-  pub course : (AreReplay words × Replays IsSheet Refuses Allows status text source source') ⊎ ((¬ AreReplay words) × Declines status text source source')
   pub written : IsWritten status sink sink' text
 
 -- how the command lines were answered at this status, and the text that was to be printed
@@ -149,3 +125,4 @@ number_of ReadFault = 4
 number_of WriteFault = 5
 number_of Memory = 6
 number_of TooLong = 7
+number_of CertRefused = 8

@@ -1,30 +1,16 @@
 // The command lines of a run, each answered before the source is read again.
-ghost use Rattle.std.specs.Prelude.{◌≡◌, ◌≢◌, ◌≤◌};
+ghost use Rattle.std.specs.Prelude.{◌≡◌, ◌≤◌};
 ghost use Rattle.pc_port.specs.Port.{Rose};
 ghost use Rattle.pc_lines.specs.Reader.{coming};
-ghost use Rattle.pc_run.specs.Run.{Answers, Tells};
+ghost use Rattle.pc_run.specs.Run.{Answers};
 
 use crate::machine::Machine;
 use crate::serve::{Marks, serve};
+use crate::tell::tell_too_long;
 use crate::{LINE_LIMIT, MAX_LINES, Status};
 use pc_lines::{LineReader, Taken};
 use pc_port::{Failed, Sink, Source};
 use std::alloc::Global;
-
-/// What is printed where a limit is passed.
-pub(crate) const TOO_LONG: &[u8] = b"refused 19 too-long\n";
-
-// Ends a run by a line.
-pub(crate) fn end_with<O: Sink>(status: Status, line: &[u8], out: &mut O) -> Status
-    requires { status ≢ Status.WriteFault }
-    ensures told { Tells status line.now result (O.given out.old) (O.given out.new) }
-    ensures fault { result ≡ Status.WriteFault → Rose (O.faults out.old) (O.faults out.new) }
-{
-    match out.write(line) {
-        Ok(()) => status,
-        Err(Failed) => Status::WriteFault,
-    }
-}
 
 // Answers each command line that is still to come.
 pub(crate) fn answer_all<M: Machine, I: Source, O: Sink>(
@@ -44,7 +30,7 @@ pub(crate) fn answer_all<M: Machine, I: Source, O: Sink>(
         match reader.next(input, LINE_LIMIT) {
             Err(Failed) => return Status::ReadFault,
             Ok(Taken::End) => return marks.status(),
-            Ok(Taken::TooLong) => return end_with(Status::TooLong, TOO_LONG, out),
+            Ok(Taken::TooLong) => return tell_too_long(out),
             Ok(Taken::Line) => match serve(machine, &mut marks, alloc, reader.text(), out) {
                 Ok(()) => {}
                 Err(Failed) => return Status::WriteFault,
@@ -58,9 +44,9 @@ pub(crate) fn answer_all<M: Machine, I: Source, O: Sink>(
     match reader.next(input, LINE_LIMIT) {
         Err(Failed) => Status::ReadFault,
         Ok(Taken::End) => marks.status(),
-        Ok(Taken::TooLong) => end_with(Status::TooLong, TOO_LONG, out),
+        Ok(Taken::TooLong) => tell_too_long(out),
         // A line more than there may be.
-        Ok(Taken::Line) => end_with(Status::TooLong, TOO_LONG, out),
-        Ok(Taken::Last) => end_with(Status::TooLong, TOO_LONG, out),
+        Ok(Taken::Line) => tell_too_long(out),
+        Ok(Taken::Last) => tell_too_long(out),
     }
 }

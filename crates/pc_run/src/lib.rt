@@ -1,24 +1,27 @@
-//! The run from words to a status, over anything that reads sheets and answers command lines.
+//! The run of a sheet and its commands to a status, over anything that reads sheets and answers command lines.
 //!
-//! It takes the sheet's part of the input, hands it to a machine, and answers each command line before it reads on. What a
-//! sheet is, why a text is none, and what may answer a line, are the machine's own: the clause of [`run`] speaks of them by the ghost members
-//! of [`Machine`].
+//! [`replay`] takes the sheet's part of the input, hands it to a machine, and answers each command line before it reads on.
+//! What a sheet is, why a text is none, and what may answer a line, are the machine's own: the clause of `replay` speaks of
+//! them by the ghost members of [`Machine`]. The lines that end a run stand beside it, for other runs that begin with a
+//! sheet.
 #![tactic(auto)]
 
 mod commands;
 mod machine;
 mod refusal;
-mod replay;
+mod run;
 mod serve;
 mod sheet;
 mod status;
+mod tell;
 #[cfg(test)]
 mod tests;
 
 pub use machine::{LoadFault, Machine, Page, Reply};
 pub use refusal::{LimitWord, Refusal, SheetRefusal};
-pub use replay::run;
+pub use run::replay;
 pub use status::Status;
+pub use tell::{end_with, refuse, tell_no_memory, tell_no_memory_for_sheet, tell_too_long};
 
 /// The most bytes of a sheet, its `begin` line with that line's end included.
 pub const SHEET_LIMIT: usize = 4_194_304;

@@ -5,7 +5,7 @@ ghost use Rattle.pc_run.specs.Run.{number_of};
 /// How a run ended.
 #[derive(Clone, Copy, Debug, PartialEq, Eq)]
 pub enum Status {
-    /// The input was read to its end, and no command was refused.
+    /// The input was read to its end, and no command was refused; or the certificate was accepted.
     Done,
     /// The input was read to its end, and some command was refused.
     SomeRefused,
@@ -13,14 +13,16 @@ pub enum Status {
     Usage,
     /// The sheet isn't one that can be read.
     SheetRefused,
-    /// The input answered a fault.
+    /// The input, or the shelf, answered a fault.
     ReadFault,
     /// The output answered a fault.
     WriteFault,
-    /// Memory was wanted, at the room for a line, at the sheet or at some command.
+    /// Memory was wanted, at the room for a line, at the sheet, at the certificate or at some command.
     Memory,
-    /// The sheet, a command line or the number of command lines passes its limit.
+    /// The sheet, the certificate, a command line or the number of command lines passes its limit.
     TooLong,
+    /// The input was read to its end, and the certificate's text or its verdict is at fault.
+    CertRefused,
 }
 
 impl Status {
@@ -37,6 +39,7 @@ impl Status {
             Status::WriteFault => 5,
             Status::Memory => 6,
             Status::TooLong => 7,
+            Status::CertRefused => 8,
         }
     }
 }

@@ -5,10 +5,10 @@ ghost use Rattle.std.specs.Prelude.{◌<◌, ◌≢◌, length, slice_index, Non
 use crate::refusal::{write_refusal, write_sheet_refusal};
 use crate::{
     LINE_LIMIT, LimitWord, LoadFault, MAX_LINES, Machine, Page, Refusal, Reply, SHEET_LIMIT,
-    SheetRefusal, Status, run,
+    SheetRefusal, Status, replay,
 };
 use pc_port::{Failed, MemorySink, MemorySource, Sink, Source};
-use std::alloc::{AllocError, Global};
+use std::alloc::Global;
 use std::cell::Cell;
 use std::test::Fail;
 
@@ -67,67 +67,41 @@ impl Machine for Counter {
     }
 }
 
-// The words, parted by spaces.
-fn words(alloc: Global, text: &str) -> Result<Vec<String>, AllocError> {
-    let mut all = Vec::new(alloc);
-    for word in text.split_ascii_whitespace() {
-        all.push(word.to_string(alloc)?)?;
-    }
-    Ok(all)
-}
-
 #[test]
 fn each_status(rt: HostRuntime) -> Result<(), Fail> {
     let alloc = rt.alloc();
-    let usage = "usage: predicalc replay / edit FILE / check FILE / demo N [--budget K]\n";
-    for (text, input, want, status) in [
+    for (input, want, status) in [
         (
-            "replay",
             "begin\nshow\r\ncount\n\nshow",
             "none\nok\nsome\n",
             Status::Done,
         ),
-        ("replay", " begin\t\r\n", "", Status::Done),
-        ("replay", "a begin\n;begin\nshow\n", "", Status::Done),
+        (" begin\t\r\n", "", Status::Done),
+        ("a begin\n;begin\nshow\n", "", Status::Done),
         (
-            "replay",
             "begin\nfoo\nshow\n",
             "refused 20 not-yet\nnone\n",
             Status::SomeRefused,
         ),
         (
-            "replay",
             "begin\ndump\nutf8\ndeep\n",
             "sheet\nrefused 1 not-utf8\nrefused 21 too-deep\n",
             Status::SomeRefused,
         ),
+        ("", "sheet refused 3 no-begin\n", Status::SheetRefused),
         (
-            "replay",
-            "",
-            "sheet refused 3 no-begin\n",
-            Status::SheetRefused,
-        ),
-        (
-            "replay",
             "!\nbegin\nshow\n",
             "sheet refused 4 wrong-version line 1207\n",
             Status::SheetRefused,
         ),
-        ("", "begin\nshow\n", usage, Status::Usage),
-        ("replay x", "begin\nshow\n", usage, Status::Usage),
-        ("relay", "begin\nshow\n", usage, Status::Usage),
     ] {
         for most in [1, 7, 4096] {
-            let words = words(alloc, text)?;
-            let mut input = MemorySource::new(
-                input.as_bytes().to_vec(alloc)?,
-                most,
-                Vec::new(alloc),
-            );
+            let bytes = input.as_bytes().to_vec(alloc)?;
+            let mut source = MemorySource::new(bytes, most, Vec::new(alloc));
             let mut out = MemorySink::new(alloc, 4096, Vec::new(alloc))?;
-            let ended = run::<Counter, _, _>(alloc, &words, &mut input, &mut out);
-            assert_eq!(rt; ended, status, "{text} by {most}");
-            assert_eq!(rt; out.bytes(), want.as_bytes(), "{text} by {most}");
+            let ended = replay::<Counter, _, _>(alloc, &mut source, &mut out);
+            assert_eq!(rt; ended, status, "{input} by {most}");
+            assert_eq!(rt; out.bytes(), want.as_bytes(), "{input} by {most}");
         }
     }
     Ok(())
@@ -136,7 +110,6 @@ fn each_status(rt: HostRuntime) -> Result<(), Fail> {
 #[test]
 fn faults_stop_it(rt: HostRuntime) -> Result<(), Fail> {
     let alloc = rt.alloc();
-    let words = words(alloc, "replay")?;
     for (read, write, want, status) in [
         (1, 9, "", Status::ReadFault),
         (2, 9, "", Status::ReadFault),
@@ -149,7 +122,7 @@ fn faults_stop_it(rt: HostRuntime) -> Result<(), Fail> {
         let bytes = b"begin\nshow\ncount".to_vec(alloc)?;
         let mut input = MemorySource::new(bytes, 5, vec![in alloc; read]?);
         let mut out = MemorySink::new(alloc, 4096, vec![in alloc; write]?)?;
-        let ended = run::<Counter, _, _>(alloc, &words, &mut input, &mut out);
+        let ended = replay::<Counter, _, _>(alloc, &mut input, &mut out);
         assert_eq!(rt; ended, status, "{read} {write}");
         assert_eq!(rt; out.bytes(), want.as_bytes(), "{read} {write}");
     }
@@ -159,7 +132,6 @@ fn faults_stop_it(rt: HostRuntime) -> Result<(), Fail> {
 #[test]
 fn limits(rt: HostRuntime) -> Result<(), Fail> {
     let alloc = rt.alloc();
-    let words = words(alloc, "replay")?;
     for (sheet, line, want, status) in [
         (10, LINE_LIMIT, "refused 20 not-yet\n", Status::SomeRefused),
         (10, LINE_LIMIT + 1, "refused 19 too-long\n", Status::TooLong),
@@ -177,7 +149,7 @@ fn limits(rt: HostRuntime) -> Result<(), Fail> {
         let mut input = MemorySource::new(bytes, 4096, Vec::new(alloc));
         let mut out = MemorySink::new(alloc, 4096, Vec::new(alloc))?;
         assert_eq!(rt;
-            run::<Counter, _, _>(alloc, &words, &mut input, &mut out),
+            replay::<Counter, _, _>(alloc, &mut input, &mut out),
             status,
             "{sheet} {line}"
         );
@@ -190,14 +162,13 @@ fn limits(rt: HostRuntime) -> Result<(), Fail> {
 #[test]
 fn most_lines(rt: HostRuntime) -> Result<(), Fail> {
     let alloc = rt.alloc();
-    let words = words(alloc, "replay")?;
     let mut bytes = b"begin\n".to_vec(alloc)?;
     bytes.extend_from_slice(&vec![in alloc; b'\n'; MAX_LINES - 1]?)?;
     bytes.extend_from_slice(b"show\nshow\n")?;
     let mut input = MemorySource::new(bytes, 4096, Vec::new(alloc));
     let mut out = MemorySink::new(alloc, 4096, Vec::new(alloc))?;
     assert_eq!(rt;
-        run::<Counter, _, _>(alloc, &words, &mut input, &mut out),
+        replay::<Counter, _, _>(alloc, &mut input, &mut out),
         Status::TooLong
     );
     assert_eq!(rt; out.bytes(), b"none\nrefused 19 too-long\n".as_slice());
@@ -231,9 +202,8 @@ fn nothing_is_read_after_a_refused_sheet(rt: HostRuntime) -> Result<(), Fail> {
     let calls = Cell::new(0);
     let mut input = Refused { calls: &calls };
     let mut out = MemorySink::new(alloc, 4096, Vec::new(alloc))?;
-    let words = words(alloc, "replay")?;
     assert_eq!(rt;
-        run::<Counter, _, _>(alloc, &words, &mut input, &mut out),
+        replay::<Counter, _, _>(alloc, &mut input, &mut out),
         Status::SheetRefused
     );
     assert_eq!(rt; calls.get(), 1);
@@ -244,6 +214,7 @@ fn nothing_is_read_after_a_refused_sheet(rt: HostRuntime) -> Result<(), Fail> {
 fn numbers(rt: HostRuntime) {
     assert_eq!(rt; Status::Done.number(), 0);
     assert_eq!(rt; Status::TooLong.number(), 7);
+    assert_eq!(rt; Status::CertRefused.number(), 8);
 }
 
 // Gives one line in each call, and notes a call that comes before the last line's answer.
@@ -306,9 +277,8 @@ fn each_line_is_answered_before_the_next_read(rt: HostRuntime) -> Result<(), Fai
         early: &early,
     };
     let mut out = Counting { answers: &answers };
-    let words = words(alloc, "replay")?;
     assert_eq!(rt;
-        run::<Counter, _, _>(alloc, &words, &mut input, &mut out),
+        replay::<Counter, _, _>(alloc, &mut input, &mut out),
         Status::Done
     );
     assert_eq!(rt; answers.get(), 8);

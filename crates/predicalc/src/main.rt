@@ -1,7 +1,7 @@
-//! The program: runs its words on standard input and output.
+//! The program: runs its words on standard input and output and on the files that they name.
 #![tactic(auto)]
 
-use pc_port::{Failed, RealSink, RealSource, Sink};
+use pc_port::{Failed, RealShelf, RealSink, RealSource, Sink};
 use pc_replay::{Status, run};
 use std::alloc::AllocError;
 use std::process::ExitCode;
@@ -9,6 +9,7 @@ use std::{env, io};
 
 fn main(rt: HostRuntime) -> ExitCode {
     let mut input = RealSource::new(rt.reader());
+    let mut shelf = RealShelf::new(rt.alloc(), &rt);
     let mut out = RealSink::new(io::writer(&rt));
     let args = match env::args(&rt) {
         Ok(args) => args,
@@ -16,13 +17,16 @@ fn main(rt: HostRuntime) -> ExitCode {
             return ExitCode::from(tell_no_memory(&mut out).number());
         }
         // A word that isn't UTF-8 fits nothing, as no words do.
-        Err(_) => return ExitCode::from(run(rt.alloc(), &[], &mut input, &mut out).number()),
+        Err(_) => {
+            let status = run(rt.alloc(), &[], &mut input, &mut shelf, &mut out);
+            return ExitCode::from(status.number());
+        }
     };
     let words: Result<Vec<String>, AllocError> = args.skip(1).collect(rt.alloc());
     let Ok(words) = words else {
         return ExitCode::from(tell_no_memory(&mut out).number());
     };
-    ExitCode::from(run(rt.alloc(), &words, &mut input, &mut out).number())
+    ExitCode::from(run(rt.alloc(), &words, &mut input, &mut shelf, &mut out).number())
 }
 
 // Tells that there was no memory for the words.

@@ -34,7 +34,7 @@ pub returns-in-Ok-TooLong-clause-answers : goal.returns-in-Ok-TooLong-clause-ans
 returns-in-Ok-TooLong-clause-answers g c =
     let got = rw c.in-Ok-TooLong.field-0-is at c.in-Ok-TooLong.ensures.taken in
     let within : c.loop.counter ≤ MAX_LINES = omega arith in
-    past_limit g.M.Machine.Allows c.args.machine.now c.loop.machine c.loop.marks _ _ _ _ _ c.loop.counter c.next.new.self.held (g.I.Source.left c.next.new.source) c.next.new.self.line c.end_with.result c.loop.invariant.progress within c.next.ensures.takes (inl got) c.next.ensures.few c.end_with.ensures.told
+    past_limit g.M.Machine.Allows c.args.machine.now c.loop.machine c.loop.marks _ _ _ _ _ c.loop.counter c.next.new.self.held (g.I.Source.left c.next.new.source) c.next.new.self.line c.tell_too_long.result c.loop.invariant.progress within c.next.ensures.takes (inl got) c.next.ensures.few c.tell_too_long.ensures.told
 
 pub serve-requires : goal.serve-requires
 serve-requires g c =
@@ -97,8 +97,8 @@ pub returns-in-Ok-TooLong-next-clause-answers : goal.returns-in-Ok-TooLong-next-
 returns-in-Ok-TooLong-next-clause-answers g c =
     let got = rw c.in-Ok-TooLong-next.field-0-is at c.in-Ok-TooLong-next.ensures.taken in
     let within : c.loop.counter ≤ MAX_LINES = omega arith in
-    past_limit g.M.Machine.Allows c.args.machine.now c.loop.machine c.loop.marks _ _ _ _ _ c.loop.counter c.next-2.new.self.held (g.I.Source.left c.next-2.new.source) c.next-2.new.self.line c.end_with-in-Ok-TooLong-next.result c.loop.invariant.progress within c.next-2.ensures.takes (inl got) c.next-2.ensures.few
-    c.end_with-in-Ok-TooLong-next.ensures.told
+    past_limit g.M.Machine.Allows c.args.machine.now c.loop.machine c.loop.marks _ _ _ _ _ c.loop.counter c.next-2.new.self.held (g.I.Source.left c.next-2.new.source) c.next-2.new.self.line c.tell_too_long-in-Ok-TooLong-next.result c.loop.invariant.progress within c.next-2.ensures.takes (inl got) c.next-2.ensures.few
+    c.tell_too_long-in-Ok-TooLong-next.ensures.told
 
 pub returns-in-Ok-Line-next-clause-answers : goal.returns-in-Ok-Line-next-clause-answers
 returns-in-Ok-Line-next-clause-answers g c =
@@ -106,13 +106,13 @@ returns-in-Ok-Line-next-clause-answers g c =
     let all : c.loop.counter ≡ MAX_LINES = omega arith in
     let some : 0 < length c.next-2.new.self.line = omega (arith, ap length got.ends, length_push (before_end c.next-2.new.self.line) 10) in
     let within : c.loop.counter ≤ MAX_LINES = omega arith in
-    past_limit g.M.Machine.Allows c.args.machine.now c.loop.machine c.loop.marks _ _ _ _ _ c.loop.counter c.next-2.new.self.held (g.I.Source.left c.next-2.new.source) c.next-2.new.self.line c.end_with-in-Ok-Line-next.result c.loop.invariant.progress within c.next-2.ensures.takes (inr (all, inl got, some)) c.next-2.ensures.few
-    c.end_with-in-Ok-Line-next.ensures.told
+    past_limit g.M.Machine.Allows c.args.machine.now c.loop.machine c.loop.marks _ _ _ _ _ c.loop.counter c.next-2.new.self.held (g.I.Source.left c.next-2.new.source) c.next-2.new.self.line c.tell_too_long-in-Ok-Line-next.result c.loop.invariant.progress within c.next-2.ensures.takes (inr (all, inl got, some)) c.next-2.ensures.few
+    c.tell_too_long-in-Ok-Line-next.ensures.told
 
 pub returns-in-Ok-Last-next-clause-answers : goal.returns-in-Ok-Last-next-clause-answers
 returns-in-Ok-Last-next-clause-answers g c =
     let got = rw c.in-Ok-Last-next.field-0-is at c.in-Ok-Last-next.ensures.taken in
     let all : c.loop.counter ≡ MAX_LINES = omega arith in
     let within : c.loop.counter ≤ MAX_LINES = omega arith in
-    past_limit g.M.Machine.Allows c.args.machine.now c.loop.machine c.loop.marks _ _ _ _ _ c.loop.counter c.next-2.new.self.held (g.I.Source.left c.next-2.new.source) c.next-2.new.self.line c.end_with-in-Ok-Last-next.result c.loop.invariant.progress within c.next-2.ensures.takes (inr (all, inr got.0, got.1)) c.next-2.ensures.few
-    c.end_with-in-Ok-Last-next.ensures.told
+    past_limit g.M.Machine.Allows c.args.machine.now c.loop.machine c.loop.marks _ _ _ _ _ c.loop.counter c.next-2.new.self.held (g.I.Source.left c.next-2.new.source) c.next-2.new.self.line c.tell_too_long-in-Ok-Last-next.result c.loop.invariant.progress within c.next-2.ensures.takes (inr (all, inr got.0, got.1)) c.next-2.ensures.few
+    c.tell_too_long-in-Ok-Last-next.ensures.told

@@ -1,0 +1,14 @@
+use Rattle.std.proofs.Common.{◌≤◌, ◌-◌, length}
+use Rattle.std.specs.Io.KnownBytes.{Consumes}
+use Rattle.pc_cert.specs.declared.TheConstants.{CERT_LIMIT}
+use Rattle.pc_judge.proofs.input.take_all.Given as goal
+
+abbrev pub invariant-loop-text : goal.invariant-loop-text
+invariant-loop-text g l = record {
+  taken : Consumes (g.I.Source.left l.fn.input) (g.I.Source.left l.input) l.text.items;
+  small : length l.text.items ≤ CERT_LIMIT;
+  later : g.I.Source.faults l.fn.input ≤ g.I.Source.faults l.input;
+}
+
+abbrev pub decreases-loop-text : goal.decreases-loop-text
+decreases-loop-text g l = CERT_LIMIT - length l.text.items

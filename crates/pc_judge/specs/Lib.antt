@@ -1,0 +1,5 @@
+pub mod Judged
+pub mod Input
+pub mod Checked
+pub mod Laws
+pub mod Examples

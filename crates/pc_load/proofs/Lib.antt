@@ -1,0 +1,4 @@
+pub mod Loading
+pub mod OneRefusal
+pub mod Outcomes
+pub mod Telling
