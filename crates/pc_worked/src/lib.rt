@@ -1,0 +1,5 @@
+//! Sheets from their texts, worked through the layers: tests of crates that stand on books and below the reader of sheets.
+#![tactic(auto)]
+
+#[cfg(test)]
+mod tests;
