@@ -463,7 +463,7 @@ fn cut_certificates(rt: HostRuntime) -> Result<(), Fail> {
     let alloc = rt.alloc();
     let sheet = format!(in alloc; "{COLORS}{ENTERED}")?;
     let certificate =
-        b"certificate 1\nclaim b = red\nuse a = red\nvalue a = red\nvalue b = red\nvalue c = red\n1 rule ab\n2 atom @ab a=red b=green\n3 some b\n4 step ~a=red b=red : 3 1 2\nen";
+        b"certificate 1\nclaim b = red\nuse a = red\nvalue a = red\nvalue b = red\nvalue c = red\n1 rule ab\n2 atom @ab a=red b=green\n3 some b\n4 step ~a=red b=red : 3 1 2\nend";
     for end in 0..certificate.len() {
         let (ended, text) = run_with(
             alloc,
