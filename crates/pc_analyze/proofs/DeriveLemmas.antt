@@ -20,7 +20,7 @@ use Rattle.pc_propagate.specs.Over.{AreJustified}
 use Rattle.pc_analyze.specs.Levels.{IsFalseAt, IsHighestLevel}
 use Rattle.pc_analyze.specs.Marking.{MarksClause}
 use Rattle.pc_analyze.specs.Refuted.{IsRefuted, AreLater, IsOfDecision}
-use Rattle.pc_analyze.specs.Learning.{IsLearned, AreDecisionsAmong, IsOverNegated}
+use Rattle.pc_analyze.specs.Learning.{IsInOne, IsLearned, AreDecisionsAmong, IsOverNegated}
 use Rattle.pc_propagate.specs.TrailView.{TrailView}
 use Rattle.pc_propagate.specs.Over.{AreInRange}
 use Rattle.std.proofs.lemmas.List.Elements.{Contains-get_or, All-contains}
@@ -28,7 +28,8 @@ use Rattle.pc_analyze.proofs.PlaceLemmas.{false_at_within, false_at_is, false_at
 use Rattle.pc_analyze.proofs.LevelLemmas.{level_at-le, decision_level}
 use Rattle.pc_analyze.proofs.RefuteLemmas.{IsRefuted-first}
 use Rattle.pc_analyze.proofs.StepLemmas.{hints_cons, no_entry, reason_says, HasReason}
-use Rattle.pc_analyze.proofs.LearnLemmas.{unmarked_at_first, IsEnd}
+use Rattle.pc_analyze.proofs.LearnLemmas.{IsEnd}
+use Rattle.pc_analyze.proofs.MarkLemmas.{unmarked_at_first}
 use Rattle.pc_analyze.proofs.WalkLemmas.{nothing_in}
 
 pub derived_first : (axioms more : List (List Lit)) (entries : List Entry) (clause : List Lit) (first : ClauseRef) (end added n : ℕ) (blank marks : List Bool) (hints : List ClauseRef) (base : List Lit)
@@ -38,7 +39,7 @@ pub derived_first : (axioms more : List (List Lit)) (entries : List Entry) (clau
 derived_first axioms more entries clause first end added n blank marks hints base is h same closed pushed =
     rw (pushed, hints_cons axioms more [] first, ← same)
     (IsRefuted-first entries clause base end marks
-    (λ k marked. ⊎_elim (λ old. absurd (unmarked_at_first blank n k is old)) (λ early. early) (h.only k marked))
+    (λ k marked. ⊎_elim (λ old. absurd (unmarked_at_first blank n k is old)) (λ early. early.0) (h.only k marked))
     (λ m has. ⊎_elim (λ at. inl (at.0, h.of_clause at.0 m at.1 has at.2, at.2)) (λ in_base. inr in_base) (closed m (subst (λ (c : List Lit). Contains c m) same has))))
 
 -- a clause without a literal is empty
@@ -71,6 +72,7 @@ learned_empty axioms more trail learned hints none refs refutes = record {
   in_range = λ k d below. absurd (omega (arith, below, ap length none));
   are_refs = refs;
   good = inr (λ t. nothing_in t.0 (subst (λ (c : List Lit). Contains c t.0) none t.1), refutes);
+  asked = λ m has. absurd (nothing_in m (subst (λ (c : List Lit). Contains c m) none has));
 }
 
 negated_twice : (l : Lit) → negated (negated l) ≡ l
@@ -118,6 +120,19 @@ failed_only entries end failed base clause base_is only assumed failed_in among 
     (λ old. (failed, failed_in, sym (in_one (negated failed) m (rw base_is at old))))
     (λ decision. decision_is entries end m assumed among decision)
     (only m has)
+
+-- the negation of the failed assumption is kept
+pub failed_own : (failed : Lit) (base clause : List Lit) → base ≡ negated failed ∷ [] → ((m : Lit) → Contains base m → Contains clause m) → Contains clause (negated failed)
+failed_own failed base clause base_is kept = kept (negated failed) (rw base_is (contains_first (negated failed) []))
+
+-- and each other literal stands in one of the hints' clauses
+pub failed_asked : (failed : Lit) (base clause : List Lit) (hints : List (List Lit)) → base ≡ negated failed ∷ [] → ((m : Lit) → Contains clause m → Contains base m ⊎ IsInOne hints m)
+    → (m : Lit) → Contains clause m → (m.variable ≡ failed.variable) ⊎ IsInOne hints m
+failed_asked failed base clause hints base_is asked m has =
+    ⊎_elim
+    (λ old. inl (sym (ap (λ (l : Lit). l.variable) (in_one (negated failed) m (rw base_is at old)))))
+    (λ in_hint. inr in_hint)
+    (asked m has)
 
 pub one_different : (l : Lit) (clause : List Lit) → clause ≡ l ∷ [] → AllPairs (λ x y. x ≢ y) clause
 one_different l clause is i j d before below = absurd (omega (arith, before, below, ap length is))
@@ -187,6 +202,12 @@ module _ (failed : Lit) (clause : List Lit) (is : clause ≡ negated failed ∷ 
       (λ same. omega (arith, room, ap (λ (x : Lit). x.variable.0) same))
       (λ same. omega (arith, room, ap (λ (x : Lit). x.variable.0) same))
       (either (get_or clause k d) (Contains-get_or clause k d below))
+
+  pub both_own : Contains clause (negated failed)
+  both_own = rw is (contains_first (negated failed) (failed ∷ []))
+
+  pub both_asked : (hints : List (List Lit)) (m : Lit) → Contains clause m → (m.variable ≡ failed.variable) ⊎ IsInOne hints m
+  both_asked hints m has = ⊎_elim (λ same. inl (ap (λ (l : Lit). l.variable) same)) (λ same. inl (ap (λ (l : Lit). l.variable) same)) (either m has)
 
   pub both_good : IsGoodStep negated clause []
   both_good = inl (

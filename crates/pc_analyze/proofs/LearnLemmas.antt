@@ -1,7 +1,7 @@
 -- What an analysis ends with.
-use Rattle.std.proofs.Common.{◌≡◌, ℕ, ◌+◌, ◌-◌, ◌<◌, ◌≤◌, Bool, false, List, [], ◌∷◌, ◌++◌, length, get_or, reverse, replicate, refl, sym, ap, ◌∙◌, subst, arith, ⊎_elim, inl, inr, ◌⊎◌, Contains, IsNone, All, AllPairs}
-use Rattle.std.proofs.lemmas.Bool.{cases_lt, false≢true}
-use Rattle.std.proofs.lemmas.List.{get_or-replicate, get_or-reverse, length-reverse, length-replicate}
+use Rattle.std.proofs.Common.{◌≡◌, ℕ, ◌+◌, ◌-◌, ◌<◌, ◌≤◌, Bool, false, List, [], ◌∷◌, ◌++◌, length, get_or, reverse, replicate, refl, ap, subst, arith, ⊎_elim, inl, inr, ◌⊎◌, Contains, IsNone, All, AllPairs}
+use Rattle.std.proofs.lemmas.Bool.{cases_lt}
+use Rattle.std.proofs.lemmas.List.{get_or-reverse, length-reverse}
 use Rattle.std.proofs.lemmas.List.Elements.{Contains-get_or, All-contains}
 use Rattle.pc_lits.specs.declared.literal.Lit.{Lit}
 use Rattle.pc_lits.specs.Literals.{negated}
@@ -17,11 +17,11 @@ use Rattle.pc_propagate.specs.Entries.{HasValue}
 use Rattle.pc_propagate.specs.Refs.{clause_at, clauses_at, IsRef}
 use Rattle.pc_analyze.specs.Levels.{IsFalseAt, IsHighestLevel}
 use Rattle.pc_analyze.specs.Marking.{IsMarked, MarksClause, marks_from, AreNegations}
-use Rattle.pc_analyze.specs.Refuted.{IsRefuted}
+use Rattle.pc_analyze.specs.Refuted.{IsRefuted, AreAsked}
 use Rattle.pc_analyze.specs.Learning.{IsLearned, IsAsserting}
 use Rattle.pc_analyze.proofs.PlaceLemmas.{false_at_same, false_at_within, false_at_contains, false_at_from, false_before, contains_false_at, known_by_false, not_both, false_at_unique}
 use Rattle.pc_analyze.proofs.LevelLemmas.{level_at-le, level_at-below}
-use Rattle.pc_analyze.proofs.MarkLemmas.{some_mark, unmarked, only_mark, marked_within}
+use Rattle.pc_analyze.proofs.MarkLemmas.{some_mark, unmarked, only_mark, marked_within, unmarked_at_first}
 use Rattle.pc_analyze.proofs.RefuteLemmas.{IsRefuted-first}
 use Rattle.pc_analyze.proofs.StepLemmas.{hints_cons, no_entry}
 use Rattle.pc_analyze.proofs.WalkLemmas.{nothing_in}
@@ -62,13 +62,6 @@ pub known_clause : (entries : List Entry) (clause same : List Lit) → same ≡ 
 known_clause entries clause same is is_false k d below =
     known_by_false entries (get_or same k d) (is_false (get_or same k d) (subst (λ (c : List Lit). Contains c (get_or same k d)) is (Contains-get_or same k d below)))
 
--- before the clause is marked there is no mark
-pub unmarked_at_first : (marks : List Bool) (n k : ℕ) → marks ≡ replicate n false → IsMarked marks k → ⊥
-unmarked_at_first marks n k blank h =
-    let within : k < length marks = marked_within marks k h in
-    let read : get_or marks k false ≡ false = rw blank (get_or-replicate n k false false (omega (arith, ap length blank, length-replicate {A = Bool} n false))) in
-    false≢true (sym read ∙ h)
-
 pub first_marks : (entries : List Entry) (clause : List Lit) (end start added n : ℕ) (blank marks : List Bool) → blank ≡ replicate n false → MarksClause entries clause end start blank marks added
     → marks_from start marks ≡ added
 first_marks entries clause end start added n blank marks is h =
@@ -94,7 +87,7 @@ pub first_refuted : (axioms more : List (List Lit)) (entries : List Entry) (clau
 first_refuted axioms more entries clause conflict end start added n blank marks hints is h is_end is_false same pushed =
     rw (pushed, hints_cons axioms more [] conflict, ← same)
     (IsRefuted-first entries clause [] end marks
-    (λ k marked. ⊎_elim (λ old. absurd (unmarked_at_first blank n k is old)) (λ early. early) (h.only k marked))
+    (λ k marked. ⊎_elim (λ old. absurd (unmarked_at_first blank n k is old)) (λ early. early.0) (h.only k marked))
     (λ m has. let at = false_at_contains entries m (is_false m has) in inl (at.0, h.of_clause at.0 m (is_end.0 m at.0 has at.1) has at.1, at.1)))
 
 All-reverse : {X : Type 0} (P : X → Type 0) (xs : List X) → All P xs → All P (reverse xs)
@@ -132,9 +125,9 @@ module _ (entries : List Entry) (marks : List Bool) (clause : List Lit) (place s
       (contains_cases negations.first negations.others m (subst (λ (c : List Lit). Contains c m) negations.is has))
 
 pub learned : (axioms more : List (List Lit)) (trail : TrailView) (place start : ℕ) (marks : List Bool) (clause : List Lit) (hints turned : List ClauseRef) → AreEntries trail.variables trail.entries
-    → IsRefuted trail.entries [] (place + 1) marks (clauses_at axioms more (reverse hints)) → AreNegations trail.entries marks place start clause → marks_from start marks ≡ 1 → IsMarked marks place
+    → IsRefuted trail.entries [] (place + 1) marks (clauses_at axioms more (reverse hints)) → AreAsked trail.entries marks (clauses_at axioms more (reverse hints)) → AreNegations trail.entries marks place start clause → marks_from start marks ≡ 1 → IsMarked marks place
     → start ≤ place → All (IsRef axioms more) hints → turned ≡ reverse hints → IsLearned axioms more trail clause turned
-learned axioms more trail place start marks clause hints turned are refuted negations one marked late refs is =
+learned axioms more trail place start marks clause hints turned are refuted asked negations one marked late refs is =
     let only = only_marked trail.entries marks clause place start negations one marked late in
     let covers = covers_all trail.entries marks clause place start negations one marked late in
     let is_false : AreFalse negated (falses trail.entries) clause = λ m has. let at = only m has in contains_false_at trail.entries at.0 m at.2 in
@@ -148,6 +141,7 @@ learned axioms more trail place start marks clause hints turned are refuted nega
         refuted.refutes clause (λ k m is_marked at. covers m k is_marked at) (λ m has. absurd (nothing_in m has))
             (λ m has. let at = only m has in inl (false_before trail.entries (place + 1) at.0 m (refuted.below at.0 at.1) at.2)),
       );
+      asked = λ m has. let at = only m has in asked at.0 m at.1 at.2;
     })
 
 pub asserting : (entries : List Entry) (marks : List Bool) (clause : List Lit) (end start place top level : ℕ) → AllPairs Differ entries → length marks ≡ length entries

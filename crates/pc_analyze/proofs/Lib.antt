@@ -4,6 +4,7 @@ pub mod MarkLemmas
 pub mod LoopLemmas
 pub mod RefuteLemmas
 pub mod StepLemmas
+pub mod AskedLemmas
 pub mod WalkLemmas
 pub mod LearnLemmas
 pub mod DeriveLemmas

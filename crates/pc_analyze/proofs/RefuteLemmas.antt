@@ -48,7 +48,7 @@ pub IsRefuted-resolve : (entries : List Entry) (base : List Lit) (place start : 
     → MarksClause entries clause place start middle marks added
     → IsRefuted entries base place marks (clause ∷ hints)
 IsRefuted-resolve entries base place start before middle marks hints clause l added h here last not_base kept below marked = record {
-  below = λ k is. ⊎_elim (λ old. below k old) (λ new. new) (marked.only k is);
+  below = λ k is. ⊎_elim (λ old. below k old) (λ new. new.0) (marked.only k is);
   refutes = λ lits covers has_base within.
       let open_one : IsLastOpen negated lits clause l = (
         last.0,

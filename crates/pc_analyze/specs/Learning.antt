@@ -11,13 +11,19 @@ use Rattle.pc_propagate.specs.Over.{AreInRange}
 use Rattle.pc_propagate.specs.Refs.{clauses_at, IsRef}
 use Rattle.pc_analyze.specs.Levels.{HasLevel}
 
--- the clause is false, without a literal twice, over the trail's variables, and a good step by hints that name clauses
+-- the literal stands in one of the clauses
+abbrev pub IsInOne : List (List Lit) → Lit → Type 0
+IsInOne clauses m = (clause : List Lit) × Contains clauses clause × Contains clause m
+
+-- the clause is false, without a literal twice, over the trail's variables, and a good step by hints that name clauses,
+-- in which each of its literals stands
 pub record IsLearned (axioms more : List (List Lit)) (trail : TrailView) (clause : List Lit) (hints : List ClauseRef) : Type 0 where
   pub is_false : AreFalse negated (falses trail.entries) clause
   pub different : AllPairs (λ l m. l ≢ m) clause
   pub in_range : AreInRange trail.variables clause
   pub are_refs : All (IsRef axioms more) hints
   pub good : IsGoodStep negated clause (clauses_at axioms more hints)
+  pub asked : (m : Lit) → Contains clause m → IsInOne (clauses_at axioms more hints) m
 
 -- the clause's first literal alone has the level `top`, and `level` is the highest of the others
 pub record IsAsserting (entries : List Entry) (clause : List Lit) (top level : ℕ) : Type 0 where

@@ -6,6 +6,7 @@ use Rattle.pc_propagate.specs.declared.trail.Entry.{Entry}
 use Rattle.pc_propagate.specs.Entries.{falses}
 use Rattle.pc_analyze.specs.Levels.{IsFalseAt}
 use Rattle.pc_analyze.specs.Marking.{IsMarked}
+use Rattle.pc_analyze.specs.Learning.{IsInOne}
 use Rattle.pc_lits.specs.Literals.{negated}
 
 -- each literal that became false at a marked place is among these
@@ -17,6 +18,10 @@ Covers entries marks lits = (k : ℕ) (m : Lit) → IsMarked marks k → IsFalse
 pub record IsRefuted (entries : List Entry) (base : List Lit) (place : ℕ) (marks : List Bool) (hints : List (List Lit)) : Type 0 where
   pub below : (k : ℕ) → IsMarked marks k → k < place
   pub refutes : (lits : List Lit) → Covers entries marks lits → AreFalse negated lits base → ((m : Lit) → Contains lits m → Contains (falses (take place entries)) m ⊎ Contains base m) → Refutes negated lits hints
+
+-- each literal that became false at a marked place stands in one of the hints' clauses
+abbrev pub AreAsked : List Entry → List Bool → List (List Lit) → Type 0
+AreAsked entries marks hints = (k : ℕ) (m : Lit) → IsMarked marks k → IsFalseAt entries k m → IsInOne hints m
 
 -- the literals' variables are those of entries at `place` or later
 abbrev pub AreLater : List Entry → ℕ → List Lit → Type 0

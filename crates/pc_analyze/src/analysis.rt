@@ -14,7 +14,7 @@ ghost use Rattle.pc_propagate.specs.Propagation.{IsConflict};
 ghost use Rattle.pc_propagate.specs.Refs.{clause_at, clauses_at, IsRef};
 ghost use Rattle.pc_analyze.specs.Levels.{IsFalseAt, IsHighestLevel};
 ghost use Rattle.pc_analyze.specs.Refuted.{AreLater, IsOfDecision};
-ghost use Rattle.pc_analyze.specs.Learning.{IsLearned, IsAsserting, AreDecisionsAmong, IsOverNegated};
+ghost use Rattle.pc_analyze.specs.Learning.{IsInOne, IsLearned, IsAsserting, AreDecisionsAmong, IsOverNegated};
 
 use crate::marks::{end_of, entry_at, level_before, level_of_place, mark, negations, start_of};
 use crate::resolution::{resolve_all, resolve_level};
@@ -129,7 +129,9 @@ fn derive(
     ensures refutes { IfOk result (λ l. Refutes negated l.clause.items (clauses_at axioms.now more.now l.hints.items)) }
     ensures known { IfOk result (λ l. AreLater trail.now.entries 0 l.clause.items) }
     ensures different { IfOk result (λ l. AllPairs (λ x y. x ≢ y) l.clause.items) }
+    ensures kept { IfOk result (λ l. (m : Lit) → Contains clause.items m → Contains l.clause.items m) }
     ensures only { IfOk result (λ l. (m : Lit) → Contains l.clause.items m → Contains clause.items m ⊎ IsOfDecision trail.now.entries end m) }
+    ensures asked { IfOk result (λ l. (m : Lit) → Contains l.clause.items m → Contains clause.items m ⊎ IsInOne (clauses_at axioms.now more.now l.hints.items) m) }
     ensures level { IfOk result (λ l. l.level ≡ 0) }
 {
     let len = trail.len();
@@ -189,6 +191,8 @@ pub fn final_clause(
     requires over { IsOver axioms.now more.now trail.now }
     ensures refs { IfOk result (λ l. All (IsRef axioms.now more.now) l.hints.items) }
     ensures good { IfOk result (λ l. IsGoodStep negated l.clause.items (clauses_at axioms.now more.now l.hints.items)) }
+    ensures own { IfOk result (λ l. Contains l.clause.items (negated failed)) }
+    ensures asked { IfOk result (λ l. (m : Lit) → Contains l.clause.items m → (m.variable ≡ failed.variable) ⊎ IsInOne (clauses_at axioms.now more.now l.hints.items) m) }
     ensures only { IfOk result (λ l. (assumed : List Lit) → Contains assumed failed → AreDecisionsAmong trail.now.entries assumed
         → IsOverNegated assumed l.clause.items) }
     ensures different { IfOk result (λ l. AllPairs (λ x y. x ≢ y) l.clause.items) }

@@ -3,7 +3,7 @@
 //! A mark stands for a literal that is false by the entry at its place. What is kept all along: the hints, taken in the
 //! reverse order, refute the marked literals.
 
-ghost use Rattle.std.specs.Prelude.{◌≡◌, ℕ, ◌+◌, ◌<◌, ◌≤◌, ◌≢◌, List, [], All, Contains, length, IfOk, OnOk, Some, IsSome, slice_index_or, reverse, AllPairs, ◌⊎◌};
+ghost use Rattle.std.specs.Prelude.{◌≡◌, ℕ, ◌+◌, ◌<◌, ◌≤◌, ◌≢◌, List, [], ◌∷◌, ◌++◌, All, Contains, length, IfOk, OnOk, Some, IsSome, slice_index_or, reverse, AllPairs, ◌⊎◌};
 ghost use Rattle.pc_lits.specs.declared.literal.Lit.{Lit};
 ghost use Rattle.pc_lits.specs.Literals.{negated};
 ghost use Rattle.pc_lits.specs.Steps.{Refutes};
@@ -12,7 +12,8 @@ ghost use Rattle.pc_propagate.specs.Entries.{Differ};
 ghost use Rattle.pc_propagate.specs.Over.{AreJustified};
 ghost use Rattle.pc_propagate.specs.Refs.{clauses_at, IsRef};
 ghost use Rattle.pc_analyze.specs.Marking.{IsMarked, marks_from};
-ghost use Rattle.pc_analyze.specs.Refuted.{IsRefuted, AreLater, IsOfDecision};
+ghost use Rattle.pc_analyze.specs.Refuted.{IsRefuted, AreAsked, AreLater, IsOfDecision};
+ghost use Rattle.pc_analyze.specs.Learning.{IsInOne};
 
 use crate::marks::{entry_at, mark};
 use pc_lits::{ClauseStore, Lit};
@@ -38,6 +39,9 @@ fn resolve(
     requires marked { IsMarked marks.old place }
     ensures counted { start ≤ place → IfOk result (λ added. marks_from start marks.new + 1 ≡ marks_from start marks.old + added) }
     ensures refs { All (IsRef axioms.now more.now) hints.old.items → OnOk result (All (IsRef axioms.now more.now) hints.new.items) }
+    ensures hints { OnOk result (hints.new.items ≡ hints.old.items ++ reason ∷ []) }
+    ensures asked { AreAsked trail.now.entries marks.old (clauses_at axioms.now more.now (reverse hints.old.items))
+        → OnOk result (AreAsked trail.now.entries marks.new (clauses_at axioms.now more.now (reverse hints.new.items))) }
     ensures refuted { (base : List Lit) → ((d : Entry) → Contains base (slice_index_or trail.now.entries place d).literal → ⊥)
         → IsRefuted trail.now.entries base (place + 1) marks.old (clauses_at axioms.now more.now (reverse hints.old.items))
         → OnOk result (IsRefuted trail.now.entries base place marks.new (clauses_at axioms.now more.now (reverse hints.new.items))) }
@@ -67,12 +71,14 @@ pub(crate) fn resolve_level(
     requires some { 0 < left }
     requires refs { All (IsRef axioms.now more.now) hints.old.items }
     requires refuted { IsRefuted trail.now.entries [] end marks.old (clauses_at axioms.now more.now (reverse hints.old.items)) }
+    requires asked { AreAsked trail.now.entries marks.old (clauses_at axioms.now more.now (reverse hints.old.items)) }
     ensures late { IfOk result (λ place. start ≤ place) }
     ensures before { IfOk result (λ place. place < end) }
     ensures marked { IfOk result (λ place. IsMarked marks.new place) }
     ensures one { OnOk result (marks_from start marks.new ≡ 1) }
     ensures refs { OnOk result (All (IsRef axioms.now more.now) hints.new.items) }
     ensures refuted { IfOk result (λ place. IsRefuted trail.now.entries [] (place + 1) marks.new (clauses_at axioms.now more.now (reverse hints.new.items))) }
+    ensures asked { OnOk result (AreAsked trail.now.entries marks.new (clauses_at axioms.now more.now (reverse hints.new.items))) }
 {
     let mut place = end - 1;
     'walk: while left > 1 || !marks[place] {
@@ -108,11 +114,14 @@ pub(crate) fn resolve_all(
     requires later { AreLater trail.now.entries end clause.old.items }
     requires different { AllPairs (λ l m. l ≢ m) clause.old.items }
     requires refuted { IsRefuted trail.now.entries clause.old.items end marks.old (clauses_at axioms.now more.now (reverse hints.old.items)) }
+    requires asked { AreAsked trail.now.entries marks.old (clauses_at axioms.now more.now (reverse hints.old.items)) }
     ensures refs { OnOk result (All (IsRef axioms.now more.now) hints.new.items) }
     ensures refutes { OnOk result (Refutes negated clause.new.items (clauses_at axioms.now more.now (reverse hints.new.items))) }
     ensures known { OnOk result (AreLater trail.now.entries 0 clause.new.items) }
     ensures different { OnOk result (AllPairs (λ l m. l ≢ m) clause.new.items) }
+    ensures kept { OnOk result ((m : Lit) → Contains clause.old.items m → Contains clause.new.items m) }
     ensures only { OnOk result ((m : Lit) → Contains clause.new.items m → Contains clause.old.items m ⊎ IsOfDecision trail.now.entries end m) }
+    ensures asked { OnOk result ((m : Lit) → Contains clause.new.items m → Contains clause.old.items m ⊎ IsInOne (clauses_at axioms.now more.now (reverse hints.new.items)) m) }
 {
     let mut place = end;
     'walk: while place > 0 {

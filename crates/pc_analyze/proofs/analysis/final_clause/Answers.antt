@@ -5,7 +5,7 @@ use Rattle.pc_propagate.specs.declared.trail.Entry.{Entry}
 use Rattle.pc_propagate.specs.declared.clauses.ClauseRef.{ClauseRef}
 use Rattle.pc_analyze.proofs.PlaceLemmas.{place_within, known_by_false}
 use Rattle.pc_analyze.proofs.StepLemmas.{reason_says, reason_known, no_entry}
-use Rattle.pc_analyze.proofs.DeriveLemmas.{failed_at, failed_closed, failed_later, failed_only, failed_good, one_different, later_in_range, both_different, both_in_range, both_good, both_only}
+use Rattle.pc_analyze.proofs.DeriveLemmas.{failed_at, failed_closed, failed_later, failed_only, failed_own, failed_asked, failed_good, one_different, later_in_range, both_different, both_in_range, both_good, both_own, both_asked, both_only}
 use Rattle.pc_analyze.proofs.analysis.final_clause.Goals as goal
 
 pub place_of-place-requires : goal.place_of-place-requires
@@ -47,6 +47,13 @@ returns-in_ok-learned-in-Some-clause-good c =
     (failed_at _ c.args.failed c.place_of-place.result c.requires.failed c.place_of-place.ensures) (c.in_ok-clause-in-Some.ensures.items ∙ ap (λ (l : Lit). l ∷ []) c.negated.ensures)
     c.in_ok-learned-in-Some.ensures.only c.in_ok-learned-in-Some.ensures.refutes
 
+pub returns-in_ok-learned-in-Some-clause-own : goal.returns-in_ok-learned-in-Some-clause-own
+returns-in_ok-learned-in-Some-clause-own c = failed_own c.args.failed _ _ (c.in_ok-clause-in-Some.ensures.items ∙ ap (λ (l : Lit). l ∷ []) c.negated.ensures) c.in_ok-learned-in-Some.ensures.kept
+
+pub returns-in_ok-learned-in-Some-clause-asked : goal.returns-in_ok-learned-in-Some-clause-asked
+returns-in_ok-learned-in-Some-clause-asked c =
+    failed_asked c.args.failed _ _ _ (c.in_ok-clause-in-Some.ensures.items ∙ ap (λ (l : Lit). l ∷ []) c.negated.ensures) c.in_ok-learned-in-Some.ensures.asked
+
 pub returns-in_ok-learned-in-Some-clause-only : goal.returns-in_ok-learned-in-Some-clause-only
 returns-in_ok-learned-in-Some-clause-only c =
     failed_only c.args.trail.now.entries c.place_of-place.result c.args.failed _ _ (c.in_ok-clause-in-Some.ensures.items ∙ ap (λ (l : Lit). l ∷ []) c.negated.ensures)
@@ -58,6 +65,12 @@ returns-in_ok-learned-in-Some-clause-in_range c = later_in_range c.args.trail.no
 pub returns-in_ok-vec-in-None-clause-good : goal.returns-in_ok-vec-in-None-clause-good
 returns-in_ok-vec-in-None-clause-good c =
     rw c.new.ensures.items (both_good c.args.failed _ (c.in_ok-vec-in-None.ensures.items ∙ ap (λ (l : Lit). l ∷ c.args.failed ∷ []) c.negated-in-None.ensures))
+
+pub returns-in_ok-vec-in-None-clause-own : goal.returns-in_ok-vec-in-None-clause-own
+returns-in_ok-vec-in-None-clause-own c = both_own c.args.failed _ (c.in_ok-vec-in-None.ensures.items ∙ ap (λ (l : Lit). l ∷ c.args.failed ∷ []) c.negated-in-None.ensures)
+
+pub returns-in_ok-vec-in-None-clause-asked : goal.returns-in_ok-vec-in-None-clause-asked
+returns-in_ok-vec-in-None-clause-asked c = both_asked c.args.failed _ (c.in_ok-vec-in-None.ensures.items ∙ ap (λ (l : Lit). l ∷ c.args.failed ∷ []) c.negated-in-None.ensures) _
 
 pub returns-in_ok-vec-in-None-clause-only : goal.returns-in_ok-vec-in-None-clause-only
 returns-in_ok-vec-in-None-clause-only c =

@@ -17,7 +17,7 @@ overflow_sub-place c =
 pub walk-init : goal.walk-init
 walk-init c =
     let here : IsWalked c.args.axioms.now c.args.more.now c.args.trail.now.entries c.args.start c.args.end c.args.left c.args.marks.now c.args.hints.now.items =
-    record { left_is = c.requires.left; some = c.requires.some; refs = c.requires.refs; refuted = c.requires.refuted } in
+    record { left_is = c.requires.left; some = c.requires.some; refs = c.requires.refs; refuted = c.requires.refuted; asked = c.requires.asked } in
     (omega (arith, before_walked _ _ _ c.args.start c.args.end c.args.left _ _ here), walked_on _ _ _ c.args.start c.args.end c.args.left _ _ here)
 
 pub resolve-requires-clause-reason : goal.resolve-requires-clause-reason
@@ -46,7 +46,8 @@ walked c =
           (walked_resolve _ _ _ c.args.start c.walk.place c.walk.left w.in_ok-added-in-Some.added _ _ _ _ _ c.walk.invariant.1 (many c w.if-marks-place.true) refl
           (w.in_ok-added-in-Some.ensures.counted late)
           (w.in_ok-added-in-Some.ensures.refs c.walk.invariant.1.refs)
-          (w.in_ok-added-in-Some.ensures.refuted [] (λ d has. nothing_in _ has) c.walk.invariant.1.refuted))
+          (w.in_ok-added-in-Some.ensures.refuted [] (λ d has. nothing_in _ has) c.walk.invariant.1.refuted)
+          (w.in_ok-added-in-Some.ensures.asked c.walk.invariant.1.asked))
       | then-marks-place+in-None w ↦
           let later = later_mark _ _ _ c.args.start c.walk.place c.walk.left _ _ c.walk.invariant.1 w.if-marks-place.true (many c w.if-marks-place.true) in
           let goes = c.requires.goes_on c.walk.place w.entry_at.result later c.walk.invariant.0 in
