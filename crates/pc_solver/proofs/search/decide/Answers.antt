@@ -19,6 +19,15 @@ pub returns-in-Place-clause-first : goal.returns-in-Place-clause-first
 returns-in-Place-clause-first c =
     first_places c.args.assumed.now c.in-Place.lit c.args.trail.now c.place.new.self c.args.tally.now c.place.new.tally c.place.result c.place.ensures.placed c.in-Place.ensures.2 c.requires.first
 
+pub returns-in_ok-last-in-Failed-clause-ok : goal.returns-in_ok-last-in-Failed-clause-ok
+returns-in_ok-last-in-Failed-clause-ok c =
+    refuted_ok c.args.clauses.now c.refute.new.clauses c.args.trail.now c.args.tally.now c.args.log.now c.refute.new.log c.in_ok-last-in-Failed.last.clause.items c.refute.result c.requires.search c.refute.ensures.same
+    c.refute.ensures.log c.refute.ensures.unsat c.refute.ensures.grows
+
+pub returns-in_ok-last-in-Failed-clause-err : goal.returns-in_ok-last-in-Failed-clause-err
+returns-in_ok-last-in-Failed-clause-err c =
+    refuted_err c.args.clauses.now c.refute.new.clauses c.args.trail.now c.args.tally.now c.args.log.now c.refute.new.log c.refute.result c.requires.search c.refute.ensures.same c.refute.ensures.log c.refute.ensures.err
+
 pub returns-in_ok-last-in-Failed-clause-says : goal.returns-in_ok-last-in-Failed-clause-says
 returns-in_ok-last-in-Failed-clause-says c =
     let over = c.in_ok-last-in-Failed.ensures.only c.args.assumed.now c.in-Failed.ensures.0
