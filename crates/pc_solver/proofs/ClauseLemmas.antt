@@ -1,5 +1,5 @@
 -- Clauses that get lines, and clauses that are added.
-use Rattle.std.proofs.Common.{suc, zero, ◌≡◌, ◌≢◌, ℕ, ◌+◌, ◌<◌, ◌≤◌, Bool, true, false, List, [], ◌∷◌, ◌++◌, length, get_or, set, refl, sym, ap, ◌∙◌, subst, arith, ⊎_elim, Option, Some, None, slice_get, slice_set, cond, is_some, IsSome, Contains}
+use Rattle.std.proofs.Common.{suc, zero, ◌≡◌, ℕ, ◌+◌, ◌<◌, ◌≤◌, Bool, true, false, List, [], ◌∷◌, ◌++◌, length, get_or, set, refl, sym, ap, ◌∙◌, subst, arith, ⊎_elim, Option, Some, None, slice_get, slice_set, cond, is_some, IsSome, Contains}
 use Rattle.std.proofs.lemmas.Bool.{cases_lt, cases_eq}
 use Rattle.std.proofs.lemmas.Option.{get_or_from_slice_get, slice_get_within, slice_get-get_or}
 use Rattle.std.proofs.lemmas.List.{length_push, length-append, length-set, get_or_append_left, get_or_push, get_or-set_same, get_or-set_other, append-nil}
@@ -16,7 +16,7 @@ use Rattle.pc_solver.specs.declared.clauses.Kept.{Kept}
 use Rattle.pc_solver.specs.declared.clauses.Kept.TheVariants.{Block, Learned, Dropped}
 use Rattle.pc_solver.specs.Clauses.{ClausesView, AreClauses, KeepsClauses, blank, number_of, line_of, IsGiven, blocks_among, blocks_of, line_at}
 use Rattle.pc_solver.specs.InLog.{Stands, IsLogOf}
-use Rattle.pc_solver.specs.Search.{IsSearch, KeepsTrail}
+use Rattle.pc_solver.specs.Search.{IsSearch}
 use Rattle.pc_solver.proofs.LogLemmas.{Stands-last, IsLogOf-line}
 
 some_same : {A : Type 0} (x y : A) → ◌≡◌ {A = Option A} (Some x) (Some y) → x ≡ y

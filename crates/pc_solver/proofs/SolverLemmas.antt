@@ -1,12 +1,11 @@
 -- Before and after a search.
-use Rattle.std.proofs.Common.{suc, ◌≡◌, ℕ, ◌+◌, ◌*◌, ◌<◌, ◌≤◌, Bool, true, false, not, List, [], ◌∷◌, ◌++◌, length, get_or, take, count_by, replicate, refl, sym, ap, ◌∙◌, subst, arith, All, AllPairs, ⊎_elim, inl, inr, ◌⊎◌, Option, Some, None, IsSome, IsNone, is_none, IfSome, IfNone, slice_get, Contains, cond, map, eqb, zero}
+use Rattle.std.proofs.Common.{suc, ◌≡◌, ℕ, ◌+◌, ◌*◌, ◌<◌, ◌≤◌, Bool, true, false, not, List, [], ◌∷◌, ◌++◌, length, get_or, take, count_by, replicate, refl, sym, ap, ◌∙◌, subst, arith, AllPairs, ⊎_elim, Option, Some, None, IsNone, is_none, slice_get, Contains, cond, eqb, zero}
 use Rattle.std.proofs.lemmas.Bool.{cases_lt, false≢true, cases_Bool}
 use Rattle.std.proofs.lemmas.List.{length_push, get_or_push, get_or_append_left, get_or-take, length-take, take_more}
 use Rattle.std.proofs.lemmas.Option.{get_or_from_slice_get, slice_get_within, slice_get-get_or}
 use Rattle.pc_lits.specs.declared.literal.Var.{Var}
 use Rattle.pc_lits.specs.declared.literal.Lit.{Lit}
 use Rattle.pc_lits.specs.declared.tally.Tally.{Tally}
-use Rattle.pc_lits.specs.Truth.{lit_true}
 use Rattle.pc_lits.proofs.Sound.{true_literal}
 use Rattle.pc_lits.proofs.Elements.{contains_mapped}
 use Rattle.pc_log.specs.declared.log.StepId.{StepId}
@@ -15,19 +14,19 @@ use Rattle.pc_log.specs.Laws.{DerivationsAreSound}
 use Rattle.pc_propagate.specs.declared.trail.Entry.{Entry}
 use Rattle.pc_propagate.specs.declared.clauses.ClauseRef.{ClauseRef}
 use Rattle.pc_propagate.specs.declared.clauses.ClauseRef.TheVariants.{Axiom, More}
-use Rattle.pc_propagate.specs.Refs.{clause_at, IsRef}
+use Rattle.pc_propagate.specs.Refs.{IsRef}
 use Rattle.pc_propagate.specs.Entries.{literals, HasValue, AreEntries, Differ, starts_level}
 use Rattle.pc_propagate.specs.Levels.{level_at, IsBackTo}
-use Rattle.pc_propagate.specs.Over.{IsOver, AreInRange}
+use Rattle.pc_propagate.specs.Over.{IsOver}
 use Rattle.pc_propagate.specs.TrailView.{TrailView}
 use Rattle.pc_propagate.proofs.TrailLemmas.{count_by-push}
 use Rattle.pc_solver.specs.declared.outcome.Outcome.{Outcome}
 use Rattle.pc_solver.specs.declared.outcome.Outcome.TheVariants.{Sat, Unsat, Spent, Memory}
 use Rattle.pc_solver.specs.Clauses.{ClausesView, blocks_of, IsGiven, line_at}
-use Rattle.pc_solver.specs.InLog.{IsLogOf, LogGrows, Stands, clause_on}
-use Rattle.pc_solver.specs.Search.{IsSearch, AreTrue, AssumesFirst, Works, Advances}
-use Rattle.pc_solver.specs.Answers.{value_in, Meets, EndSays, extra, unmarked}
-use Rattle.pc_solver.specs.Solver.{SolverView, HasLog, AnswerSays, Spends}
+use Rattle.pc_solver.specs.InLog.{IsLogOf}
+use Rattle.pc_solver.specs.Search.{IsSearch, AssumesFirst, Advances}
+use Rattle.pc_solver.specs.Answers.{value_in, EndSays, extra, unmarked}
+use Rattle.pc_solver.specs.Solver.{AnswerSays, Spends}
 use Rattle.pc_solver.proofs.EndLemmas.{found_meets, none_meets, true_lit, is_of}
 use Rattle.std.proofs.lemmas.Bool.{and_parts, eqb-true}
 

@@ -1,7 +1,7 @@
-use Rattle.std.proofs.Common.{◌≡◌, ◌∙◌, ◌<◌, ap, length, [], arith}
+use Rattle.std.proofs.Common.{◌∙◌, ◌<◌, ap, length, []}
 use Rattle.std.proofs.lemmas.Option.{get_or_from_slice_get, slice_get_within}
 use Rattle.pc_propagate.specs.TrailView.{TrailView}
-use Rattle.pc_solver.proofs.SolverLemmas.{attached_more, empty_over}
+use Rattle.pc_solver.proofs.SolverLemmas.{attached_more}
 use Rattle.pc_solver.proofs.solver.attach_all.Goals as goal
 
 pub loop-number-preserved : goal.loop-number-preserved

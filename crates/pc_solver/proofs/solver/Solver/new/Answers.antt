@@ -1,7 +1,7 @@
 use Rattle.std.proofs.Common.{◌∙◌, sym, ap, length, get_or, None}
 use Rattle.pc_propagate.specs.TrailView.{TrailView}
 use Rattle.pc_solver.specs.Clauses.{ClausesView}
-use Rattle.pc_solver.proofs.SolverLemmas.{empty_log, no_lines, empty_over, new_search}
+use Rattle.pc_solver.proofs.SolverLemmas.{empty_log, no_lines, new_search}
 use Rattle.pc_solver.proofs.solver.Solver.new.Goals as goal
 
 pub invariant_of-result : goal.invariant_of-result

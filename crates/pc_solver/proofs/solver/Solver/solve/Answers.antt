@@ -1,4 +1,4 @@
-use Rattle.pc_solver.proofs.SolverLemmas.{no_decisions, back_search, spent, answered}
+use Rattle.pc_solver.proofs.SolverLemmas.{no_decisions, answered}
 use Rattle.pc_solver.proofs.solver.Solver.solve.Goals as goal
 
 pub search_to_an_end-outcome-requires-clause-first : goal.search_to_an_end-outcome-requires-clause-first
