@@ -56,7 +56,17 @@ fn weighed(alloc: Global, text: &str) -> Result<(u64, usize), Fail> {
 fn a_sheet_has_as_many_literals_as_it_weighs(rt: HostRuntime) -> Result<(), Fail> {
     assert_eq!(rt; weighed(rt.alloc(), CHAIN)?, (38, 38));
     assert_eq!(rt; weighed(rt.alloc(), CHAIN_WITH_OR)?, (54, 54));
+    Ok(())
+}
+
+#[test]
+fn two_rules_over_many_blocks_are_grounded(rt: HostRuntime) -> Result<(), Fail> {
     assert_eq!(rt; weighed(rt.alloc(), BLOCKS)?, (33_284, 33_284));
+    Ok(())
+}
+
+#[test]
+fn four_nested_quantifiers_are_grounded(rt: HostRuntime) -> Result<(), Fail> {
     assert_eq!(rt; weighed(rt.alloc(), NESTED)?, (3_649_762, 3_649_762));
     Ok(())
 }
