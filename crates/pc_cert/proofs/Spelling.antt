@@ -1,10 +1,9 @@
 -- What the words of a text are, from the words that were read.
-use Rattle.std.proofs.Common.{◌≡◌, ℕ, ◌≤◌, List, length, Result, Ok, Err, IfOk, sym, ◌∙◌, ap, subst}
+use Rattle.std.proofs.Common.{◌≡◌, ℕ, List, Result, Ok, Err, IfOk, sym, ◌∙◌, ap, subst}
 use Rattle.std.specs.Str.{IsUtf8}
-use Rattle.pc_name.specs.Names.{most_name_bytes}
 use Rattle.pc_token.specs.Token.{split}
 use Rattle.pc_token.proofs.Once.{one_reading}
-use Rattle.pc_formula.specs.Word.{Word, words_of, HasWords}
+use Rattle.pc_formula.specs.Word.{Word, words_of, HasWords, HasShortNames}
 use Rattle.pc_cert.specs.Texts.{SpellsThis}
 
 -- a text splits into one list of words
@@ -15,12 +14,12 @@ one_words text ws vs a b =
     a.words ∙ ap (words_of text) tokens ∙ sym b.words
 
 module _ {A : Type 0} (Is : List Word → A → Type 0) (text line : List ℕ) (same : line ≡ text) where
-  pub spells_this : (ws : List Word) (a : A) → IsUtf8 text → length text ≤ most_name_bytes → HasWords line ws → Is ws a → SpellsThis Is text a
-  spells_this ws a utf8 within has is =
-      record { words = ws; spells = record { utf8 = utf8; within = within; has = subst (λ t. HasWords t ws) same has }; is = is }
+  pub spells_this : (ws : List Word) (a : A) → IsUtf8 text → HasWords line ws → HasShortNames ws → Is ws a → SpellsThis Is text a
+  spells_this ws a utf8 has short is =
+      record { words = ws; spells = record { utf8 = utf8; has = subst (λ t. HasWords t ws) same has; short = short }; is = is }
 
-  pub spells_nothing : ((ws : List Word) → HasWords line ws → ⊥) → (a : A) → SpellsThis Is text a → ⊥
-  spells_nothing none a s = none s.words (subst (λ t. HasWords t s.words) (sym same) s.spells.has)
+  pub spells_nothing : ((ws : List Word) → HasWords line ws → HasShortNames ws → ⊥) → (a : A) → SpellsThis Is text a → ⊥
+  spells_nothing none a s = none s.words (subst (λ t. HasWords t s.words) (sym same) s.spells.has) s.spells.short
 
   pub spells_other : (ws : List Word) → HasWords line ws → ((a : A) → Is ws a → ⊥) → (a : A) → SpellsThis Is text a → ⊥
   spells_other ws has none a s =

@@ -1,7 +1,7 @@
 -- The word of a token.
 use Rattle.std.proofs.Common.{◌≡◌, ℕ, ◌+◌, ◌-◌, ◌<◌, ◌≤◌, Bool, true, false, ◌||◌, List, [], ◌∷◌, length, get_or, drop, Option, Some, None, is_some, MatchOption, arith, refl, sym, ◌∙◌, ap, ap₂, subst, if◌then◌else◌}
 use Rattle.std.proofs.lemmas.Bool.Decides.{nat_tests}
-use Rattle.std.proofs.lemmas.List.{get_or-take, get_or-drop, length-take-le, length-drop}
+use Rattle.std.proofs.lemmas.List.{get_or-take, get_or-drop, length-take, length-take-le, length-drop}
 use Rattle.std.proofs.lemmas.Slice.Eq.{bytes_eq-Decides}
 use Rattle.std.specs.Prelude.{slice_range, codes, bytes_eq}
 use Rattle.std.specs.Char.{is_ascii_digit, digit_value}
@@ -11,7 +11,7 @@ use Rattle.pc_token.specs.declared.token.Kind.{Kind}
 use Rattle.pc_token.specs.declared.token.Kind.TheVariants.{Name, Number}
 use Rattle.pc_token.specs.declared.token.Token.{Token}
 use Rattle.pc_token.specs.Token.{IsNameAt, IsNumberAt, IsOfKind, IsTokenOf}
-use Rattle.pc_formula.specs.Word.{name, reserved, number, sign, name_word, word, word_of, nests, IsSign}
+use Rattle.pc_formula.specs.Word.{Word, name, reserved, number, sign, name_word, word, word_of, words_of, HasWords, IsShort, HasShortNames, nests, IsSign}
 use Rattle.pc_name.specs.declared.sign.Op.{Op}
 use Rattle.pc_name.specs.declared.sign.Op.TheVariants as ops
 use Rattle.pc_name.specs.declared.sign.Sign.{Sign}
@@ -101,14 +101,76 @@ chosen a b text same = ap (λ c. if c then reserved text else name text) same
 pub name_is : (line : List ℕ) (t : Token) (text : List ℕ) → text ≡ slice_range line t.start t.end → t.kind ≡ Name → is_reserved text ≡ false → word_of line t ≡ name text
 name_is line t text slice kind free = ap (λ k. word k (slice_range line t.start t.end)) kind ∙ ap name_word (sym slice) ∙ chosen (is_reserved text) false text free
 
-pub text_is_name : (line : List ℕ) (t : Token) (text : List ℕ) → IsTokenOf line t → length line ≤ most_name_bytes → text ≡ slice_range line t.start t.end → t.kind ≡ Name → is_reserved text ≡ false → IsName text
-text_is_name line t text is within slice kind free =
+pub text_is_name : (line : List ℕ) (t : Token) (text : List ℕ) → IsTokenOf line t → IsShort (word_of line t) → text ≡ slice_range line t.start t.end → t.kind ≡ Name → is_reserved text ≡ false → IsName text
+text_is_name line t text is short slice kind free =
     let named : IsNameAt line t.start t.end = subst (λ k. IsOfKind k line t.start t.end) kind is.kind in
     record {
       characters = subst HasNameCharacters (sym slice) named.name;
       not_reserved = free;
-      within = omega (arith, ap length slice, length-take-le (t.end - t.start) (drop t.start line) (omega (arith, length-drop t.start line, is.within)), is.within);
+      within = subst IsShort (name_is line t text slice kind free) short;
     }
+
+-- ---- names that are short
+
+-- the text of a reserved word is short
+reserved_short : (text : List ℕ) → is_reserved text ≡ true → length text ≤ most_name_bytes
+reserved_short text is = go (bytes_eq text (codes "forall")) (bytes_eq text (codes "exists")) (bytes_eq text (codes "atmost")) (bytes_eq text (codes "atleast")) (bytes_eq-Decides text (codes "forall")).0 (bytes_eq-Decides text (codes "exists")).0 (bytes_eq-Decides text (codes "atmost")).0 (bytes_eq-Decides text (codes "atleast")).0 is
+  where
+    by : (w : List ℕ) → text ≡ w → length w ≤ most_name_bytes → length text ≤ most_name_bytes
+    by w same few = omega (arith, ap length same, few)
+
+    go : (a b c d : Bool) → (a ≡ true → text ≡ codes "forall") → (b ≡ true → text ≡ codes "exists") → (c ≡ true → text ≡ codes "atmost") → (d ≡ true → text ≡ codes "atleast") → a || b || c || d ≡ true → length text ≤ most_name_bytes
+    go true b c d p q r s e = by (codes "forall") (p refl) (omega arith)
+    go false true c d p q r s e = by (codes "exists") (q refl) (omega arith)
+    go false false true d p q r s e = by (codes "atmost") (r refl) (omega arith)
+    go false false false true p q r s e = by (codes "atleast") (s refl) (omega arith)
+    go false false false false p q r s e = absurd (cc)
+
+short_choice : (a : Bool) (text : List ℕ) → length text ≤ most_name_bytes → IsShort (if a then reserved text else name text)
+short_choice true text few = tt
+short_choice false text few = few
+
+few_choice : (a : Bool) (text : List ℕ) → (a ≡ true → length text ≤ most_name_bytes) → IsShort (if a then reserved text else name text) → length text ≤ most_name_bytes
+few_choice true text few short = few refl
+few_choice false text few short = short
+
+other_short : (k : Kind) (text : List ℕ) → (k ≡ Name → ⊥) → IsShort (word k text)
+other_short Name text other = absurd (other refl)
+other_short Number text other = tt
+other_short k text other = tt
+
+pub is_short_sign : (line : List ℕ) (t : Token) → (t.kind ≡ Name → ⊥) → IsShort (word_of line t)
+is_short_sign line t other = other_short t.kind (slice_range line t.start t.end) other
+
+-- the word of a name's token is short where its text is
+pub short_text : (line : List ℕ) (t : Token) (text : List ℕ) → text ≡ slice_range line t.start t.end → t.kind ≡ Name → length text ≤ most_name_bytes → IsShort (word_of line t)
+short_text line t text slice kind few =
+    subst IsShort (sym (ap (λ k. word k (slice_range line t.start t.end)) kind))
+    (short_choice (is_reserved (slice_range line t.start t.end)) (slice_range line t.start t.end) (subst (λ s. length s ≤ most_name_bytes) slice few))
+
+pub text_short : (line : List ℕ) (t : Token) (text : List ℕ) → text ≡ slice_range line t.start t.end → t.kind ≡ Name → IsShort (word_of line t) → length text ≤ most_name_bytes
+text_short line t text slice kind short =
+    subst (λ s. length s ≤ most_name_bytes) (sym slice)
+    (few_choice (is_reserved (slice_range line t.start t.end)) (slice_range line t.start t.end) (reserved_short (slice_range line t.start t.end))
+    (subst IsShort (ap (λ k. word k (slice_range line t.start t.end)) kind) short))
+
+-- no text of a line is longer than the line
+
+range_within : (line : List ℕ) (start end : ℕ) → length (slice_range line start end) ≤ length line
+range_within line start end = omega (arith, length-take (end - start) (drop start line), length-drop start line)
+
+short_word : (k : Kind) (text : List ℕ) → length text ≤ most_name_bytes → IsShort (word k text)
+short_word Name text few = short_choice (is_reserved text) text few
+short_word Number text few = tt
+short_word k text few = tt
+
+pub short_tokens : (line : List ℕ) (ts : List Token) → length line ≤ most_name_bytes → HasShortNames (words_of line ts)
+short_tokens line [] few = tt
+short_tokens line (t ∷ ts) few =
+    (short_word t.kind (slice_range line t.start t.end) (omega (arith, range_within line t.start t.end, few)), short_tokens line ts few)
+
+pub short_line : (line : List ℕ) (ws : List Word) → HasWords line ws → length line ≤ most_name_bytes → HasShortNames ws
+short_line line ws has few = subst HasShortNames (sym has.words) (short_tokens line has.tokens few)
 
 -- ---- the words of quantifiers
 

@@ -1,6 +1,7 @@
 -- The words of a line, as the grammar sees them.
-use Rattle.std.specs.Prelude.{◌≡◌, ℕ, Bool, true, false, ◌||◌, List, ◌∷◌, map, slice_range, count_by, codes, bytes_eq, if◌then◌else◌}
-use Rattle.pc_name.specs.Names.{is_reserved}
+use Rattle.std.specs.Prelude.{◌≡◌, ℕ, ◌≤◌, Bool, true, false, ◌||◌, List, ◌∷◌, length, map, slice_range, count_by, codes, bytes_eq, if◌then◌else◌}
+use Rattle.std.specs.List.{AllByRecursion}
+use Rattle.pc_name.specs.Names.{is_reserved, most_name_bytes}
 use Rattle.pc_token.specs.declared.token.Kind.{Kind}
 use Rattle.pc_token.specs.declared.token.Kind.TheVariants.{Name, Number, Not, Arrow, Open}
 use Rattle.pc_token.specs.declared.token.Token.{Token}
@@ -36,6 +37,15 @@ pub record HasWords (line : List ℕ) (ws : List Word) : Type 0 where
   pub tokens : List Token
   pub splits : Splits line tokens
   pub words : ws ≡ words_of line tokens
+
+-- the word is no name, or one that is no longer than a name may be
+abbrev pub IsShort : Word → Type 0
+IsShort (name text) = length text ≤ most_name_bytes
+IsShort w = Unit {0}
+
+-- each name among the words is no longer than a name may be
+abbrev pub HasShortNames : List Word → Type 0
+HasShortNames ws = AllByRecursion IsShort ws
 
 -- at these words a formula goes a level down
 abbrev pub nests : Word → Bool

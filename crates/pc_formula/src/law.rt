@@ -1,6 +1,7 @@
 // Laws of the grammar.
 ghost use Rattle.std.specs.Prelude.{◌≡◌, ◌<◌, ◌≤◌, ℕ, ℤ, List, length};
-ghost use Rattle.pc_formula.specs.Word.{Word, HasWords, nesting};
+ghost use Rattle.pc_name.specs.Names.{most_name_bytes};
+ghost use Rattle.pc_formula.specs.Word.{Word, HasWords, HasShortNames, nesting};
 ghost use Rattle.pc_formula.specs.Tree.{Value, Cell, Formula};
 ghost use Rattle.pc_formula.specs.Front.{StopsAt};
 ghost use Rattle.pc_formula.specs.Value.{DerivesName, DerivesNumber, DerivesInt, DerivesValue, InParentheses, Arguments, DerivesCell};
@@ -9,12 +10,14 @@ ghost use Rattle.pc_formula.specs.Sized.{IsSized, too_many};
 ghost use Rattle.pc_formula.specs.Nesting.{nesting_of};
 
 /// Words are at most one formula, which nests no deeper than they do, and which has not too many parts where the words
-/// are within the limit. A line has no more words than bytes.
+/// are within the limit. A line has no more words than bytes, and where it is no longer than a name may be, so is each
+/// name in it.
 pub fn one_formula()
     ensures once { (ws : List Word) (f g : Formula) → IsFormula ws f → IsFormula ws g → f ≡ g }
     ensures nested { (ws : List Word) (f : Formula) → IsFormula ws f → nesting_of f ≤ nesting ws }
     ensures sized { (ws : List Word) (f : Formula) → IsFormula ws f → length ws < too_many → IsSized f }
     ensures words { (line : List ℕ) (ws : List Word) → HasWords line ws → length ws ≤ length line }
+    ensures short { (line : List ℕ) (ws : List Word) → HasWords line ws → length line ≤ most_name_bytes → HasShortNames ws }
 {}
 
 /// Words start with at most one number, integer, value and list of names or values in parentheses, and with at most one

@@ -1,6 +1,6 @@
 use crate::{
-    FormulaTree, Refusal, Words, one_formula, one_value, read_cell, read_formula, read_integer,
-    read_name_arguments, read_names, read_number, read_value, read_values,
+    FormulaTree, Refusal, Words, has_short_names, one_formula, one_value, read_cell, read_formula,
+    read_integer, read_name_arguments, read_names, read_number, read_value, read_values,
 };
 use pc_token::tokens;
 use std::alloc::Global;
@@ -133,10 +133,10 @@ const NO_FORMULAS: [&str; 43] = [
 
 // The tree that the whole line is, as its debug text.
 fn tree_text(alloc: Global, line: &str) -> Result<String, Fail> {
-    if line.len() > 4_194_304 {
-        return Ok(String::from_str(alloc, "too long")?);
-    }
     let found = tokens(alloc, line)?;
+    if !has_short_names(line, found.as_slice()) {
+        return Ok(String::from_str(alloc, "long name")?);
+    }
     let mut words = Words::new(line, found.as_slice());
     match read_formula(alloc, &mut words) {
         Ok(tree) if words.is_empty() => Ok(format!(in alloc; "{tree:?}")?),
@@ -232,12 +232,11 @@ const FORMS: [(Reader, &str, &str); 20] = [
 #[test]
 fn reads_numbers_values_cells_and_lists(rt: HostRuntime) -> Result<(), Fail> {
     for (reader, line, want) in FORMS {
-        if line.len() <= 4_194_304 {
-            let found = tokens(rt.alloc(), line)?;
-            let mut words = Words::new(line, found.as_slice());
-            let text = read_text(rt.alloc(), reader, &mut words)?;
-            assert_eq!(rt; text.as_str(), want, "{line}");
-        }
+        let found = tokens(rt.alloc(), line)?;
+        assert!(rt; has_short_names(line, found.as_slice()));
+        let mut words = Words::new(line, found.as_slice());
+        let text = read_text(rt.alloc(), reader, &mut words)?;
+        assert_eq!(rt; text.as_str(), want, "{line}");
     }
     Ok(())
 }
@@ -262,10 +261,10 @@ fn width_of(tree: &FormulaTree) -> usize {
 }
 
 fn width(alloc: Global, line: &str) -> Result<usize, Fail> {
-    if line.len() > 4_194_304 {
+    let found = tokens(alloc, line)?;
+    if !has_short_names(line, found.as_slice()) {
         return Ok(0);
     }
-    let found = tokens(alloc, line)?;
     let mut words = Words::new(line, found.as_slice());
     let tree = read_formula(alloc, &mut words)?;
     Ok(width_of(&tree))
@@ -286,10 +285,9 @@ fn reads_wide_formulas(rt: HostRuntime) -> Result<(), Fail> {
 #[test]
 fn counts_the_words_that_nest(rt: HostRuntime) -> Result<(), Fail> {
     let line = "!(forall x:p . f(x) = 1 -> exists y:p . (y != x) <-> atmost - !=";
-    if line.len() <= 4_194_304 {
-        let found = tokens(rt.alloc(), line)?;
-        let words = Words::new(line, found.as_slice());
-        assert_eq!(rt; words.nesting(), 7);
-    }
+    let found = tokens(rt.alloc(), line)?;
+    assert!(rt; has_short_names(line, found.as_slice()));
+    let words = Words::new(line, found.as_slice());
+    assert_eq!(rt; words.nesting(), 7);
     Ok(())
 }

@@ -2,15 +2,18 @@
 ghost use Rattle.std.specs.Prelude.{◌≡◌, ◌↔◌, ◌<◌, ◌≤◌, ℕ, List, [], ◌∷◌, length, IsTrue, MatchOption};
 ghost use Rattle.std.specs.List.{AllByRecursion};
 ghost use Rattle.std.specs.Str.Parse.{IsNumeral};
-ghost use Rattle.pc_name.specs.Names.{IsName, most_name_bytes};
+ghost use Rattle.pc_name.specs.Names.{IsName};
 ghost use Rattle.pc_token.specs.Token.{IsTokenOf};
-ghost use Rattle.pc_formula.specs.Word.{name, reserved, number, sign, word_of, words_of, nests, nesting, IsSign, TakesSign, NotFirst, HasNoName, HasNoNumber};
+ghost use Rattle.pc_formula.specs.Word.{name, reserved, number, sign, word_of, words_of, IsShort, HasShortNames, nests, nesting, IsSign, TakesSign, NotFirst, HasNoName, HasNoNumber};
 ghost use Rattle.pc_formula.specs.Front.{reach, StopsAt};
 ghost use Rattle.pc_formula.specs.Sign.{op_sign, added_sign, quantifier_word, NotQuantified};
 
 use pc_name::{Op, Sign, is_reserved};
 use pc_token::{Kind, Token};
 use std::marker::Model;
+
+/// The most bytes that a name may have.
+const MOST_NAME_BYTES: usize = 4_194_304;
 
 /// What is left of a line, seen as its words.
 #[derive(Drop)]
@@ -20,24 +23,23 @@ pub struct Words<'a> {
 }
 
 impl<'a> Model for Words<'a> {
-    ghost use Rattle.std.specs.Prelude.{List, length, ◌≤◌};
+    ghost use Rattle.std.specs.Prelude.{List};
     ghost use Rattle.std.specs.List.{AllByRecursion};
-    ghost use Rattle.pc_name.specs.Names.{most_name_bytes};
     ghost use Rattle.pc_token.specs.Token.{IsTokenOf};
-    ghost use Rattle.pc_formula.specs.Word.{Word, words_of};
+    ghost use Rattle.pc_formula.specs.Word.{Word, words_of, HasShortNames};
 
     ghost Value = { List Word };
 
     ghost view = { λ w. words_of w.line.now w.tokens.now };
 
-    ghost invariant = { λ w. AllByRecursion (IsTokenOf w.line.now) w.tokens.now × (length w.line.now ≤ most_name_bytes) };
+    ghost invariant = { λ w. AllByRecursion (IsTokenOf w.line.now) w.tokens.now × HasShortNames (words_of w.line.now w.tokens.now) };
 }
 
 impl<'a> Words<'a> {
     /// The words of these tokens of the line.
     pub fn new(line: &'a str, tokens: &'a [Token]) -> Words<'a>
         requires tokens { AllByRecursion (IsTokenOf line.now) tokens.now }
-        requires within { length line.now ≤ most_name_bytes }
+        requires short { HasShortNames (words_of line.now tokens.now) }
         ensures { result ≡ words_of line.now tokens.now }
     {
         Words { line, tokens }
@@ -141,6 +143,32 @@ pub enum Quantifier {
     Exists,
 }
 
+/// Whether each name among the words of the tokens is no longer than a name may be.
+pub fn has_short_names(line: &str, tokens: &[Token]) -> bool
+    requires { AllByRecursion (IsTokenOf line.now) tokens.now }
+    ensures { IsTrue result ↔ HasShortNames (words_of line.now tokens.now) }
+{
+    let mut rest = tokens;
+    'tokens: while let Some((first, after)) = rest.split_first() {
+        if !is_short(line, *first) {
+            return false;
+        }
+        rest = after;
+    }
+    true
+}
+
+// Whether the token is no name, or one that is no longer than a name may be.
+fn is_short(line: &str, token: Token) -> bool
+    requires { IsTokenOf line.now token }
+    ensures { IsTrue result ↔ IsShort (word_of line.now token) }
+{
+    if token.kind != Kind::Name {
+        return true;
+    }
+    line[token.start..token.end].len() <= MOST_NAME_BYTES
+}
+
 // Whether the token is the sign.
 fn is_sign(token: Token, kind: Kind) -> bool
     requires { IsSign kind }
@@ -158,7 +186,7 @@ fn is_of_kind(token: Token, kind: Kind) -> bool
 // The name that the token is.
 fn name_of<'a>(line: &'a str, token: Token) -> Option<&'a str>
     requires token { IsTokenOf line.now token }
-    requires within { length line.now ≤ most_name_bytes }
+    requires short { IsShort (word_of line.now token) }
     ensures { MatchOption result ((text : List ℕ) → word_of line.now token ≡ name text → ⊥) (λ text. (word_of line.now token ≡ name text.now) × IsName text.now) }
 {
     if token.kind != Kind::Name {

@@ -3,6 +3,7 @@ ghost use Rattle.std.specs.Prelude.{◌≡◌, ◌↔◌, ◌⊎◌, ◌≤◌, 
 ghost use Rattle.std.specs.List.{AllByRecursion};
 ghost use Rattle.pc_name.specs.Names.{most_name_bytes};
 ghost use Rattle.pc_token.specs.Token.{IsTokenOf};
+ghost use Rattle.pc_formula.specs.Word.{words_of, HasShortNames};
 ghost use Rattle.pc_token.specs.Line.{IsBlankLine, IsComment};
 ghost use Rattle.pc_syntax.specs.Told.{AreTokensTold, IsFormTold, IsLineTold};
 
@@ -56,6 +57,7 @@ pub fn is_nothing(line: &str) -> bool
 pub fn tokens_within(alloc: Global, line: &str) -> Result<Vec<Token>, LineFault>
     requires { length line.now ≤ most_name_bytes }
     ensures each { IfOk result (λ found. AllByRecursion (IsTokenOf line.now) found.items) }
+    ensures short { IfOk result (λ found. HasShortNames (words_of line.now found.items)) }
     ensures told { AreTokensTold line.now result }
 {
     let found = match tokens(alloc, line) {

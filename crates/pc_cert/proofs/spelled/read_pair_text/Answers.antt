@@ -1,7 +1,7 @@
 use Rattle.std.proofs.Common.{◌≡◌, Err, sym, ◌∙◌, ap, subst}
 use Rattle.std.proofs.lemmas.Result.{err_from_is_err_and}
 use Rattle.pc_formula.specs.declared.refusal.Refusal.TheVariants.{Syntax}
-use Rattle.pc_formula.specs.Word.{words_of, HasWords}
+use Rattle.pc_formula.specs.Word.{words_of, HasWords, HasShortNames}
 use Rattle.pc_cert.specs.Texts.{IsWholePair}
 use Rattle.pc_token.specs.declared.token.Kind.TheVariants.{Equal}
 use Rattle.pc_cert.specs.Trees.{pair_of}
@@ -21,7 +21,8 @@ pub returns-clause-told : goal.returns-clause-told
 returns-clause-told c =
     let words : c.new-words.result ≡ words_of c.in-Some.line.now c.in_ok-found.found.items = c.new-words.ensures ∙ ap (words_of c.in-Some.line.now) c.as_slice.ensures.value in
     let told = subst (λ ws. HasWords c.in-Some.line.now ws) (sym words) c.in_ok-found.ensures.told in
-    if_ok_more c.whole_pair.result _ _ (λ x is. spells_this (IsWholePair Equal) c.args.text.now c.in-Some.line.now c.in-Some.ensures.0 c.new-words.result (pair_of x) c.in-Some.ensures.1 c.in-Some.ensures.2 told is) c.whole_pair.ensures.told
+    let short = subst HasShortNames (sym words) c.in_ok-found.ensures.short in
+    if_ok_more c.whole_pair.result _ _ (λ x is. spells_this (IsWholePair Equal) c.args.text.now c.in-Some.line.now c.in-Some.ensures.0 c.new-words.result (pair_of x) c.in-Some.ensures.1 told short is) c.whole_pair.ensures.told
 
 pub returns-clause-none : goal.returns-clause-none
 returns-clause-none c = λ e x s.

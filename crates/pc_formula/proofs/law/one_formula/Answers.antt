@@ -3,6 +3,7 @@ use Rattle.pc_formula.specs.Grammar.{whole}
 use Rattle.pc_formula.proofs.Sizes.{sized, words_within}
 use Rattle.pc_formula.proofs.Unambiguous.{one_tree}
 use Rattle.pc_formula.proofs.Nests as nests
+use Rattle.pc_formula.proofs.TokenWords.{short_line}
 use Rattle.pc_formula.proofs.law.one_formula.Goals as goal
 
 pub returns-clause-once : goal.returns-clause-once
@@ -16,3 +17,6 @@ returns-clause-sized c = λ ws f is few. sized whole ws f [] is few
 
 pub returns-clause-words : goal.returns-clause-words
 returns-clause-words c = words_within
+
+pub returns-clause-short : goal.returns-clause-short
+returns-clause-short c = short_line

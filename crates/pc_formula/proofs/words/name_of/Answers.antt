@@ -13,4 +13,4 @@ pub returns : goal.returns
 returns c =
     let kind : c.args.token.kind ≡ Name = search rules in
     let free = sym c.is_reserved.ensures ∙ c.if-is_reserved.false in
-    (name_is c.args.line.now c.args.token _ c.range-text.ensures.value kind free, text_is_name c.args.line.now c.args.token _ c.requires.token c.requires.within c.range-text.ensures.value kind free)
+    (name_is c.args.line.now c.args.token _ c.range-text.ensures.value kind free, text_is_name c.args.line.now c.args.token _ c.requires.token c.requires.short c.range-text.ensures.value kind free)
