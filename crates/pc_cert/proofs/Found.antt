@@ -7,10 +7,10 @@ use Rattle.pc_sheet.specs.declared.ids.CellId.{CellId}
 use Rattle.pc_sheet.specs.declared.ids.ValueId.{ValueId}
 use Rattle.pc_sheet.specs.declared.ids.Entry.{Entry}
 use Rattle.pc_elaborate.specs.declared.fault.SortFault.{SortFault}
-use Rattle.pc_elaborate.specs.Elaboration.{IsCell, IsValueOf}
+use Rattle.pc_elaborate.specs.Elaboration.{IsCell, IsValueOf, IsCellNamed}
 use Rattle.pc_elaborate.specs.FormulaFaults.{IsCellFault, IsValueFault}
 use Rattle.pc_elaborate.specs.Outcome.{IsOutcome, Tells, sort_of_cell}
-use Rattle.pc_cert.specs.Meaning.{IsCellNamed, IsEntryNamed, AreValuesNamed}
+use Rattle.pc_cert.specs.Meaning.{IsPairNamed, AreValuesNamed}
 
 no_error : {A E : Type 0} (r : Result A E) (a : A) (e : E) → r ≡ Ok a → r ≡ Err e → ⊥
 no_error r a e p q = cc
@@ -77,9 +77,9 @@ module _ (u : Universe) where
     pub value_never : (v : Value) (q : Result ValueId SortFault) (e : SortFault) → TellsValue id v q → q ≡ Err e → (other : CellId) (s : SortId) (x : ValueId) → IsCell u c other s → IsValueOf u s v x → ⊥
     value_never v q e tells_value fails other s x is value = no_error q x e (tells_value.only x (of_found v other s x is value)) fails
 
-    pub entry_is : (v : Value) (q : Result ValueId SortFault) (x : ValueId) → TellsValue id v q → q ≡ Ok x → (e : Entry) → (◌≡◌ {A = Option Entry} (Some (record { cell = id; value = x })) (Some e)) ↔ IsEntryNamed u (record { cell = c; value = v }) e
+    pub entry_is : (v : Value) (q : Result ValueId SortFault) (x : ValueId) → TellsValue id v q → q ≡ Ok x → (e : Entry) → (◌≡◌ {A = Option Entry} (Some (record { cell = id; value = x })) (Some e)) ↔ IsPairNamed u (record { cell = c; value = v }) e
     entry_is v q x tells_value known e = (
-      λ same. subst (λ o. IsEntryNamed u (record { cell = c; value = v }) o) (same_some _ e same)
+      λ same. subst (λ o. IsPairNamed u (record { cell = c; value = v }) o) (same_some _ e same)
           (record { sort = sort_of_cell u id; cell = told _ (IsCellFault u c) r id found tells.told; value = told _ (IsValueFault u (sort_of_cell u id) v) q x known tells_value.told }),
       λ is. ap Some (same_entry id x e (the_cell e.cell is.sort is.cell) (same_ok q x e.value known (tells_value.only e.value (of_found v e.cell is.sort e.value is.cell is.value)))),
     )

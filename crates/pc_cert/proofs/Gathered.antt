@@ -9,7 +9,7 @@ use Rattle.pc_sheet.specs.Sheet.{Sheet}
 use Rattle.pc_sheet.specs.declared.ids.Entry.{Entry}
 use Rattle.pc_accept.specs.Literals.{Symbol}
 use Rattle.pc_cert.specs.Written.{nothing, heading, claims, claims_inconsistent, uses, assigns, derives, ends, WrittenPair, WrittenPart, derived, SaidLine}
-use Rattle.pc_cert.specs.Meaning.{IsEntryNamed, IsLineNamed}
+use Rattle.pc_cert.specs.Meaning.{IsPairNamed, IsLineNamed}
 use Rattle.pc_cert.specs.Text.{claim_in, uses_from, values_from, after_from, parts_from, has_entry}
 use Rattle.pc_cert.specs.Views.{claim_of, said_of, literal_of, place_of, part_of, numbered_part_of, places_in, places_of, AppearInOrder}
 use Rattle.pc_cert.specs.Numbered.{Grows, IsKept, IsPartTaken}
@@ -132,14 +132,14 @@ inconsistent_more ls old number g at c claim is e =
     gathered ls old new number g at claims_inconsistent (claimed ls old new number g at claims_inconsistent c (ap Some (sym is)) e) (nothing_more _) (nothing_more _) refl (nothing_more _) g.appear g.kept
 
 module _ (sheet : Sheet) (p : WrittenPair) (ls : List SaidLine) (old : Draft) (number : ℕ) where
-  pub target_adds : IsGathered ls old → number ≡ length ls + 1 → (holds : Bool) (e : Entry) → ((x : Entry) → (Some e ≡ Some x) ↔ IsEntryNamed sheet.universe p x) → (c : Claim) (claim : Option Claim)
+  pub target_adds : IsGathered ls old → number ≡ length ls + 1 → (holds : Bool) (e : Entry) → ((x : Entry) → (Some e ≡ Some x) ↔ IsPairNamed sheet.universe p x) → (c : Claim) (claim : Option Claim)
       → claim_of c ≡ accepts.implied (record { cell = e.cell; value = e.value; holds = holds }) → claim ≡ option_or old.claim (Some c)
       → Adds sheet (claims p holds) ls (record { claim = claim; uses = old.uses; values = old.values; after = number + 1; table = old.table; lines = old.lines })
   target_adds g at holds e exact c claim is same =
       let new : Draft = record { claim = claim; uses = old.uses; values = old.values; after = number + 1; table = old.table; lines = old.lines } in
       record { line = claims e holds; named = ((exact e).0 refl, refl); gathered = gathered ls old new number g at (claims e holds) (claimed ls old new number g at (claims e holds) c (ap Some (sym is)) same) (nothing_more _) (nothing_more _) refl (nothing_more _) g.appear g.kept }
 
-module _ (sheet : Sheet) (p : WrittenPair) (ls : List SaidLine) (old : Draft) (number : ℕ) (e : Entry) (exact : (x : Entry) → (Some e ≡ Some x) ↔ IsEntryNamed sheet.universe p x) (more : Vec Said Global) where
+module _ (sheet : Sheet) (p : WrittenPair) (ls : List SaidLine) (old : Draft) (number : ℕ) (e : Entry) (exact : (x : Entry) → (Some e ≡ Some x) ↔ IsPairNamed sheet.universe p x) (more : Vec Said Global) where
   pub use_adds : IsGathered ls old → number ≡ length ls + 1 → more.items ≡ old.uses.items ++ (record { line = number; entry = e }) ∷ []
       → Adds sheet (uses p) ls (record { claim = old.claim; uses = more; values = old.values; after = number + 1; table = old.table; lines = old.lines })
   use_adds g at push =
@@ -217,8 +217,8 @@ part_adds sheet w place ls old number table q more g at kept took push =
 
 -- ---- what stands for nothing
 
-module _ (sheet : Sheet) (p : WrittenPair) (exact : (x : Entry) → (◌≡◌ {A = Option Entry} None (Some x)) ↔ IsEntryNamed sheet.universe p x) where
-  never : (x : Entry) → IsEntryNamed sheet.universe p x → ⊥
+module _ (sheet : Sheet) (p : WrittenPair) (exact : (x : Entry) → (◌≡◌ {A = Option Entry} None (Some x)) ↔ IsPairNamed sheet.universe p x) where
+  never : (x : Entry) → IsPairNamed sheet.universe p x → ⊥
   never x is = let e = (exact x).1 is in absurd (cc)
 
   pub no_target : (holds : Bool) → (l : SaidLine) → IsLineNamed sheet (claims p holds) l → ⊥

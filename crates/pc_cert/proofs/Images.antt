@@ -5,8 +5,9 @@ use Rattle.pc_formula.specs.Tree.{Cell}
 use Rattle.pc_sheet.specs.Sheet.{Sheet}
 use Rattle.pc_sheet.specs.declared.ids.CellId.{CellId}
 use Rattle.pc_accept.specs.Axioms.{Axiom, some_value, not_both, true_rule, parts, by_reads}
+use Rattle.pc_elaborate.specs.Elaboration.{IsCellNamed}
 use Rattle.pc_cert.specs.Written.{taken, WrittenPart, written_some}
-use Rattle.pc_cert.specs.Meaning.{IsCellNamed, IsPartNamed}
+use Rattle.pc_cert.specs.Meaning.{IsPartNamed}
 
 same_some : {A : Type 0} (a b : A) → Some a ≡ Some b → a ≡ b
 same_some a b e = cc

@@ -9,7 +9,7 @@ use Rattle.pc_sheet.specs.declared.ids.Entry.{Entry}
 use Rattle.pc_lits.specs.declared.literal.Lit.{Lit}
 use Rattle.pc_accept.specs.Literals.{Symbol, pair, node, Literal}
 use Rattle.pc_cert.specs.Keys.{IsNumberedAs}
-use Rattle.pc_cert.specs.Meaning.{IsEntryNamed, IsSymbolNamed, IsLiteralNamed, AreNamed}
+use Rattle.pc_cert.specs.Meaning.{IsPairNamed, IsSymbolNamed, IsLiteralNamed, AreNamed}
 use Rattle.pc_cert.specs.Numbered.{Grows, AreNumbered}
 use Rattle.pc_cert.specs.Trees as tree
 use Rattle.pc_cert.specs.Views.{symbol_of, symbol_at, literal_of, place_of, AppearInOrder}
@@ -22,12 +22,12 @@ use Rattle.pc_cert.proofs.Images.{image}
 abbrev pub pair_by : Entry → Symbol
 pair_by e = pair e.cell e.value
 
-of_pair : (sheet : Sheet) (p : WrittenPair) (s : Symbol) → IsSymbolNamed sheet (written_pair p) s → (e : Entry) × (pair_by e ≡ s) × IsEntryNamed sheet.universe p e
+of_pair : (sheet : Sheet) (p : WrittenPair) (s : Symbol) → IsSymbolNamed sheet (written_pair p) s → (e : Entry) × (pair_by e ≡ s) × IsPairNamed sheet.universe p e
 of_pair sheet p (pair c v) is = (record { cell = c; value = v }, refl, is)
 of_pair sheet p (node r steps) is = absurd is
 
-pub pair_is : (sheet : Sheet) (p : WrittenPair) (o : Option Entry) → ((e : Entry) → (o ≡ Some e) ↔ IsEntryNamed sheet.universe p e) → (s : Symbol) → (option_map pair_by o ≡ Some s) ↔ IsSymbolNamed sheet (written_pair p) s
-pair_is sheet p o exact = image pair_by (IsEntryNamed sheet.universe p) (IsSymbolNamed sheet (written_pair p)) (λ e is. is) (of_pair sheet p) o exact
+pub pair_is : (sheet : Sheet) (p : WrittenPair) (o : Option Entry) → ((e : Entry) → (o ≡ Some e) ↔ IsPairNamed sheet.universe p e) → (s : Symbol) → (option_map pair_by o ≡ Some s) ↔ IsSymbolNamed sheet (written_pair p) s
+pair_is sheet p o exact = image pair_by (IsPairNamed sheet.universe p) (IsSymbolNamed sheet (written_pair p)) (λ e is. is) (of_pair sheet p) o exact
 
 -- ---- one symbol
 

@@ -5,7 +5,8 @@ ghost use Rattle.pc_sheet.specs.WellFormed.{IsWellFormed};
 ghost use Rattle.pc_sheet.specs.declared.ids.Entry.{Entry};
 ghost use Rattle.pc_sheet.specs.declared.ids.CellId.{CellId};
 ghost use Rattle.pc_sheet.specs.declared.ids.ValueId.{ValueId};
-ghost use Rattle.pc_cert.specs.Meaning.{IsCellNamed, IsEntryNamed, AreValuesNamed, IsRuleNamed};
+ghost use Rattle.pc_elaborate.specs.Elaboration.{IsCellNamed};
+ghost use Rattle.pc_cert.specs.Meaning.{IsPairNamed, AreValuesNamed, IsRuleNamed};
 ghost use Rattle.pc_cert.specs.Trees.{pair_of};
 
 use crate::tree::PairTree;
@@ -33,7 +34,7 @@ pub fn named_cell(book: &Book, cell: &CellTree) -> Option<CellId>
 
 /// The entry that is named.
 pub fn named_entry(book: &Book, pair: &PairTree) -> Option<Entry>
-    ensures { (e : Entry) → (result ≡ Some e) ↔ IsEntryNamed book.now.universe (pair_of pair.now) e }
+    ensures { (e : Entry) → (result ≡ Some e) ↔ IsPairNamed book.now.universe (pair_of pair.now) e }
 {
     let Ok(cell) = find_cell(book, &pair.cell) else {
         return None;

@@ -9,9 +9,9 @@ use Rattle.pc_sheet.specs.declared.ids.CellId.{CellId}
 use Rattle.pc_sheet.specs.declared.ids.Entry.{Entry}
 use Rattle.pc_logic.specs.Edits.{entered_to}
 use Rattle.pc_logic.proofs.EntryLemmas.{entered_new}
-use Rattle.pc_elaborate.specs.Elaboration.{IsCell}
+use Rattle.pc_elaborate.specs.Elaboration.{IsCell, IsEntryNamed}
 use Rattle.pc_syntax.specs.Tree.{Declared}
-use Rattle.pc_sortcheck.specs.Declaring.{Declares, DeclareAll, IsEntryNamed}
+use Rattle.pc_sortcheck.specs.Declaring.{Declares, DeclareAll}
 use Rattle.pc_writer.specs.Spelling.{application_of, family_of, name_of, sort_of}
 use Rattle.pc_writer.proofs.CellLemmas.{cell_is, cell_is_application, arguments_within, entered_cell, entered_value}
 use Rattle.pc_read_back.specs.Declarations.{written_cell, written_value, entry_declaration}

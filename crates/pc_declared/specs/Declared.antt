@@ -7,7 +7,7 @@ use Rattle.pc_syntax.specs.Tree.{Declared}
 use Rattle.pc_syntax.specs.Sheet.{IsSheet}
 use Rattle.pc_writer.specs.SheetText.{sheet_text}
 use Rattle.pc_elaborate.specs.Elaboration.{IsStatement}
-use Rattle.pc_sortcheck.specs.Declaring.{DeclareAll, IsSheetOf}
+use Rattle.pc_sortcheck.specs.Declaring.{DeclareAll, IsSheetOf, ReadsAs}
 use Rattle.pc_read_back.specs.Tree.{statement_tree}
 use Rattle.pc_read_back.specs.Declarations.{universe_declarations, rule_declaration, entry_declaration, declarations_of}
 
@@ -46,12 +46,6 @@ EntriesAreDeclared =
 abbrev pub DeclarationsGiveTheSheet : Type 0
 DeclarationsGiveTheSheet = (s : Sheet) → IsWellFormed s → (ds : List (ℕ × Declared)) → map declared_in ds ≡ declarations_of s → IsSheetOf ds s
 
--- the text is a sheet whose declarations, one after another, give this
-pub record ReadsAsSheet (text : List ℕ) (sheet : Sheet) : Type 0 where
-  pub declared : List (ℕ × Declared)
-  pub is : IsSheet text declared
-  pub gives : IsSheetOf declared sheet
-
 -- the canonical text of each book reads as that book
 abbrev pub TextsReadBack : Type 0
-TextsReadBack = (s : Sheet) → IsWellFormed s → ReadsAsSheet (sheet_text s) s
+TextsReadBack = (s : Sheet) → IsWellFormed s → ReadsAs (sheet_text s) s

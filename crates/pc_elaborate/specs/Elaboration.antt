@@ -13,6 +13,7 @@ use Rattle.pc_sheet.specs.declared.ids.TableId.{TableId}
 use Rattle.pc_sheet.specs.declared.ids.FamilyId.{FamilyId}
 use Rattle.pc_sheet.specs.declared.ids.CellId.{CellId}
 use Rattle.pc_sheet.specs.declared.ids.ValueId.{ValueId}
+use Rattle.pc_sheet.specs.declared.ids.Entry.{Entry}
 
 -- ---- names
 
@@ -63,6 +64,16 @@ pub record IsCell (u : Universe) (written : tree.Cell) (c : CellId) (s : SortId)
   pub given : AreValuesOf u sorts written.args arguments
   pub number : c.0 ≡ cell_number u family arguments
   pub gives : GivesValuesOf u family s
+
+-- the cell is that of the universe, of whatever sort
+abbrev pub IsCellNamed : Universe → tree.Cell → CellId → Type 0
+IsCellNamed u written c = (s : SortId) × IsCell u written c s
+
+-- the entry of a cell and a value of its sort
+pub record IsEntryNamed (u : Universe) (c : tree.Cell) (v : tree.Value) (e : Entry) : Type 0 where
+  pub sort : SortId
+  pub cell : IsCell u c e.cell sort
+  pub value : IsValueOf u sort v e.value
 
 -- ---- items
 

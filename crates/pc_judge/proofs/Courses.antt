@@ -15,12 +15,13 @@ use Rattle.pc_run.specs.Refusals.{sheet_refusal_text}
 use Rattle.pc_run.specs.Answer.{printed}
 use Rattle.pc_run.specs.Transcript.{too_long_text}
 use Rattle.pc_run.specs.Run.{AppendsPart, IsWritten, Tells, memory_text, sheet_memory_text}
-use Rattle.pc_load.specs.Outcome.{ReadsAs, HasFault}
+use Rattle.pc_load.specs.Outcome.{HasFault}
 use Rattle.pc_judge.specs.declared.told.Told.{Told}
 use Rattle.pc_judge.specs.declared.told.Told.TheVariants as told
 use Rattle.pc_judge.specs.Judged.{IsJudged, told_text, status_of, status_of_verdict}
 use Rattle.pc_judge.specs.Input.{TakesAll, TakesSome, PassesLimit}
 use Rattle.pc_judge.specs.Checked.{AsksOnce, TakesFile, StopsAtSheet, StopsAtCertificate, LacksMemoryForSheet, HasLongSheet, RefusesSheet, LacksMemory, HasLongCertificate, Judges, CheckedFor, Checked}
+use Rattle.pc_sortcheck.specs.Declaring.{ReadsAs}
 
 -- a front of a text that has no other piece
 cut_short : {sink sink' : Option (List ℕ)} {text : List ℕ} → AppendsFront sink sink' text → AppendsPart sink sink' (printed [] text)

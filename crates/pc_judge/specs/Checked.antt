@@ -12,10 +12,11 @@ use Rattle.pc_run.specs.Refusals.{sheet_refusal_text}
 use Rattle.pc_run.specs.Answer.{Printing, printed}
 use Rattle.pc_run.specs.Transcript.{too_long_text}
 use Rattle.pc_run.specs.Run.{IsWritten, memory_text, sheet_memory_text}
-use Rattle.pc_load.specs.Outcome.{ReadsAs, HasFault}
+use Rattle.pc_load.specs.Outcome.{HasFault}
 use Rattle.pc_judge.specs.declared.told.Told.{Told}
 use Rattle.pc_judge.specs.Judged.{IsJudged, told_text, status_of}
 use Rattle.pc_judge.specs.Input.{TakesAll, TakesSome, PassesLimit}
+use Rattle.pc_sortcheck.specs.Declaring.{ReadsAs}
 
 -- ---- the shelf
 

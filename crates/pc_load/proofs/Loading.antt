@@ -8,12 +8,13 @@ use Rattle.pc_syntax.specs.Told.{IsSheetTold}
 use Rattle.pc_sheet.specs.Sheet.{Sheet}
 use Rattle.pc_elaborate.specs.declared.fault.SortFault.{SortFault}
 use Rattle.pc_elaborate.specs.Told.{IsFaultOf}
+use Rattle.pc_sortcheck.specs.Declaring.{ReadsAs}
 use Rattle.pc_sortcheck.specs.DeclarationFaults.{IsSheetFault}
 use Rattle.pc_run.specs.declared.machine.LoadFault.{LoadFault}
 use Rattle.pc_run.specs.declared.machine.LoadFault.TheVariants as load_fault
 use Rattle.pc_run.specs.declared.refusal.SheetRefusal.{SheetRefusal}
 use Rattle.pc_run.specs.Answer.{RefusesBy}
-use Rattle.pc_load.specs.Outcome.{ReadsAs, HasFault, IsFaultAt, Outcome, reads, fails}
+use Rattle.pc_load.specs.Outcome.{HasFault, IsFaultAt, Outcome, reads, fails}
 use Rattle.pc_load.specs.Laws.{TextsHaveOneOutcome}
 use Rattle.pc_load.specs.Loading.{load_fault_of, IsSortFaultTold}
 use Rattle.pc_load.proofs.Telling.{fails as of_refusal, is_fault}

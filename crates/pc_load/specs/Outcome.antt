@@ -7,18 +7,12 @@ use Rattle.pc_syntax.specs.Fault.{not_utf8, too_deep, syntax, wrong_version}
 use Rattle.pc_syntax.specs.Sheet.{IsSheet, IsSheetReading, fault_at, no_begin}
 use Rattle.pc_sheet.specs.Sheet.{Sheet}
 use Rattle.pc_elaborate.specs.declared.fault.SortFault.{SortFault}
-use Rattle.pc_sortcheck.specs.Declaring.{IsSheetOf}
+use Rattle.pc_sortcheck.specs.Declaring.{ReadsAs}
 use Rattle.pc_sortcheck.specs.DeclarationFaults.{IsSheetFault}
 use Rattle.pc_run.specs.declared.refusal.SheetRefusal.{SheetRefusal}
 use Rattle.pc_run.specs.declared.refusal.Refusal.{Refusal}
 use Rattle.pc_run.specs.declared.refusal.Refusal.TheVariants.{NotUtf8, Syntax, NoBegin, WrongVersion, TooDeep}
 use Rattle.pc_load.specs.Refusals.{IsRefusalFor}
-
--- the text is declarations, and they give this sheet
-pub record ReadsAs (text : List ℕ) (sheet : Sheet) : Type 0 where
-  pub declared : List (ℕ × Declared)
-  pub is : IsSheet text declared
-  pub gives : IsSheetOf declared sheet
 
 -- the text is declarations, and that of this line is the first with a fault of names or sorts
 pub record HasSortFault (text : List ℕ) (line : ℕ) (e : SortFault) : Type 0 where

@@ -2,7 +2,8 @@
 ghost use Rattle.std.specs.Prelude.{◌≤◌, length, MatchResult};
 ghost use Rattle.pc_sheet.specs.Sheet.{Sheet};
 ghost use Rattle.pc_run.specs.Answer.{RefusesBy};
-ghost use Rattle.pc_load.specs.Outcome.{HasFault, ReadsAs};
+ghost use Rattle.pc_load.specs.Outcome.{HasFault};
+ghost use Rattle.pc_sortcheck.specs.Declaring.{ReadsAs};
 
 use crate::law::texts_have_one_outcome;
 use crate::refusal::{refuse_sort, refuse_text};

@@ -13,9 +13,9 @@ use Rattle.pc_sheet.specs.declared.ids.CellId.{CellId}
 use Rattle.pc_sheet.specs.declared.ids.FamilyId.{FamilyId}
 use Rattle.pc_sheet.specs.declared.ids.ValueId.{ValueId}
 use Rattle.pc_sheet.specs.declared.ids.Entry.{Entry}
-use Rattle.pc_elaborate.specs.Elaboration.{IsValueOf, IsValueAmong, AreValuesOf, TakesArguments, IsCell}
+use Rattle.pc_elaborate.specs.Elaboration.{IsValueOf, IsValueAmong, AreValuesOf, TakesArguments, IsCell, IsCellNamed}
 use Rattle.pc_cert.specs.Written.{WrittenPair}
-use Rattle.pc_cert.specs.Meaning.{IsCellNamed, IsEntryNamed, AreNamed}
+use Rattle.pc_cert.specs.Meaning.{IsPairNamed, AreNamed}
 
 -- ---- what a list has at a place
 
@@ -87,10 +87,10 @@ module _ (u : Universe) where
     pub entry_of : (w : tree.Cell) (x : tree.Value) (s : SortId) (e : Entry) → IsCell u w e.cell s → IsValueOf u s x e.value → IsEntryOf u e
     entry_of w x s e cell value = subst (λ o. IsSomeAnd o (λ n. e.value.0 < n)) (sym (cell_size w e.cell s cell)) (value_below s x e.value value)
 
-    pub entry_named : (p : WrittenPair) (e : Entry) → IsEntryNamed u p e → IsEntryOf u e
+    pub entry_named : (p : WrittenPair) (e : Entry) → IsPairNamed u p e → IsEntryOf u e
     entry_named p e h = entry_of p.cell p.value h.sort e h.cell h.value
 
-    pub entries_named : (ps : List WrittenPair) (es : List Entry) → AreNamed (IsEntryNamed u) ps es → AllByRecursion (IsEntryOf u) es
+    pub entries_named : (ps : List WrittenPair) (es : List Entry) → AreNamed (IsPairNamed u) ps es → AllByRecursion (IsEntryOf u) es
     entries_named [] [] h = tt
     entries_named [] (e ∷ es) h = absurd h
     entries_named (p ∷ ps) [] h = tt

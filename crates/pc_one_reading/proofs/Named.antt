@@ -11,10 +11,10 @@ use Rattle.pc_sheet.specs.declared.ids.ValueId.{ValueId}
 use Rattle.pc_sheet.specs.declared.ids.Entry.{Entry}
 use Rattle.pc_accept.specs.Literals.{Symbol, pair, node, Literal}
 use Rattle.pc_accept.specs.Axioms.{some_value, not_both, true_rule, parts, by_reads}
-use Rattle.pc_elaborate.specs.Elaboration.{IsCell, IsValueOf}
+use Rattle.pc_elaborate.specs.Elaboration.{IsCell, IsValueOf, IsCellNamed}
 use Rattle.pc_elaborate.specs.Laws.{HaveOneOutcome}
 use Rattle.pc_cert.specs.Written.{nothing, heading, claims, claims_inconsistent, uses, assigns, derives, ends, WrittenPair, WrittenPath, WrittenSymbol, written_pair, written_node, WrittenLiteral, WrittenPart, written_some, written_one, written_rule, written_node_clause, written_atom, written_step, WrittenLine, Part, taken, derived, SaidLine}
-use Rattle.pc_cert.specs.Meaning.{IsCellNamed, IsEntryNamed, AreValuesNamed, IsRuleNamed, IsNodeNamed, IsSymbolNamed, IsLiteralNamed, AreNamed, IsPartNamed, IsLineNamed}
+use Rattle.pc_cert.specs.Meaning.{IsPairNamed, AreValuesNamed, IsRuleNamed, IsNodeNamed, IsSymbolNamed, IsLiteralNamed, AreNamed, IsPartNamed, IsLineNamed}
 
 -- ---- lists
 
@@ -72,7 +72,7 @@ module _ (sheet : Sheet) (outcomes : HaveOneOutcome sheet.universe) (different :
   cell_once : (c : Cell) (i j : CellId) → IsCellNamed sheet.universe c i → IsCellNamed sheet.universe c j → i ≡ j
   cell_once c i j a b = (cells_once c i j a.0 b.0 a.1 b.1).0
 
-  entry_once : (p : WrittenPair) (d e : Entry) → IsEntryNamed sheet.universe p d → IsEntryNamed sheet.universe p e → d ≡ e
+  entry_once : (p : WrittenPair) (d e : Entry) → IsPairNamed sheet.universe p d → IsPairNamed sheet.universe p e → d ≡ e
   entry_once p d e a b =
       let cells = cells_once p.cell d.cell e.cell a.sort b.sort a.cell b.cell in
       ap₂ entry cells.0 (value_once p.value a.sort b.sort d.value e.value cells.1 a.value b.value)
@@ -109,7 +109,7 @@ module _ (sheet : Sheet) (outcomes : HaveOneOutcome sheet.universe) (different :
     a_cell_twice : (c : Cell) (v w : Value) (i : CellId) (x y : ValueId) → AreValuesNamed sheet.universe c v w i x y → NamedPart (written_one c v w) (taken (not_both i x y))
     a_rule : (n : List ℕ) (r : ℕ) → IsRuleNamed sheet n r → NamedPart (written_rule n) (taken (true_rule r))
     a_node : (p : WrittenPath) (i : ℕ) (r : ℕ) (steps : List ℕ) (j : ℕ) → IsNodeNamed sheet p r steps → j ≡ i → NamedPart (written_node_clause p i) (taken (parts r steps j))
-    an_atom : (p : WrittenPath) (reads : List WrittenPair) (r : ℕ) (steps : List ℕ) (es : List Entry) → IsNodeNamed sheet p r steps → AreNamed (IsEntryNamed sheet.universe) reads es → NamedPart (written_atom p reads) (taken (by_reads r steps es))
+    an_atom : (p : WrittenPath) (reads : List WrittenPair) (r : ℕ) (steps : List ℕ) (es : List Entry) → IsNodeNamed sheet p r steps → AreNamed (IsPairNamed sheet.universe) reads es → NamedPart (written_atom p reads) (taken (by_reads r steps es))
     a_step : (ls : List WrittenLiteral) (hints : List ℕ) (clause : List Literal) (numbers : List ℕ) → AreNamed (IsLiteralNamed sheet) ls clause → numbers ≡ hints → NamedPart (written_step ls hints) (derived clause numbers)
 
   named_part : (w : WrittenPart) (p : Part) → IsPartNamed sheet w p → NamedPart w p
@@ -130,7 +130,7 @@ module _ (sheet : Sheet) (outcomes : HaveOneOutcome sheet.universe) (different :
       ap (λ o. taken (parts o steps j)) same.0 ∙ ap (λ o. taken (parts s o j)) same.1 ∙ ap (λ o. taken (parts s others o)) (e ∙ sym f)
   same_parts w p q (an_atom x reads r steps es a all) (an_atom y again s others fs b both) =
       let same = node_once x r s steps others a b in
-      ap (λ o. taken (by_reads o steps es)) same.0 ∙ ap (λ o. taken (by_reads s o es)) same.1 ∙ ap (λ o. taken (by_reads s others o)) (named_once (IsEntryNamed sheet.universe) entry_once reads es fs all both)
+      ap (λ o. taken (by_reads o steps es)) same.0 ∙ ap (λ o. taken (by_reads s o es)) same.1 ∙ ap (λ o. taken (by_reads s others o)) (named_once (IsPairNamed sheet.universe) entry_once reads es fs all both)
   same_parts w p q (a_step ls hints clause numbers a e) (a_step ms again other ns b f) = ap₂ derived (named_once (IsLiteralNamed sheet) literal_once ls clause other a b) (e ∙ sym f)
 
   part_once : (w : WrittenPart) (p q : Part) → IsPartNamed sheet w p → IsPartNamed sheet w q → p ≡ q
@@ -141,10 +141,10 @@ module _ (sheet : Sheet) (outcomes : HaveOneOutcome sheet.universe) (different :
   data NamedLine : WrittenLine → SaidLine → Type 0 where
     a_blank : NamedLine nothing nothing
     a_heading : NamedLine heading heading
-    a_claim : (p : WrittenPair) (holds : Bool) (e : Entry) (truth : Bool) → IsEntryNamed sheet.universe p e → truth ≡ holds → NamedLine (claims p holds) (claims e truth)
+    a_claim : (p : WrittenPair) (holds : Bool) (e : Entry) (truth : Bool) → IsPairNamed sheet.universe p e → truth ≡ holds → NamedLine (claims p holds) (claims e truth)
     a_claim_of_inconsistency : NamedLine claims_inconsistent claims_inconsistent
-    a_use : (p : WrittenPair) (e : Entry) → IsEntryNamed sheet.universe p e → NamedLine (uses p) (uses e)
-    a_value : (p : WrittenPair) (e : Entry) → IsEntryNamed sheet.universe p e → NamedLine (assigns p) (assigns e)
+    a_use : (p : WrittenPair) (e : Entry) → IsPairNamed sheet.universe p e → NamedLine (uses p) (uses e)
+    a_value : (p : WrittenPair) (e : Entry) → IsPairNamed sheet.universe p e → NamedLine (assigns p) (assigns e)
     a_part : (n : ℕ) (w : WrittenPart) (m : ℕ) (p : Part) → m ≡ n → IsPartNamed sheet w p → NamedLine (derives n w) (derives m p)
     an_end : NamedLine ends ends
 

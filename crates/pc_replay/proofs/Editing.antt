@@ -5,10 +5,10 @@ use Rattle.pc_sheet.specs.Sheet.{Sheet}
 use Rattle.pc_sheet.specs.declared.ids.CellId.{CellId}
 use Rattle.pc_sheet.specs.declared.ids.Entry.{Entry}
 use Rattle.pc_logic.specs.Edits.{entered, without_entry}
-use Rattle.pc_sortcheck.specs.Declaring.{IsEntryNamed}
 use Rattle.pc_run.specs.declared.machine.Reply.{Reply}
 use Rattle.pc_run.specs.declared.machine.Reply.TheVariants.{Silent, Accepted, Shown, Refused, Memory}
-use Rattle.pc_replay.specs.Judgement.{State, HasFewTries, IsCellNamed, HasEntryOf, enters, clears}
+use Rattle.pc_elaborate.specs.Elaboration.{IsEntryNamed, IsCellNamed}
+use Rattle.pc_replay.specs.Judgement.{State, HasFewTries, HasEntryOf, enters, clears}
 use Rattle.pc_replay.specs.Session.{Obeys, Replaces}
 
 put_so : (old new : State) (e : Entry) (c : Cell) (v : Value) (reply : Reply) → IsEntryNamed old.sheet.universe c v e → HasFewTries (entered old.sheet e) → Replaces old (entered old.sheet e) reply new → Obeys old (asks_enter c v) reply new

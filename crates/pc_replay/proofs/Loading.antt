@@ -4,9 +4,10 @@ use Rattle.pc_sheet.specs.Sheet.{Sheet}
 use Rattle.pc_run.specs.declared.machine.LoadFault.{LoadFault}
 use Rattle.pc_run.specs.declared.machine.LoadFault.TheVariants.{Refused, Memory}
 use Rattle.pc_run.specs.Answer.{RefusesBy}
-use Rattle.pc_load.specs.Outcome.{ReadsAs, HasFault}
+use Rattle.pc_load.specs.Outcome.{HasFault}
 use Rattle.pc_load.specs.Laws.{TextsHaveOneOutcome}
 use Rattle.pc_load.proofs.Loading.{one_sheet}
+use Rattle.pc_sortcheck.specs.Declaring.{ReadsAs}
 use Rattle.pc_replay.specs.Judgement.{State, CanBeTried, Starts, other_refusal}
 use Rattle.pc_replay.specs.Session.{start_of, IsNotLoaded}
 

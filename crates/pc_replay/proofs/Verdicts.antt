@@ -10,18 +10,17 @@ use Rattle.pc_sheet.specs.declared.ids.ValueId.{ValueId}
 use Rattle.pc_sheet.specs.declared.ids.Entry.{Entry}
 use Rattle.pc_logic.specs.Edits.{entered}
 use Rattle.pc_elaborate.specs.declared.fault.SortFault.{SortFault}
-use Rattle.pc_elaborate.specs.Elaboration.{IsCell, IsValueOf}
+use Rattle.pc_elaborate.specs.Elaboration.{IsCell, IsValueOf, IsEntryNamed, IsCellNamed}
 use Rattle.pc_elaborate.specs.FormulaFaults.{IsValueFault, IsSortedFormula}
 use Rattle.pc_elaborate.specs.Laws.{HaveOneOutcome, TreesHaveOneOutcome}
 use Rattle.pc_elaborate.specs.Tests.{no_test, test}
-use Rattle.pc_sortcheck.specs.Declaring.{IsEntryNamed}
 use Rattle.pc_sortcheck.specs.DeclarationFaults.{IsDeclarationFault, IsRuleFault}
 use Rattle.pc_run.specs.declared.machine.Page.TheVariants.{Display, SheetText}
 use Rattle.pc_run.specs.declared.refusal.Refusal.{Refusal}
 use Rattle.pc_run.specs.declared.refusal.Refusal.TheVariants.{NotUtf8, Syntax, NoBegin, WrongVersion, UnknownName, DuplicateName, WrongArity, WrongSort, NotAValue, EmptySort, Limit, NoEntry, NotYet, TooDeep}
 use Rattle.pc_load.specs.Refusals.{IsSortRefusal}
 use Rattle.pc_load.proofs.OneRefusal.{one_refusal, some_is}
-use Rattle.pc_replay.specs.Judgement.{State, Task, enters, clears, shows, HasFewTries, HasEntryOf, IsCellNamed, IsTaskOf, IsAskedFault, IsNotBuilt, LacksEntry, IsRefusalOf, Verdict, nothing, does, refuses, IsVerdict}
+use Rattle.pc_replay.specs.Judgement.{State, Task, enters, clears, shows, HasFewTries, HasEntryOf, IsTaskOf, IsAskedFault, IsNotBuilt, LacksEntry, IsRefusalOf, Verdict, nothing, does, refuses, IsVerdict}
 use Rattle.pc_replay.specs.Laws.{LinesHaveOneVerdict}
 
 -- ---- cells, entries and rules

@@ -15,10 +15,10 @@ use Rattle.pc_logic.specs.Edits.{entered, without_entry}
 use Rattle.pc_elaborate.specs.declared.fault.SortFault.{SortFault}
 use Rattle.pc_elaborate.specs.declared.fault.SortFault.TheVariants as fault
 use Rattle.pc_elaborate.specs.declared.fault.Which.TheVariants as which
-use Rattle.pc_elaborate.specs.Elaboration.{IsCell}
+use Rattle.pc_elaborate.specs.Elaboration.{IsCell, IsEntryNamed, IsCellNamed}
 use Rattle.pc_elaborate.specs.FormulaFaults.{IsCellFault, IsSortedFormula}
 use Rattle.pc_elaborate.specs.Tests.{no_test, test}
-use Rattle.pc_sortcheck.specs.Declaring.{IsEntryNamed}
+use Rattle.pc_sortcheck.specs.Declaring.{ReadsAs}
 use Rattle.pc_sortcheck.specs.DeclarationFaults.{IsDeclarationFault, IsRuleFault}
 use Rattle.pc_trying.specs.Size.{tries_of}
 use Rattle.pc_writer.specs.SheetText.{sheet_text}
@@ -29,7 +29,7 @@ use Rattle.pc_run.specs.declared.refusal.SheetRefusal.{SheetRefusal}
 use Rattle.pc_run.specs.declared.refusal.Refusal.{Refusal}
 use Rattle.pc_run.specs.declared.refusal.Refusal.TheVariants.{NotUtf8, Syntax, NoEntry, NotYet, TooDeep}
 use Rattle.pc_load.specs.Refusals.{IsRefusalFor}
-use Rattle.pc_load.specs.Outcome.{ReadsAs, HasFault}
+use Rattle.pc_load.specs.Outcome.{HasFault}
 use Rattle.pc_run.specs.Answer.{Answer, silent, accepted, shown, refused, no_memory}
 
 -- a sheet, and the most propagations of an edit
@@ -92,10 +92,6 @@ pub data Task : Type 0 where
   enters : Entry → Task
   clears : CellId → Task
   shows : Page → Task
-
--- the written cell is that of the universe
-abbrev pub IsCellNamed : Universe → Cell → CellId → Type 0
-IsCellNamed u c k = (s : SortId) × IsCell u c k s
 
 abbrev pub HasEntryOf : Sheet → CellId → Type 0
 HasEntryOf sheet k = Any (λ e. e.cell ≡ k) sheet.entries

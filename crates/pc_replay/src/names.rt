@@ -2,7 +2,7 @@
 ghost use Rattle.std.specs.Prelude.{MatchResult};
 ghost use Rattle.pc_sheet.specs.WellFormed.{IsEntryOf};
 ghost use Rattle.pc_syntax.specs.Tree.{cell_of, value_of, enter};
-ghost use Rattle.pc_sortcheck.specs.Declaring.{IsEntryNamed};
+ghost use Rattle.pc_elaborate.specs.Elaboration.{IsEntryNamed};
 ghost use Rattle.pc_sortcheck.specs.DeclarationFaults.{IsDeclarationFault};
 
 use pc_logic::{Book, Entry};

@@ -5,9 +5,9 @@ ghost use Rattle.pc_sheet.specs.WellFormed.{IsEntryOf};
 ghost use Rattle.pc_syntax.specs.Command.{asks};
 ghost use Rattle.pc_syntax.specs.Sized.{IsSized, IsSizedReading};
 ghost use Rattle.pc_syntax.specs.Tree.{Cell, Value, asked_of, asks_budget, asks_clear, asks_enter, asks_rule, asks_why, cell_of, formula_of, value_of};
-ghost use Rattle.pc_sortcheck.specs.Declaring.{IsEntryNamed};
 ghost use Rattle.pc_run.specs.Answer.{Answer, IsAnswer};
-ghost use Rattle.pc_replay.specs.Judgement.{Allows, HasEntryOf, IsCellNamed, IsPage, State};
+ghost use Rattle.pc_elaborate.specs.Elaboration.{IsEntryNamed, IsCellNamed};
+ghost use Rattle.pc_replay.specs.Judgement.{Allows, HasEntryOf, IsPage, State};
 ghost use Rattle.pc_replay.specs.Session.{Obeys, OpensAs, Replaces, reply_to, start_of};
 
 use crate::load::load;

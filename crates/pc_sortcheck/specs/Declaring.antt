@@ -1,6 +1,7 @@
 -- What declarations make of a sheet, one after another.
 use Rattle.std.specs.Prelude.{◌≡◌, ℕ, List, [], ◌∷◌, slice_get, IsSomeAnd}
 use Rattle.pc_syntax.specs.Tree as tree
+use Rattle.pc_syntax.specs.Sheet.{IsSheet}
 use Rattle.pc_syntax.specs.Tree.{list_sort, range_sort, table, row, cell, rule, enter}
 use Rattle.pc_sheet.specs.Sheet.{Sheet, Universe, NamedStatement, empty_sheet, with_rule}
 use Rattle.pc_sheet.specs.Sheet as plain
@@ -11,7 +12,7 @@ use Rattle.pc_sheet.specs.declared.ids.ValueId.{ValueId}
 use Rattle.pc_sheet.specs.declared.ids.Entry.{Entry}
 use Rattle.pc_logic.specs.Edits as edits
 use Rattle.pc_logic.specs.Edits.{listed_sort, table_from, family_from, with_sort, with_table, with_row, with_family, entered}
-use Rattle.pc_elaborate.specs.Elaboration.{IsSortNamed, IsTableNamed, AreValuesOf, IsValueOf, IsCell, IsStatement}
+use Rattle.pc_elaborate.specs.Elaboration.{IsSortNamed, IsTableNamed, AreValuesOf, IsValueOf, IsCell, IsStatement, IsEntryNamed}
 
 -- the sorts of these names
 abbrev pub AreSortsNamed : Universe → List (List ℕ) → List SortId → Type 0
@@ -23,12 +24,6 @@ AreSortsNamed u (n ∷ ns) (s ∷ ss) = IsSortNamed u n s × AreSortsNamed u ns 
 -- the table of that name, whose arguments are of these sorts
 abbrev pub IsTableOf : Universe → List ℕ → TableId → List SortId → Type 0
 IsTableOf u n t ss = IsTableNamed u n t × IsSomeAnd (slice_get u.tables t.0) (λ table. table.sorts ≡ ss)
-
--- the entry that a cell and a value name
-pub record IsEntryNamed (u : Universe) (c : tree.Cell) (v : tree.Value) (e : Entry) : Type 0 where
-  pub sort : SortId
-  pub cell : IsCell u c e.cell sort
-  pub value : IsValueOf u sort v e.value
 
 -- the new sheet is the old one with what is declared
 abbrev pub Makes : Sheet → tree.Declared → Sheet → Type 0
@@ -54,3 +49,9 @@ DeclareAll old (d ∷ ds) new = (mid : Sheet) × Declares old d.1 mid × Declare
 -- what the declarations of a text give
 abbrev pub IsSheetOf : List (ℕ × tree.Declared) → Sheet → Type 0
 IsSheetOf ds sheet = DeclareAll empty_sheet ds sheet
+
+-- the text is declarations, and they give this sheet
+pub record ReadsAs (text : List ℕ) (sheet : Sheet) : Type 0 where
+  pub declared : List (ℕ × tree.Declared)
+  pub is : IsSheet text declared
+  pub gives : IsSheetOf declared sheet

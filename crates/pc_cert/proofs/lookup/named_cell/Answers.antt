@@ -1,5 +1,5 @@
 use Rattle.pc_formula.specs.Tree.{cell_of}
-use Rattle.pc_cert.specs.Meaning.{IsCellNamed}
+use Rattle.pc_elaborate.specs.Elaboration.{IsCellNamed}
 use Rattle.pc_cert.proofs.Found.{none_is, cell_never, cell_is}
 use Rattle.pc_cert.proofs.lookup.named_cell.Goals as goal
 
