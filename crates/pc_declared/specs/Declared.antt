@@ -4,7 +4,6 @@ use Rattle.pc_sheet.specs.Sheet.{Universe, Statement, Sheet, empty_sheet}
 use Rattle.pc_sheet.specs.WellFormed.{IsWellFormedUniverse, IsWellFormed}
 use Rattle.pc_sheet.specs.WellSorted.{Variables, IsWellSorted}
 use Rattle.pc_syntax.specs.Tree.{Declared}
-use Rattle.pc_syntax.specs.Sheet.{IsSheet}
 use Rattle.pc_writer.specs.SheetText.{sheet_text}
 use Rattle.pc_elaborate.specs.Elaboration.{IsStatement}
 use Rattle.pc_sortcheck.specs.Declaring.{DeclareAll, IsSheetOf, ReadsAs}

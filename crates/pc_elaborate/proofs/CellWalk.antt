@@ -4,7 +4,7 @@ use Rattle.std.proofs.Math.Seq.{drop-cons}
 use Rattle.std.proofs.Common.{append-nil, Result}
 use Rattle.std.proofs.lemmas.List.{take_all, drop_all}
 use Rattle.pc_formula.specs.Tree as tree
-use Rattle.pc_formula.specs.Tree.{name_value, integer_value, value_of, cell_of}
+use Rattle.pc_formula.specs.Tree.{name_value, integer_value, value_of}
 use Rattle.pc_formula.specs.declared.tree.ValueTree.{ValueTree}
 use Rattle.pc_sheet.specs.Sheet.{Universe, Family}
 use Rattle.pc_sheet.specs.Truth.{size_of, cell_number, result_sort_of}

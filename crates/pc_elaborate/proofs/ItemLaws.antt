@@ -1,7 +1,7 @@
 -- What an item stands for is unique, has one sort, and is beside no fault.
 use Rattle.std.proofs.Common.{◌≡◌, ◌⊎◌, ℕ, zero, suc, List, [], ◌∷◌, Option, None, Some, slice_get, IsSomeAnd, length, arith, ap, ap₂, ◌∙◌, sym, subst, inl, inr}
 use Rattle.pc_formula.specs.Tree as tree
-use Rattle.pc_formula.specs.Tree.{integer, named, no_item, one_item, name_value, integer_value}
+use Rattle.pc_formula.specs.Tree.{integer, named, no_item, one_item, integer_value}
 use Rattle.pc_sheet.specs.Sheet as plain
 use Rattle.pc_sheet.specs.Sheet.{Universe, Family, Values, listed, range}
 use Rattle.pc_sheet.specs.WellSorted.{Variables, IsListed, IsRange, IsOfSort, AreOfSorts}

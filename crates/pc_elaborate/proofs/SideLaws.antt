@@ -4,7 +4,7 @@ use Rattle.std.proofs.lemmas.List.Elements.{All-head, All-tail}
 use Rattle.pc_name.specs.declared.sign.Op.{Op}
 use Rattle.pc_name.specs.declared.sign.Sign.{Sign}
 use Rattle.pc_formula.specs.Tree as tree
-use Rattle.pc_formula.specs.Tree.{integer, named, no_item, one_item, items_of}
+use Rattle.pc_formula.specs.Tree.{integer, named, no_item, one_item}
 use Rattle.pc_sheet.specs.Sheet as plain
 use Rattle.pc_sheet.specs.Sheet.{Universe, Table}
 use Rattle.pc_sheet.specs.Truth.{values_at}

@@ -12,7 +12,7 @@ use Rattle.pc_formula.specs.Tree.{integer, named, no_item, one_item}
 use Rattle.pc_formula.specs.Sized.{IsSizedSide}
 use Rattle.pc_formula.specs.declared.tree.ItemTree.{ItemTree}
 use Rattle.pc_sheet.specs.Sheet as plain
-use Rattle.pc_sheet.specs.Sheet.{Universe, Values}
+use Rattle.pc_sheet.specs.Sheet.{Universe}
 use Rattle.pc_sheet.specs.Truth.{values_at}
 use Rattle.pc_sheet.specs.Views.{item_of, added_of}
 use Rattle.pc_sheet.specs.WellSorted.{Variables, IsListed, IsRange, IsOfSort, IsInteger, IsSmallNumber, IsIntegerSum, IsValueOf, AreComparable}

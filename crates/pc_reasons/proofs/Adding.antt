@@ -1,14 +1,13 @@
 -- How a list of reasons grows.
-use Rattle.std.proofs.Common.{◌≡◌, ℕ, ◌<◌, ◌+◌, ◌⊎◌, Bool, true, false, List, [], ◌∷◌, ◌++◌, refl, sym, ap, subst, inl, inr, ◌∙◌, Option, Some, None, option_map, IfSome, IsSome, ◌↔◌, Vec}
+use Rattle.std.proofs.Common.{◌≡◌, ◌+◌, ◌⊎◌, Bool, true, false, List, [], ◌∷◌, ◌++◌, refl, sym, ap, subst, inl, inr, ◌∙◌, Option, Some, None, option_map, IfSome, IsSome, ◌↔◌, Vec}
 use Rattle.std.specs.declared.alloc.Global.{Global}
 use Rattle.pc_sheet.specs.Entailment.{IsImplied, IsLeastSupport}
 use Rattle.pc_sheet.specs.declared.ids.Entry.{Entry}
-use Rattle.std.specs.List.{AllByRecursion}
 use Rattle.pc_sheet.specs.Sheet.{Sheet}
 use Rattle.pc_sheet.specs.declared.ids.CellId.{CellId}
 use Rattle.pc_sheet.specs.declared.ids.ValueId.{ValueId}
 use Rattle.pc_sheet.specs.declared.ids.Target.{Target}
-use Rattle.pc_display.specs.Reasons.{IsReasonFor, IsTargetOf}
+use Rattle.pc_display.specs.Reasons.{IsReasonFor}
 use Rattle.pc_reasons.specs.declared.tried.Reason.{Reason}
 use Rattle.pc_reasons.specs.Table.{support_of, IsListed, AreReasons, Adds}
 

@@ -1,6 +1,6 @@
 -- A list of reasons of every target is the reasoning of the sheet.
 use Rattle.std.specs.Prelude.{◌≡◌, ℕ, ◌==◌, ◌&&◌, ◌⊎◌, Bool, true, false, List, [], ◌∷◌, Option, cond, refl}
-use Rattle.std.proofs.Common.{sym, ap, subst, inl, inr, ◌∙◌, Decides}
+use Rattle.std.proofs.Common.{sym, ap, subst, inl, inr, ◌∙◌}
 use Rattle.std.specs.Cmp.{unsigned_Decides, booleans_Decides}
 use Rattle.std.specs.Bool.{beq}
 use Rattle.pc_sheet.specs.Sheet.{Sheet}

@@ -2,20 +2,19 @@
 -- answer it.
 use Rattle.std.specs.Prelude.{◌≡◌, ℕ, ◌<◌, ◌≤◌, ◌⊎◌, List, [], length, Any}
 use Rattle.std.specs.declared.option.Option.TheVariants.{None}
-use Rattle.pc_syntax.specs.Tree.{enter, Cell, Asked, asks_enter, asks_clear, asks_rule, asks_drop, asks_budget, asks_show, asks_grid, asks_json, asks_why, asks_dump}
+use Rattle.pc_syntax.specs.Tree.{enter, Asked, asks_enter, asks_clear, asks_rule, asks_drop, asks_budget, asks_show, asks_grid, asks_json, asks_why, asks_dump}
 use Rattle.pc_syntax.specs.Fault.{not_utf8, too_deep, syntax}
 use Rattle.pc_syntax.specs.Command.{IsCommandReading, no_command, asks, at_fault, TakesNoMemory}
-use Rattle.pc_sheet.specs.Sheet.{Sheet, Universe}
+use Rattle.pc_sheet.specs.Sheet.{Sheet}
 use Rattle.pc_sheet.specs.MaximalSets.{AreRulesConsistent}
 use Rattle.pc_sheet.specs.Weight.{weight}
 use Rattle.pc_sheet.specs.declared.ids.CellId.{CellId}
 use Rattle.pc_sheet.specs.declared.ids.Entry.{Entry}
-use Rattle.pc_sheet.specs.declared.ids.SortId.{SortId}
 use Rattle.pc_logic.specs.Edits.{entered, without_entry}
 use Rattle.pc_elaborate.specs.declared.fault.SortFault.{SortFault}
 use Rattle.pc_elaborate.specs.declared.fault.SortFault.TheVariants as fault
 use Rattle.pc_elaborate.specs.declared.fault.Which.TheVariants as which
-use Rattle.pc_elaborate.specs.Elaboration.{IsCell, IsEntryNamed, IsCellNamed}
+use Rattle.pc_elaborate.specs.Elaboration.{IsEntryNamed, IsCellNamed}
 use Rattle.pc_elaborate.specs.FormulaFaults.{IsCellFault, IsSortedFormula}
 use Rattle.pc_elaborate.specs.Tests.{no_test, test}
 use Rattle.pc_sortcheck.specs.Declaring.{ReadsAs}

@@ -3,7 +3,7 @@ use Rattle.std.specs.Prelude.{◌≡◌, ℕ, List, [], ◌∷◌, slice_get, Is
 use Rattle.pc_syntax.specs.Tree as tree
 use Rattle.pc_syntax.specs.Sheet.{IsSheet}
 use Rattle.pc_syntax.specs.Tree.{list_sort, range_sort, table, row, cell, rule, enter}
-use Rattle.pc_sheet.specs.Sheet.{Sheet, Universe, NamedStatement, empty_sheet, with_rule}
+use Rattle.pc_sheet.specs.Sheet.{Sheet, Universe, empty_sheet, with_rule}
 use Rattle.pc_sheet.specs.Sheet as plain
 use Rattle.pc_sheet.specs.WellFormed.{IsWellFormed}
 use Rattle.pc_sheet.specs.declared.ids.SortId.{SortId}
@@ -12,7 +12,7 @@ use Rattle.pc_sheet.specs.declared.ids.ValueId.{ValueId}
 use Rattle.pc_sheet.specs.declared.ids.Entry.{Entry}
 use Rattle.pc_logic.specs.Edits as edits
 use Rattle.pc_logic.specs.Edits.{listed_sort, table_from, family_from, with_sort, with_table, with_row, with_family, entered}
-use Rattle.pc_elaborate.specs.Elaboration.{IsSortNamed, IsTableNamed, AreValuesOf, IsValueOf, IsCell, IsStatement, IsEntryNamed}
+use Rattle.pc_elaborate.specs.Elaboration.{IsSortNamed, IsTableNamed, AreValuesOf, IsStatement, IsEntryNamed}
 
 -- the sorts of these names
 abbrev pub AreSortsNamed : Universe → List (List ℕ) → List SortId → Type 0

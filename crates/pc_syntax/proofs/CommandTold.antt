@@ -12,7 +12,7 @@ use Rattle.pc_syntax.specs.declared.tree.CommandFault.{CommandFault}
 use Rattle.pc_syntax.specs.declared.tree.CommandFault.TheVariants as command_fault
 use Rattle.pc_syntax.specs.Spelling.{IsNothing, IsSpelled}
 use Rattle.pc_syntax.specs.Tree.{Asked, asked_of, asks_enter, asks_clear, asks_rule, asks_drop, asks_budget, asks_show, asks_grid, asks_json, asks_why, asks_dump}
-use Rattle.pc_syntax.specs.Command.{command_keyword, FollowsCommand, IsCommand, IsAlone, HasCommand, no_words, some_words, CommandReading, no_command, asks, at_fault, IsCommandReading, empty_command, spelled_command, faulty_command, TakesNoMemory}
+use Rattle.pc_syntax.specs.Command.{command_keyword, FollowsCommand, IsCommand, HasCommand, no_words, some_words, CommandReading, no_command, asks, IsCommandReading, empty_command, spelled_command, faulty_command, TakesNoMemory}
 use Rattle.pc_syntax.specs.Told.{Spells, SpellsNone, IsLone, command_fault_of, IsCommandTold, TellsCommand}
 use Rattle.pc_syntax.specs.Sized.{too_many, IsSizedReading, IsNestedReading}
 use Rattle.pc_syntax.proofs.Families.{nesting_of_one}

@@ -1,12 +1,11 @@
 -- What words derive, as the readers of lines use it.
-use Rattle.std.proofs.Common.{◌≡◌, ℕ, ℤ, ◌<◌, ◌≤◌, List, [], ◌∷◌, length, refl, ap, ◌∙◌}
+use Rattle.std.proofs.Common.{◌≡◌, ℕ, ℤ, ◌<◌, List, [], ◌∷◌, length, refl, ap, ◌∙◌}
 use Rattle.pc_token.specs.declared.token.Kind.TheVariants.{Colon}
-use Rattle.pc_formula.specs.Word.{Word, name, sign, HasWords, nesting}
+use Rattle.pc_formula.specs.Word.{Word, name, sign, nesting}
 use Rattle.pc_formula.specs.Tree.{Formula, Cell, Value}
 use Rattle.pc_formula.specs.Front.{StopsAt}
 use Rattle.pc_formula.specs.Value.{DerivesName, DerivesNumber, a_number, DerivesInt, natural, negative, DerivesValue, DerivesCell, InParentheses, Arguments}
 use Rattle.pc_formula.specs.Grammar.{IsFormula, whole}
-use Rattle.pc_formula.specs.Nesting.{nesting_of}
 use Rattle.pc_formula.proofs.Lists.{enclosed_once, arguments_once}
 use Rattle.pc_formula.proofs.ValueForms.{name_once, value_once, cell_once, int_no_name}
 use Rattle.pc_formula.proofs.Sizes.{sized}

@@ -1,13 +1,12 @@
 -- The rules of a text within the limit have neither too many parts nor go too deep.
-use Rattle.std.proofs.Common.{◌≡◌, ℕ, ◌+◌, ◌<◌, ◌≤◌, Bool, true, false, ◌==◌, ◌&&◌, List, [], ◌∷◌, ◌++◌, length, arith, sym, ap, subst, if◌then◌else◌}
+use Rattle.std.proofs.Common.{◌≡◌, ℕ, ◌+◌, ◌≤◌, Bool, true, false, ◌==◌, ◌&&◌, List, [], ◌∷◌, ◌++◌, length, arith, ap, subst, if◌then◌else◌}
 use Rattle.std.specs.Prelude.{codes}
 use Rattle.pc_formula.specs.Word.{Word, name, nesting, most_nesting}
 use Rattle.pc_formula.specs.Nesting.{nesting_of}
 use Rattle.pc_syntax.specs.Tree.{Formula, Declared, rule}
 use Rattle.pc_syntax.specs.Spelling.{IsSpelled}
 use Rattle.pc_syntax.specs.Clause.{IsRule}
-use Rattle.pc_syntax.specs.Line.{LineForm, declares, IsDeclaration, IsLine, spelled_line}
-use Rattle.pc_syntax.specs.Command.{CommandReading, IsCommandReading}
+use Rattle.pc_syntax.specs.Line.{LineForm, declares, IsLine, spelled_line}
 use Rattle.pc_syntax.specs.Sheet.{starts_with_lf, push_front, with_front, lines_of, AreStanding, declared_from, sheet, IsSheetReading, whole}
 use Rattle.pc_syntax.specs.Sized.{too_many, IsSized, HasSizedRules, HasNestedRules}
 use Rattle.pc_formula.proofs.Nests.{nested}

@@ -1,13 +1,12 @@
 -- A line of one name is neither blank nor a comment.
-use Rattle.std.proofs.Common.{◌≡◌, ℕ, ◌+◌, ◌<◌, Bool, true, false, ◌||◌, ◌==◌, None, List, [], ◌∷◌, ◌++◌, ◌⊎◌, length, get_or, drop, arith, sym, ◌∙◌, ap, ⊎_elim}
+use Rattle.std.proofs.Common.{◌≡◌, ℕ, ◌+◌, ◌<◌, ◌||◌, ◌==◌, None, List, [], ◌∷◌, ◌⊎◌, length, get_or, drop, arith, sym, ◌∙◌, ap, ⊎_elim}
 use Rattle.std.proofs.lemmas.List.{get_or_past, length-drop, get_or-drop}
 use Rattle.std.proofs.lemmas.Str.{char_from_byte}
-use Rattle.std.specs.Prelude.{encode_utf8}
 use Rattle.std.specs.Char.{is_ascii_digit}
 use Rattle.unicode_ident.proofs.IdentLemmas.{is_xid_start-ascii}
 use Rattle.pc_name.specs.Names.{starts_name}
 use Rattle.pc_token.specs.Piece.{sign_of}
-use Rattle.pc_token.specs.Token.{is_blank, StartsNoToken, StartsNoName, StartsNoSign, HasBadCharacter, Reading, split, bad_character}
+use Rattle.pc_token.specs.Token.{is_blank, StartsNoToken, StartsNoName, StartsNoSign, HasBadCharacter, split, bad_character}
 use Rattle.pc_token.specs.Line.{IsBlankLine, IsComment, IsOneName}
 use Rattle.pc_token.proofs.Once.{one_reading}
 use Rattle.pc_token.proofs.Reading.{no_token}

@@ -1,14 +1,13 @@
 -- A command line has one reading.
-use Rattle.std.proofs.Common.{◌≡◌, ℕ, Bool, true, List, [], ◌∷◌, refl, sym, ◌∙◌, ap, subst, if◌then◌else◌}
+use Rattle.std.proofs.Common.{◌≡◌, ℕ, Bool, true, List, [], refl, sym, ◌∙◌, ap, subst, if◌then◌else◌}
 use Rattle.std.specs.Prelude.{codes, bytes_eq}
 use Rattle.std.specs.Str.{IsUtf8}
-use Rattle.pc_formula.specs.Word.{Word, name}
+use Rattle.pc_formula.specs.Word.{Word}
 use Rattle.pc_formula.specs.Tree.{Formula, Cell, Value}
-use Rattle.pc_formula.specs.Value.{DerivesCell, DerivesNumber}
 use Rattle.pc_syntax.specs.Tree.{Asked, asks_enter, asks_clear, asks_rule, asks_drop, asks_budget, asks_show, asks_grid, asks_json, asks_why, asks_dump}
-use Rattle.pc_syntax.specs.Spelling.{IsNothing, IsSpelled, IsTooDeep}
+use Rattle.pc_syntax.specs.Spelling.{IsTooDeep}
 use Rattle.pc_syntax.specs.Fault.{Fault, IsAtFault}
-use Rattle.pc_syntax.specs.Command.{command_keyword, FollowsCommand, IsCommand, IsAlone, HasCommand, no_words, some_words, CommandReading, no_command, asks, at_fault, IsCommandReading, empty_command, spelled_command, faulty_command}
+use Rattle.pc_syntax.specs.Command.{command_keyword, FollowsCommand, IsCommand, HasCommand, no_words, some_words, CommandReading, asks, at_fault, IsCommandReading, empty_command, spelled_command, faulty_command}
 use Rattle.pc_formula.proofs.ValueForms.{number_once}
 use Rattle.pc_syntax.proofs.Families.{one_cell}
 use Rattle.pc_syntax.proofs.ReadLine.{one_words}

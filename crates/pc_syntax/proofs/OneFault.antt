@@ -2,8 +2,8 @@
 use Rattle.std.proofs.Common.{◌≡◌, ℕ, ◌≤◌, List, refl, subst, arith}
 use Rattle.std.specs.Str.{IsUtf8}
 use Rattle.pc_formula.specs.Word.{Word, nesting, most_nesting}
-use Rattle.pc_syntax.specs.Spelling.{IsNothing, IsSpelled, IsTooDeep}
-use Rattle.pc_syntax.specs.Fault.{Fault, not_utf8, too_deep, syntax, IsAtFault, no_text, deep, formless}
+use Rattle.pc_syntax.specs.Spelling.{IsSpelled, IsTooDeep}
+use Rattle.pc_syntax.specs.Fault.{Fault, IsAtFault, no_text, deep, formless}
 use Rattle.pc_syntax.proofs.ReadLine.{one_words}
 
 pub fault_once : (line : List ℕ) (H : Type 0) (d e : Fault) → IsAtFault line H d → IsAtFault line H e → d ≡ e

@@ -8,7 +8,7 @@ use Rattle.pc_formula.specs.Value.{DerivesName, DerivesNumber, DerivesInt, Deriv
 use Rattle.pc_formula.specs.Grammar.{IsFormula}
 use Rattle.pc_formula.specs.Tree.{Formula, Cell, Value}
 use Rattle.pc_syntax.specs.Tree.{Declared, list_sort, range_sort, table, row, cell, rule, enter}
-use Rattle.pc_syntax.specs.Spelling.{IsNothing, IsSpelled, IsTooDeep}
+use Rattle.pc_syntax.specs.Spelling.{IsSpelled, IsTooDeep}
 use Rattle.pc_syntax.specs.Clause.{IsPair, IsRule, equality}
 use Rattle.pc_syntax.specs.Line.{LineForm, nothing, heading, declares, begins, keyword, AreBounds, IsRange, IsTable, IsRow, IsFamily, Follows, IsDeclaration, IsHeading, IsForm, IsBegin, IsLine, empty_line, begin_line, spelled_line}
 use Rattle.pc_formula.proofs.Unambiguous.{one_tree}

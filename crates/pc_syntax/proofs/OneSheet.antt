@@ -1,16 +1,14 @@
 -- A text has one reading.
-use Rattle.std.proofs.Common.{◌≡◌, ℕ, ◌+◌, Bool, true, false, List, [], ◌∷◌, ◌++◌, length, refl, sym, ◌∙◌, ap, ap₂, subst, arith}
+use Rattle.std.proofs.Common.{◌≡◌, ℕ, ◌+◌, true, false, List, [], ◌∷◌, ◌++◌, length, refl, sym, ◌∙◌, ap, ap₂, subst, arith}
 use Rattle.std.specs.Str.{IsUtf8}
 use Rattle.std.specs.List.{list_any}
 use Rattle.std.proofs.lemmas.List.{append_assoc, append-nil}
-use Rattle.pc_syntax.specs.Tree.{Declared}
 use Rattle.pc_syntax.specs.Spelling.{IsTooDeep}
 use Rattle.pc_syntax.specs.Fault.{Fault, IsAtFault}
 use Rattle.pc_syntax.specs.Line.{LineForm, IsLine, empty_line, begin_line, spelled_line, HasForm}
-use Rattle.pc_syntax.specs.Sheet.{lines_of, is_begin, may_stand, misplacement, AreStanding, IsAtFaultBehind, by_itself, by_place, declared_from, SheetReading, sheet, fault_at, no_begin, IsSheetReading, whole, endless, faulty}
+use Rattle.pc_syntax.specs.Sheet.{lines_of, is_begin, may_stand, misplacement, AreStanding, IsAtFaultBehind, by_itself, by_place, declared_from, SheetReading, sheet, fault_at, IsSheetReading, whole, endless, faulty}
 use Rattle.pc_syntax.proofs.ReadLine.{false_no_true}
 use Rattle.pc_syntax.proofs.OneFault.{fault_once, deep_unspelled, form_no_fault}
-use Rattle.pc_syntax.proofs.Lone.{lone_something}
 use Rattle.pc_syntax.proofs.OneLine.{one_line, deep_no_begin}
 
 -- ---- a line behind lines of these forms

@@ -1,12 +1,12 @@
 -- The part of a sheet in which a line stands is known from the lines before it.
-use Rattle.std.proofs.Common.{◌≡◌, ℕ, Bool, true, false, ◌&&◌, ◌||◌, ◌==◌, Some, None, List, [], ◌∷◌, ◌++◌, refl, sym, ◌∙◌, ap, ap₂, subst, if◌then◌else◌}
+use Rattle.std.proofs.Common.{◌≡◌, ℕ, Bool, true, false, ◌&&◌, ◌||◌, ◌==◌, Some, None, List, [], ◌∷◌, ◌++◌, refl, ◌∙◌, ap, ap₂, subst, if◌then◌else◌}
 use Rattle.std.specs.Prelude.{not}
 use Rattle.std.specs.List.{list_any}
 use Rattle.std.proofs.lemmas.List.Folds.{list_any-append}
 use Rattle.pc_syntax.specs.declared.sheet.Part.{Part}
 use Rattle.pc_syntax.specs.declared.sheet.Part.TheVariants.{Heading, Universe, Rules, End}
 use Rattle.pc_syntax.specs.Tree.{Declared}
-use Rattle.pc_syntax.specs.Fault.{Fault, syntax, wrong_version}
+use Rattle.pc_syntax.specs.Fault.{syntax, wrong_version}
 use Rattle.pc_syntax.specs.Line.{LineForm, nothing, heading, declares, begins}
 use Rattle.pc_syntax.specs.Sheet.{is_heading, is_begin, is_rule, is_rule_line, is_of_universe, is_open, may_stand, misplacement}
 use Rattle.pc_syntax.specs.Part.{IsPart, next_part, misplaced}

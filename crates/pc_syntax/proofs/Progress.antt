@@ -1,6 +1,5 @@
 -- A sheet that is read line by line.
-use Rattle.std.proofs.Common.{◌≡◌, ℕ, ◌+◌, Bool, true, false, Result, Ok, Err, Some, None, List, [], ◌∷◌, ◌++◌, length, refl, sym, ◌∙◌, ap, ap₂, subst, arith}
-use Rattle.std.specs.List.{list_any}
+use Rattle.std.proofs.Common.{◌≡◌, ℕ, ◌+◌, true, Result, Ok, Err, None, List, [], ◌∷◌, ◌++◌, length, refl, sym, ◌∙◌, ap, subst, arith}
 use Rattle.std.proofs.lemmas.List.{append-nil, append_assoc, length-append}
 use Rattle.pc_syntax.specs.declared.sheet.Part.{Part}
 use Rattle.pc_syntax.specs.declared.sheet.Part.TheVariants.{Heading, Universe, Rules, End}
@@ -12,9 +11,9 @@ use Rattle.pc_syntax.specs.declared.fault.LineFault.TheVariants as line_fault
 use Rattle.pc_syntax.specs.Tree.{Declared, sheet_of}
 use Rattle.pc_syntax.specs.Fault.{Fault, IsAtFault}
 use Rattle.pc_syntax.specs.Line.{LineForm, nothing, heading, declares, begins, IsLine, HasForm}
-use Rattle.pc_syntax.specs.Sheet.{lines_of, is_begin, may_stand, AreStanding, IsAtFaultBehind, declared_from, SheetReading, sheet, fault_at, no_begin, IsSheetReading, whole, endless, faulty}
+use Rattle.pc_syntax.specs.Sheet.{lines_of, may_stand, AreStanding, IsAtFaultBehind, declared_from, SheetReading, sheet, fault_at, no_begin, IsSheetReading, whole, endless, faulty}
 use Rattle.pc_syntax.specs.Sheet as behind
-use Rattle.pc_syntax.specs.Part.{IsPart, next_part, misplaced, IsAtFaultIn, Takes}
+use Rattle.pc_syntax.specs.Part.{IsPart, next_part, IsAtFaultIn, Takes}
 use Rattle.pc_syntax.specs.Part as within
 use Rattle.pc_syntax.specs.Told.{IsSheetTold, TellsSheet, Means, Blames, sheet_fault_of, misplaced_as}
 use Rattle.pc_syntax.proofs.Parts.{stands, stays}

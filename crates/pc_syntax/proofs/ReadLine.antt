@@ -1,10 +1,8 @@
 -- What a line's bytes, its text and its words say of one another.
 use Rattle.std.proofs.Common.{◌≡◌, ℕ, ◌≤◌, Bool, true, false, List, [], ◌∷◌, ◌⊎◌, ◌↔◌, IsTrue, refl, sym, ◌∙◌, ap, ap₂, subst, arith}
-use Rattle.std.specs.Prelude.{codes}
 use Rattle.std.specs.Str.{IsUtf8}
 use Rattle.pc_token.specs.declared.token.Kind.TheVariants.{Name}
-use Rattle.pc_token.specs.declared.token.Token.{Token}
-use Rattle.pc_token.specs.Token.{Splits, split}
+use Rattle.pc_token.specs.Token.{split}
 use Rattle.pc_token.specs.Line.{IsBlankLine, IsComment, IsOneName}
 use Rattle.pc_token.proofs.Once.{one_reading}
 use Rattle.pc_formula.specs.declared.refusal.Refusal.{Refusal}
@@ -12,8 +10,8 @@ use Rattle.pc_formula.specs.declared.refusal.Refusal.TheVariants as refusal
 use Rattle.pc_formula.specs.Word.{Word, name, word, words_of, HasWords, nesting, most_nesting}
 use Rattle.pc_syntax.specs.declared.fault.LineFault.{LineFault}
 use Rattle.pc_syntax.specs.declared.fault.LineFault.TheVariants as line_fault
-use Rattle.pc_syntax.specs.Spelling.{IsNothing, IsSplit, IsSpelled, IsTooDeep}
-use Rattle.pc_syntax.specs.Fault.{Fault, IsAtFault, deep, formless}
+use Rattle.pc_syntax.specs.Spelling.{IsNothing, IsSpelled, IsTooDeep}
+use Rattle.pc_syntax.specs.Fault.{IsAtFault, deep, formless}
 use Rattle.pc_syntax.specs.Told.{Spells, SpellsTooDeep, SpellsNone, Means, line_fault_of}
 
 -- a line splits into one list of words

@@ -1,17 +1,14 @@
 -- Each cell is an application of a declared family to values of its argument sorts, and its values are those of the family's result sort.
-use Rattle.std.proofs.Common.{◌≡◌, ℕ, zero, suc, ◌+◌, ◌<◌, ◌≤◌, List, [], ◌∷◌, ◌++◌, length, map, Option, None, Some, slice_get, slice_index_or, IsSomeAnd, All, replicate, Bool, false, nat_eq, codes, arith, zero-add, ap, sym, ◌∙◌, subst, refl}
-use Rattle.std.specs.List.{flat_map}
+use Rattle.std.proofs.Common.{◌≡◌, ℕ, zero, suc, ◌+◌, ◌<◌, ◌≤◌, List, [], ◌∷◌, ◌++◌, length, map, Option, None, Some, slice_get, slice_index_or, IsSomeAnd, Bool, false, nat_eq, codes, arith, ap, sym, ◌∙◌, subst, refl}
 use Rattle.std.specs.Option.{option_map}
-use Rattle.std.proofs.lemmas.Grind.{flat_map-append}
-use Rattle.std.proofs.lemmas.List.{map-append, length-map}
-use Rattle.std.proofs.lemmas.List.Elements.{All-nil, All-cons, All-append, All-map, All-weaker}
+use Rattle.std.proofs.lemmas.List.{length-map}
 use Rattle.std.proofs.lemmas.Option.{slice_get_within, slice_get-get_or, get_or_from_slice_get, slice_get-map, unwrap_or-slice_get}
 use Rattle.pc_sheet.proofs.Cells.{some_same}
 use Rattle.pc_sheet.proofs.CellsListed.{cells_are_numbered}
 use Rattle.pc_sheet.specs.Sheet.{Universe, Family, Sort}
-use Rattle.pc_sheet.specs.Truth.{count_of, size_of, values_of_sort, cells_in, argument_sorts, result_sort_of}
+use Rattle.pc_sheet.specs.Truth.{count_of, size_of, values_of_sort, argument_sorts, result_sort_of}
 use Rattle.pc_sheet.specs.Entailment.{AreWithin, cell_sizes}
-use Rattle.pc_sheet.specs.Cells.{Application, values_below, tuples, applications, cells_from, cells, IsApplication, size_of_cell}
+use Rattle.pc_sheet.specs.Cells.{Application, cells, IsApplication, size_of_cell}
 use Rattle.pc_sheet.specs.declared.ids.SortId.{SortId}
 use Rattle.pc_sheet.specs.declared.ids.CellId.{CellId}
 use Rattle.pc_sheet.specs.declared.ids.FamilyId.{FamilyId}

@@ -1,4 +1,4 @@
-use Rattle.std.proofs.Common.{◌≡◌, ◌<◌, []}
+use Rattle.std.proofs.Common.{◌<◌, []}
 use Rattle.pc_display.specs.Reasons.{IsTargetOf}
 use Rattle.pc_reasons.specs.Table.{Adds}
 use Rattle.pc_reasons.proofs.tried.all_reasons.Given as goal

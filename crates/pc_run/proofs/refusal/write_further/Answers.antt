@@ -1,4 +1,4 @@
-use Rattle.std.proofs.Common.{codes, ap, sym, ◌++◌}
+use Rattle.std.proofs.Common.{ap, sym}
 use Rattle.pc_run.specs.Refusals.{further_text, limit_word_of}
 use Rattle.pc_writer.proofs.InTurn.{Writes-then, Writes-cut, Writes-same}
 use Rattle.pc_run.proofs.refusal.write_further.Goals as goal

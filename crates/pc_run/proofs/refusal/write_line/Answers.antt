@@ -1,4 +1,4 @@
-use Rattle.std.proofs.Common.{codes, decimal, ap, ◌++◌, sym, ◌∙◌, rules, w64, SFits}
+use Rattle.std.proofs.Common.{decimal, ap, sym, ◌∙◌, rules, w64, SFits}
 use Rattle.std.proofs.lemmas.Int.{to_z-of_z}
 use Rattle.std.specs.Fmt.{signed_decimal}
 use Rattle.pc_run.specs.Refusals.{line_text}

@@ -1,4 +1,4 @@
-use Rattle.std.proofs.Common.{codes, ap, ◌++◌, sym}
+use Rattle.std.proofs.Common.{codes, ◌++◌}
 use Rattle.pc_run.specs.Refusals.{words_of, line_text, further_text}
 use Rattle.pc_writer.proofs.InTurn.{Writes-then, Writes-cut, Writes-same}
 use Rattle.pc_run.proofs.refusal.write_sheet_refusal.Goals as goal

@@ -1,4 +1,4 @@
-use Rattle.std.proofs.Common.{◌≡◌, Ok, Err, Some, None, arith, rules}
+use Rattle.std.proofs.Common.{Ok, Err, Some, None, arith, rules}
 use Rattle.pc_syntax.specs.declared.tree.CommandFault.TheVariants.{NotUtf8}
 use Rattle.pc_syntax.specs.Fault.{no_text}
 use Rattle.pc_syntax.specs.Tree.{asked_of}

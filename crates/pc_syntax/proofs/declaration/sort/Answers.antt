@@ -1,4 +1,4 @@
-use Rattle.std.proofs.Common.{refl, subst, sym, List, ℕ, ℤ, w64, to_z, of_z, ◌≡◌, ◌<◌, [], ◌∷◌, length, Err, rules, arith, ◌∙◌, ap}
+use Rattle.std.proofs.Common.{refl, subst, sym, List, ℕ, ℤ, w64, to_z, of_z, ◌≡◌, ◌<◌, ◌∷◌, length, rules, arith, ◌∙◌, ap}
 use Rattle.std.proofs.lemmas.Result.{err_from_is_err_and}
 use Rattle.std.proofs.lemmas.Int.{to_z-of_z}
 use Rattle.pc_formula.specs.Word.{name}
