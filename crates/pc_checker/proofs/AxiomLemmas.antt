@@ -18,7 +18,7 @@ use Rattle.pc_sheet.specs.declared.nodes.NodeKind.TheVariants.{And, Or}
 use Rattle.pc_accept.specs.Literals.{Symbol, node, Literal, positive}
 use Rattle.pc_accept.specs.Axioms.{true_rule, parts, by_reads, how_many, each_below, clauses_of_node, child_of, IsNumbered, negated_entry}
 use Rattle.pc_checker.specs.Drafts.{Grows, Draft, IsWritten, AreWritten}
-use Rattle.pc_checker.specs.Written.{IsAxiomWritten, IsNumberWritten, IsCellRead, clauses_of_kind, clauses_of_many}
+use Rattle.pc_checker.specs.Written.{IsAxiomWritten, IsNumberWritten, clauses_of_kind, clauses_of_many}
 use Rattle.pc_checker.proofs.ClaimLemmas.{some_and}
 use Rattle.pc_checker.proofs.DraftLemmas.{nothing_written, one_more_written, more_written}
 
@@ -178,19 +178,3 @@ module _ (sheet : Sheet) (r : ℕ) (path : List ℕ) (reads : List Entry) where
 pub if_ok_then : {A E : Type 0} (r : Result A E) (P Q : A → Type 0) → ((a : A) → P a → Q a) → IfOk r P → IfOk r Q
 if_ok_then (Ok a) P Q f h = f a h
 if_ok_then (Err e) P Q f h = h
-
--- ---- reads of different cells
-
-pub distinct_more : (reads : List Entry) (i : ℕ) (d : Entry) → i < length reads → HaveDistinctCells (take i reads) → All (λ r. r.cell ≢ (get_or reads i d).cell) (take i reads) → HaveDistinctCells (take (i + 1) reads)
-distinct_more reads i d within h all =
-    subst HaveDistinctCells (sym (take_more reads i d within)) (all_pairs_push (λ e f. e.cell ≢ f.cell) (take i reads) (get_or reads i d) h all)
-
-pub repeated : (reads : List Entry) (i : ℕ) (d : Entry) → i < length reads → IsCellRead (take i reads) (get_or reads i d).cell true → ¬ HaveDistinctCells reads
-repeated reads i d within h distinct =
-    let r = h.0 in
-    let k = h.1.0 in
-    let count : length (take i reads) ≡ i = length-take-le i reads (omega arith) in
-    let less : k < i = omega (arith, h.1.1) in
-    let cell : Entry → CellId = λ e. e.cell in
-    let first : get_or reads k r ≡ r = sym (get_or-take i reads k r less) ∙ h.1.2 in
-    distinct k i r less within (ap cell first ∙ h.2 ∙ ap cell (sym (get_or_default reads i r d within)))

@@ -39,8 +39,3 @@ abbrev pub clauses_of_many : Symbol → (ℕ → Symbol) → Bool → ℕ → Li
 clauses_of_many p child sign n =
     each_below n (λ k. (record { what = p; sign = not sign }) ∷ (record { what = child k; sign = sign }) ∷ []) ++
     ((record { what = p; sign = sign }) ∷ each_below n (λ k. record { what = child k; sign = not sign })) ∷ []
-
--- some read is of the cell; or none is
-abbrev pub IsCellRead : List Entry → CellId → Bool → Type 0
-IsCellRead reads cell true = (r : Entry) × Contains reads r × (r.cell ≡ cell)
-IsCellRead reads cell false = All (λ r. r.cell ≢ cell) reads

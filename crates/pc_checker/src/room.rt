@@ -2,6 +2,7 @@
 
 ghost use Rattle.std.specs.Prelude.{◌≡◌, [], IfOk, OnOk, All, length, map};
 ghost use Rattle.pc_accept.specs.Axioms.{negated_entry};
+ghost use Rattle.pc_sheet.specs.Entailment.{cell_sizes};
 ghost use Rattle.pc_cert.specs.Text.{entry_said};
 ghost use Rattle.pc_cert.specs.Views.{reading_of, said_of, symbol_of};
 ghost use Rattle.pc_checker.specs.Drafts.{AreWritten};
@@ -98,8 +99,9 @@ fn prepare_lines(
     requires no_marks { axioms.old.items ≡ [] }
     ensures { OnOk result (ArePrepared book.now lines.now (length lines.now) draft.old.symbols draft.new.symbols clauses.new axioms.new.items) }
 {
+    let mut marks = Values::new(alloc, book.cells() as u32)?;
     for line in lines {
-        let good = prepare_line(alloc, book, &line.part, draft, clauses)?;
+        let good = prepare_line(alloc, book, &line.part, draft, clauses, &mut marks)?;
         axioms.push(good)?;
     }
     Ok(())
@@ -112,14 +114,17 @@ fn prepare_line(
     part: &CertPart,
     draft: &mut ClauseDraft,
     clauses: &mut ClauseStore,
+    marks: &mut Values,
 ) -> Result<bool, AllocError>
-    requires { IsPartOver book.now draft.old.symbols part.now }
-    ensures { IfOk result (IsLinePrepared book.now part.now draft.old.symbols draft.new.symbols clauses.old clauses.new) }
+    requires over { IsPartOver book.now draft.old.symbols part.now }
+    requires marks { length marks.old ≡ length (cell_sizes book.now.universe) }
+    ensures room { length marks.new ≡ length marks.old }
+    ensures prepared { IfOk result (IsLinePrepared book.now part.now draft.old.symbols draft.new.symbols clauses.old clauses.new) }
 {
     match part {
         CertPart::Axiom(axiom) => {
             draft.begin();
-            let good = write_axiom(alloc, book, axiom, draft)?;
+            let good = write_axiom(alloc, book, axiom, draft, marks)?;
             clauses.push(draft.literals())?;
             Ok(good)
         }

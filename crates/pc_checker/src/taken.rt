@@ -1,33 +1,39 @@
 //! What may be taken as an axiom, and its clause.
 
-ghost use Rattle.std.specs.Prelude.{◌≡◌, ◌≢◌, ◌↔◌, IfOk, IsTrue, All, Contains, MatchBool, Some, [], map};
+ghost use Rattle.std.specs.Prelude.{◌≡◌, ◌<◌, ◌↔◌, IfOk, IsTrue, All, Some, [], length};
 ghost use Rattle.pc_names.specs.Views.{axiom_of};
 ghost use Rattle.pc_accept.specs.Axioms.{by_reads};
-ghost use Rattle.pc_sheet.specs.Entailment.{HaveDistinctCells};
+ghost use Rattle.pc_sheet.specs.Entailment.{HaveDistinctCells, cell_sizes};
 ghost use Rattle.pc_sheet.specs.Nodes.{kind_at};
 ghost use Rattle.pc_sheet.specs.WellFormed.{IsEntryOf};
 ghost use Rattle.pc_sheet.specs.declared.nodes.NodeKind.{NodeKind};
 ghost use Rattle.pc_cert.specs.ReadFor.{IsOver};
-ghost use Rattle.pc_checker.specs.Written.{IsAxiomWritten, IsCellRead};
+ghost use Rattle.pc_checker.specs.Written.{IsAxiomWritten};
 
 use crate::axiom::{write_reads, write_values};
 use crate::draft::ClauseDraft;
 use crate::node::write_node;
+use pc_lits::{Lit, Var};
 use pc_logic::{Book, eval_partial, node_at};
 use pc_names::AxiomName;
-use pc_sheet::{CellId, Entry, NodeKind, NodePath};
+use pc_sheet::{Entry, NodeKind, NodePath};
+use pc_values::Values;
 use std::alloc::{AllocError, Global};
 
-/// Writes the axiom's clause, and answers whether the book has that axiom.
+/// Writes the axiom's clause, and answers whether the book has that axiom. The marks have room for each cell, and what
+/// they hold before doesn't matter.
 pub(crate) fn write_axiom(
     alloc: Global,
     book: &Book,
     name: &AxiomName,
     draft: &mut ClauseDraft,
+    marks: &mut Values,
 ) -> Result<bool, AllocError>
     requires over { IsOver book.now name.now }
     requires blank { draft.old.clause ≡ [] }
-    ensures { IfOk result (IsAxiomWritten book.now (axiom_of name.now) draft.old draft.new) }
+    requires marks { length marks.old ≡ length (cell_sizes book.now.universe) }
+    ensures written { IfOk result (IsAxiomWritten book.now (axiom_of name.now) draft.old draft.new) }
+    ensures room { length marks.new ≡ length marks.old }
 {
     match name {
         AxiomName::Any(cell) => {
@@ -54,7 +60,7 @@ pub(crate) fn write_axiom(
             Some(kind) => write_node(alloc, path, kind, *number, draft),
         },
         AxiomName::Atom(path, reads) => match node_at(book, path.rule, &path.steps) {
-            Some(NodeKind::Atom) => write_atom(alloc, book, path, reads, draft),
+            Some(NodeKind::Atom) => write_atom(alloc, book, path, reads, draft, marks),
             _ => Ok(false),
         },
     }
@@ -67,13 +73,16 @@ fn write_atom(
     path: &NodePath,
     reads: &[Entry],
     draft: &mut ClauseDraft,
+    marks: &mut Values,
 ) -> Result<bool, AllocError>
     requires atom { kind_at book.now path.now.rule path.now.steps.items ≡ Some NodeKind.Atom }
     requires reads { All (IsEntryOf book.now.universe) reads.now }
     requires blank { draft.old.clause ≡ [] }
-    ensures { IfOk result (IsAxiomWritten book.now (by_reads path.now.rule path.now.steps.items reads.now) draft.old draft.new) }
+    requires marks { length marks.old ≡ length (cell_sizes book.now.universe) }
+    ensures written { IfOk result (IsAxiomWritten book.now (by_reads path.now.rule path.now.steps.items reads.now) draft.old draft.new) }
+    ensures room { length marks.new ≡ length marks.old }
 {
-    if !have_distinct_cells(reads) {
+    if !have_distinct_cells(reads, marks) {
         return Ok(false);
     }
     match eval_partial(book, path, reads) {
@@ -86,24 +95,19 @@ fn write_atom(
     }
 }
 
-fn have_distinct_cells(reads: &[Entry]) -> bool
-    ensures { IsTrue result ↔ HaveDistinctCells reads.now }
+// Whether no cell is read twice: each read marks its cell.
+fn have_distinct_cells(reads: &[Entry], marks: &mut Values) -> bool
+    requires { All (λ r. r.cell.0 < length marks.old) reads.now }
+    ensures distinct { IsTrue result ↔ HaveDistinctCells reads.now }
+    ensures room { length marks.new ≡ length marks.old }
 {
-    for (place, read) in reads.iter().enumerate() {
-        if is_read(&reads[..place], read.cell) {
+    marks.clear();
+    for read in reads {
+        let cell = Lit::positive(Var(u32::from(read.cell.0)));
+        if marks.is_true(cell) {
             return false;
         }
+        marks.assign(cell);
     }
     true
-}
-
-fn is_read(reads: &[Entry], cell: CellId) -> bool
-    ensures { IsCellRead reads.now cell result }
-{
-    for read in reads {
-        if read.cell.0 == cell.0 {
-            return true;
-        }
-    }
-    false
 }
