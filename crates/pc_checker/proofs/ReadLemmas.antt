@@ -1,5 +1,5 @@
 -- Reads of different cells, by marks on the cells that were read.
-use Rattle.std.proofs.Common.{◌≡◌, ◌≢◌, ℕ, ◌+◌, ◌<◌, ◌↔◌, ⊎_elim, Bool, true, List, [], ◌∷◌, ◌++◌, take, length, get_or, set, All, Contains, Option, None, Some, slice_get, refl, ap, sym, ◌∙◌, subst, arith}
+use Rattle.std.proofs.Common.{◌≡◌, ◌≢◌, ℕ, ◌+◌, ◌<◌, ◌↔◌, ⊎_elim, Bool, true, List, [], ◌∷◌, ◌++◌, take, length, get_or, set, All, Contains, Option, None, Some, slice_get, ap, sym, ◌∙◌, subst, arith}
 use Rattle.std.proofs.lemmas.Option.{slice_get_within}
 use Rattle.std.proofs.lemmas.Bool.{cases_eq}
 use Rattle.std.proofs.lemmas.List.{take_more, length-take-le, get_or-take, get_or_default, length-set, get_or-set_same, get_or-set_other}

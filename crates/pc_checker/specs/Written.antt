@@ -1,8 +1,6 @@
 -- When an axiom's clause was written.
-use Rattle.std.specs.Prelude.{◌≡◌, ◌≢◌, ℕ, Bool, true, false, not, MatchBool, List, [], ◌∷◌, ◌++◌, All, Contains}
+use Rattle.std.specs.Prelude.{ℕ, Bool, not, MatchBool, List, [], ◌∷◌, ◌++◌}
 use Rattle.pc_sheet.specs.Sheet.{Sheet}
-use Rattle.pc_sheet.specs.declared.ids.CellId.{CellId}
-use Rattle.pc_sheet.specs.declared.ids.Entry.{Entry}
 use Rattle.pc_sheet.specs.declared.nodes.NodeKind.{NodeKind}
 use Rattle.pc_sheet.specs.declared.nodes.NodeKind.TheVariants.{Atom, Not, And, Or, Implies, Iff, ForAll, Exists}
 use Rattle.pc_accept.specs.Literals.{Symbol, Literal, positive, negative}
