@@ -89,7 +89,7 @@ fn lines_have_their_forms(rt: HostRuntime) -> Result<(), Fail> {
 
 // Texts, each with what it is for a book with nothing in it, and with the number of the line behind the last claim or of the
 // line at fault.
-const TEXTS: [(&str, &str, u32); 12] = [
+const TEXTS: [(&str, &str, u32); 13] = [
     ("certificate 1\nclaim inconsistent\nend", "0 parts", 3),
     (
         "\n certificate 1\r\n\nclaim inconsistent\n1 step :\n\n2 step : 1 0\nend\n\n",
@@ -111,6 +111,7 @@ const TEXTS: [(&str, &str, u32); 12] = [
         3,
     ),
     ("certificate 1\nend", "syntax", 2),
+    ("certificate 1\n?\nend", "syntax", 2),
     ("certificate 1\nclaim inconsistent\nend\nend", "syntax", 4),
     ("certificate 1\nclaim a = red\nend 1", "unknown name", 2),
     (

@@ -17,6 +17,49 @@ const ACCEPTED: &str =
 const BROKEN: &str =
     "certificate 1\nclaim b = red\nuse a = red\nvalue a = red\nvalue b = red\nvalue c = green\n1 rule ab\n2 atom @ab a=red b=green\n3 some b\n4 step ~a=red b=red : 3 1 2\nend\n";
 
+// A rule that is no atom, and an entry that it goes on from.
+const RULED: &str =
+    "sheet 1\nsort color = red green blue\ncell a : color\ncell b : color\nrule t : a = red -> b = red\nenter a = red\nbegin\n";
+
+// That the second isn't green: by axioms of every kind, and a step whose clause speaks of a node.
+const BY_NODES: &str =
+    "certificate 1\nclaim b != green\nuse a = red\nvalue a = red\nvalue b = red\n1 rule t\n2 node @t 1\n3 atom @t/0 a=red\n4 atom @t/1 b=green\n5 atom @t/1 b=blue\n6 some b\n7 step ~a=red @t/1 : 1 3 2\n8 step ~a=red b=red : 7 4 5 6\n9 one b red green\n10 step ~a=red ~b=green : 8 9\nend\n";
+
+// A file's name, its sheet and a certificate, and what is printed and answered.
+const CHECKS: [(&str, &str, &str, &str, Status); 7] = [
+    ("k.sheet", SHEET, ACCEPTED, "accepted\n", Status::Done),
+    ("k.sheet", RULED, BY_NODES, "accepted\n", Status::Done),
+    (
+        "k.sheet",
+        SHEET,
+        BROKEN,
+        "refused rule-broken bc\n",
+        Status::CertRefused,
+    ),
+    (
+        "k.sheet",
+        SHEET,
+        "certificate 1\nclaim d = red\n",
+        "refused unknown-name line 2\n",
+        Status::CertRefused,
+    ),
+    (
+        "k.sheet",
+        SHEET,
+        "",
+        "refused syntax line 1\n",
+        Status::CertRefused,
+    ),
+    (
+        "k.sheet",
+        "sheet 1\nsort color = red\n",
+        ACCEPTED,
+        "sheet refused 3 no-begin\n",
+        Status::SheetRefused,
+    ),
+    ("other", SHEET, ACCEPTED, "", Status::ReadFault),
+];
+
 // A shelf with the sheet's file.
 fn shelf_of(alloc: Global, sheet: &str) -> Result<MemoryShelf, AllocError> {
     let mut files = Vec::new(alloc);
@@ -28,38 +71,7 @@ fn shelf_of(alloc: Global, sheet: &str) -> Result<MemoryShelf, AllocError> {
 #[test]
 fn checks(rt: HostRuntime) -> Result<(), Fail> {
     let alloc = rt.alloc();
-    for (file, sheet, certificate, want, status) in [
-        ("k.sheet", SHEET, ACCEPTED, "accepted\n", Status::Done),
-        (
-            "k.sheet",
-            SHEET,
-            BROKEN,
-            "refused rule-broken bc\n",
-            Status::CertRefused,
-        ),
-        (
-            "k.sheet",
-            SHEET,
-            "certificate 1\nclaim d = red\n",
-            "refused unknown-name line 2\n",
-            Status::CertRefused,
-        ),
-        (
-            "k.sheet",
-            SHEET,
-            "",
-            "refused syntax line 1\n",
-            Status::CertRefused,
-        ),
-        (
-            "k.sheet",
-            "sheet 1\nsort color = red\n",
-            ACCEPTED,
-            "sheet refused 3 no-begin\n",
-            Status::SheetRefused,
-        ),
-        ("other", SHEET, ACCEPTED, "", Status::ReadFault),
-    ] {
+    for (file, sheet, certificate, want, status) in CHECKS {
         let mut shelf = shelf_of(alloc, sheet)?;
         let bytes = certificate.as_bytes().to_vec(alloc)?;
         let mut input = MemorySource::new(bytes, 100, Vec::new(alloc));

@@ -36,85 +36,88 @@ fn replay(alloc: Global, bytes: &[u8]) -> Result<(Status, Vec<u8>), AllocError> 
     Ok((status, out.bytes().to_vec(alloc)?))
 }
 
+// A sheet and commands, and what is printed and answered.
+const WORKED: [(&str, &str, &str, Status); 14] = [
+    ("sheet 1\nbegin\n", "show\n", "", Status::Done),
+    (
+        "sheet 1\nsort one = v\ncell a : one\nbegin\n",
+        "show\n",
+        "a : -\n  = v always\n",
+        Status::Done,
+    ),
+    (EQUAL, "show\n", "a : -\nb : -\nc : -\n", Status::Done),
+    (
+        EQUAL,
+        "enter a = red\nenter c = green\nshow\n",
+        "ok\nok\na : red !\n  = red because a = red\n  = green because c = green\n  ! against c = green\nb : -\n  = red because a = red\n  = green because c = green\nc : green !\n  = red because a = red\n  = green because c = green\n  ! against a = red\n",
+        Status::Done,
+    ),
+    (
+        "sheet 1\nsort color = red green\ncell a : color\nrule na : a != red\nbegin\n",
+        "enter a = red\nshow\n",
+        "ok\na : red !\n  = green always\n  ! against the rules\n",
+        Status::Done,
+    ),
+    (
+        PAIRS,
+        "enter a = red\nenter b = green\nenter c = red\nenter d = green\nshow\n",
+        "ok\nok\nok\nok\na : red !\n  = red because a = red\n  = green because b = green\n  ! against b = green\nb : green !\n  = red because a = red\n  = green because b = green\n  ! against a = red\nc : red !\n  = red because c = red\n  = green because d = green\n  ! against d = green\nd : green !\n  = red because c = red\n  = green because d = green\n  ! against c = red\n",
+        Status::Done,
+    ),
+    (
+        BOTH,
+        "enter a = red\nenter b = red\nshow\nenter c = green\nshow\n",
+        "ok\nok\na : red\n  = red because a = red\nb : red\n  = red because b = red\nc : -\n  = red because a = red, b = red\nok\na : red !\n  = red because a = red\n  = green because b = red, c = green\n  ! against b = red, c = green\nb : red !\n  = red because b = red\n  = green because a = red, c = green\n  ! against a = red, c = green\nc : green !\n  = red because a = red, b = red\n  = green because c = green\n  ! against a = red, b = red\n",
+        Status::Done,
+    ),
+    (
+        EQUAL,
+        "enter a = red\nenter c = red\nenter a = red\nshow\n",
+        "ok\nok\nok\na : red\n  = red because a = red\nb : -\n  = red because a = red\nc : red\n  = red because a = red\n",
+        Status::Done,
+    ),
+    (
+        EQUAL,
+        "enter a = red\nenter c = red\nenter a = green\nshow\n",
+        "ok\nok\nok\na : green !\n  = red because c = red\n  = green because a = green\n  ! against c = red\nb : -\n  = red because c = red\n  = green because a = green\nc : red !\n  = red because c = red\n  = green because a = green\n  ! against a = green\n",
+        Status::Done,
+    ),
+    (
+        EQUAL,
+        "\n; a comment\nenter a = blue\n",
+        "refused 5 unknown-name\n",
+        Status::SomeRefused,
+    ),
+    (
+        EQUAL,
+        "enter a = red\ndump\n",
+        "ok\nsheet 1\nsort color = red green\ncell a : color\ncell b : color\ncell c : color\nrule ab : a = b\nrule bc : b = c\nenter a = red\nbegin\n",
+        Status::Done,
+    ),
+    (
+        EQUAL,
+        "clear b\nenter a(red) = red\nenter a = 1\ngrid\n",
+        "refused 16 no-entry\nrefused 7 wrong-arity\nrefused 8 wrong-sort\nrefused 20 not-yet\n",
+        Status::SomeRefused,
+    ),
+    (
+        "sheet 1\nsort size = 1 .. 3\ncell f(size) : size\nbegin\n",
+        "show\n",
+        "f(1) : -\nf(2) : -\nf(3) : -\n",
+        Status::Done,
+    ),
+    (
+        "sheet 1\nsort color = red\ncell a : color\nrule no : a != red\nbegin\n",
+        "show\n",
+        "sheet refused 20 not-yet\n",
+        Status::SheetRefused,
+    ),
+];
+
 #[test]
 fn worked_sheets(rt: HostRuntime) -> Result<(), Fail> {
     let alloc = rt.alloc();
-    for (sheet, commands, want, status) in [
-        ("sheet 1\nbegin\n", "show\n", "", Status::Done),
-        (
-            "sheet 1\nsort one = v\ncell a : one\nbegin\n",
-            "show\n",
-            "a : -\n  = v always\n",
-            Status::Done,
-        ),
-        (EQUAL, "show\n", "a : -\nb : -\nc : -\n", Status::Done),
-        (
-            EQUAL,
-            "enter a = red\nenter c = green\nshow\n",
-            "ok\nok\na : red !\n  = red because a = red\n  = green because c = green\n  ! against c = green\nb : -\n  = red because a = red\n  = green because c = green\nc : green !\n  = red because a = red\n  = green because c = green\n  ! against a = red\n",
-            Status::Done,
-        ),
-        (
-            "sheet 1\nsort color = red green\ncell a : color\nrule na : a != red\nbegin\n",
-            "enter a = red\nshow\n",
-            "ok\na : red !\n  = green always\n  ! against the rules\n",
-            Status::Done,
-        ),
-        (
-            PAIRS,
-            "enter a = red\nenter b = green\nenter c = red\nenter d = green\nshow\n",
-            "ok\nok\nok\nok\na : red !\n  = red because a = red\n  = green because b = green\n  ! against b = green\nb : green !\n  = red because a = red\n  = green because b = green\n  ! against a = red\nc : red !\n  = red because c = red\n  = green because d = green\n  ! against d = green\nd : green !\n  = red because c = red\n  = green because d = green\n  ! against c = red\n",
-            Status::Done,
-        ),
-        (
-            BOTH,
-            "enter a = red\nenter b = red\nshow\nenter c = green\nshow\n",
-            "ok\nok\na : red\n  = red because a = red\nb : red\n  = red because b = red\nc : -\n  = red because a = red, b = red\nok\na : red !\n  = red because a = red\n  = green because b = red, c = green\n  ! against b = red, c = green\nb : red !\n  = red because b = red\n  = green because a = red, c = green\n  ! against a = red, c = green\nc : green !\n  = red because a = red, b = red\n  = green because c = green\n  ! against a = red, b = red\n",
-            Status::Done,
-        ),
-        (
-            EQUAL,
-            "enter a = red\nenter c = red\nenter a = red\nshow\n",
-            "ok\nok\nok\na : red\n  = red because a = red\nb : -\n  = red because a = red\nc : red\n  = red because a = red\n",
-            Status::Done,
-        ),
-        (
-            EQUAL,
-            "enter a = red\nenter c = red\nenter a = green\nshow\n",
-            "ok\nok\nok\na : green !\n  = red because c = red\n  = green because a = green\n  ! against c = red\nb : -\n  = red because c = red\n  = green because a = green\nc : red !\n  = red because c = red\n  = green because a = green\n  ! against a = green\n",
-            Status::Done,
-        ),
-        (
-            EQUAL,
-            "\n; a comment\nenter a = blue\n",
-            "refused 5 unknown-name\n",
-            Status::SomeRefused,
-        ),
-        (
-            EQUAL,
-            "enter a = red\ndump\n",
-            "ok\nsheet 1\nsort color = red green\ncell a : color\ncell b : color\ncell c : color\nrule ab : a = b\nrule bc : b = c\nenter a = red\nbegin\n",
-            Status::Done,
-        ),
-        (
-            EQUAL,
-            "clear b\nenter a(red) = red\nenter a = 1\ngrid\n",
-            "refused 16 no-entry\nrefused 7 wrong-arity\nrefused 8 wrong-sort\nrefused 20 not-yet\n",
-            Status::SomeRefused,
-        ),
-        (
-            "sheet 1\nsort size = 1 .. 3\ncell f(size) : size\nbegin\n",
-            "show\n",
-            "f(1) : -\nf(2) : -\nf(3) : -\n",
-            Status::Done,
-        ),
-        (
-            "sheet 1\nsort color = red\ncell a : color\nrule no : a != red\nbegin\n",
-            "show\n",
-            "sheet refused 20 not-yet\n",
-            Status::SheetRefused,
-        ),
-    ] {
+    for (sheet, commands, want, status) in WORKED {
         let mut bytes = sheet.as_bytes().to_vec(alloc)?;
         bytes.extend_from_slice(commands.as_bytes())?;
         let (ended, text) = replay(alloc, &bytes)?;
@@ -219,42 +222,45 @@ const SUM: &str =
 const SHIFTS: &str =
     "sheet 1\nsort shift = early late\nsort person = ann bob\ntable trained(person, shift)\nrow trained(ann, early)\nrow trained(ann, late)\nrow trained(bob, late)\nrow trained(ann, late)\ncell on(shift) : person\nrule trained : forall s:shift . exists p:person . on(s) = p & trained(p, s)\nrule both : exists s:shift . on(s) = bob\nbegin\n";
 
+// A sheet and commands, and what is printed.
+const FORMS: [(&str, &str, &str); 6] = [
+    (
+        EQUAL,
+        "enter a = red\nenter c = red\nshow\nclear a\nshow\n",
+        "ok\nok\na : red\n  = red because a = red\nb : -\n  = red because a = red\nc : red\n  = red because a = red\nok\na : -\n  = red because c = red\nb : -\n  = red because c = red\nc : red\n  = red because c = red\n",
+    ),
+    (
+        SUM,
+        "enter x = 2\nenter z = 3\nshow\nclear z\nenter y = 2\nshow\n",
+        "ok\nok\nx : 2\n  = 2 because x = 2\ny : -\n  = 1 because x = 2, z = 3\nz : 3\n  = 3 because z = 3\nok\nok\nx : 2 !\n  = 2 because x = 2\n  ! against y = 2\ny : 2 !\n  = 2 because y = 2\n  ! against x = 2\nz : -\n",
+    ),
+    (
+        SHIFTS,
+        "show\nenter on(late) = ann\nshow\ndump\n",
+        "on(early) : -\n  = ann always\non(late) : -\n  = bob always\nok\non(early) : -\n  = ann always\non(late) : ann !\n  = bob always\n  ! against the rules\nsheet 1\nsort shift = early late\nsort person = ann bob\ntable trained(person, shift)\nrow trained(ann, early)\nrow trained(ann, late)\nrow trained(bob, late)\ncell on(shift) : person\nrule trained : forall s:shift . exists p:person . on(s) = p & trained(p, s)\nrule both : exists s:shift . on(s) = bob\nenter on(late) = ann\nbegin\n",
+    ),
+    (
+        "sheet 1\nsort f = rot grün\ncell wände : f\nrule r : wände = grün\nbegin\n",
+        "show\n",
+        "wände : -\n  = grün always\n",
+    ),
+    (
+        "sheet 1\nsort n = -2 .. 1\ncell a(n) : n\nenter a( -1 ) = - 2\nbegin\n",
+        "enter a(1) = 0\nenter a(-2) = 1\nclear a(1)\ndump\n",
+        "ok\nok\nok\nsheet 1\nsort n = -2 .. 1\ncell a(n) : n\nenter a(-1) = -2\nenter a(-2) = 1\nbegin\n",
+    ),
+    (
+        EQUAL,
+        "enter c = red\nenter a = green\nenter b = red\nenter c = green\ndump\n",
+        "ok\nok\nok\nok\nsheet 1\nsort color = red green\ncell a : color\ncell b : color\ncell c : color\nrule ab : a = b\nrule bc : b = c\nenter a = green\nenter b = red\nenter c = green\nbegin\n",
+    ),
+];
+
 // Numbers, tables, families and quantifiers; entries that are cleared; texts that aren't ASCII.
 #[test]
 fn sheets_of_every_form(rt: HostRuntime) -> Result<(), Fail> {
     let alloc = rt.alloc();
-    for (sheet, commands, want) in [
-        (
-            EQUAL,
-            "enter a = red\nenter c = red\nshow\nclear a\nshow\n",
-            "ok\nok\na : red\n  = red because a = red\nb : -\n  = red because a = red\nc : red\n  = red because a = red\nok\na : -\n  = red because c = red\nb : -\n  = red because c = red\nc : red\n  = red because c = red\n",
-        ),
-        (
-            SUM,
-            "enter x = 2\nenter z = 3\nshow\nclear z\nenter y = 2\nshow\n",
-            "ok\nok\nx : 2\n  = 2 because x = 2\ny : -\n  = 1 because x = 2, z = 3\nz : 3\n  = 3 because z = 3\nok\nok\nx : 2 !\n  = 2 because x = 2\n  ! against y = 2\ny : 2 !\n  = 2 because y = 2\n  ! against x = 2\nz : -\n",
-        ),
-        (
-            SHIFTS,
-            "show\nenter on(late) = ann\nshow\ndump\n",
-            "on(early) : -\n  = ann always\non(late) : -\n  = bob always\nok\non(early) : -\n  = ann always\non(late) : ann !\n  = bob always\n  ! against the rules\nsheet 1\nsort shift = early late\nsort person = ann bob\ntable trained(person, shift)\nrow trained(ann, early)\nrow trained(ann, late)\nrow trained(bob, late)\ncell on(shift) : person\nrule trained : forall s:shift . exists p:person . on(s) = p & trained(p, s)\nrule both : exists s:shift . on(s) = bob\nenter on(late) = ann\nbegin\n",
-        ),
-        (
-            "sheet 1\nsort f = rot grün\ncell wände : f\nrule r : wände = grün\nbegin\n",
-            "show\n",
-            "wände : -\n  = grün always\n",
-        ),
-        (
-            "sheet 1\nsort n = -2 .. 1\ncell a(n) : n\nenter a( -1 ) = - 2\nbegin\n",
-            "enter a(1) = 0\nenter a(-2) = 1\nclear a(1)\ndump\n",
-            "ok\nok\nok\nsheet 1\nsort n = -2 .. 1\ncell a(n) : n\nenter a(-1) = -2\nenter a(-2) = 1\nbegin\n",
-        ),
-        (
-            EQUAL,
-            "enter c = red\nenter a = green\nenter b = red\nenter c = green\ndump\n",
-            "ok\nok\nok\nok\nsheet 1\nsort color = red green\ncell a : color\ncell b : color\ncell c : color\nrule ab : a = b\nrule bc : b = c\nenter a = green\nenter b = red\nenter c = green\nbegin\n",
-        ),
-    ] {
+    for (sheet, commands, want) in FORMS {
         let mut bytes = sheet.as_bytes().to_vec(alloc)?;
         bytes.extend_from_slice(commands.as_bytes())?;
         let (status, text) = replay(alloc, &bytes)?;
@@ -377,71 +383,76 @@ fn run_with(
     Ok((status, out.bytes().to_vec(alloc)?))
 }
 
+// A step that ends the derivation well.
+const STEP: &str = "4 step ~a=red b=red : 3 1 2\n";
+
+// What a certificate uses, the last cell's value in it, and the last line of its derivation; what is printed and answered.
+const CERTIFICATES: [(&str, &str, &str, &str, Status); 9] = [
+    ("a = red", "red", STEP, "accepted\n", Status::Done),
+    (
+        "a = red",
+        "green",
+        STEP,
+        "refused rule-broken bc\n",
+        Status::CertRefused,
+    ),
+    (
+        "c = red",
+        "red",
+        STEP,
+        "refused use-not-entered line 3\n",
+        Status::CertRefused,
+    ),
+    (
+        "d = red",
+        "red",
+        STEP,
+        "refused unknown-name line 3\n",
+        Status::CertRefused,
+    ),
+    (
+        "a = red",
+        "red",
+        "4 step ~a=red b=red : 2 1 3\n",
+        "refused bad-step line 10\n",
+        Status::CertRefused,
+    ),
+    (
+        "a = red",
+        "red",
+        "4 step ~a=red b=red : 3 1 99\n",
+        "refused bad-step line 10\n",
+        Status::CertRefused,
+    ),
+    (
+        "a = red",
+        "red",
+        "4 step ~a=red b=red : 4\n",
+        "refused bad-step line 10\n",
+        Status::CertRefused,
+    ),
+    (
+        "a = red",
+        "red",
+        "4 stop\n",
+        "refused syntax line 10\n",
+        Status::CertRefused,
+    ),
+    (
+        "a = red",
+        "red",
+        "",
+        "refused wrong-end\n",
+        Status::CertRefused,
+    ),
+];
+
 // Certificates that an entry implies its neighbour's value, with one line that varies.
 #[test]
 fn certificates(rt: HostRuntime) -> Result<(), Fail> {
     let alloc = rt.alloc();
     let sheet = format!(in alloc; "{COLORS}{ENTERED}")?;
-    let step = "4 step ~a=red b=red : 3 1 2\n";
-    for (used, value, last, want, status) in [
-        ("a = red", "red", step, "accepted\n", Status::Done),
-        (
-            "a = red",
-            "green",
-            step,
-            "refused rule-broken bc\n",
-            Status::CertRefused,
-        ),
-        (
-            "c = red",
-            "red",
-            step,
-            "refused use-not-entered line 3\n",
-            Status::CertRefused,
-        ),
-        (
-            "d = red",
-            "red",
-            step,
-            "refused unknown-name line 3\n",
-            Status::CertRefused,
-        ),
-        (
-            "a = red",
-            "red",
-            "4 step ~a=red b=red : 2 1 3\n",
-            "refused bad-step line 10\n",
-            Status::CertRefused,
-        ),
-        (
-            "a = red",
-            "red",
-            "4 step ~a=red b=red : 3 1 99\n",
-            "refused bad-step line 10\n",
-            Status::CertRefused,
-        ),
-        (
-            "a = red",
-            "red",
-            "4 step ~a=red b=red : 4\n",
-            "refused bad-step line 10\n",
-            Status::CertRefused,
-        ),
-        (
-            "a = red",
-            "red",
-            "4 stop\n",
-            "refused syntax line 10\n",
-            Status::CertRefused,
-        ),
-        (
-            "a = red",
-            "red",
-            "",
-            "refused wrong-end\n",
-            Status::CertRefused,
-        ),
-    ] {
+    for (used, value, last, want, status) in CERTIFICATES {
         let certificate = format!(in alloc;
             "certificate 1\nclaim b = red\nuse {used}\nvalue a = red\nvalue b = red\nvalue c = {value}\n1 rule ab\n2 atom @ab a=red b=green\n3 some b\n{last}end\n"
         )?;
