@@ -1,26 +1,15 @@
 -- Which entries a list has, and sublists.
-use Rattle.std.proofs.Common.{◌≡◌, ◌≢◌, ℕ, zero, suc, ◌⊎◌, inl, inr, List, [], ◌∷◌, ◌++◌, get_or, Contains, All, arith, ap, refl, sym, ◌∙◌, subst}
+use Rattle.std.proofs.Common.{◌≡◌, ◌≢◌, ℕ, zero, suc, inl, inr, Bool, true, false, cond, List, [], ◌∷◌, ◌++◌, get_or, Contains, All, arith, ap, refl, sym, ◌∙◌, subst}
+use Rattle.std.specs.List.{filter}
 use Rattle.std.proofs.lemmas.Bool.{cases_eq}
 use Rattle.std.proofs.lemmas.List.Elements.{All-contains, Contains-get_or, Contains-append_left, Contains-append_right, Contains-append_cases}
+pub use Rattle.pc_laws.proofs.Elements.{contains_first, contains_later, contains_cases, contains_none}
 use Rattle.pc_sheet.specs.Entailment.{IsSublist, HaveDistinctCells}
 use Rattle.pc_sheet.specs.MaximalSets.{IsContained}
 use Rattle.pc_sheet.specs.declared.ids.Entry.{Entry}
 use Rattle.pc_laws.specs.Laws.{IsDecided}
 
 -- ---- the elements of a list
-
-pub contains_first : (x : Entry) (xs : List Entry) → Contains (x ∷ xs) x
-contains_first x xs = (zero, omega arith, refl)
-
-pub contains_later : (x : Entry) (xs : List Entry) (y : Entry) → Contains xs y → Contains (x ∷ xs) y
-contains_later x xs y h = (suc h.0, omega (arith, h.1), h.2)
-
-pub contains_cases : (x : Entry) (xs : List Entry) (y : Entry) → Contains (x ∷ xs) y → (x ≡ y) ⊎ Contains xs y
-contains_cases x xs y (zero, l, is) = inl is
-contains_cases x xs y (suc k, l, is) = inr (k, omega arith, is)
-
-pub contains_none : (x : Entry) → ¬ Contains [] x
-contains_none x h = absurd (omega (arith, h.1))
 
 -- in a list with a first element, and not that one
 pub contains_rest : (x : Entry) (xs : List Entry) (y : Entry) → x ≢ y → Contains (x ∷ xs) y → Contains xs y
@@ -83,6 +72,29 @@ pub sub_of_sub : (xs ys zs : List Entry) → IsSublist xs ys → IsSublist ys zs
 sub_of_sub [] ys zs h k = none_of_none ys zs h k
 sub_of_sub (x ∷ xs) ys zs (inl h) k = inl (sub_of_sub xs ys zs h k)
 sub_of_sub (x ∷ xs) ys zs (inr (rest, is, h)) k = sub_under x xs rest zs (λ last l. sub_of_sub xs rest last h l) (subst (λ s. IsSublist s zs) is k)
+
+-- ---- sublists of what a filter keeps
+
+pub filter_sub : (p : Entry → Bool) (xs : List Entry) → IsSublist xs (filter p xs)
+filter_sub p [] = refl
+filter_sub p (x ∷ xs) = by_test (p x) (filter_sub p xs)
+  where
+    by_test : (b : Bool) → IsSublist xs (filter p xs) → IsSublist (x ∷ xs) (cond b (x ∷ filter p xs) (filter p xs))
+    by_test true h = inr (filter p xs, refl, h)
+    by_test false h = inl h
+
+pub sub_filtered : (p : Entry → Bool) (xs s : List Entry) → IsSublist xs s → IsSublist (filter p xs) (filter p s)
+sub_filtered p [] s h = subst (λ o. filter p o ≡ []) (sym h) refl
+sub_filtered p (x ∷ xs) s (inl h) = by_test (p x) (sub_filtered p xs s h)
+  where
+    by_test : (b : Bool) → IsSublist (filter p xs) (filter p s) → IsSublist (cond b (x ∷ filter p xs) (filter p xs)) (filter p s)
+    by_test true k = inl k
+    by_test false k = k
+sub_filtered p (x ∷ xs) s (inr (rest, is, h)) = subst (λ o. IsSublist (filter p (x ∷ xs)) (filter p o)) (sym is) (by_test (p x) (sub_filtered p xs rest h))
+  where
+    by_test : (b : Bool) → IsSublist (filter p xs) (filter p rest) → IsSublist (cond b (x ∷ filter p xs) (filter p xs)) (cond b (x ∷ filter p rest) (filter p rest))
+    by_test true k = inr (filter p rest, refl, k)
+    by_test false k = k
 
 -- ---- lists with different cells
 

@@ -14,3 +14,7 @@ pub mod DisplaysRight
 pub mod TruthsWorked
 pub mod SortingWorked
 pub mod WeightsWorked
+pub mod Elements
+pub mod LookedUp
+pub mod SomeAssignment
+pub mod Different

@@ -1,5 +1,7 @@
 //! The laws, as contracts.
 ghost use Rattle.pc_laws.specs.Laws.{TruthIsDecided, ConsistencyIsDecided, EntailmentIsDecided, ImplicationIsDecided, SublistsAreConsistent, NoneIsLessThanItself, LesserThanLesserIsLess, DifferentSublistsAreOrdered, ConsistentIsInMaximal, MaximalIsByEachEntry, ImpliedIsByMaximalSet, ImpliedHasOneLeastSupport, LeastSupportIsMinimal, LeastStaysWithNewest, LeastStaysWithoutOthers, ConflictIsInMinimalInconsistent, AssignmentsAreCounted, SublistsAreCounted};
+ghost use Rattle.pc_laws.specs.Lists.{DifferentAreNoMore, SameAreAsMany};
+ghost use Rattle.pc_laws.specs.Universes.{UniversesHaveAssignments, EntriesAreAssigned, AtomsLookUpCells};
 
 /// A statement is true or false under any values.
 pub fn truth_is_decided()
@@ -90,4 +92,29 @@ pub fn assignments_are_counted()
 /// There are two to their number sublists of entries on different cells.
 pub fn sublists_are_counted()
     ensures { SublistsAreCounted }
+{}
+
+/// A well-formed universe has an assignment.
+pub fn universes_have_assignments()
+    ensures { UniversesHaveAssignments }
+{}
+
+/// Entries on different cells are had by some assignment.
+pub fn entries_are_assigned()
+    ensures { EntriesAreAssigned }
+{}
+
+/// A well-sorted atom looks up cells of the universe alone.
+pub fn atoms_look_up_cells()
+    ensures { AtomsLookUpCells }
+{}
+
+/// A list of different elements is no longer than a list that has them all.
+pub fn different_are_no_more<T>()
+    ensures { DifferentAreNoMore T }
+{}
+
+/// Lists of the same elements, each once, are as long.
+pub fn same_are_as_many<T>()
+    ensures { SameAreAsMany T }
 {}

@@ -1,0 +1,50 @@
+-- Certificates that name only what the sheet has, so that they can be written in its names.
+use Rattle.std.specs.Prelude.{◌≡◌, ℕ, ◌+◌, ◌<◌, ◌^◌, List, [], ◌∷◌, length, IsSome, All}
+use Rattle.pc_sheet.specs.Sheet.{Sheet}
+use Rattle.pc_sheet.specs.Entailment.{cell_sizes}
+use Rattle.pc_sheet.specs.Nodes.{node_at}
+use Rattle.pc_sheet.specs.WellFormed.{IsEntryOf}
+use Rattle.pc_accept.specs.Literals.{Symbol, pair, node}
+use Rattle.pc_accept.specs.Axioms.{Axiom, some_value, not_both, true_rule, parts, by_reads}
+use Rattle.pc_accept.specs.Accepts.{Claim, implied, inconsistent, Line, taken, derived, Certificate}
+
+-- the path leads to a node of that rule, and each child number fits 32 bits
+pub record IsPathOf (sheet : Sheet) (r : ℕ) (steps : List ℕ) : Type 0 where
+  pub leads : IsSome (node_at sheet r steps)
+  pub small : All (λ k. k < 2 ^ 32) steps
+
+-- a cell of the sheet with one of its values, or a node
+abbrev pub IsSymbolOf : Sheet → Symbol → Type 0
+IsSymbolOf sheet (pair c v) = IsEntryOf sheet.universe (record { cell = c; value = v })
+IsSymbolOf sheet (node r steps) = IsPathOf sheet r steps
+
+-- an axiom's cells, values, rule and node are the sheet's; its clause's number fits 32 bits
+abbrev pub IsAxiomOf : Sheet → Axiom → Type 0
+IsAxiomOf sheet (some_value c) = c.0 < length (cell_sizes sheet.universe)
+IsAxiomOf sheet (not_both c v w) = IsEntryOf sheet.universe (record { cell = c; value = v }) × IsEntryOf sheet.universe (record { cell = c; value = w })
+IsAxiomOf sheet (true_rule r) = r < length sheet.rules
+IsAxiomOf sheet (parts r steps i) = IsPathOf sheet r steps × (i < 2 ^ 32)
+IsAxiomOf sheet (by_reads r steps reads) = IsPathOf sheet r steps × All (IsEntryOf sheet.universe) reads
+
+-- the line of that number, from 0: an axiom, or a clause over the sheet's symbols whose hints are earlier lines
+abbrev pub IsLineOf : Sheet → ℕ → Line → Type 0
+IsLineOf sheet place (taken a) = IsAxiomOf sheet a
+IsLineOf sheet place (derived clause hints) = All (λ l. IsSymbolOf sheet l.what) clause × All (λ h. h < place) hints
+
+-- lines of which the first has that number
+abbrev pub AreLinesOf : Sheet → ℕ → List Line → Type 0
+AreLinesOf sheet place [] = Unit {0}
+AreLinesOf sheet place (l ∷ ls) = IsLineOf sheet place l × AreLinesOf sheet (place + 1) ls
+
+-- a target on a cell and value of the sheet; a certificate of inconsistency uses no entry and assigns nothing
+abbrev pub IsClaimOf : Sheet → Certificate → Claim → Type 0
+IsClaimOf sheet c (implied t) = IsEntryOf sheet.universe (record { cell = t.cell; value = t.value })
+IsClaimOf sheet c inconsistent = (c.uses ≡ []) × (c.values ≡ [])
+
+-- all that the certificate names is the sheet's, and no line's number has more than 18 digits
+pub record IsWritable (sheet : Sheet) (c : Certificate) : Type 0 where
+  pub claim : IsClaimOf sheet c c.claim
+  pub uses : All (IsEntryOf sheet.universe) c.uses
+  pub values : All (IsEntryOf sheet.universe) c.values
+  pub lines : AreLinesOf sheet 0 c.lines
+  pub few : length c.lines < 10 ^ 18
