@@ -10,7 +10,7 @@ use Rattle.pc_log.specs.declared.log.Kind.{Kind}
 use Rattle.pc_log.specs.declared.log.Kind.TheVariants.{Axiom, Block, Step}
 use Rattle.pc_log.specs.declared.trimming.Span.{Span}
 use Rattle.pc_log.specs.Lines.{LogLine, AxiomLine, BlockLine, StepLine}
-use Rattle.pc_log.specs.Parts.{lines_of, line_with, IsFitted, AreFitted, HasWholeLines}
+use Rattle.pc_log.specs.inside.Parts.{lines_of, line_with, IsFitted, AreFitted, HasWholeLines}
 use Rattle.pc_log.specs.Sizes.{line_bytes, bytes_of}
 use Rattle.pc_log.specs.Spans.{IsSpanOf, lines_of_span, placed_at}
 use Rattle.pc_log.specs.Trimmed.{moved}

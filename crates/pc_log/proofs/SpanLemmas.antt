@@ -13,7 +13,7 @@ use Rattle.pc_log.specs.Rests.{on_itself, HasHint, HasHints}
 use Rattle.pc_log.specs.Trimmed.{moved, IsTrimmed}
 use Rattle.pc_log.specs.Spans.{IsSpanOf, IsClosed, lines_of_span, counted_from, placed_at, Extends, IsSameSpan}
 use Rattle.pc_log.specs.Laws.{SpansStay}
-use Rattle.pc_log.specs.Kept.{with_hints}
+use Rattle.pc_log.specs.inside.Reached.{with_hints}
 use Rattle.pc_log.proofs.AppendLemmas.{moved_by_places}
 
 -- ---- parts of lists

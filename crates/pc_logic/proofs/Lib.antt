@@ -17,3 +17,4 @@ pub mod FollowLemmas
 pub mod TooLong
 pub mod WeightLemmas
 pub mod PartialLemmas
+pub mod AddendLemmas

@@ -11,3 +11,6 @@ pub mod Found
 pub mod Asking
 pub mod Cut
 pub mod Outcome
+pub mod Addends
+pub mod AtomView
+pub mod ReaderView

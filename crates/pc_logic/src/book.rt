@@ -394,5 +394,5 @@ pub fn read_atom(
     ensures known { IfOk result (λ is. after reads.now (atom_reading book.now.universe scope.now (statement_of atom.now)) ≡ known is) }
     ensures stopped { IfErr result (λ c. StopsAt c (after reads.now (atom_reading book.now.universe scope.now (statement_of atom.now)))) }
 {
-    reading::read_atom(&book.scheme, reads, scope, atom)
+    reading::read_atom(&book.scheme, reads, scope, atom, &(None, None))
 }

@@ -23,7 +23,7 @@ fn truth_of(
     requires { IsSound scheme.now }
     ensures { result ≡ end_of (after reads.now (atom_reading (universe_of scheme.now) scope.now (statement_of formula.now))) }
 {
-    match read_atom(scheme, reads, scope, formula) {
+    match read_atom(scheme, reads, scope, formula, &(None, None)) {
         Ok(is) => Some(is),
         Err(_) => None,
     }

@@ -1,18 +1,21 @@
 //! Atoms under reads of some cells, with no memory of their own.
-ghost use Rattle.std.specs.Prelude.{◌≡◌, ◌*◌, ◌+◌, ◌^◌, ◌≤◌, ◌<◌, ◌∷◌, ◌++◌, [], ℕ, List, Bool, IfOk, IfErr, Some, length, map, min, slice_get, take};
+ghost use Rattle.std.specs.Prelude.{◌≡◌, ◌*◌, ◌+◌, ◌^◌, ◌≤◌, ◌<◌, ◌∷◌, ◌++◌, [], ℕ, List, Bool, All, IfOk, IfErr, IfSome, Some, length, map, min, slice_get, take};
 ghost use Rattle.pc_sheet.specs.Reads.{value_in};
-ghost use Rattle.pc_sheet.specs.Readings.{Reading, known, read, read_all, read_sum, is_row, read_comparison, read_row, atom_reading, after, StopsAt};
+ghost use Rattle.pc_sheet.specs.Readings.{Reading, known, read, read_all, read_rest, read_sum, is_row, read_comparison, read_row, atom_reading, after, StopsAt};
 ghost use Rattle.pc_sheet.specs.Truth.{size_of, number_of, rank_from};
-ghost use Rattle.pc_sheet.specs.Views.{item_of, items_of, sum_of, statement_of};
+ghost use Rattle.pc_sheet.specs.Views.{added_of, item_of, items_of, sum_of, statement_of};
 ghost use Rattle.pc_sheet.specs.WellSorted.{IsWithin};
 ghost use Rattle.pc_sheet.specs.declared.ids.ValueId.{ValueId as TheValue};
 ghost use Rattle.pc_sheet.specs.declared.meaning.Meaning.{Meaning as TheMeaning};
+ghost use Rattle.pc_sheet.specs.declared.meaning.Meaning.TheVariants.{Whole};
+ghost use Rattle.pc_logic.specs.Addends.{AreAddends, AreOfSides, at_places};
 ghost use Rattle.pc_logic.specs.SchemeView.{universe_of};
 ghost use Rattle.pc_logic.specs.Sound.{IsSound};
 
+use crate::addends::Addends;
 use crate::scheme::{Scheme, argument_sorts, first_cell, result_sort, size_of};
 use crate::truth::{added, compares, number_of, place_of, settled, variable_at};
-use pc_sheet::{Entry, Formula, Meaning, Op, Side, SortId, TableId, Term, ValueId};
+use pc_sheet::{Entry, Formula, Meaning, Op, Side, Sign, SortId, TableId, Term, ValueId};
 
 /// The value that the reads have for the cell.
 fn value_in(reads: &[Entry], cell: usize) -> Option<ValueId>
@@ -108,7 +111,8 @@ fn read_terms(
     Ok(places)
 }
 
-fn read_side(
+/// A side, item by item.
+fn read_items(
     scheme: &Scheme,
     reads: &[Entry],
     scope: &[(SortId, ValueId)],
@@ -138,6 +142,73 @@ fn read_side(
     }
 }
 
+/// The items at these places of a side, added to a number.
+fn read_places(
+    scheme: &Scheme,
+    reads: &[Entry],
+    scope: &[(SortId, ValueId)],
+    items: &[(Sign, Term)],
+    places: &[usize],
+    start: i128,
+) -> Result<Meaning, usize>
+    requires sound { IsSound scheme.now }
+    requires within { All (λ p. p < length items.now) places.now }
+    requires few { length places.now ≤ 16 }
+    requires start { IsWithin (2 ^ 33 * 4294967297) start }
+    ensures known { IfOk result (λ m. (next : TheMeaning → Reading) → after reads.now (read_rest (universe_of scheme.now) scope.now (Whole start) (at_places (map added_of items.now) places.now) next) ≡ after reads.now (next m)) }
+    ensures stopped { IfErr result (λ c. (next : TheMeaning → Reading) → StopsAt c (after reads.now (read_rest (universe_of scheme.now) scope.now (Whole start) (at_places (map added_of items.now) places.now) next))) }
+{
+    let mut total = start;
+    let mut count = 4_294_967_297;
+    for place in places {
+        let (sign, term) = &items[*place];
+        match read_term(scheme, reads, scope, term) {
+            Err(cell) => return Err(cell),
+            Ok(m) => {
+                total = added(total, *sign, number_of(settled(scheme, m)), count);
+                count += 1;
+            }
+        }
+    }
+    Ok(Meaning::Whole(total))
+}
+
+/// A side, of which it may be known what is added to its first item.
+fn read_side(
+    scheme: &Scheme,
+    reads: &[Entry],
+    scope: &[(SortId, ValueId)],
+    side: &Side,
+    addends: &Option<Addends>,
+) -> Result<Meaning, usize>
+    requires sound { IsSound scheme.now }
+    requires addends { IfSome addends.now (AreAddends (universe_of scheme.now) scope.now (map added_of side.now.rest.items)) }
+    ensures known { IfOk result (λ m. (next : TheMeaning → Reading) → after reads.now (read_sum (universe_of scheme.now) scope.now (sum_of side.now) next) ≡ after reads.now (next m)) }
+    ensures stopped { IfErr result (λ c. (next : TheMeaning → Reading) → StopsAt c (after reads.now (read_sum (universe_of scheme.now) scope.now (sum_of side.now) next))) }
+{
+    let Some(known) = addends else {
+        return read_items(scheme, reads, scope, side);
+    };
+    if side.rest.is_empty() {
+        return read_items(scheme, reads, scope, side);
+    }
+    match read_term(scheme, reads, scope, &side.first) {
+        Err(cell) => Err(cell),
+        Ok(first) => {
+            let number = number_of(settled(scheme, first));
+            let start = added(known.sum, Sign::Plus, number, 4_294_967_296);
+            read_places(
+                scheme,
+                reads,
+                scope,
+                &side.rest,
+                &known.places[..known.cells],
+                start,
+            )
+        }
+    }
+}
+
 fn read_comparison(
     scheme: &Scheme,
     reads: &[Entry],
@@ -145,14 +216,17 @@ fn read_comparison(
     left: &Side,
     op: Op,
     right: &Side,
+    addends: &(Option<Addends>, Option<Addends>),
 ) -> Result<bool, usize>
-    requires { IsSound scheme.now }
+    requires sound { IsSound scheme.now }
+    requires left { IfSome addends.now.0 (AreAddends (universe_of scheme.now) scope.now (map added_of left.now.rest.items)) }
+    requires right { IfSome addends.now.1 (AreAddends (universe_of scheme.now) scope.now (map added_of right.now.rest.items)) }
     ensures known { IfOk result (λ is. after reads.now (read_comparison (universe_of scheme.now) scope.now (sum_of left.now) op (sum_of right.now)) ≡ known is) }
     ensures stopped { IfErr result (λ c. StopsAt c (after reads.now (read_comparison (universe_of scheme.now) scope.now (sum_of left.now) op (sum_of right.now)))) }
 {
-    match read_side(scheme, reads, scope, left) {
+    match read_side(scheme, reads, scope, left, &addends.0) {
         Err(cell) => Err(cell),
-        Ok(x) => match read_side(scheme, reads, scope, right) {
+        Ok(x) => match read_side(scheme, reads, scope, right, &addends.1) {
             Err(cell) => Err(cell),
             Ok(y) => Ok(compares(op, x, y)),
         },
@@ -197,14 +271,16 @@ pub(crate) fn read_atom(
     reads: &[Entry],
     scope: &[(SortId, ValueId)],
     atom: &Formula,
+    addends: &(Option<Addends>, Option<Addends>),
 ) -> Result<bool, usize>
-    requires { IsSound scheme.now }
+    requires sound { IsSound scheme.now }
+    requires addends { AreOfSides (universe_of scheme.now) scope.now (statement_of atom.now) addends.now.0 addends.now.1 }
     ensures known { IfOk result (λ is. after reads.now (atom_reading (universe_of scheme.now) scope.now (statement_of atom.now)) ≡ known is) }
     ensures stopped { IfErr result (λ c. StopsAt c (after reads.now (atom_reading (universe_of scheme.now) scope.now (statement_of atom.now)))) }
 {
     match atom {
         Formula::Compare { left, op, right } => {
-            read_comparison(scheme, reads, scope, left, *op, right)
+            read_comparison(scheme, reads, scope, left, *op, right, addends)
         }
         Formula::InTable { table, args } => read_row(scheme, reads, scope, *table, args),
         _ => Ok(false),

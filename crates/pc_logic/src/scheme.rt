@@ -1,5 +1,5 @@
 //! The declarations that a book keeps, with counts of cells beside the families.
-ghost use Rattle.std.specs.Prelude.{◌≡◌, ◌+◌, ◌^◌, ◌<◌, ◌≤◌, IfSome, IsSomeAnd, Some, length, map, slice_get, take, sum_by};
+ghost use Rattle.std.specs.Prelude.{◌≡◌, ◌+◌, ◌^◌, ◌<◌, ◌≤◌, IfSome, IsSomeAnd, Some, length, map, slice_get, slice_index_or, take, sum_by};
 ghost use Rattle.std.specs.Option.{SomeIff};
 ghost use Rattle.pc_sheet.specs.Cells.{IsApplication, cells};
 ghost use Rattle.pc_sheet.specs.Entailment.{AreWithin, cell_sizes};
@@ -129,6 +129,20 @@ pub(crate) fn values_of_cell(scheme: &Scheme, cell: usize) -> usize
 {
     let family = family_at(scheme, cell);
     size_of(scheme, scheme.families[family].result_sort)
+}
+
+/// How many values the cell may have, and none where there is no such cell.
+pub(crate) fn size_at(scheme: &Scheme, cell: usize) -> usize
+    requires { IsSound scheme.now }
+    ensures exact { result ≡ slice_index_or (cell_sizes (universe_of scheme.now)) cell 0 }
+    ensures small { result ≤ 256 }
+    ensures within { 0 < result → cell < 4096 }
+{
+    if cell < scheme.cells {
+        values_of_cell(scheme, cell)
+    } else {
+        0
+    }
 }
 
 /// How many tuples of arguments of these sorts there are.

@@ -218,7 +218,7 @@ fn is_row(
 }
 
 /// The scope inside one more quantifier, in the first places of a larger array.
-pub(crate) fn extended(
+pub fn extended(
     scope: &[(SortId, ValueId)],
     sort: SortId,
     value: ValueId,

@@ -1,5 +1,5 @@
 //! Reading what a book declares.
-ghost use Rattle.std.specs.Prelude.{◌≡◌, ◌↔◌, ◌<◌, Some, IsNone, IsSomeAnd, length, slice_get};
+ghost use Rattle.std.specs.Prelude.{◌≡◌, ◌↔◌, ◌<◌, ◌≤◌, Some, IsNone, IsSomeAnd, length, slice_get, slice_index_or};
 ghost use Rattle.std.specs.Option.{option_copied};
 ghost use Rattle.pc_sheet.specs.Cells.{cells};
 ghost use Rattle.pc_sheet.specs.Entailment.{cell_sizes};
@@ -29,9 +29,19 @@ impl Book {
     /// How many values the sort has.
     pub fn size_of(&self, sort: SortId) -> usize
         requires { sort.0 < length self.now.universe.sorts }
-        ensures { result ≡ size_of self.now.universe sort }
+        ensures exact { result ≡ size_of self.now.universe sort }
+        ensures few { result ≤ 256 }
     {
         scheme::size_of(&self.scheme, sort)
+    }
+
+    /// How many values the cell of that number may have, and none where there is no such cell.
+    pub fn size_of_cell(&self, cell: usize) -> usize
+        ensures exact { result ≡ slice_index_or (cell_sizes self.now.universe) cell 0 }
+        ensures small { result ≤ 256 }
+        ensures within { 0 < result → cell < 4096 }
+    {
+        scheme::size_at(&self.scheme, cell)
     }
 
     /// The bounds of a range of whole numbers, and none for a sort of listed values.

@@ -2,18 +2,19 @@
 ghost use Rattle.std.specs.Prelude.{◌≡◌, ◌*◌, ◌+◌, ◌-◌, ◌≤◌, ◌<◌, ◌∷◌, ◌++◌, [], length, map, sum_by, slice_index_or, take};
 ghost use Rattle.pc_sheet.specs.Cells.{values_below};
 ghost use Rattle.pc_sheet.specs.Entailment.{cell_sizes};
-ghost use Rattle.pc_sheet.specs.Readings.{after, atom_reading, leaves_from, read_of};
+ghost use Rattle.pc_sheet.specs.Readings.{after, leaves_from, leaves_of, read_of};
 ghost use Rattle.pc_sheet.specs.Truth.{size_of, depth_of, greatest_depth};
 ghost use Rattle.pc_sheet.specs.Views.{rule_of, statement_of, statements_of};
 ghost use Rattle.pc_sheet.specs.Weight.{cell_weight, leaf_weight, node_weight, parts_weight, rule_weight};
 ghost use Rattle.pc_logic.specs.Asking.{AsksAtMost};
+ghost use Rattle.pc_logic.specs.AtomView.{reading_of};
 ghost use Rattle.pc_logic.specs.Bounded.{IsBounded, AreBounded, AreAllBounded};
 ghost use Rattle.pc_logic.specs.Cut.{cut};
 ghost use Rattle.pc_logic.specs.SchemeView.{universe_of};
 ghost use Rattle.pc_logic.specs.Sound.{IsSound, AreShallow};
 
-use crate::reading::read_atom;
-use crate::scheme::{Scheme, size_of, values_of_cell};
+use crate::atom_reader::AtomReader;
+use crate::scheme::{Scheme, size_at, size_of, values_of_cell};
 use crate::truth::extended;
 use pc_sheet::{CellId, Entry, Formula, Rule, SortId, ValueId};
 
@@ -39,22 +40,8 @@ fn children_weight(children: usize) -> u64
     3 * children as u64 + 1
 }
 
-/// How many values the cell may have.
-fn size_at(scheme: &Scheme, cell: usize) -> usize
-    requires { IsSound scheme.now }
-    ensures exact { result ≡ slice_index_or (cell_sizes (universe_of scheme.now)) cell 0 }
-    ensures small { result ≤ 256 }
-    ensures within { 0 < result → cell < 65536 }
-{
-    if cell < scheme.cells {
-        values_of_cell(scheme, cell)
-    } else {
-        0
-    }
-}
-
 /// The reads with one more, in the first places of a larger array.
-fn with_read(reads: &[Entry], cell: usize, value: usize) -> [Entry; 16]
+pub fn with_read(reads: &[Entry], cell: usize, value: usize) -> [Entry; 16]
     requires room { length reads.now < 16 }
     requires cell { cell < 65536 }
     requires value { value < 65536 }
@@ -73,34 +60,40 @@ fn with_read(reads: &[Entry], cell: usize, value: usize) -> [Entry; 16]
 }
 
 /// Adds the weights of the leaves that begin with these reads.
-fn add_leaves(
-    scheme: &Scheme,
-    scope: &[(SortId, ValueId)],
-    atom: &Formula,
-    reads: &[Entry],
-    start: u64,
-) -> u64
+fn add_leaves(scheme: &Scheme, reader: &AtomReader<'_>, reads: &[Entry], start: u64) -> u64
     requires sound { IsSound scheme.now }
     requires start { start ≤ 4000001 }
     requires few { length reads.now ≤ 16 }
-    requires left { AsksAtMost (after reads.now (atom_reading (universe_of scheme.now) scope.now (statement_of atom.now))) (16 - length reads.now) }
-    ensures exact { result ≡ cut (start + sum_by leaf_weight (leaves_from (cell_sizes (universe_of scheme.now)) (atom_reading (universe_of scheme.now) scope.now (statement_of atom.now)) reads.now)) }
+    requires left { AsksAtMost (after reads.now (reading_of reader.now)) (16 - length reads.now) }
+    ensures exact { result ≡ cut (start + sum_by leaf_weight (leaves_from (cell_sizes (universe_of scheme.now)) (reading_of reader.now) reads.now)) }
     ensures most { result ≤ 4000001 }
 {
     if start == MOST {
         return MOST;
     }
-    match read_atom(scheme, reads, scope, atom) {
+    match reader.read(reads) {
         Ok(_) => more(start, reads.len() as u64 + 1),
         Err(cell) => {
             let mut total = start;
             for value in 0..size_at(scheme, cell) {
                 let longer = with_read(reads, cell, value);
-                total = add_leaves(scheme, scope, atom, &longer[..reads.len() + 1], total);
+                total = add_leaves(scheme, reader, &longer[..reads.len() + 1], total);
             }
             total
         }
     }
+}
+
+/// Adds the weights of an atom's leaves.
+fn add_atom(scheme: &Scheme, scope: &[(SortId, ValueId)], atom: &Formula, start: u64) -> u64
+    requires sound { IsSound scheme.now }
+    requires bounded { IsBounded (statement_of atom.now) }
+    requires start { start ≤ 4000001 }
+    ensures exact { result ≡ cut (start + sum_by leaf_weight (leaves_of (universe_of scheme.now) scope.now (statement_of atom.now))) }
+    ensures most { result ≤ 4000001 }
+{
+    let reader = AtomReader::over(scheme, scope, atom);
+    add_leaves(scheme, &reader, &[], start)
 }
 
 /// Adds the weights of a formula's node and of all nodes below it.
@@ -117,8 +110,8 @@ fn add_node(scheme: &Scheme, scope: &[(SortId, ValueId)], formula: &Formula, sta
         return MOST;
     }
     match formula {
-        Formula::Compare { .. } => add_leaves(scheme, scope, formula, &[], start),
-        Formula::InTable { .. } => add_leaves(scheme, scope, formula, &[], start),
+        Formula::Compare { .. } => add_atom(scheme, scope, formula, start),
+        Formula::InTable { .. } => add_atom(scheme, scope, formula, start),
         Formula::Not(part) => add_node(scheme, scope, part, more(start, 4)),
         Formula::And(parts) => {
             let total = more(start, children_weight(parts.len()));

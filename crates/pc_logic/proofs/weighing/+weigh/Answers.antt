@@ -12,18 +12,6 @@ use Rattle.pc_logic.proofs.Parts.{depth_at}
 use Rattle.pc_logic.proofs.WeightLemmas.{few_asked, after_none, parts_sum, and_weight, or_weight, instances_weight}
 use Rattle.pc_logic.proofs.weighing.+weigh.Goals as goal
 
-pub add_node-add_leaves-requires-clause-left : goal.add_node-add_leaves-requires-clause-left
-add_node-add_leaves-requires-clause-left t c =
-    let u = universe_of c.args.scheme.now in
-    let s = statement_of c.args.formula.now in
-    subst (λ r. AsksAtMost r 16) (sym (after_none (atom_reading u c.args.scope.now s))) (few_asked u c.args.scope.now s c.requires.bounded)
-
-pub add_node-add_leaves-requires-in-InTable-clause-left : goal.add_node-add_leaves-requires-in-InTable-clause-left
-add_node-add_leaves-requires-in-InTable-clause-left t c =
-    let u = universe_of c.args.scheme.now in
-    let s = statement_of c.args.formula.now in
-    subst (λ r. AsksAtMost r 16) (sym (after_none (atom_reading u c.args.scope.now s))) (few_asked u c.args.scope.now s c.requires.bounded)
-
 pub add_node-children_weight-requires : goal.add_node-children_weight-requires
 add_node-children_weight-requires t c = let few = few_in_and c.args.formula.now c.in-And.parts c.in-And.is c.requires.bounded in omega (arith, few, c.len.ensures, c.in-And.parts.ok.0)
 

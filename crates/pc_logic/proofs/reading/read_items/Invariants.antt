@@ -5,7 +5,7 @@ use Rattle.pc_sheet.specs.Views.{item_of, sum_of}
 use Rattle.pc_sheet.specs.WellSorted.{IsWithin}
 use Rattle.pc_sheet.specs.declared.meaning.Meaning.{Meaning}
 use Rattle.pc_logic.specs.SchemeView.{universe_of}
-use Rattle.pc_logic.proofs.reading.read_side.Given as goal
+use Rattle.pc_logic.proofs.reading.read_items.Given as goal
 
 abbrev pub invariant-loop-sign : goal.invariant-loop-sign
 invariant-loop-sign l =
