@@ -15,3 +15,5 @@ pub mod WorkedHold
 pub mod NamesAdded
 pub mod NodesNamed
 pub mod ByName
+pub mod PairsThere
+pub mod Many

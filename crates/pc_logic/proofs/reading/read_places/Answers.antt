@@ -1,4 +1,4 @@
-use Rattle.std.proofs.Common.{◌≡◌, ◌+◌, ℕ, ℤ, arith, get_or, map, refl, rules, to_z, of_z, sym, subst, ap, ◌∙◌}
+use Rattle.std.proofs.Common.{◌≡◌, arith, get_or, map, refl, rules, to_z, of_z, sym, subst, ap, ◌∙◌}
 use mir.Syntax.{w128}
 use Rattle.pc_sheet.specs.Readings.{StopsAt, after, read_rest}
 use Rattle.pc_sheet.specs.Views.{added_of}

@@ -1,8 +1,8 @@
-use Rattle.std.proofs.Common.{◌≡◌, ℕ, ℤ, ◌<◌, ◌∙◌, ap, sym, subst, arith, rules, List, map, take, length, IfSome, IfOk, IfErr, to_z, of_z}
+use Rattle.std.proofs.Common.{◌≡◌, ℤ, ◌<◌, ◌∙◌, ap, sym, subst, arith, rules, map, take, length, IfSome, to_z, of_z}
 use mir.Syntax.{w128}
 use Rattle.std.proofs.lemmas.List.{length-map}
 use Rattle.std.proofs.lemmas.Result.{IfOk-weaker, IfErr-weaker}
-use Rattle.pc_sheet.specs.Readings.{Reading, StopsAt, after, read_rest, read_sum}
+use Rattle.pc_sheet.specs.Readings.{Reading, after, read_rest, read_sum}
 use Rattle.pc_sheet.specs.Views.{added_of, sum_of}
 use Rattle.pc_sheet.specs.declared.meaning.Meaning.{Meaning}
 use Rattle.pc_sheet.specs.declared.meaning.Meaning.TheVariants.{Whole}

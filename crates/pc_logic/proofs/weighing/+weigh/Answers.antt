@@ -1,15 +1,13 @@
 use Rattle.std.proofs.Common.{◌≤◌, inl, inr, ◌+◌, ap, arith, map, rules, subst, sym, ◌∙◌}
 use denote.Param.Weighed.{at_most}
-use Rattle.pc_sheet.specs.Readings.{atom_reading}
 use Rattle.pc_sheet.specs.Truth.{depth_of, greatest_depth}
 use Rattle.pc_sheet.specs.Views.{statement_of, statements_of}
-use Rattle.pc_logic.specs.Asking.{AsksAtMost}
 use Rattle.pc_logic.specs.Bounded.{IsBounded}
 use Rattle.pc_logic.specs.Cut.{cut}
 use Rattle.pc_logic.specs.SchemeView.{universe_of}
 use Rattle.pc_logic.proofs.NodeLemmas.{few_in_and, few_in_or, part_bounded, for_all_is, exists_is}
 use Rattle.pc_logic.proofs.Parts.{depth_at}
-use Rattle.pc_logic.proofs.WeightLemmas.{few_asked, after_none, parts_sum, and_weight, or_weight, instances_weight}
+use Rattle.pc_logic.proofs.WeightLemmas.{parts_sum, and_weight, or_weight, instances_weight}
 use Rattle.pc_logic.proofs.weighing.+weigh.Goals as goal
 
 pub add_node-children_weight-requires : goal.add_node-children_weight-requires
