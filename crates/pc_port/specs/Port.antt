@@ -1,5 +1,5 @@
 -- What the calls of a source and a sink do to the bytes that are told, and to the count of faults.
-use Rattle.std.specs.Prelude.{ℕ, ◌+◌, ◌-◌, ◌^◌, ◌≤◌, min, List, take, Result, Ok, Err, MatchResult, OnErr}
+use Rattle.std.specs.Prelude.{◌≡◌, ℕ, ◌+◌, ◌-◌, ◌^◌, ◌≤◌, min, List, take, Result, Ok, Err, MatchResult, OnErr, OnOk}
 use Rattle.std.specs.declared.option.Option.{Option}
 use Rattle.std.specs.Io.KnownBytes.{Appends}
 
@@ -16,10 +16,11 @@ abbrev pub count_after : {T E : Type 0} → Result T E → ℕ → ℕ
 count_after (Ok x) count = count
 count_after (Err e) count = one_more count
 
--- the count of faults never falls, and a failure comes only where it rose
+-- the count of faults rises exactly where the call fails
 pub record HasCause {T E : Type 0} (before after : ℕ) (outcome : Result T E) : Type 0 where
   pub later : before ≤ after
   pub failed : OnErr outcome (Rose before after)
+  pub kept : OnOk outcome (after ≡ before)
 
 -- told bytes grew by a front of the piece
 pub record AppendsFront (before after : Option (List ℕ)) (piece : List ℕ) : Type 0 where

@@ -1,5 +1,5 @@
 -- What a read of a shelf gives, and what it changes.
-use Rattle.std.specs.Prelude.{◌≡◌, ◌≤◌, ℕ, List, [], ◌∷◌, ◌++◌, length, take, Some, IfSome, option_map, Result, Ok, Err, MatchResult}
+use Rattle.std.specs.Prelude.{◌≡◌, ◌≢◌, ◌≤◌, ℕ, List, [], ◌∷◌, ◌++◌, length, take, Some, IfSome, option_map, Result, Ok, Err, MatchResult}
 use Rattle.std.specs.declared.option.Option.{Option}
 use Rattle.std.specs.Map.{lookup}
 use Rattle.std.specs.Str.{bytes_eq}
@@ -34,7 +34,8 @@ asked_after (Ok x) asked name = asked ++ name ∷ []
 asked_after (Err Failed) asked name = asked ++ name ∷ []
 asked_after (Err Memory) asked name = asked
 
--- the count of faults never falls, and `Failed` comes only where it rose
+-- the count of faults rises exactly where the read answers `Failed`
 pub record HasShelfCause {T : Type 0} (before after : ℕ) (outcome : Result T ShelfFault) : Type 0 where
   pub later : before ≤ after
   pub failed : outcome ≡ Err Failed → Rose before after
+  pub kept : outcome ≢ Err Failed → after ≡ before

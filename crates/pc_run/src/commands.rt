@@ -1,5 +1,5 @@
 // The command lines of a run, each answered before the source is read again.
-ghost use Rattle.std.specs.Prelude.{◌≡◌, ◌≤◌};
+ghost use Rattle.std.specs.Prelude.{◌≡◌, ◌≢◌, ◌≤◌};
 ghost use Rattle.pc_port.specs.Port.{Rose};
 ghost use Rattle.pc_lines.specs.Reader.{coming};
 ghost use Rattle.pc_run.specs.Run.{Answers};
@@ -23,6 +23,7 @@ pub(crate) fn answer_all<M: Machine, I: Source, O: Sink>(
     requires { LINE_LIMIT ≤ reader.old.longest }
     ensures answers { Answers M.Allows machine.old result (coming reader.old (I.left input.old)) (I.left input.new) (O.given out.old) (O.given out.new) }
     ensures read_fault { result ≡ Status.ReadFault → Rose (I.faults input.old) (I.faults input.new) }
+    ensures no_read_fault { result ≢ Status.ReadFault → I.faults input.new ≡ I.faults input.old }
     ensures write_fault { result ≡ Status.WriteFault → Rose (O.faults out.old) (O.faults out.new) }
 {
     let mut marks = Marks::new();

@@ -1,5 +1,5 @@
 // A sheet and its commands, from the first byte to the status.
-ghost use Rattle.std.specs.Prelude.{◌≡◌, ◌≤◌, ℕ, List, Option, length};
+ghost use Rattle.std.specs.Prelude.{◌≡◌, ◌≢◌, ◌≤◌, ℕ, List, Option, length};
 ghost use Rattle.pc_port.specs.Port.{Rose};
 ghost use Rattle.pc_lines.specs.Reader.{coming};
 ghost use Rattle.pc_lines.specs.declared.TheConstants.{CHUNK};
@@ -29,6 +29,7 @@ fn open<M: Machine, I: Source, O: Sink>(
     ensures replayed { (source : Option (List ℕ)) → TakesSheet sheet.now source (coming reader.old (I.left input.old))
         → Replayed M.IsSheet M.RefusesText M.Allows result source (I.left input.new) (O.given out.old) (O.given out.new) }
     ensures read_fault { result ≡ Status.ReadFault → Rose (I.faults input.old) (I.faults input.new) }
+    ensures no_read_fault { result ≢ Status.ReadFault → I.faults input.new ≡ I.faults input.old }
     ensures write_fault { result ≡ Status.WriteFault → Rose (O.faults out.old) (O.faults out.new) }
 {
     match M::load(alloc, sheet) {
@@ -48,6 +49,7 @@ fn replay_from<M: Machine, I: Source, O: Sink>(
     requires longest { reader.old.longest ≡ SHEET_LIMIT }
     ensures replayed { Replayed M.IsSheet M.RefusesText M.Allows result (coming reader.old (I.left input.old)) (I.left input.new) (O.given out.old) (O.given out.new) }
     ensures read_fault { result ≡ Status.ReadFault → Rose (I.faults input.old) (I.faults input.new) }
+    ensures no_read_fault { result ≢ Status.ReadFault → I.faults input.new ≡ I.faults input.old }
     ensures write_fault { result ≡ Status.WriteFault → Rose (O.faults out.old) (O.faults out.new) }
 {
     match take_sheet(alloc, reader, input) {
@@ -67,6 +69,7 @@ pub fn replay<M: Machine, I: Source, O: Sink>(alloc: Global, input: &mut I, out:
 
     // A fault is told only where that device was at fault.
     ensures read_fault { result ≡ Status.ReadFault → Rose (I.faults input.old) (I.faults input.new) }
+    ensures no_read_fault { result ≢ Status.ReadFault → I.faults input.new ≡ I.faults input.old }
     ensures write_fault { result ≡ Status.WriteFault → Rose (O.faults out.old) (O.faults out.new) }
 {
     let Ok(mut reader) = LineReader::new(alloc, SHEET_LIMIT) else {

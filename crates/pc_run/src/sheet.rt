@@ -1,5 +1,5 @@
 // The sheet's part of the input, taken line by line.
-ghost use Rattle.std.specs.Prelude.{◌≡◌, ◌≤◌, ◌↔◌, ◌++◌, length, IsTrue, IfErr, OnOk};
+ghost use Rattle.std.specs.Prelude.{◌≡◌, ◌≢◌, ◌≤◌, ◌↔◌, ◌++◌, length, IsTrue, IfErr, OnOk};
 ghost use Rattle.pc_port.specs.Port.{Rose};
 ghost use Rattle.pc_lines.specs.Reader.{coming};
 ghost use Rattle.pc_lines.specs.declared.TheConstants.{CHUNK};
@@ -74,8 +74,8 @@ fn take_line<I: Source>(
     ensures gives { StepGives result text.old.items text.new.items (coming reader.old (I.left input.old)) (coming reader.new (I.left input.new)) (I.left input.new) }
     ensures longest { reader.new.longest ≡ reader.old.longest }
     ensures few { length reader.new.held ≤ CHUNK }
-    ensures later { I.faults input.old ≤ I.faults input.new }
     ensures cause { result ≡ Err SheetStop.Failed → Rose (I.faults input.old) (I.faults input.new) }
+    ensures kept { result ≢ Err SheetStop.Failed → I.faults input.new ≡ I.faults input.old }
 {
     match reader.next(input, SHEET_LIMIT - text.len()) {
         Err(Failed) => Err(SheetStop::Failed),
@@ -103,8 +103,8 @@ pub(crate) fn take_sheet<I: Source>(
     ensures gives { SheetGives result (coming reader.old (I.left input.old)) (coming reader.new (I.left input.new)) (I.left input.new) }
     ensures longest { reader.new.longest ≡ reader.old.longest }
     ensures few { length reader.new.held ≤ CHUNK }
-    ensures later { I.faults input.old ≤ I.faults input.new }
     ensures cause { result ≡ Err SheetStop.Failed → Rose (I.faults input.old) (I.faults input.new) }
+    ensures kept { result ≢ Err SheetStop.Failed → I.faults input.new ≡ I.faults input.old }
 {
     let mut text = Vec::new(alloc);
     loop {

@@ -1,19 +1,19 @@
 -- One text written after another.
-use Rattle.std.proofs.Common.{◌≡◌, ℕ, List, [], ◌++◌, Option, Result, Ok, Err, IsErr, arith, refl, subst}
+use Rattle.std.proofs.Common.{◌≡◌, ℕ, List, [], ◌++◌, Option, Result, Ok, Err, IsErr, arith, refl, subst, ◌∙◌}
 use Rattle.std.proofs.KnownBytes.{Appends-nil, Appends-trans}
 use Rattle.pc_port.proofs.Told.{front_of_first, front_of_second}
 use Rattle.pc_writer.specs.Writes.{Writes}
 
 -- nothing was written
 pub Writes-nil : {S T E : Type 0} (given : S → Option (List ℕ)) (faults : S → ℕ) (sink : S) (done : T) → Writes {E = E} given faults sink sink (Ok done) []
-Writes-nil given faults sink done = record { bytes = Appends-nil (given sink); cause = record { later = omega arith; failed = tt } }
+Writes-nil given faults sink done = record { bytes = Appends-nil (given sink); cause = record { later = omega arith; failed = tt; kept = refl } }
 
 module _ {S : Type 0} {given : S → Option (List ℕ)} {faults : S → ℕ} {before after : S} where
   -- a text that was cut short is the front of all that was to be written
   pub Writes-cut : {T U D E : Type 0} {xs : List ℕ} {fault : E} (outcome : Result U D) (ys : List ℕ) → IsErr outcome → Writes {T = T} given faults before after (Err fault) xs → Writes given faults before after outcome (xs ++ ys)
   Writes-cut (Ok x) ys fails wrote = absurd (cc)
   Writes-cut {xs = xs} (Err e) ys fails wrote =
-      record { bytes = front_of_first (given before) (given after) xs ys wrote.bytes; cause = record { later = wrote.cause.later; failed = wrote.cause.failed } }
+      record { bytes = front_of_first (given before) (given after) xs ys wrote.bytes; cause = record { later = wrote.cause.later; failed = wrote.cause.failed; kept = tt } }
 
   pub Writes-front : {T D E : Type 0} {xs : List ℕ} {fault : E} (ys : List ℕ) → Writes {T = T} {E = E} given faults before after (Err fault) xs → Writes {T = D} given faults before after (Err fault) (xs ++ ys)
   Writes-front {fault = fault} ys wrote = Writes-cut (Err fault) ys refl wrote
@@ -24,12 +24,12 @@ module _ {S : Type 0} {given : S → Option (List ℕ)} {faults : S → ℕ} {be
   Writes-then {xs = xs} {ys = ys} {outcome = Ok x} first second =
       record {
         bytes = Appends-trans (given before) (given middle) (given after) xs ys first.bytes second.bytes;
-        cause = record { later = omega (arith, first.cause.later, second.cause.later); failed = tt };
+        cause = record { later = omega (arith, first.cause.later, second.cause.later); failed = tt; kept = second.cause.kept ∙ first.cause.kept };
       }
   Writes-then {xs = xs} {ys = ys} {outcome = Err e} first second =
       record {
         bytes = front_of_second (given before) (given middle) (given after) xs ys first.bytes second.bytes;
-        cause = record { later = omega (arith, first.cause.later, second.cause.later); failed = omega (arith, first.cause.later, second.cause.failed) };
+        cause = record { later = omega (arith, first.cause.later, second.cause.later); failed = omega (arith, first.cause.later, second.cause.failed); kept = tt };
       }
 
 -- the same text

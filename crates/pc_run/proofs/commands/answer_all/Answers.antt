@@ -1,4 +1,4 @@
-use Rattle.std.proofs.Common.{◌≡◌, ℕ, List, ◌≤◌, ◌<◌, length, ap, subst, arith, inl, inr, ◌∙◌}
+use Rattle.std.proofs.Common.{◌≡◌, ℕ, List, ◌≤◌, ◌<◌, length, ap, subst, arith, inl, inr, refl, ◌∙◌}
 use Rattle.std.proofs.lemmas.List.{length_push}
 use Rattle.pc_lines.specs.Lines.{before_end}
 use Rattle.pc_lines.proofs.Ends.{text_of-open}
@@ -12,7 +12,7 @@ pub loop-init : goal.loop-init
 loop-init g c = record {
   progress = starts g.M.Machine.Allows c.args.machine.now c.new-marks.result _ _ c.new-marks.ensures.refused c.new-marks.ensures.no_memory;
   room = c.requires;
-  read_later = omega arith;
+  read_kept = refl;
   write_later = omega arith;
 }
 
@@ -55,7 +55,7 @@ loop-preserved g c =
     record {
       progress = goes_on g.M.Machine.Allows c.args.machine.now c.loop.machine c.serve.new.machine c.loop.marks c.serve.new.marks _ _ _ _ _ _ c.loop.counter c.next.new.self.line c.loop.invariant.progress got c.next.ensures.takes serves;
       room = omega (arith, c.next.ensures.longest, c.loop.invariant.room);
-      read_later = omega (arith, c.next.ensures.cause.later);
+      read_kept = (rw c.in-Ok-Line.is at c.next.ensures.cause.kept) ∙ c.loop.invariant.read_kept;
       write_later = omega (arith, c.serve.ensures.cause.later);
     }
 

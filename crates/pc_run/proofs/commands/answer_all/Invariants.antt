@@ -1,4 +1,4 @@
-use Rattle.std.proofs.Common.{◌≤◌}
+use Rattle.std.proofs.Common.{◌≡◌, ◌≤◌}
 use Rattle.pc_lines.specs.Reader.{coming}
 use Rattle.pc_run.specs.declared.TheConstants.{LINE_LIMIT}
 use Rattle.pc_run.proofs.Progress.{Progress}
@@ -8,6 +8,6 @@ abbrev pub invariant-loop : goal.invariant-loop
 invariant-loop g l = record {
   progress : Progress g.M.Machine.Allows l.fn.machine l.machine l.marks (coming l.fn.reader (g.I.Source.left l.fn.input)) (coming l.reader (g.I.Source.left l.input)) (g.O.Sink.given l.fn.out) (g.O.Sink.given l.out) l.counter;
   room : LINE_LIMIT ≤ l.reader.longest;
-  read_later : g.I.Source.faults l.fn.input ≤ g.I.Source.faults l.input;
+  read_kept : g.I.Source.faults l.input ≡ g.I.Source.faults l.fn.input;
   write_later : g.O.Sink.faults l.fn.out ≤ g.O.Sink.faults l.out;
 }

@@ -9,7 +9,7 @@ loop-text-preserved g c =
     record {
       collected = collects_more c.loop-text.text.items c.take_line.new.text.items _ _ (coming c.take_line.new.reader (g.I.Source.left c.take_line.new.input)) c.loop-text.invariant.collected got;
       longest = c.take_line.ensures.longest ∙ c.loop-text.invariant.longest;
-      later = omega (arith, c.take_line.ensures.later, c.loop-text.invariant.later);
+      kept = c.in-Ok-More.ensures.kept (λ e. absurd (cc)) ∙ c.loop-text.invariant.kept;
     }
 
 pub returns-in-Err-clause-gives : goal.returns-in-Err-clause-gives

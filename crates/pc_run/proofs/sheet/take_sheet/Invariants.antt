@@ -8,7 +8,7 @@ abbrev pub invariant-loop-text : goal.invariant-loop-text
 invariant-loop-text g l = record {
   collected : Collected l.text.items (coming l.fn.reader (g.I.Source.left l.fn.input)) (coming l.reader (g.I.Source.left l.input));
   longest : l.reader.longest ≡ SHEET_LIMIT;
-  later : g.I.Source.faults l.fn.input ≤ g.I.Source.faults l.input;
+  kept : g.I.Source.faults l.input ≡ g.I.Source.faults l.fn.input;
 }
 
 abbrev pub decreases-loop-text : goal.decreases-loop-text

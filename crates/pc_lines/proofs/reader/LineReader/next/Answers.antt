@@ -44,5 +44,5 @@ loop-self-preserved g c =
           let some : 0 < length c.loop-self.self.held = omega (arith, start.1) in
           let still : Contains c.fill.new.self.held 10 = subst (λ (l : List ℕ). Contains l 10) (sym (c.in_ok-fill.ensures.waits some).0) start in
           absurd (end_is_held c.fill.new.self c.take_part.new.self still moves all.1 all.0.no_end);
-      later = omega (arith, c.in_ok-fill.ensures.cause.later);
+      kept = c.in_ok-fill.ensures.cause.kept ∙ c.loop-self.invariant.kept;
     }

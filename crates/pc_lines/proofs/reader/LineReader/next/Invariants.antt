@@ -10,7 +10,7 @@ invariant-loop-self g l = record {
   takes : Consumes (coming l.fn.self (g.S.Source.left l.fn.source)) (coming l.self (g.S.Source.left l.source)) l.self.line;
   longest : l.self.longest ≡ l.fn.self.longest;
   waits : Contains l.fn.self.held 10 → (l.self.held ≡ l.fn.self.held) × (l.source ≡ l.fn.source);
-  later : g.S.Source.faults l.fn.source ≤ g.S.Source.faults l.source;
+  kept : g.S.Source.faults l.source ≡ g.S.Source.faults l.fn.source;
 }
 
 abbrev pub decreases-loop-self : goal.decreases-loop-self
