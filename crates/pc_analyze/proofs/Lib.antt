@@ -7,5 +7,7 @@ pub mod StepLemmas
 pub mod AskedLemmas
 pub mod WalkLemmas
 pub mod LearnLemmas
+pub mod WayLemmas
 pub mod DeriveLemmas
 pub mod AssertLemmas
+pub mod NewLemmas

@@ -3,7 +3,7 @@
 //! The trail of Marques-Silva and Sakallah's GRASP, as in MiniSat: each decision starts a level, each other literal
 //! is there by a clause whose other literals were false before it.
 
-ghost use Rattle.std.specs.Prelude.{◌≡◌, ◌+◌, ◌<◌, List, [], ◌∷◌, ◌++◌, IfOk, OnOk, OnErr, IfSome, IfNone, IsTrue, ◌↔◌, Some, None, All, length, map, count_by, slice_get, if◌then◌else◌, Contains, not};
+ghost use Rattle.std.specs.Prelude.{◌≡◌, ◌≢◌, ◌^◌, ◌+◌, ◌*◌, ◌/◌, ◌<◌, ◌≤◌, ℕ, List, [], ◌∷◌, ◌++◌, slice_set, slice_index_or, IfOk, OnOk, OnErr, IfSome, IfNone, IsTrue, ◌↔◌, Some, None, All, length, map, count_by, slice_get, if◌then◌else◌, Contains, not};
 ghost use Rattle.pc_lits.specs.declared.literal.Lit.{Lit};
 ghost use Rattle.pc_lits.specs.Literals.{negated};
 ghost use Rattle.pc_lits.specs.Steps.{IsLastOpen};
@@ -12,11 +12,15 @@ ghost use Rattle.pc_propagate.specs.Levels.{IsPlaceOf, IsLevelOf, IsReasonOf, Is
 ghost use Rattle.pc_propagate.specs.Refs.{clause_at, IsRef};
 ghost use Rattle.pc_propagate.specs.Over.{IsOver, AreInRange};
 ghost use Rattle.pc_propagate.specs.TrailView.{TrailView};
-ghost use Rattle.pc_propagate.specs.LeftOn.{IsLeftOn};
+ghost use Rattle.pc_propagate.specs.inside.LeftOn.{IsLeftOn};
 ghost use Rattle.pc_propagate.specs.Counts.{PlacesEntry};
-ghost use Rattle.pc_propagate.specs.Slots.{IsSlotOf};
+ghost use Rattle.pc_propagate.specs.inside.Slots.{IsSlotOf};
+ghost use Rattle.pc_propagate.specs.Attached.{IsAttached, IsBlank};
+ghost use Rattle.pc_propagate.specs.Watching.{resting, pending, no_literal, literal_at, list_at};
+ghost use Rattle.pc_propagate.specs.Watched.{IsFalseAt};
 
 use crate::clauses::ClauseRef;
+use crate::lists::Lists;
 use pc_lits::{Lit, Tally, Var};
 use pc_values::{Left, Values, left_of};
 use std::alloc::{AllocError, Global};
@@ -57,6 +61,12 @@ impl Slot {
     const BLANK: Slot = Slot { place: 0, level: 0 };
 }
 
+// What stands for the literal of a place that watches none.
+const NO_LITERAL: Lit = Lit {
+    variable: Var(0),
+    sign: false,
+};
+
 /// The literals that are true, oldest first, and the clauses that propagation looks at.
 #[derive(Drop)]
 pub struct Trail {
@@ -65,48 +75,71 @@ pub struct Trail {
     level: u32,
     slots: Vec<Slot>,
     attached: Vec<ClauseRef>,
+    // The literal that each place watches, and the lists of the places: two for each literal, and two for the clauses that
+    // each propagation looks at.
+    watches: Vec<Lit>,
+    lists: Lists,
+    // How many entries are propagated.
+    head: usize,
 }
 
 impl Model for Trail {
-    ghost use Rattle.std.specs.Prelude.{length, vec_capacity};
+    ghost use Rattle.std.specs.Prelude.{◌≡◌, ◌+◌, ◌≤◌, length, vec_capacity};
+    ghost use Rattle.pc_propagate.specs.Watching.{pending};
     ghost use Rattle.pc_propagate.specs.TrailView.{TrailView};
-    ghost use Rattle.pc_propagate.specs.IsTrail.{IsTrail};
-    ghost use Rattle.pc_propagate.specs.Slots.{AreSlots};
+    ghost use Rattle.pc_propagate.specs.inside.IsTrail.{IsTrail};
+    ghost use Rattle.pc_propagate.specs.inside.Slots.{AreSlots};
 
     ghost Value = { TrailView };
 
-    ghost view = { λ t. record { variables = length t.values; entries = t.entries.items; attached = t.attached.items } };
+    ghost view = { λ t. record { variables = length t.values; entries = t.entries.items; attached = t.attached.items; watching = record { literals = t.watches.items; lists = t.lists.list_of; head = t.head } } };
 
-    ghost invariant = { λ t. IsTrail t.values t.entries.items t.level (vec_capacity t.entries) × AreSlots t.slots.items t.entries.items (length t.values) };
+    ghost invariant = { λ t. IsTrail t.values t.entries.items t.level (vec_capacity t.entries) × AreSlots t.slots.items t.entries.items (length t.values) × (t.lists.count ≡ pending (length t.values) + 2) × (length t.watches.items ≡ length t.lists.list_of) };
 }
 
 impl Trail {
     /// No literal is true, and no clause is attached. The variables are those below `variables`.
     pub fn new(alloc: Global, variables: u32) -> Result<Trail, AllocError>
-        ensures { IfOk result (λ t. t ≡ record { variables = variables; entries = []; attached = [] }) }
+        ensures variables { IfOk result (λ t. t.variables ≡ variables) }
+        ensures blank { IfOk result IsBlank }
+        ensures over { IfOk result (λ t. (axioms more : List (List Lit)) → IsOver axioms more t) }
     {
         let entries = Vec::with_capacity(alloc, variables as usize)?;
         let values = Values::new(alloc, variables)?;
         let level = 0;
         let slots = vec![in alloc; Slot::BLANK; variables as usize]?;
         let attached = Vec::new(alloc);
+        let watches = Vec::new(alloc);
+        let lists = Lists::new(alloc, 4 * variables as usize + 2)?;
+        let head = 0;
         Ok(Trail {
             values,
             entries,
             level,
             slots,
             attached,
+            watches,
+            lists,
+            head,
         })
     }
 
     /// Makes a clause known to the trail: `propagate` looks at it from now on. Without memory it isn't known.
     pub fn attach(&mut self, clause: ClauseRef, lits: &[Lit]) -> Result<(), AllocError>
         requires { AreInRange self.old.variables lits.now }
-        ensures ok { OnOk result (self.new ≡ record self.old { attached = self.old.attached ++ clause ∷ [] }) }
+        ensures ok { OnOk result (IsAttached clause self.old self.new) }
         ensures err { OnErr result (self.new ≡ self.old) }
         ensures over { (axioms more : List (List Lit)) → IsOver axioms more self.old → IsRef axioms more clause → clause_at axioms more clause ≡ lits.now
             → IsOver axioms more self.new }
     {
+        self.attached.reserve(1)?;
+        self.watches.reserve(2)?;
+        self.lists.add_two()?;
+        let place = self.watches.len();
+        let list = 4 * self.values.len();
+        self.lists.put(place, list);
+        self.watches.push(NO_LITERAL)?;
+        self.watches.push(NO_LITERAL)?;
         self.attached.push(clause)?;
         Ok(())
     }
@@ -187,6 +220,14 @@ impl Trail {
         self.values.is_true(lit)
     }
 
+    // Whether the literal is false.
+    pub(crate) fn is_false(&self, lit: Lit) -> bool
+        requires { lit.variable.0 < self.now.variables }
+        ensures { IsTrue result ↔ Contains (falses self.now.entries) lit }
+    {
+        self.values.is_false(lit)
+    }
+
     // What is left of the clause.
     pub(crate) fn left(&self, clause: &[Lit]) -> Left
         requires { AreInRange self.now.variables clause.now }
@@ -230,7 +271,7 @@ impl Trail {
         requires unset { ¬ HasValue self.old.entries lit.variable }
         ensures placed { PlacesEntry (record { literal = lit; reason = Some reason }) self.old self.new tally.old tally.new result }
         ensures over { (axioms more : List (List Lit)) → IsOver axioms more self.old
-            → IsRef axioms more reason → IsLastOpen negated (falses self.old.entries) (clause_at axioms more reason) lit → IsOver axioms more self.new }
+            → Contains self.old.attached reason → IsLastOpen negated (falses self.old.entries) (clause_at axioms more reason) lit → IsOver axioms more self.new }
     {
         let entry = Entry {
             literal: lit,
@@ -273,6 +314,15 @@ impl Trail {
         ensures back { IsBackTo level self.old self.new }
         ensures over { (axioms more : List (List Lit)) → IsOver axioms more self.old → IsOver axioms more self.new }
     {
+        self.pop_levels(level);
+        self.head = self.head.min(self.entries.len());
+    }
+
+    // Takes the levels after this one back, and leaves alone how far propagation has come.
+    fn pop_levels(&mut self, level: u32)
+        ensures back { IsBackTo level self.old self.new }
+        ensures watching { self.new.watching ≡ self.old.watching }
+    {
         while self.level > level {
             let Some(entry) = self.entries.pop() else {
                 return;
@@ -281,4 +331,122 @@ impl Trail {
             self.level -= entry.levels();
         }
     }
+
+    /// Makes all entries and clauses unknown, as they were at first, so that the trail may serve another search. It takes no memory, and
+    /// time by what there is to forget, not by the number of the variables.
+    pub fn clear(&mut self)
+        ensures variables { self.new.variables ≡ self.old.variables }
+        ensures blank { IsBlank self.new }
+        ensures over { (axioms more : List (List Lit)) → IsOver axioms more self.new }
+    {
+        self.pop_all();
+        self.attached.clear();
+        self.watches.clear();
+        self.lists.clear();
+        self.head = 0;
+    }
+
+    // Takes all entries back.
+    fn pop_all(&mut self)
+        ensures { self.new ≡ record self.old { entries = [] } }
+    {
+        while let Some(entry) = self.entries.pop() {
+            self.values.forget(entry.literal.variable);
+            self.level -= entry.levels();
+        }
+    }
+}
+
+// Where propagation looks.
+impl Trail {
+    // Whether not all entries are propagated.
+    pub(crate) fn lags(&self) -> bool
+        ensures lags { IsTrue result ↔ self.now.watching.head < length self.now.entries }
+        ensures fits { length self.now.entries ≤ self.now.variables }
+    {
+        self.head < self.entries.len()
+    }
+
+    // The literal that the first entry that isn't propagated made false.
+    pub(crate) fn next_false(&self) -> Lit
+        requires { self.now.watching.head < length self.now.entries }
+        ensures at { IsFalseAt self.now.entries self.now.watching.head result }
+        ensures in_range { result.variable.0 < self.now.variables }
+    {
+        self.entries[self.head].literal.negated()
+    }
+
+    // One more entry is propagated.
+    pub(crate) fn advance(&mut self)
+        requires { self.old.watching.head < length self.old.entries }
+        ensures { self.new ≡ record self.old { watching = record self.old.watching { head = self.old.watching.head + 1 } } }
+    {
+        self.head += 1;
+    }
+
+    // The list of the clauses that each propagation looks at.
+    pub(crate) fn pending_list(&self) -> usize
+        ensures is { result ≡ pending self.now.variables }
+        ensures small { result < 2 ^ 34 }
+    {
+        4 * self.values.len()
+    }
+
+    // The list of the place.
+    pub(crate) fn list_at(&self, place: usize) -> Option<usize>
+        requires { place < length self.now.watching.lists }
+        ensures { result ≡ list_at self.now.watching place }
+    {
+        self.lists.list_of(place)
+    }
+
+    // The literal that the place watches.
+    pub(crate) fn literal_at(&self, place: usize) -> Lit
+        requires { place < length self.now.watching.lists }
+        ensures { result ≡ literal_at self.now.watching place }
+    {
+        self.watches[place]
+    }
+
+    // Takes the first place out of the list, if there is one.
+    pub(crate) fn take_first(&mut self, list: usize) -> Option<usize>
+        requires { list < pending self.old.variables + 2 }
+        ensures within { IfSome result (λ place. place < length self.old.watching.lists) }
+        ensures was { IfSome result (λ place. list_at self.old.watching place ≡ Some list) }
+        ensures taken { IfSome result (λ place. self.new ≡ record self.old { watching = record self.old.watching { lists = slice_set self.old.watching.lists place None } }) }
+        ensures same { IfNone result (self.new ≡ self.old) }
+        ensures none { IfNone result ((place : ℕ) → list_at self.old.watching place ≢ Some list) }
+    {
+        self.lists.take_first(list)
+    }
+
+    // Puts a place that is in no list into this one.
+    pub(crate) fn put(&mut self, place: usize, list: usize)
+        requires list { list < pending self.old.variables + 2 }
+        requires within { place < length self.old.watching.lists }
+        requires free { list_at self.old.watching place ≡ None }
+        ensures { self.new ≡ record self.old { watching = record self.old.watching { lists = slice_set self.old.watching.lists place (Some list) } } }
+    {
+        self.lists.put(place, list);
+    }
+
+    // Lets a place that is in no list watch the literal.
+    pub(crate) fn watch(&mut self, place: usize, literal: Lit)
+        requires in_range { literal.variable.0 < self.old.variables }
+        requires within { place < length self.old.watching.lists }
+        requires free { list_at self.old.watching place ≡ None }
+        ensures { self.new ≡ record self.old { watching = record self.old.watching { literals = slice_set self.old.watching.literals place literal; lists = slice_set self.old.watching.lists place (Some (resting literal)) } } }
+    {
+        self.watches[place] = literal;
+        self.lists.put(place, resting_list(literal));
+    }
+}
+
+// The list of the places that watch the literal.
+pub(crate) fn resting_list(literal: Lit) -> usize
+    ensures is { result ≡ resting literal }
+    ensures small { result < 2 ^ 34 }
+{
+    let sign = if literal.sign { 2 } else { 0 };
+    4 * literal.variable.0 as usize + sign
 }

@@ -1,5 +1,5 @@
 -- Clauses that get lines, and clauses that are added.
-use Rattle.std.proofs.Common.{suc, zero, ◌≡◌, ℕ, ◌+◌, ◌<◌, ◌≤◌, Bool, true, false, List, [], ◌∷◌, ◌++◌, length, get_or, set, refl, sym, ap, ◌∙◌, subst, arith, ⊎_elim, Option, Some, None, slice_get, slice_set, cond, is_some, IsSome, Contains}
+use Rattle.std.proofs.Common.{suc, zero, ◌≡◌, ℕ, ◌+◌, ◌<◌, ◌≤◌, Bool, true, false, List, [], ◌∷◌, ◌++◌, length, get_or, set, refl, sym, ap, ◌∙◌, subst, arith, ⊎_elim, Option, Some, None, slice_get, slice_set, cond, is_some, IsSome, Contains, All, ◌↔◌, inl, inr, ◌⊎◌}
 use Rattle.std.proofs.lemmas.Bool.{cases_lt, cases_eq}
 use Rattle.std.proofs.lemmas.Option.{get_or_from_slice_get, slice_get_within, slice_get-get_or}
 use Rattle.std.proofs.lemmas.List.{length_push, length-append, length-set, get_or_append_left, get_or_push, get_or-set_same, get_or-set_other, append-nil}
@@ -9,43 +9,58 @@ use Rattle.pc_log.specs.Lines.{LogLine, AxiomLine, BlockLine, StepLine}
 use Rattle.pc_propagate.specs.declared.clauses.ClauseRef.{ClauseRef}
 use Rattle.pc_propagate.specs.declared.clauses.ClauseRef.TheVariants.{Axiom, More}
 use Rattle.pc_propagate.specs.Refs.{clause_at, IsRef}
-use Rattle.pc_propagate.specs.Over.{IsOver}
+use Rattle.pc_propagate.specs.Over.{IsOver, AreInRange}
+use Rattle.pc_lits.specs.declared.literal.Var.{Var}
+use Rattle.pc_propagate.specs.Attached.{IsAttached}
+use Rattle.pc_propagate.specs.Quiet.{QuietIsKept, WasSettled}
 use Rattle.pc_propagate.specs.Laws.{ClausesMayBeAdded}
+use Rattle.pc_lits.specs.Literals.{negated}
+use Rattle.pc_lits.specs.Steps.{IsGoodStep, IsTautology}
+use Rattle.pc_lits.proofs.Elements.{contains_mapped, contains_cases}
+use Rattle.std.proofs.lemmas.List.Elements.{All-push, All-contains, Contains-append_left, Contains-push, Contains-push_cases}
+use Rattle.pc_log.specs.Derivations.{clause_of, hinted_clauses}
+use Rattle.pc_analyze.specs.Learning.{IsWithin}
+use Rattle.pc_solver.specs.New.{AreNewClauses, ContainNone}
+use Rattle.pc_solver.proofs.NewLemmas.{line_cases, learned_cases, learned_within, new_learned}
 use Rattle.pc_propagate.specs.TrailView.{TrailView}
 use Rattle.pc_solver.specs.declared.clauses.Kept.{Kept}
 use Rattle.pc_solver.specs.declared.clauses.Kept.TheVariants.{Block, Learned, Dropped}
-use Rattle.pc_solver.specs.Clauses.{ClausesView, AreClauses, KeepsClauses, blank, number_of, line_of, IsGiven, blocks_among, blocks_of, line_at}
-use Rattle.pc_solver.specs.InLog.{Stands, IsLogOf}
-use Rattle.pc_solver.specs.Search.{IsSearch}
-use Rattle.pc_solver.proofs.LogLemmas.{Stands-last, IsLogOf-line}
+use Rattle.pc_solver.specs.Clauses.{ClausesView, AreClauses, KeepsClauses, KeepsProblem, blank, number_of, line_of, IsStanding, IsKnown, IsOverOwn, used_clauses, blocks_among, blocks_of}
+use Rattle.pc_solver.specs.InLog.{Stands, IsLogOf, IsKeptAs, ContainsNoKnown}
+use Rattle.pc_solver.specs.inside.Search.{IsSearch, KnowsAll}
+use Rattle.pc_solver.proofs.LogLemmas.{Stands-last, Stands-more, IsLogOf-line, IsDerivation-line}
 
 some_same : {A : Type 0} (x y : A) → ◌≡◌ {A = Option A} (Some x) (Some y) → x ≡ y
 some_same x y h = cc
 
-default : {A : Type 0} (xs : List A) (k : ℕ) (x y : A) → k < length xs → get_or xs k x ≡ get_or xs k y
+pub default : {A : Type 0} (xs : List A) (k : ℕ) (x y : A) → k < length xs → get_or xs k x ≡ get_or xs k y
 default [] k x y h = absurd (omega arith)
 default (a ∷ xs) zero x y h = refl
 default (a ∷ xs) (suc k) x y h = default xs k x y (omega arith)
 
 -- ---- an axiom gets its line
 
-module _ (c : ClausesView) (log : List LogLine) (number : ℕ) (id : StepId) (within : number < length c.axiom_lines) where
-  pub axiom_logged : IsLogOf c log → Stands c.axioms log id (get_or c.axioms number []) → IsLogOf (record c { axiom_lines = slice_set c.axiom_lines number (Some id) }) log
+module _ (c : ClausesView) (log : List LogLine) (place : ℕ) (id : StepId) (within : place < length c.axiom_lines) where
+  pub axiom_logged : IsLogOf c log → Stands c.axioms log id (get_or c.axioms (get_or c.used place 0) []) → IsLogOf (record c { axiom_lines = slice_set c.axiom_lines place (Some id) }) log
   axiom_logged h here = record {
     derivation = h.derivation;
     blocks = h.blocks;
-    stands = found;
+    axioms = h.axioms;
+    axioms_stand = found;
+    stands = h.stands;
+    over_own = h.over_own;
+    learned = h.learned;
+    new = h.new;
   }
     where
-      found : (r : ClauseRef) (other : StepId) → IsRef c.axioms c.more r → line_at (record c { axiom_lines = set c.axiom_lines number (Some id) }) r ≡ Some other → Stands c.axioms log other (clause_at c.axioms c.more r)
-      found (More n) other is has = h.stands (More n) other is has
-      found (Axiom n) other is has =
+      found : (n : ℕ) (other : StepId) → n < length c.used → get_or (set c.axiom_lines place (Some id)) n None ≡ Some other → Stands c.axioms log other (get_or c.axioms (get_or c.used n 0) [])
+      found n other is has =
           ⊎_elim
           (λ same.
-          let that : id ≡ other = some_same id other (sym (get_or-set_same c.axiom_lines number (Some id) None within) ∙ subst (λ k. get_or (set c.axiom_lines number (Some id)) k None ≡ Some other) same has) in
-          subst (λ (k : StepId). Stands c.axioms log k (get_or c.axioms n [])) that (rw same here))
-          (λ differs. h.stands (Axiom n) other is (sym (get_or-set_other c.axiom_lines number n (Some id) None differs) ∙ has))
-          (cases_eq n number)
+          let that : id ≡ other = some_same id other (sym (get_or-set_same c.axiom_lines place (Some id) None within) ∙ subst (λ k. get_or (set c.axiom_lines place (Some id)) k None ≡ Some other) same has) in
+          subst (λ (k : StepId). Stands c.axioms log k (get_or c.axioms (get_or c.used n 0) [])) that (rw same here))
+          (λ differs. h.axioms_stand n other is (sym (get_or-set_other c.axiom_lines place n (Some id) None differs) ∙ has))
+          (cases_eq n place)
 
 -- ---- a block gets its line
 
@@ -55,6 +70,20 @@ number_kept kept place number id within is n d below =
     ⊎_elim
     (λ same. rw same (ap number_of (get_or-set_same kept place (Block number (Some id)) d within) ∙ sym (ap number_of is)))
     (λ differs. ap number_of (get_or-set_other kept place n (Block number (Some id)) d differs ∙ default kept n d blank below))
+    (cases_eq n place)
+
+-- and it stands as before
+pub standing_kept : (kept : List Kept) (place number : ℕ) (id : StepId) → place < length kept → get_or kept place blank ≡ Block number None
+    → (n : ℕ) → IsStanding (get_or (set kept place (Block number (Some id))) n blank) ↔ IsStanding (get_or kept n blank)
+standing_kept kept place number id within is n =
+    ⊎_elim
+    (λ same. (
+      λ yes. subst (λ (k : Kept). IsStanding k) (sym (ap (λ m. get_or kept m blank) same ∙ is)) tt,
+      λ yes. subst (λ (k : Kept). IsStanding k) (sym (ap (λ m. get_or (set kept place (Block number (Some id))) m blank) same ∙ get_or-set_same kept place (Block number (Some id)) blank within)) tt,
+    ))
+    (λ differs.
+    let as_was = get_or-set_other kept place n (Block number (Some id)) blank differs in
+    (λ yes. subst (λ (k : Kept). IsStanding k) as_was yes, λ yes. subst (λ (k : Kept). IsStanding k) (sym as_was) yes))
     (cases_eq n place)
 
 pub blocks_kept : (more : List (List Lit)) (kept : List Kept) (place number : ℕ) (line : Option StepId) → get_or kept place blank ≡ Block number None → blocks_among more (set kept place (Block number line)) ≡ blocks_among more kept
@@ -68,12 +97,14 @@ module _ (c : ClausesView) (place number : ℕ) (id : StepId) (within : place < 
   pub block_still : (blocks : ℕ) → AreClauses c blocks → AreClauses (record c { kept = slice_set c.kept place (Block number (Some id)) }) blocks
   block_still blocks h = record {
     few = h.few;
+    used_in = h.used_in;
     axiom_each = h.axiom_each;
     kept_each = length-set c.kept place (Block number (Some id)) ∙ h.kept_each;
     counted = ap length same ∙ h.counted;
     numbered = λ n k d below at.
         let under : n < length c.kept = omega (arith, below, length-set c.kept place (Block number (Some id))) in
         rw same (h.numbered n k blank under (sym (number_kept c.kept place number id within is n d under) ∙ at));
+    reached = h.reached;
   }
     where
       same : blocks_among c.more (set c.kept place (Block number (Some id))) ≡ blocks_among c.more c.kept
@@ -83,17 +114,21 @@ module _ (c : ClausesView) (place number : ℕ) (id : StepId) (within : place < 
   block_logged log h here = record {
     derivation = h.derivation;
     blocks = λ i k clause at. rw (blocks_kept c.more c.kept place number (Some id) is) (h.blocks i k clause at);
+    axioms = h.axioms;
+    axioms_stand = h.axioms_stand;
     stands = found;
+    over_own = h.over_own;
+    learned = λ i clause at. let was = h.learned i clause at in (was.0, was.1, was.2, (standing_kept c.kept place number id within is was.0).1 was.3);
+    new = h.new;
   }
     where
-      found : (r : ClauseRef) (other : StepId) → IsRef c.axioms c.more r → line_at (record c { kept = set c.kept place (Block number (Some id)) }) r ≡ Some other → Stands c.axioms log other (clause_at c.axioms c.more r)
-      found (Axiom n) other is_ref has = h.stands (Axiom n) other is_ref has
-      found (More n) other is_ref has =
+      found : (n : ℕ) (other : StepId) → n < length c.more → line_of (get_or (set c.kept place (Block number (Some id))) n blank) ≡ Some other → Stands c.axioms log other (get_or c.more n [])
+      found n other is_ref has =
           ⊎_elim
           (λ same.
           let that : id ≡ other = some_same id other (sym (ap line_of (get_or-set_same c.kept place (Block number (Some id)) blank within)) ∙ subst (λ k. line_of (get_or (set c.kept place (Block number (Some id))) k blank) ≡ Some other) same has) in
           subst (λ (k : StepId). Stands c.axioms log k (get_or c.more n [])) that (rw same here))
-          (λ differs. h.stands (More n) other is_ref (sym (ap line_of (get_or-set_other c.kept place n (Block number (Some id)) blank differs)) ∙ has))
+          (λ differs. h.stands n other is_ref (sym (ap line_of (get_or-set_other c.kept place n (Block number (Some id)) blank differs)) ∙ has))
           (cases_eq n place)
 
 -- ---- a clause is added
@@ -142,31 +177,44 @@ module _ (c : ClausesView) (blocks : ℕ) (h : AreClauses c blocks) (clause : Li
   added_logged bs log is logged last = record {
     derivation = logged.derivation;
     blocks = λ i number other at. rw is (slice_get-more (blocks_of c) bs number other (logged.blocks i number other at));
+    axioms = logged.axioms;
+    axioms_stand = logged.axioms_stand;
     stands = found;
+    over_own = logged.over_own;
+    learned = λ i other at. kept_still (logged.learned i other at);
+    new = logged.new;
   }
     where
-      found : (r : ClauseRef) (other : StepId) → IsRef c.axioms (c.more ++ clause ∷ []) r → line_at (record c { more = c.more ++ clause ∷ []; kept = c.kept ++ k ∷ [] }) r ≡ Some other
-          → Stands c.axioms log other (clause_at c.axioms (c.more ++ clause ∷ []) r)
-      found (Axiom n) other is_ref has = logged.stands (Axiom n) other is_ref has
-      found (More n) other is_ref has =
+      found : (n : ℕ) (other : StepId) → n < length (c.more ++ clause ∷ []) → line_of (get_or (c.kept ++ k ∷ []) n blank) ≡ Some other → Stands c.axioms log other (get_or (c.more ++ clause ∷ []) n [])
+      found n other is_ref has =
           ⊎_elim
           (λ before.
           let within : n < length c.kept = omega (arith, before, h.kept_each) in
           rw (get_or_append_left c.more (clause ∷ []) [] n before)
-          (logged.stands (More n) other before (ap line_of (sym (get_or_append_left c.kept (k ∷ []) blank n within)) ∙ has)))
+          (logged.stands n other before (ap line_of (sym (get_or_append_left c.kept (k ∷ []) blank n within)) ∙ has)))
           (λ end.
           let here : length c.more ≡ n = omega (arith, is_ref, length_push c.more clause, end) in
           rw (get_or_push c.more clause [] n here) (last other (ap line_of (sym (get_or_push c.kept k blank n (omega (arith, here, h.kept_each)))) ∙ has)))
           (cases_lt n (length c.more))
 
+      kept_still : {other : List Lit} → IsKeptAs c other → IsKeptAs (record c { more = c.more ++ clause ∷ []; kept = c.kept ++ k ∷ [] }) other
+      kept_still was = (
+        was.0,
+        omega (arith, was.1, length_push c.more clause),
+        get_or_append_left c.more (clause ∷ []) [] was.0 was.1 ∙ was.2,
+        subst (λ (l : Kept). IsStanding l) (sym (get_or_append_left c.kept (k ∷ []) blank was.0 (omega (arith, was.1, h.kept_each)))) was.3,
+      )
+
   pub block_added : k ≡ Block blocks None → AreClauses (record c { more = c.more ++ clause ∷ []; kept = c.kept ++ k ∷ [] }) (blocks + 1)
   block_added is = record {
     few = h.few;
+    used_in = h.used_in;
     axiom_each = h.axiom_each;
     kept_each = omega (arith, length_push c.kept k, length_push c.more clause, h.kept_each);
     counted = ap length grown ∙ length_push (blocks_of c) clause ∙ ap (λ n. n + 1) h.counted;
     numbered = added_numbered (clause ∷ []) grown (λ number at.
         slice_get-last (blocks_of c) clause number (h.counted ∙ some_same blocks number (sym (ap number_of is) ∙ at)));
+    reached = omega (arith, h.reached, length_push c.more clause);
   }
     where
       grown : blocks_among (c.more ++ clause ∷ []) (c.kept ++ k ∷ []) ≡ blocks_of c ++ clause ∷ []
@@ -175,10 +223,12 @@ module _ (c : ClausesView) (blocks : ℕ) (h : AreClauses c blocks) (clause : Li
   pub learned_added : number_of k ≡ None → AreClauses (record c { more = c.more ++ clause ∷ []; kept = c.kept ++ k ∷ [] }) blocks
   learned_added is = record {
     few = h.few;
+    used_in = h.used_in;
     axiom_each = h.axiom_each;
     kept_each = omega (arith, length_push c.kept k, length_push c.more clause, h.kept_each);
     counted = ap length grown ∙ ap length none ∙ h.counted;
     numbered = added_numbered [] grown (λ number at. absurd (never number (sym is ∙ at)));
+    reached = omega (arith, h.reached, length_push c.more clause);
   }
     where
       none : blocks_of c ++ [] ≡ blocks_of c
@@ -214,20 +264,24 @@ block_line_logged v c blocks h place number id log new clause within is same log
     let clause_is : clause ≡ get_or v.more place [] = sym (get_or_from_slice_get v.more place clause [] read) in
     let before : IsLogOf v log = subst (λ (w : ClausesView). IsLogOf w log) (sym same) logged in
     let after : IsLogOf v new = subst (IsLogOf v) (sym new_is) (IsLogOf-line v log (BlockLine number clause) before tt (λ k d below. absurd (omega arith)) (λ n other is_line.
-    subst (λ (l : LogLine). is_numbered v l) is_line (h.numbered place number blank within (ap number_of is) ∙ ap Some (sym clause_is)))) in
+    subst (λ (l : LogLine). is_numbered v l) is_line (h.numbered place number blank within (ap number_of is) ∙ ap Some (sym clause_is))) (λ n is_line. absurd (cc)) (λ cl hs is_line. cc) (λ cl hs marked is_line. absurd (cc))) in
     block_logged v place number id within is new after (block_line_stands v v.more place number id log new clause read refl at new_is)
+
+same_axiom : (m n : ℕ) → AxiomLine m ≡ AxiomLine n → m ≡ n
+same_axiom m n h = cc
 
 -- ---- an axiom's line is added
 
-pub axiom_line_logged : (v c : ClausesView) (blocks : ℕ) → AreClauses v blocks → (number : ℕ) (id : StepId) (log new : List LogLine) → number < length c.axioms → v ≡ c
-    → IsLogOf c log → id.0 ≡ length log → new ≡ log ++ AxiomLine number ∷ [] → IsLogOf (record v { axiom_lines = slice_set v.axiom_lines number (Some id) }) new
-axiom_line_logged v c blocks h number id log new within same logged at new_is =
+pub axiom_line_logged : (v c : ClausesView) (blocks : ℕ) → AreClauses v blocks → (number place : ℕ) (id : StepId) (log new : List LogLine) → number < length c.axioms → Contains c.used number → slice_get v.used place ≡ Some number → v ≡ c
+    → IsLogOf c log → id.0 ≡ length log → new ≡ log ++ AxiomLine number ∷ [] → IsLogOf (record v { axiom_lines = slice_set v.axiom_lines place (Some id) }) new
+axiom_line_logged v c blocks h number place id log new within has there same logged at new_is =
     let in_axioms : number < length v.axioms = omega (arith, within, ap (λ (w : ClausesView). length w.axioms) same) in
     let before : IsLogOf v log = subst (λ (w : ClausesView). IsLogOf w log) (sym same) logged in
     let after : IsLogOf v new = subst (IsLogOf v) (sym new_is) (IsLogOf-line v log (AxiomLine number) before in_axioms (λ k d below. absurd (omega arith)) (λ n other is_line.
-    subst (λ (l : LogLine). is_numbered v l) is_line tt)) in
-    axiom_logged v new number id (omega (arith, in_axioms, h.axiom_each)) after
-    (subst (λ (ls : List LogLine). Stands v.axioms ls id (get_or v.axioms number [])) (sym new_is) (Stands-last v.axioms log (AxiomLine number) id at))
+    subst (λ (l : LogLine). is_numbered v l) is_line tt)
+    (λ n is_line. subst (λ (m : ℕ). Contains v.used m) (same_axiom number n is_line) (subst (λ (w : ClausesView). Contains w.used number) (sym same) has)) (λ cl hs is_line. cc) (λ cl hs marked is_line. absurd (cc))) in
+    axiom_logged v new place id (omega (arith, slice_get_within v.used place number there, h.axiom_each)) after
+    (rw (get_or_from_slice_get v.used place number 0 there) (subst (λ (ls : List LogLine). Stands v.axioms ls id (get_or v.axioms number [])) (sym new_is) (Stands-last v.axioms log (AxiomLine number) id at)))
 
 pub axiom_line_stands : (axioms : List (List Lit)) (number : ℕ) (id : StepId) (log new : List LogLine) → id.0 ≡ length log → new ≡ log ++ AxiomLine number ∷ [] → Stands axioms new id (get_or axioms number [])
 axiom_line_stands axioms number id log new at new_is =
@@ -235,17 +289,21 @@ axiom_line_stands axioms number id log new at new_is =
 
 -- ---- a line that was there
 
-pub axiom_stands : (v c : ClausesView) (blocks : ℕ) → AreClauses v blocks → (number : ℕ) (read : Option StepId) (id : StepId) (log : List LogLine) → v ≡ c → IsLogOf c log → number < length c.axioms
-    → read ≡ get_or v.axiom_lines number read → read ≡ Some id → Stands c.axioms log id (get_or c.axioms number [])
-axiom_stands v c blocks are number read id log same h within at is =
-    let under : number < length v.axiom_lines = omega (arith, within, ap (λ (w : ClausesView). length w.axioms) same, are.axiom_each) in
-    h.stands (Axiom number) id within (ap (λ (w : ClausesView). get_or w.axiom_lines number None) (sym same) ∙ default v.axiom_lines number None read under ∙ sym at ∙ is)
+pub axiom_stands : (v c : ClausesView) (blocks : ℕ) → AreClauses v blocks → (number place : ℕ) (read : Option StepId) (id : StepId) (log : List LogLine) → v ≡ c → IsLogOf c log → slice_get v.used place ≡ Some number
+    → read ≡ get_or v.axiom_lines place read → read ≡ Some id → Stands c.axioms log id (get_or c.axioms number [])
+axiom_stands v c blocks are number place read id log same h there at is =
+    let within : place < length v.used = slice_get_within v.used place number there in
+    let under : place < length v.axiom_lines = omega (arith, within, are.axiom_each) in
+    let of_number : get_or c.used place 0 ≡ number = ap (λ (w : ClausesView). get_or w.used place 0) (sym same) ∙ get_or_from_slice_get v.used place number 0 there in
+    let found = h.axioms_stand place id (omega (arith, within, ap (λ (w : ClausesView). length w.used) same))
+    (ap (λ (w : ClausesView). get_or w.axiom_lines place None) (sym same) ∙ default v.axiom_lines place None read under ∙ sym at ∙ is) in
+    subst (λ m. Stands c.axioms log id (get_or c.axioms m [])) of_number found
 
 pub kept_stands : (v c : ClausesView) (blocks : ℕ) → AreClauses v blocks → (place : ℕ) (read k : Kept) (id : StepId) (log : List LogLine) → v ≡ c → IsLogOf c log → place < length c.more
     → read ≡ get_or v.kept place read → read ≡ k → line_of k ≡ Some id → Stands c.axioms log id (get_or c.more place [])
 kept_stands v c blocks are place read k id log same h within at is has =
     let under : place < length v.kept = omega (arith, within, ap (λ (w : ClausesView). length w.more) same, are.kept_each) in
-    h.stands (More place) id within (ap (λ (w : ClausesView). line_of (get_or w.kept place blank)) (sym same) ∙ ap line_of (default v.kept place blank read under ∙ sym at ∙ is) ∙ has)
+    h.stands place id within (ap (λ (w : ClausesView). line_of (get_or w.kept place blank)) (sym same) ∙ ap line_of (default v.kept place blank read under ∙ sym at ∙ is) ∙ has)
 
 -- ---- the calls that add a clause
 
@@ -284,85 +342,317 @@ with_dropped_logged v c blocks h same clause log logged =
     none : (id : StepId) → ◌≡◌ {A = Option StepId} None (Some id) → ⊥
     none id e = cc
 
-pub with_learned_logged : (v c : ClausesView) (blocks : ℕ) → AreClauses v blocks → v ≡ c → (clause : List Lit) (line : StepId) (log : List LogLine) → IsLogOf c log → Stands c.axioms log line clause
-    → IsLogOf (record v { more = v.more ++ clause ∷ []; kept = v.kept ++ Learned line ∷ [] }) log
-with_learned_logged v c blocks h same clause line log logged here =
-    added_logged v blocks h clause (Learned line) [] log (blocks-push v.more v.kept clause (Learned line) h.kept_each) (subst (λ (w : ClausesView). IsLogOf w log) (sym same) logged)
-    (λ id has. subst (λ (i : StepId). Stands v.axioms log i clause) (some_same line id has) (subst (λ (w : ClausesView). Stands w.axioms log line clause) (sym same) here))
-
 -- ---- the trail
 
-module _ (law : ClausesMayBeAdded) (v c : ClausesView) (blocks : ℕ) (h : AreClauses v blocks) (same : v ≡ c) (t : TrailView) (search : IsSearch c t) (clause : List Lit) (k : Kept) where
-  grown_clauses : ClausesView
-  grown_clauses = record v { more = v.more ++ clause ∷ []; kept = v.kept ++ k ∷ [] }
+module _ (law : ClausesMayBeAdded) (quiet : QuietIsKept) (v c : ClausesView) (blocks : ℕ) (h : AreClauses v blocks) (same : v ≡ c) (clause : List Lit) (k : Kept) where
+  -- a clause that was added last isn't known yet
+  known_still : (r : ClauseRef) → IsKnown (record v { more = v.more ++ clause ∷ []; kept = v.kept ++ k ∷ [] }) r ↔ IsKnown v r
+  known_still (Axiom n) = (λ is. is, λ is. is)
+  known_still (More n) = (
+    λ is.
+        let within : n < length v.more = omega (arith, is.1, h.reached) in
+        (within, is.1, subst (λ (l : Kept). IsStanding l) (get_or_append_left v.kept (k ∷ []) blank n (omega (arith, within, h.kept_each))) is.2),
+    λ is. (
+      omega (arith, is.0, length_push v.more clause),
+      is.1,
+      subst (λ (l : Kept). IsStanding l) (sym (get_or_append_left v.kept (k ∷ []) blank n (omega (arith, is.0, h.kept_each)))) is.2,
+    ),
+  )
 
-  -- a given clause was given before, or is the new one
-  old_given : (P : ClauseRef → Type 0) → ((r : ClauseRef) → IsRef v.axioms v.more r → IsGiven v r → P r) → (is_some (number_of k) ≡ true → P (More (length v.more)))
-      → (r : ClauseRef) → IsRef v.axioms (v.more ++ clause ∷ []) r → IsGiven grown_clauses r → P r
-  unfolding grown_clauses
-  old_given P old new (Axiom n) is given = old (Axiom n) is tt
-  old_given P old new (More n) is given =
-      ⊎_elim
-      (λ before. old (More n) before (subst (λ (l : Kept). IsSome (number_of l)) (get_or_append_left v.kept (k ∷ []) blank n (omega (arith, before, h.kept_each))) given))
-      (λ end.
-      let here : length v.more ≡ n = omega (arith, is, length_push v.more clause, end) in
-      subst (λ m. P (More m)) here (new (some_is (number_of k) (subst (λ (l : Kept). IsSome (number_of l)) (get_or_push v.kept k blank n (omega (arith, here, h.kept_each))) given))))
-      (cases_lt n (length v.more))
+  pub added_search : IsOverOwn c.own clause → (t : TrailView) → IsSearch c t → IsSearch (record v { more = v.more ++ clause ∷ []; kept = v.kept ++ k ∷ [] }) t
+  added_search over t search = still (subst (λ (w : ClausesView). IsOverOwn w.own clause) (sym same) over) (subst (λ (w : ClausesView). IsSearch w t) (sym same) search)
     where
-      some_is : {A : Type 0} (o : Option A) → IsSome o → is_some o ≡ true
-      some_is (Some x) given = refl
-      some_is None given = absurd (cc)
+      still : IsOverOwn v.own clause → IsSearch v t → IsSearch (record v { more = v.more ++ clause ∷ []; kept = v.kept ++ k ∷ [] }) t
+      still over before = record {
+        over = law v.axioms v.more clause t before.over;
+        attached = λ r is. before.attached r ((known_still r).0 is);
+        known = λ r has. (known_still r).1 (before.known r has);
+        quiet = quiet.by_adding v.axioms v.more clause t before.over before.quiet;
+        over_own = record {
+          in_range = before.over_own.in_range;
+          used = before.over_own.used;
+          more = All-push (λ (cl : List Lit). IsOverOwn v.own cl) v.more clause before.over_own.more over;
+        };
+        own = before.own;
+      }
 
-  before : IsSearch v t
-  before = subst (λ (w : ClausesView). IsSearch w t) (sym same) search
-
-  pub other_over : IsOver v.axioms (v.more ++ clause ∷ []) t
-  other_over = law v.axioms v.more clause t before.over
-
-  pub other_search : number_of k ≡ None → IsSearch (record v { more = v.more ++ clause ∷ []; kept = v.kept ++ k ∷ [] }) t
-  unfolding grown_clauses
-  other_search none = record {
-    over = other_over;
-    attached = old_given (λ r. Contains t.attached r) before.attached (λ is. absurd (not_none (number_of k) none is));
+  pub added_problem : number_of k ≡ None → KeepsProblem c (record v { more = v.more ++ clause ∷ []; kept = v.kept ++ k ∷ [] })
+  added_problem is = record {
+    axioms = ap (λ (w : ClausesView). w.axioms) same;
+    used = ap (λ (w : ClausesView). w.used) same;
+    own = ap (λ (w : ClausesView). w.own) same;
+    blocks = with_other v c blocks h same clause k is;
   }
-    where
-      not_none : {A : Type 0} (o : Option A) → o ≡ None → is_some o ≡ true → ⊥
-      not_none o e is = cc
-
-  -- the clause is known to the trail now
-  pub known_search : (t' : TrailView) → t' ≡ record t { attached = t.attached ++ More (length v.more) ∷ [] } → IsOver v.axioms (v.more ++ clause ∷ []) t' → IsSearch (record v { more = v.more ++ clause ∷ []; kept = v.kept ++ k ∷ [] }) t'
-  unfolding grown_clauses
-  known_search t' is over = record {
-    over = over;
-    attached = λ r is_ref given. rw is (old_given (λ r. Contains (t.attached ++ More (length v.more) ∷ []) r)
-        (λ r is_old was. Contains-more t.attached (More (length v.more)) r (before.attached r is_old was))
-        (λ some. Contains-last t.attached (More (length v.more))) r is_ref given);
-  }
-    where
-      Contains-more : {A : Type 0} (xs : List A) (x y : A) → Contains xs y → Contains (xs ++ x ∷ []) y
-      Contains-more xs x y has = (has.0, omega (arith, has.1, length_push xs x), get_or_append_left xs (x ∷ []) y has.0 has.1 ∙ has.2)
-
-      Contains-last : {A : Type 0} (xs : List A) (x : A) → Contains (xs ++ x ∷ []) x
-      Contains-last xs x = (length xs, omega (arith, length_push xs x), get_or_push xs x x (length xs) refl)
-
-  pub attached_search : (place : ℕ) → place ≡ length v.more → (t' : TrailView) → t' ≡ record t { attached = t.attached ++ More place ∷ [] }
-      → ((axioms more : List (List Lit)) → IsOver axioms more t → IsRef axioms more (More place) → clause_at axioms more (More place) ≡ clause → IsOver axioms more t')
-      → IsSearch (record v { more = v.more ++ clause ∷ []; kept = v.kept ++ k ∷ [] }) t'
-  attached_search place at t' is over =
-      known_search t' (is ∙ ap (λ n. record t { attached = t.attached ++ More n ∷ [] }) at)
-      (over v.axioms (v.more ++ clause ∷ []) other_over (omega (arith, at, length_push v.more clause)) (get_or_push v.more clause [] place (sym at)))
-
--- a block that gets a line was a block before
-pub block_given : (v c : ClausesView) (place number : ℕ) (id : StepId) (blocks : ℕ) → AreClauses v blocks → place < length v.kept → get_or v.kept place blank ≡ Block number None → v ≡ c
-    → (r : ClauseRef) → IsRef c.axioms c.more r → IsGiven (record v { kept = slice_set v.kept place (Block number (Some id)) }) r → IsGiven c r
-block_given v c place number id blocks h within is same (Axiom n) is_ref given = tt
-block_given v c place number id blocks h within is same (More n) is_ref given =
-    let under : n < length v.kept = omega (arith, is_ref, ap (λ (w : ClausesView). length w.more) same, h.kept_each) in
-    subst (λ (w : ClausesView). IsGiven w (More n)) same (subst (λ (o : Option ℕ). IsSome o) (number_kept v.kept place number id within is n blank under) given)
 
 -- clauses that only got lines
 pub IsSearch-same : (c new : ClausesView) (t : TrailView) → KeepsClauses c new → IsSearch c t → IsSearch new t
 IsSearch-same c new t same h = record {
   over = rw (same.axioms, same.more) h.over;
-  attached = λ r is given. let was : IsRef c.axioms c.more r = subst (λ (m : List (List Lit)). IsRef c.axioms m r) same.more (subst (λ (a : List (List Lit)). IsRef a new.more r) same.axioms is) in h.attached r was (same.given r was given);
+  attached = λ r is. h.attached r ((same.known r).0 is);
+  known = λ r has. (same.known r).1 (h.known r has);
+  quiet = rw (same.axioms, same.more) h.quiet;
+  over_own = record {
+    in_range = rw same.own h.over_own.in_range;
+    used = rw (same.axioms, same.used, same.own) h.over_own.used;
+    more = rw (same.own, same.more) h.over_own.more;
+  };
+  own = rw same.own h.own;
 }
+
+-- a block that gets a line is known as before
+pub block_known : (v c : ClausesView) (place number : ℕ) (id : StepId) (blocks : ℕ) → AreClauses v blocks → place < length v.kept → get_or v.kept place blank ≡ Block number None → v ≡ c
+    → (r : ClauseRef) → IsKnown (record v { kept = slice_set v.kept place (Block number (Some id)) }) r ↔ IsKnown c r
+block_known v c place number id blocks h within is same r =
+    subst (λ (w : ClausesView). IsKnown (record v { kept = slice_set v.kept place (Block number (Some id)) }) r ↔ IsKnown w r) same (as_v r)
+  where
+    as_v : (r : ClauseRef) → IsKnown (record v { kept = slice_set v.kept place (Block number (Some id)) }) r ↔ IsKnown v r
+    as_v (Axiom n) = (λ k. k, λ k. k)
+    as_v (More n) =
+        let both = standing_kept v.kept place number id within is n in
+        (λ k. (k.0, k.1, both.0 k.2), λ k. (k.0, k.1, both.1 k.2))
+
+pub IsKnown-ref : (c : ClausesView) (r : ClauseRef) → IsKnown c r → IsRef c.axioms c.more r
+IsKnown-ref c (Axiom n) h = h.0
+IsKnown-ref c (More n) h = h.0
+
+pub axiom_known : (v : ClausesView) (place : ℕ) (line : Option StepId) (r : ClauseRef) → IsKnown (record v { axiom_lines = set v.axiom_lines place line }) r ↔ IsKnown v r
+axiom_known v place line (Axiom n) = (λ k. k, λ k. k)
+axiom_known v place line (More n) = (λ k. k, λ k. k)
+
+-- ---- what is kept where lines are added
+
+pub keeps_same : (v c : ClausesView) → v ≡ c → KeepsClauses c v
+keeps_same v c same = record {
+  axioms = ap (λ (w : ClausesView). w.axioms) same;
+  used = ap (λ (w : ClausesView). w.used) same;
+  own = ap (λ (w : ClausesView). w.own) same;
+  more = ap (λ (w : ClausesView). w.more) same;
+  blocks = ap (λ (w : ClausesView). blocks_of w) same;
+  reached = ap (λ (w : ClausesView). w.known) same;
+  known = λ r. subst (λ (w : ClausesView). IsKnown v r ↔ IsKnown w r) same (λ k. k, λ k. k);
+}
+
+pub axiom_keeps : (v c : ClausesView) → v ≡ c → (place : ℕ) (line : Option StepId) → KeepsClauses c (record v { axiom_lines = set v.axiom_lines place line })
+axiom_keeps v c same place line = record {
+  axioms = ap (λ (w : ClausesView). w.axioms) same;
+  used = ap (λ (w : ClausesView). w.used) same;
+  own = ap (λ (w : ClausesView). w.own) same;
+  more = ap (λ (w : ClausesView). w.more) same;
+  blocks = ap (λ (w : ClausesView). blocks_of w) same;
+  reached = ap (λ (w : ClausesView). w.known) same;
+  known = λ r. subst (λ (w : ClausesView). IsKnown (record v { axiom_lines = set v.axiom_lines place line }) r ↔ IsKnown w r) same (axiom_known v place line r);
+}
+
+pub block_keeps : (v c : ClausesView) (place number : ℕ) (id : StepId) (blocks : ℕ) → AreClauses v blocks → place < length v.kept → get_or v.kept place blank ≡ Block number None → v ≡ c
+    → KeepsClauses c (record v { kept = slice_set v.kept place (Block number (Some id)) })
+block_keeps v c place number id blocks h within is same = record {
+  axioms = ap (λ (w : ClausesView). w.axioms) same;
+  used = ap (λ (w : ClausesView). w.used) same;
+  own = ap (λ (w : ClausesView). w.own) same;
+  more = ap (λ (w : ClausesView). w.more) same;
+  blocks = blocks_kept v.more v.kept place number (Some id) is ∙ ap (λ (w : ClausesView). blocks_of w) same;
+  reached = ap (λ (w : ClausesView). w.known) same;
+  known = block_known v c place number id blocks h within is same;
+}
+
+pub own_in_range : (own : List Var) (variables : ℕ) (clause : List Lit) → All (λ (v : Var). v.0 < variables) own → IsOverOwn own clause → AreInRange variables clause
+own_in_range own variables clause within over k d below = All-contains (λ (v : Var). v.0 < variables) own (get_or clause k d).variable within (over k d below)
+
+-- ---- the next clause is made known
+
+module _ (quiet : QuietIsKept) (v c : ClausesView) (blocks : ℕ) (h : AreClauses v blocks) (same : v ≡ c) (some : c.known < length c.more) (k : Kept) (read : get_or v.kept v.known blank ≡ k) where
+  -- what is known now was known, or is that clause
+  known_cases : (r : ClauseRef) → IsKnown (record v { known = v.known + 1 }) r → IsKnown v r ⊎ ((More v.known ≡ r) × IsStanding k)
+  known_cases (Axiom n) is = inl is
+  known_cases (More n) is =
+      ⊎_elim
+      (λ before. inl (is.0, before, is.2))
+      (λ end.
+      let here : v.known ≡ n = omega (arith, is.1, end) in
+      inr (ap More here, subst (λ (l : Kept). IsStanding l) read (subst (λ m. IsStanding (get_or v.kept m blank)) (sym here) is.2)))
+      (cases_lt n v.known)
+
+  still_known : (r : ClauseRef) → IsKnown v r → IsKnown (record v { known = v.known + 1 }) r
+  still_known (Axiom n) is = is
+  still_known (More n) is = (is.0, omega (arith, is.1), is.2)
+
+  in_more : v.known < length v.more
+  in_more = subst (λ (w : ClausesView). w.known < length w.more) (sym same) some
+
+  pub next_still : AreClauses (record v { known = v.known + 1 }) blocks
+  next_still = record {
+    few = h.few;
+    used_in = h.used_in;
+    axiom_each = h.axiom_each;
+    kept_each = h.kept_each;
+    counted = h.counted;
+    numbered = h.numbered;
+    reached = omega (arith, in_more);
+  }
+
+  pub next_skipped : (t : TrailView) → (IsStanding k → ⊥) → IsSearch c t → IsSearch (record v { known = v.known + 1 }) t
+  next_skipped t dropped search = go (subst (λ (w : ClausesView). IsSearch w t) (sym same) search)
+    where
+      go : IsSearch v t → IsSearch (record v { known = v.known + 1 }) t
+      go s = record {
+        over = s.over;
+        attached = λ r is. ⊎_elim (s.attached r) (λ new. absurd (dropped new.1)) (known_cases r is);
+        known = λ r has. still_known r (s.known r has);
+        quiet = s.quiet;
+        over_own = record { in_range = s.over_own.in_range; used = s.over_own.used; more = s.over_own.more };
+        own = s.own;
+      }
+
+  pub next_attached : (t u : TrailView) → IsStanding k → IsSearch c t → WasSettled t.entries (get_or c.more c.known []) → IsAttached (More v.known) t u
+      → (IsOver v.axioms v.more t → IsRef v.axioms v.more (More v.known) → IsOver v.axioms v.more u) → IsSearch (record v { known = v.known + 1 }) u
+  next_attached t u stands search settled is over = go (subst (λ (w : ClausesView). IsSearch w t) (sym same) search) (subst (λ (w : ClausesView). WasSettled t.entries (get_or w.more w.known [])) (sym same) settled)
+    where
+      go : IsSearch v t → WasSettled t.entries (get_or v.more v.known []) → IsSearch (record v { known = v.known + 1 }) u
+      go s here = record {
+        over = over s.over in_more;
+        attached = λ r known. subst (λ (rs : List ClauseRef). Contains rs r) (sym is.attached)
+            (⊎_elim
+            (λ was. Contains-append_left t.attached (More v.known ∷ []) r (s.attached r was))
+            (λ new. subst (Contains (t.attached ++ More v.known ∷ [])) new.0 (Contains-push t.attached (More v.known)))
+            (known_cases r known));
+        known = λ r has. ⊎_elim
+            (λ was. still_known r (s.known r was))
+            (λ new. subst (IsKnown (record v { known = v.known + 1 })) new (in_more, omega arith, rw read stands))
+            (Contains-push_cases t.attached (More v.known) r (subst (λ (rs : List ClauseRef). Contains rs r) is.attached has));
+        quiet = quiet.by_attaching v.axioms v.more (More v.known) t u is here s.quiet;
+        over_own = record {
+          in_range = rw is.variables s.over_own.in_range;
+          used = s.over_own.used;
+          more = s.over_own.more;
+        };
+        own = rw is.entries s.own;
+      }
+
+-- its variables are in range
+pub next_in_range : (v c : ClausesView) (t : TrailView) (lits : List Lit) → v ≡ c → IsSearch c t → c.known < length c.more → slice_get v.more v.known ≡ Some lits → AreInRange t.variables lits
+next_in_range v c t lits same search some at =
+    let here : IsSearch v t = subst (λ (w : ClausesView). IsSearch w t) (sym same) search in
+    own_in_range v.own t.variables lits here.over_own.in_range
+    (subst (IsOverOwn v.own) (get_or_from_slice_get v.more v.known lits [] at) (here.over_own.more v.known [] (slice_get_within v.more v.known lits at)))
+
+-- ---- a learned clause and its line
+
+-- a block is a given clause
+pub block_given_at : (more : List (List Lit)) (kept : List Kept) (clause : List Lit) → Contains (blocks_among more kept) clause → (n : ℕ) × (n < length more) × IsSome (number_of (get_or kept n blank)) × (get_or more n [] ≡ clause)
+block_given_at [] kept clause has = absurd (omega (arith, has.1))
+block_given_at (m ∷ more) [] clause has = absurd (omega (arith, has.1))
+block_given_at (m ∷ more) (k ∷ kept) clause has = head (number_of k) refl (λ rest. block_given_at more kept clause rest)
+  where
+    head : (o : Option ℕ) → number_of k ≡ o → (Contains (blocks_among more kept) clause → (n : ℕ) × (n < length more) × IsSome (number_of (get_or kept n blank)) × (get_or more n [] ≡ clause))
+        → (n : ℕ) × (n < length (m ∷ more)) × IsSome (number_of (get_or (k ∷ kept) n blank)) × (get_or (m ∷ more) n [] ≡ clause)
+    head None is rec =
+        let r = rec (subst (λ (o : Option ℕ). Contains (cond (is_some o) (m ∷ blocks_among more kept) (blocks_among more kept)) clause) is has) in
+        (suc r.0, omega (arith, r.1), r.2, r.3)
+    head (Some number) is rec =
+        ⊎_elim
+        (λ same. (zero, omega arith, rw is refl, same))
+        (λ rest. let r = rec rest in (suc r.0, omega (arith, r.1), r.2, r.3))
+        (contains_cases m (blocks_among more kept) clause (subst (λ (o : Option ℕ). Contains (cond (is_some o) (m ∷ blocks_among more kept) (blocks_among more kept)) clause) is has))
+
+-- what a block line names is a block, and all blocks are known
+pub block_is_known : (c : ClausesView) → KnowsAll c → (block : List Lit) → Contains (blocks_of c) block → (r : ClauseRef) × IsKnown c r × (clause_at c.axioms c.more r ≡ block)
+block_is_known c all block has =
+    let b = block_given_at c.more c.kept block has in
+    (More b.0, (b.1, omega (arith, b.1, all), numbered_stands (get_or c.kept b.0 blank) b.2), b.3)
+  where
+    numbered_stands : (k : Kept) → IsSome (number_of k) → IsStanding k
+    numbered_stands (Block number line) h = tt
+    numbered_stands (Learned line) h = tt
+    numbered_stands Dropped h = cc
+
+pub within_known : (c : ClausesView) (clause part : List Lit) → ContainsNoKnown c clause → (r : ClauseRef) × IsKnown c r × (clause_at c.axioms c.more r ≡ part) → IsWithin part clause → ⊥
+within_known c clause part none known inside = none known.0 known.1 (subst (λ (p : List Lit). IsWithin p clause) (sym known.2) inside)
+
+learned_is_known : (c : ClausesView) → KnowsAll c → (part : List Lit) → IsKeptAs c part → (r : ClauseRef) × IsKnown c r × (clause_at c.axioms c.more r ≡ part)
+learned_is_known c all part kept = (More kept.0, (kept.1, omega (arith, kept.1, all), kept.3), kept.2)
+
+module _ (v : ClausesView) (blocks : ℕ) (h : AreClauses v blocks) (clause : List Lit) (lines : List StepId) (id : StepId) (log : List LogLine) (all : KnowsAll v)
+    (over : IsOverOwn v.own clause) (none : ContainsNoKnown v clause) (no_tautology : IsTautology negated clause → ⊥) (earlier : All (λ (s : StepId). s.0 < length log) lines) (good : IsGoodStep negated clause (hinted_clauses v.axioms log lines))
+    (logged : IsLogOf v log) where
+  -- no block lies within it
+  pub learned_no_block : ContainNone (blocks_of v) (length log) (log ++ StepLine clause lines true ∷ [])
+  learned_no_block i other block late at has inside =
+      ⊎_elim
+      (λ was. absurd (omega (arith, late, learned_within log i other was)))
+      (λ last. within_known v clause block none (block_is_known v all block has) (subst (λ (o : List Lit). IsWithin block o) (sym last.1) inside))
+      (learned_cases log clause lines i other at)
+
+  learned_new : AreNewClauses (used_clauses v.axioms v.used) (log ++ StepLine clause lines true ∷ [])
+  learned_new =
+      new_learned (used_clauses v.axioms v.used) log clause lines logged.new no_tautology
+      (λ part has inside.
+      let u = contains_mapped (λ n. get_or v.axioms n []) v.used part has in
+      within_known v clause part none (Axiom u.0, (h.used_in u.0 u.1, u.1), u.2) inside)
+      (λ i before at inside. within_known v clause before none (learned_is_known v all before (logged.learned i before at)) inside)
+      (λ i number block at inside.
+      let there = logged.blocks i number block at in
+      within_known v clause block none (block_is_known v all block (number, slice_get_within (blocks_of v) number block there, get_or_from_slice_get (blocks_of v) number block block there)) inside)
+
+  -- the log with the line is one for the clauses with the clause
+  pub learned_logged : id.0 ≡ length log → IsLogOf (record v { more = v.more ++ clause ∷ []; kept = v.kept ++ Learned id ∷ [] }) (log ++ StepLine clause lines true ∷ [])
+  learned_logged at = record {
+    derivation = IsDerivation-line v.axioms log (StepLine clause lines true) logged.derivation good earlier;
+    blocks = λ i number other here. ⊎_elim
+        (λ was. rw grown (slice_get-more (blocks_of v) [] number other (logged.blocks i number other was)))
+        (λ last. absurd (not_block number other last.1))
+        (line_cases log (StepLine clause lines true) i (BlockLine number other) here);
+    axioms = λ i number here. ⊎_elim (λ was. logged.axioms i number was) (λ last. absurd (not_axiom number last.1)) (line_cases log (StepLine clause lines true) i (AxiomLine number) here);
+    axioms_stand = λ place other within has. Stands-more v.axioms log (StepLine clause lines true ∷ []) other _ (logged.axioms_stand place other within has);
+    stands = found;
+    over_own = λ i other hints learned here. ⊎_elim
+        (λ was. logged.over_own i other hints learned was)
+        (λ last. subst (IsOverOwn v.own) (ap (clause_of []) last.1) over)
+        (line_cases log (StepLine clause lines true) i (StepLine other hints learned) here);
+    learned = λ i other here. ⊎_elim (λ was. kept_still (logged.learned i other was)) (λ last. subst (IsKeptAs (record v { more = v.more ++ clause ∷ []; kept = v.kept ++ Learned id ∷ [] })) last.1 kept_last) (learned_cases log clause lines i other here);
+    new = learned_new;
+  }
+    where
+      grown : blocks_among (v.more ++ clause ∷ []) (v.kept ++ Learned id ∷ []) ≡ blocks_of v ++ []
+      grown = blocks-push v.more v.kept clause (Learned id) h.kept_each
+
+      not_block : (number : ℕ) (other : List Lit) → StepLine clause lines true ≡ BlockLine number other → ⊥
+      not_block number other e = cc
+
+      not_axiom : (number : ℕ) → StepLine clause lines true ≡ AxiomLine number → ⊥
+      not_axiom number e = cc
+
+      here : Stands v.axioms (log ++ StepLine clause lines true ∷ []) id clause
+      here = Stands-last v.axioms log (StepLine clause lines true) id at
+
+      found : (n : ℕ) (other : StepId) → n < length (v.more ++ clause ∷ []) → line_of (get_or (v.kept ++ Learned id ∷ []) n blank) ≡ Some other
+          → Stands v.axioms (log ++ StepLine clause lines true ∷ []) other (get_or (v.more ++ clause ∷ []) n [])
+      found n other is_ref has =
+          ⊎_elim
+          (λ before.
+          let within : n < length v.kept = omega (arith, before, h.kept_each) in
+          rw (get_or_append_left v.more (clause ∷ []) [] n before)
+          (Stands-more v.axioms log (StepLine clause lines true ∷ []) other (get_or v.more n []) (logged.stands n other before (ap line_of (sym (get_or_append_left v.kept (Learned id ∷ []) blank n within)) ∙ has))))
+          (λ end.
+          let there : length v.more ≡ n = omega (arith, is_ref, length_push v.more clause, end) in
+          let same : id ≡ other = some_same id other (ap line_of (sym (get_or_push v.kept (Learned id) blank n (omega (arith, there, h.kept_each)))) ∙ has) in
+          rw (get_or_push v.more clause [] n there) (subst (λ (o : StepId). Stands v.axioms (log ++ StepLine clause lines true ∷ []) o clause) same here))
+          (cases_lt n (length v.more))
+
+      kept_still : {other : List Lit} → IsKeptAs v other → IsKeptAs (record v { more = v.more ++ clause ∷ []; kept = v.kept ++ Learned id ∷ [] }) other
+      kept_still was = (
+        was.0,
+        omega (arith, was.1, length_push v.more clause),
+        get_or_append_left v.more (clause ∷ []) [] was.0 was.1 ∙ was.2,
+        subst (λ (l : Kept). IsStanding l) (sym (get_or_append_left v.kept (Learned id ∷ []) blank was.0 (omega (arith, was.1, h.kept_each)))) was.3,
+      )
+
+      kept_last : IsKeptAs (record v { more = v.more ++ clause ∷ []; kept = v.kept ++ Learned id ∷ [] }) clause
+      kept_last = (
+        length v.more,
+        omega (arith, length_push v.more clause),
+        get_or_push v.more clause [] (length v.more) refl,
+        subst (λ (l : Kept). IsStanding l) (sym (get_or_push v.kept (Learned id) blank (length v.more) h.kept_each)) tt,
+      )
+
+pub learned_stands : (v : ClausesView) (kept : List Kept) (id : StepId) → KnowsAll v → length v.kept ≡ length v.more → kept ≡ v.kept ++ Learned id ∷ [] → IsStanding (get_or kept v.known blank)
+learned_stands v kept id all each is = subst (λ (k : Kept). IsStanding k) (sym (ap (λ (ks : List Kept). get_or ks v.known blank) is ∙ get_or_push v.kept (Learned id) blank v.known (each ∙ sym all))) tt

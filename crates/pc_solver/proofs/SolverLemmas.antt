@@ -1,38 +1,43 @@
 -- Before and after a search.
-use Rattle.std.proofs.Common.{suc, ◌≡◌, ℕ, ◌+◌, ◌*◌, ◌<◌, ◌≤◌, Bool, true, false, not, List, [], ◌∷◌, ◌++◌, length, get_or, take, count_by, replicate, refl, sym, ap, ◌∙◌, subst, arith, AllPairs, ⊎_elim, Option, Some, None, IsNone, is_none, slice_get, Contains, cond, eqb, zero}
-use Rattle.std.proofs.lemmas.Bool.{cases_lt, false≢true, cases_Bool}
-use Rattle.std.proofs.lemmas.List.{length_push, get_or_push, get_or_append_left, get_or-take, length-take, take_more}
-use Rattle.std.proofs.lemmas.Option.{get_or_from_slice_get, slice_get_within, slice_get-get_or}
+use Rattle.std.proofs.Common.{suc, ◌≡◌, ℕ, ◌+◌, ◌*◌, ◌<◌, ◌≤◌, Bool, true, false, not, List, [], ◌∷◌, ◌++◌, length, get_or, take, count_by, replicate, refl, sym, ap, ◌∙◌, subst, arith, AllPairs, ⊎_elim, Option, Some, None, IsNone, is_none, slice_get, Contains, cond, eqb, zero, All}
+use Rattle.std.proofs.lemmas.Bool.{false≢true, cases_Bool}
+use Rattle.std.proofs.lemmas.List.{take_more}
+use Rattle.std.proofs.lemmas.Option.{get_or_from_slice_get, slice_get_within}
 use Rattle.pc_lits.specs.declared.literal.Var.{Var}
 use Rattle.pc_lits.specs.declared.literal.Lit.{Lit}
 use Rattle.pc_lits.specs.declared.tally.Tally.{Tally}
 use Rattle.pc_lits.proofs.Sound.{true_literal}
 use Rattle.pc_lits.proofs.Elements.{contains_mapped}
 use Rattle.pc_log.specs.declared.log.StepId.{StepId}
-use Rattle.pc_log.specs.Lines.{LogLine, BlockLine}
+use Rattle.pc_log.specs.Lines.{LogLine, AxiomLine, BlockLine, StepLine}
 use Rattle.pc_log.specs.Laws.{DerivationsAreSound}
 use Rattle.pc_propagate.specs.declared.trail.Entry.{Entry}
 use Rattle.pc_propagate.specs.declared.clauses.ClauseRef.{ClauseRef}
 use Rattle.pc_propagate.specs.declared.clauses.ClauseRef.TheVariants.{Axiom, More}
-use Rattle.pc_propagate.specs.Refs.{IsRef}
 use Rattle.pc_propagate.specs.Entries.{literals, HasValue, AreEntries, Differ, starts_level}
-use Rattle.pc_propagate.specs.Levels.{level_at, IsBackTo}
+use Rattle.pc_propagate.specs.Levels.{level_at}
 use Rattle.pc_propagate.specs.Over.{IsOver}
 use Rattle.pc_propagate.specs.TrailView.{TrailView}
 use Rattle.pc_propagate.proofs.TrailLemmas.{count_by-push}
 use Rattle.pc_solver.specs.declared.outcome.Outcome.{Outcome}
 use Rattle.pc_solver.specs.declared.outcome.Outcome.TheVariants.{Sat, Unsat, Spent, Memory}
-use Rattle.pc_solver.specs.Clauses.{ClausesView, blocks_of, IsGiven, line_at}
+use Rattle.pc_solver.specs.Clauses.{ClausesView, IsKnown, IsOverOwn}
 use Rattle.pc_solver.specs.InLog.{IsLogOf}
-use Rattle.pc_solver.specs.Search.{IsSearch, AssumesFirst, Advances}
-use Rattle.pc_solver.specs.Answers.{value_in, EndSays, extra, unmarked}
-use Rattle.pc_solver.specs.Solver.{AnswerSays, Spends}
+use Rattle.pc_solver.specs.inside.Search.{IsSearch, Advances}
+use Rattle.pc_solver.specs.Answers.{value_in}
+use Rattle.pc_solver.specs.inside.Ends.{EndSays, extra, unmarked}
+use Rattle.pc_solver.specs.Solver.{AnswerSays, Spends, seen_as, IsProblem, SuspendedView, suspended_as}
+use Rattle.pc_solver.proofs.LogLemmas.{LogGrows-none}
+use Rattle.pc_solver.proofs.SearchLemmas.{fits_own}
+use Rattle.std.proofs.lemmas.List.Elements.{All-contains, Contains-append_left, Contains-push, Contains-push_cases}
+use Rattle.pc_propagate.specs.Over.{AreInRange}
+use Rattle.pc_solver.proofs.ClauseLemmas.{own_in_range}
 use Rattle.pc_solver.proofs.EndLemmas.{found_meets, none_meets, true_lit, is_of}
 use Rattle.std.proofs.lemmas.Bool.{and_parts, eqb-true}
 
 -- ---- back at level 0 there is no decision
 
-decided_level : (entries : List Entry) (k : ℕ) (e : Entry) → slice_get entries k ≡ Some e → IsNone e.reason → 1 ≤ level_at entries k
+pub decided_level : (entries : List Entry) (k : ℕ) (e : Entry) → slice_get entries k ≡ Some e → IsNone e.reason → 1 ≤ level_at entries k
 decided_level entries k e at none =
     let within : k < length entries = slice_get_within entries k e at in
     let split : take (k + 1) entries ≡ take k entries ++ get_or entries k e ∷ [] = take_more entries k e within in
@@ -46,18 +51,6 @@ decided_level entries k e at none =
     is_true None h = refl
     is_true (Some x) h = absurd (cc)
 
-pub no_decisions : (assumed : List Lit) (t u : TrailView) → IsBackTo 0 t u → AssumesFirst assumed u.entries
-no_decisions assumed t u back place e at decided =
-    let here : slice_get (take back.count t.entries) place ≡ Some e = subst (λ (es : List Entry). slice_get es place ≡ Some e) back.kept at in
-    let below : place < length (take back.count t.entries) = slice_get_within (take back.count t.entries) place e here in
-    let under : place < back.count = omega (arith, below, length-take back.count t.entries) in
-    let within : place < length t.entries = omega (arith, below, length-take back.count t.entries) in
-    let was : slice_get t.entries place ≡ Some e = slice_get-get_or t.entries place e within ∙ ap Some (sym (get_or-take back.count t.entries place e under) ∙ get_or_from_slice_get (take back.count t.entries) place e e here) in
-    absurd (omega (arith, decided_level t.entries place e was decided, back.low place under within))
-
-pub back_search : (c : ClausesView) (t u : TrailView) (level : ℕ) → IsSearch c t → IsBackTo level t u → IsOver c.axioms c.more u → IsSearch c u
-back_search c t u level search back over = record { over = over; attached = λ r is given. rw back.attached (search.attached r is given) }
-
 -- ---- what a call spends
 
 few_placed : (after before v rose old new : ℕ) → after + old ≤ before + v * rose + new → new ≤ v → after ≤ before + v * (rose + 1)
@@ -65,21 +58,15 @@ few_placed after before v rose old new h fits =
     let split : v * (rose + 1) ≡ v * rose + v = grind arith in
     omega (arith, split, h, fits)
 
-extra_few : (o : Outcome) → extra o ≤ 1
-extra_few Sat = omega arith
-extra_few (Unsat id) = omega arith
-extra_few Spent = omega arith
-extra_few Memory = omega arith
-
 unmarked_few : (o : Outcome) → unmarked o ≤ 1
 unmarked_few Sat = omega arith
 unmarked_few (Unsat id) = omega arith
 unmarked_few Spent = omega arith
 unmarked_few Memory = omega arith
 
-pub spent : (c d : ClausesView) (t u : TrailView) (v : ℕ) (first before after : Tally) (log grown : List LogLine) (o : Outcome) → Advances c d t u before after log grown (extra o) (unmarked o) → AreEntries u.variables u.entries → t.variables ≡ v
-    → before.calls ≡ first.calls + 1 → before.placed ≡ first.placed → before.learned ≡ first.learned → before.limit ≡ first.limit → Spends v first after log grown
-spent c d t u v first before after log grown o h are size calls placed learned limit = record {
+pub spent : (c d : ClausesView) (t u : TrailView) (first before after : Tally) (log grown : List LogLine) (o : Outcome) → Advances c d t u before after log grown (extra o) (unmarked o) → AreEntries u.variables u.entries
+    → before.calls ≡ first.calls + 1 → before.placed ≡ first.placed → before.learned ≡ first.learned → before.limit ≡ first.limit → Spends (length c.own) first after log grown
+spent c d t u first before after log grown o h are calls placed learned limit = record {
   calls = h.works.calls ∙ calls;
   limit = h.works.limit ∙ limit;
   rose = h.works.rose;
@@ -88,21 +75,36 @@ spent c d t u v first before after log grown o h are size calls placed learned l
   one = unmarked_few o;
   grows = h.works.grows;
   placed = omega (arith, h.works.placed, placed);
-  bounded = few_placed after.placed first.placed v h.works.rose (length t.entries) (length u.entries)
-      (subst (λ n. after.placed + length t.entries ≤ n + v * h.works.rose + length u.entries) placed (subst (λ n. after.placed + length t.entries ≤ before.placed + n * h.works.rose + length u.entries) size h.works.bounded))
-      (omega (arith, are.fits, h.works.variables, size));
-  spare = omega (arith, h.works.spare, extra_few o, placed);
+  bounded = few_placed after.placed first.placed (length c.own) h.works.rose (length t.entries) (length u.entries)
+      (subst (λ n. after.placed + length t.entries ≤ n + length c.own * h.works.rose + length u.entries) placed h.works.bounded)
+      (omega (arith, fits_own d.own u.entries are.different h.search.own, ap length h.problem.own));
+  spare = omega (arith, h.works.spare, placed);
+}
+
+-- nothing was done
+pub spent_nothing : (own : ℕ) (first before : Tally) (log : List LogLine) → before.calls ≡ first.calls + 1 → before.placed ≡ first.placed → before.learned ≡ first.learned → before.limit ≡ first.limit → Spends own first before log log
+spent_nothing own first before log calls placed learned limit = record {
+  calls = calls;
+  limit = limit;
+  rose = 0;
+  learned = omega (arith, learned);
+  unmarked = 0;
+  one = omega arith;
+  grows = LogGrows-none log;
+  placed = omega (arith, placed);
+  bounded = omega (arith, placed);
+  spare = omega (arith, placed);
 }
 
 -- ---- what the answer says
 
-pub answered : DerivationsAreSound → (c d : ClausesView) (t u : TrailView) (p q : Tally) (log grown : List LogLine) (assumed : List Lit) (v m n : ℕ) (o : Outcome) → Advances c d t u p q log grown m n → AreEntries u.variables u.entries → EndSays d u.entries assumed grown q o
-    → AnswerSays (record { axioms = d.axioms; blocks = blocks_of d; variables = v; trues = literals u.entries; clauses = d }) assumed grown q o
-answered law c d t u p q log grown assumed v m n Sat h are says = found_meets d u.entries assumed are.different says.0 says.1
-answered law c d t u p q log grown assumed v m n (Unsat id) h are says =
+pub answered : DerivationsAreSound → (c d : ClausesView) (t u : TrailView) (p q : Tally) (log grown : List LogLine) (assumed : List Lit) (m n : ℕ) (o : Outcome) → Advances c d t u p q log grown m n → AreEntries u.variables u.entries → EndSays d u.entries assumed grown q o
+    → AnswerSays (seen_as u.variables d (literals u.entries)) assumed grown q o
+answered law c d t u p q log grown assumed m n Sat h are says = found_meets d u.variables u.entries assumed h.search.over_own are.different says.0 says.1
+answered law c d t u p q log grown assumed m n (Unsat id) h are says =
     (says.1.0, rw says.1.1 says.2, none_meets law d grown id says.0 assumed h.logged says.1 says.2)
-answered law c d t u p q log grown assumed v m n Spent h are says = says
-answered law c d t u p q log grown assumed v m n Memory h are says = tt
+answered law c d t u p q log grown assumed m n Spent h are says = says
+answered law c d t u p q log grown assumed m n Memory h are says = tt
 
 -- ---- values
 
@@ -128,16 +130,25 @@ value_none entries v none = ⊎_elim (λ yes. absurd (found yes)) (λ no_value. 
 pub empty_log : (c : ClausesView) → ((n : ℕ) (id : StepId) → get_or c.axiom_lines n None ≡ Some id → ⊥) → c.more ≡ [] → IsLogOf c []
 empty_log c none no_more = record {
   derivation = record {
-    good = λ i line at. absurd (omega (arith, slice_get_within {A = LogLine} [] i line at));
-    earlier = λ i line at. absurd (omega (arith, slice_get_within {A = LogLine} [] i line at));
+    good = λ i line at. absurd (never_at i line at);
+    earlier = λ i line at. absurd (never_at i line at);
   };
-  blocks = λ i number clause at. absurd (omega (arith, slice_get_within {A = LogLine} [] i (BlockLine number clause) at));
-  stands = λ r id is has. absurd (never r id is has);
+  blocks = λ i number clause at. absurd (never_at i (BlockLine number clause) at);
+  axioms = λ i number at. absurd (never_at i (AxiomLine number) at);
+  axioms_stand = λ place id within has. absurd (none place id has);
+  stands = λ n id within has. absurd (omega (arith, within, ap length no_more));
+  over_own = λ i clause hints learned at. absurd (never_at i (StepLine clause hints learned) at);
+  learned = λ i clause at. absurd (never_at i (StepLine clause at.0 true) at.1);
+  new = record {
+    no_tautology = λ i clause at. absurd (never_at i (StepLine clause at.0 true) at.1);
+    no_axiom = λ i clause part at. absurd (never_at i (StepLine clause at.0 true) at.1);
+    no_learned = λ i j earlier clause before at. absurd (never_at i (StepLine earlier at.0 true) at.1);
+    no_block_line = λ i j number block clause before at. absurd (never_at i (BlockLine number block) at);
+  };
 }
   where
-    never : (r : ClauseRef) (id : StepId) → IsRef c.axioms c.more r → line_at c r ≡ Some id → ⊥
-    never (Axiom n) id is has = none n id has
-    never (More n) id is has = omega (arith, is, ap length no_more)
+    never_at : (i : ℕ) (line : LogLine) → slice_get {X = LogLine} [] i ≡ Some line → ⊥
+    never_at i line at = omega (arith, slice_get_within {A = LogLine} [] i line at)
 
 pub no_lines : (count n : ℕ) (id : StepId) → get_or (replicate count None) n None ≡ Some id → ⊥
 no_lines count n id h = never (sym (get_or-replicate_same count n) ∙ h)
@@ -150,26 +161,65 @@ no_lines count n id h = never (sym (get_or-replicate_same count n) ∙ h)
     get_or-replicate_same (suc count) zero = refl
     get_or-replicate_same (suc count) (suc n) = get_or-replicate_same count n
 
-pub empty_over : (axioms : List (List Lit)) (t : TrailView) → t.entries ≡ [] → t.attached ≡ [] → IsOver axioms [] t
-empty_over axioms t entries attached = record {
-  stand = λ k d below. absurd (omega (arith, below, ap length attached));
-  in_range = λ k d below. absurd (omega (arith, below, ap length attached));
-  justified = λ i d below. absurd (omega (arith, below, ap length entries));
-}
-
-pub new_search : (axioms : List (List Lit)) (c : ClausesView) (t : TrailView) → c.axioms ≡ axioms → c.more ≡ [] → IsOver axioms [] t → ((n : ℕ) → n < length axioms → Contains t.attached (Axiom n)) → IsSearch c t
-new_search axioms c t one two over all = record {
-  over = rw (one, two) over;
+pub new_search : (axioms : List (List Lit)) (used : List ℕ) (own : List Var) (variables : ℕ) (c : ClausesView) (t : TrailView) → c.axioms ≡ axioms → c.used ≡ used → c.own ≡ own → c.known ≡ 0 → All (IsOverOwn own) c.more → t.variables ≡ variables → t.entries ≡ []
+    → IsOver axioms c.more t → ((n : ℕ) → Contains used n → Contains t.attached (Axiom n)) → ((r : ClauseRef) → Contains t.attached r → (n : ℕ) × Contains used n × (r ≡ Axiom n))
+    → All (λ n. n < length axioms) used → All (λ (v : Var). v.0 < variables) own → All (λ n. IsOverOwn own (get_or axioms n [])) used → IsSearch c t
+new_search axioms used own variables c t one two three four more size none over all only in_axioms in_range over_own = record {
+  over = rw one over;
   attached = known;
+  known = λ r has. let n = only r has in subst (IsKnown c) (sym n.2) (axiom_in n.0 n.1);
+  quiet = λ k d below place e at. absurd (omega (arith, slice_get_within t.entries place e at, ap length none));
+  over_own = record {
+    in_range = rw (three, size) in_range;
+    used = λ n has. ((axiom_in n (subst (λ (us : List ℕ). Contains us n) two has)).0, used_own n (subst (λ (us : List ℕ). Contains us n) two has));
+    more = rw three more;
+  };
+  own = λ k d below. absurd (omega (arith, below, ap length none));
 }
   where
-    known : (r : ClauseRef) → IsRef c.axioms c.more r → IsGiven c r → Contains t.attached r
-    known (Axiom n) is given = all n (omega (arith, is, ap length one))
-    known (More n) is given = absurd (omega (arith, is, ap length two))
+    axiom_in : (n : ℕ) → Contains used n → IsKnown c (Axiom n)
+    axiom_in n has = (omega (arith, All-contains (λ m. m < length axioms) used n in_axioms has, ap length one), subst (λ (us : List ℕ). Contains us n) (sym two) has)
 
-pub attached_more : (attached new : List ClauseRef) (number : ℕ) → ((n : ℕ) → n < number → Contains attached (Axiom n)) → new ≡ attached ++ Axiom number ∷ [] → (n : ℕ) → n < number + 1 → Contains new (Axiom n)
-attached_more attached new number h is n below =
+    used_own : (n : ℕ) → Contains used n → IsOverOwn c.own (get_or c.axioms n [])
+    used_own n has = rw (one, three) (All-contains (λ m. IsOverOwn own (get_or axioms m [])) used n over_own has)
+
+    known : (r : ClauseRef) → IsKnown c r → Contains t.attached r
+    known (Axiom n) is = all n (subst (λ (us : List ℕ). Contains us n) two is.1)
+    known (More n) is = absurd (omega (arith, is.1, four))
+
+-- ---- a solver that goes on with another trail
+
+problem_moved : (p : SuspendedView) (v c : ClausesView) (axioms : List (List Lit)) (used : List ℕ) (own : List Var) (variables : ℕ) → suspended_as v ≡ p → c ≡ record v { known = 0 } → axioms ≡ c.axioms → used ≡ c.used → own ≡ c.own
+    → IsProblem variables p.problem → IsProblem variables (record { axioms = axioms; used = used; own = own })
+problem_moved p v c axioms used own variables same is one two three h =
+    let here : IsProblem variables (suspended_as v).problem = subst (λ (s : SuspendedView). IsProblem variables s.problem) (sym same) h in
+    rw (one ∙ ap (λ (w : ClausesView). w.axioms) is, two ∙ ap (λ (w : ClausesView). w.used) is, three ∙ ap (λ (w : ClausesView). w.own) is) here
+
+pub resumed_search : (p : SuspendedView) (v c : ClausesView) (t : TrailView) (axioms : List (List Lit)) (used : List ℕ) (own : List Var) (variables : ℕ) → suspended_as v ≡ p → c ≡ record v { known = 0 } → axioms ≡ c.axioms → used ≡ c.used → own ≡ c.own
+    → IsProblem variables p.problem → All (IsOverOwn v.own) v.more → t.variables ≡ variables → t.entries ≡ [] → ((more : List (List Lit)) → IsOver axioms more t) → ((n : ℕ) → Contains used n → Contains t.attached (Axiom n))
+    → ((r : ClauseRef) → Contains t.attached r → (n : ℕ) × Contains used n × (r ≡ Axiom n)) → IsSearch c t
+resumed_search p v c t axioms used own variables same is one two three h more size none over all only =
+    let here = problem_moved p v c axioms used own variables same is one two three h in
+    let still : All (IsOverOwn own) c.more = rw (three ∙ ap (λ (w : ClausesView). w.own) is, ap (λ (w : ClausesView). w.more) is) more in
+    new_search axioms used own variables c t (sym one) (sym two) (sym three) (ap (λ (w : ClausesView). w.known) is) still size none (over c.more) all only here.used_in here.own_in here.over_own
+
+-- ---- the used axioms are attached
+
+pub used_in_range : (axioms : List (List Lit)) (used : List ℕ) (own : List Var) (variables i n : ℕ) (lits : List Lit) → All (λ m. IsOverOwn own (get_or axioms m [])) used → All (λ (v : Var). v.0 < variables) own → i < length used → n ≡ get_or used i n → slice_get axioms n ≡ Some lits
+    → AreInRange variables lits
+used_in_range axioms used own variables i n lits over_own in_range below is at =
+    let read : get_or axioms (get_or used i n) [] ≡ lits = ap (λ m. get_or axioms m []) (sym is) ∙ get_or_from_slice_get axioms n lits [] at in
+    own_in_range own variables lits in_range (subst (IsOverOwn own) read (over_own i n below))
+
+pub attached_next : (used : List ℕ) (attached new : List ClauseRef) (i n : ℕ) → i < length used → n ≡ get_or used i n → new ≡ attached ++ Axiom n ∷ [] → ((m : ℕ) → Contains (take i used) m → Contains attached (Axiom m))
+    → (m : ℕ) → Contains (take (i + 1) used) m → Contains new (Axiom m)
+attached_next used attached new i n below read is old m has =
     rw is (⊎_elim
-    (λ old. let was = h n old in (was.0, omega (arith, was.1, length_push attached (Axiom number)), get_or_append_left attached (Axiom number ∷ []) (Axiom n) was.0 was.1 ∙ was.2))
-    (λ last. let same : number ≡ n = omega (arith, below, last) in (length attached, omega (arith, length_push attached (Axiom number)), get_or_push attached (Axiom number) (Axiom n) (length attached) refl ∙ ap Axiom same))
-    (cases_lt n number))
+    (λ was. Contains-append_left attached (Axiom n ∷ []) (Axiom m) (old m was))
+    (λ last. subst (λ k. Contains (attached ++ Axiom n ∷ []) (Axiom k)) last (Contains-push attached (Axiom n)))
+    (Contains-push_cases (take i used) n m (subst (λ (xs : List ℕ). Contains xs m) (take_more used i n below ∙ ap (λ k. take i used ++ k ∷ []) (sym read)) has)))
+
+pub known_next : (used : List ℕ) (attached new : List ClauseRef) (i n : ℕ) → i < length used → n ≡ get_or used i n → new ≡ attached ++ Axiom n ∷ [] → ((r : ClauseRef) → Contains attached r → (m : ℕ) × Contains used m × (r ≡ Axiom m))
+    → (r : ClauseRef) → Contains new r → (m : ℕ) × Contains used m × (r ≡ Axiom m)
+known_next used attached new i n below read is old r has =
+    ⊎_elim (λ was. old r was) (λ last. (n, (i, below, sym read), sym last)) (Contains-push_cases attached (Axiom n) r (subst (λ (refs : List ClauseRef). Contains refs r) is has))

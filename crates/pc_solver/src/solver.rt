@@ -1,14 +1,20 @@
 //! The solver.
 
-ghost use Rattle.std.specs.Prelude.{◌≡◌, ◌<◌, ◌^◌, ℕ, List, [], ◌∷◌, ◌++◌, All, Contains, IfOk, OnOk, OnErr, length};
+ghost use Rattle.std.specs.Prelude.{◌≡◌, ◌<◌, ◌^◌, ℕ, List, [], ◌∷◌, ◌++◌, All, Contains, IfOk, OnOk, OnErr, length, slice_index_or};
+ghost use Rattle.pc_lits.specs.declared.literal.Lit.{Lit};
 ghost use Rattle.pc_log.specs.Lines.{LogLine};
+ghost use Rattle.pc_propagate.specs.declared.clauses.ClauseRef.{ClauseRef};
 ghost use Rattle.pc_propagate.specs.declared.clauses.ClauseRef.TheVariants.{Axiom};
+ghost use Rattle.pc_propagate.specs.Attached.{IsBlank};
 ghost use Rattle.pc_propagate.specs.Over.{AreInRange, IsOver};
 ghost use Rattle.pc_solver.specs.Answers.{value_in};
-ghost use Rattle.pc_solver.specs.Solver.{SolverView, HasLog, AnswerSays, Spends};
+ghost use Rattle.pc_solver.specs.New.{ContainNone};
+ghost use Rattle.pc_solver.specs.Solver.{SolverView, IsProblem, AreOwn, HasLog, SuspendedHasLog, AnswerSays, Spends};
 
 use crate::clauses::Clauses;
 use crate::outcome::Outcome;
+use crate::preferences::Preferences;
+use crate::preparing::prepare;
 use crate::search::search_to_an_end;
 use pc_lits::{ClauseStore, Lit, Tally, Var};
 use pc_log::Log;
@@ -23,83 +29,119 @@ pub struct Solver<'g> {
     alloc: Global,
     clauses: Clauses<'g>,
     trail: Trail,
-    variables: u32,
+    preferences: Preferences,
 }
 
 impl<'g> Model for Solver<'g> {
     ghost use Rattle.pc_propagate.specs.Entries.{literals};
-    ghost use Rattle.pc_solver.specs.Clauses.{blocks_of};
-    ghost use Rattle.pc_solver.specs.Solver.{SolverView, IsSolver};
+    ghost use Rattle.pc_solver.specs.inside.Search.{IsSearch};
+    ghost use Rattle.pc_solver.specs.Solver.{SolverView, seen_as};
 
     ghost Value = { SolverView };
 
-    ghost view = { λ s. record { axioms = s.clauses.axioms; blocks = blocks_of s.clauses; variables = s.variables; trues = literals s.trail.entries; clauses = s.clauses } };
+    ghost view = { λ s. seen_as s.trail.variables s.clauses (literals s.trail.entries) };
 
-    ghost invariant = { λ s. IsSolver s.clauses s.trail s.variables };
+    ghost invariant = { λ s. IsSearch s.clauses s.trail };
 }
 
 impl<'g> Solver<'g> {
-    /// A solver over these axioms, which are borrowed and never copied. The variables are those below `variables`.
+    /// A solver over the axioms with the numbers `used`, which are borrowed and never copied. It gives values to the
+    /// variables `own` alone. Where both rise, each is found by halving. All variables are below `variables`.
     pub fn new(
         alloc: Global,
         axioms: &'g ClauseStore,
+        used: &'g [u32],
+        own: &'g [Var],
         variables: u32,
     ) -> Result<Solver<'g>, AllocError>
-        requires few { length axioms.now < 2 ^ 32 }
-        requires in_range { All (AreInRange variables) axioms.now }
-        ensures axioms { IfOk result (λ s. s.axioms ≡ axioms.now) }
-        ensures blocks { IfOk result (λ s. s.blocks ≡ []) }
+        requires { IsProblem variables (record { axioms = axioms.now; used = used.now; own = own.now }) }
+        ensures problem { IfOk result (λ s. s.problem ≡ record { axioms = axioms.now; used = used.now; own = own.now }) }
         ensures variables { IfOk result (λ s. s.variables ≡ variables) }
+        ensures blocks { IfOk result (λ s. s.blocks ≡ []) }
+        ensures trues { IfOk result (λ s. s.trues ≡ []) }
         ensures log { IfOk result (λ s. HasLog s []) }
     {
-        let clauses = Clauses::new(alloc, axioms)?;
-        let mut trail = Trail::new(alloc, variables)?;
-        attach_all(axioms, &mut trail)?;
+        let trail = Trail::new(alloc, variables)?;
+        Solver::on(alloc, axioms, used, own, trail)
+    }
+
+    /// The same on a trail that may have served another solver; what it held is forgotten. Apart from that the solver takes
+    /// memory and time by `used` and `own`, so that one trail serves many parts in turn. Without memory the trail is gone.
+    pub fn on(
+        alloc: Global,
+        axioms: &'g ClauseStore,
+        used: &'g [u32],
+        own: &'g [Var],
+        trail: Trail,
+    ) -> Result<Solver<'g>, AllocError>
+        requires { IsProblem trail.variables (record { axioms = axioms.now; used = used.now; own = own.now }) }
+        ensures problem { IfOk result (λ s. s.problem ≡ record { axioms = axioms.now; used = used.now; own = own.now }) }
+        ensures variables { IfOk result (λ s. s.variables ≡ trail.variables) }
+        ensures blocks { IfOk result (λ s. s.blocks ≡ []) }
+        ensures trues { IfOk result (λ s. s.trues ≡ []) }
+        ensures log { IfOk result (λ s. HasLog s []) }
+    {
+        let clauses = Clauses::new(alloc, axioms, used, own)?;
+        let mut trail = trail;
+        trail.clear();
+        attach_used(axioms, used, own, &mut trail)?;
+        let mut preferences = Preferences::new(alloc, own.len())?;
+        raise_used(axioms, used, own, &mut preferences);
         Ok(Solver {
             alloc,
             clauses,
             trail,
-            variables,
+            preferences,
         })
     }
 
     /// Adds a clause of the solver's own. Without memory the solver stays as it is.
     pub fn add_block(&mut self, block: &[Lit]) -> Result<(), AllocError>
-        requires { AreInRange self.old.variables block.now }
+        requires { AreOwn self.old.problem.own block.now }
         ensures ok { OnOk result (self.new.blocks ≡ self.old.blocks ++ block.now ∷ []) }
         ensures err { OnErr result (self.new.blocks ≡ self.old.blocks) }
-        ensures axioms { self.new.axioms ≡ self.old.axioms }
+        ensures problem { self.new.problem ≡ self.old.problem }
         ensures variables { self.new.variables ≡ self.old.variables }
         ensures trues { self.new.trues ≡ self.old.trues }
         ensures log { (log : List LogLine) → HasLog self.old log → HasLog self.new log }
     {
-        self.clauses.add_block(block, &mut self.trail)
+        self.clauses.add_block(block)
     }
 
-    /// Searches for values that meet every axiom, block and assumption. Assumptions are decided first, in their order, and
-    /// then the first variable without a value is made false. The log gets the lines that a learned clause rests on,
-    /// the learned clauses, which are marked, and at an `Unsat` one step more, whose clause lies within the negated assumptions.
+    /// Searches for values that meet every used axiom, block and assumption. Assumptions are decided first, in their order,
+    /// and then the most active variable without a value is made false. Where the assumptions begin as those of the call
+    /// before, and no block was added since, what was placed for these stays. The log gets the lines that a learned clause
+    /// rests on, the learned clauses, which are marked, and at an `Unsat` one step more, whose clause lies within the
+    /// negated assumptions. No clause is learned that contains a used axiom, a block or a clause learned before.
     pub fn solve(&mut self, assumed: &[Lit], log: &mut Log, tally: &mut Tally) -> Outcome
-        requires assumed { AreInRange self.old.variables assumed.now }
+        requires assumed { AreOwn self.old.problem.own assumed.now }
         requires log { HasLog self.old log.old }
         requires few_learned { tally.old.learned < 2 ^ 126 }
         requires few_calls { tally.old.calls < 2 ^ 126 }
         ensures answer { AnswerSays self.new assumed.now log.new tally.new result }
         ensures log { HasLog self.new log.new }
-        ensures axioms { self.new.axioms ≡ self.old.axioms }
-        ensures blocks { self.new.blocks ≡ self.old.blocks }
+        ensures no_block { ContainNone self.old.blocks (length log.old) log.new }
+        ensures problem { self.new.problem ≡ self.old.problem }
         ensures variables { self.new.variables ≡ self.old.variables }
-        ensures spends { Spends self.old.variables tally.old tally.new log.old log.new }
+        ensures blocks { self.new.blocks ≡ self.old.blocks }
+        ensures spends { Spends (length self.old.problem.own) tally.old tally.new log.old log.new }
     {
         derivations_are_sound();
         tally.calls += 1;
         let _limit = tally.limit;
-        self.trail.back_to(0);
+        if let Err(_) = prepare(
+            &mut self.clauses,
+            &mut self.trail,
+            &mut self.preferences,
+            assumed,
+        ) {
+            return Outcome::Memory;
+        }
         let outcome = search_to_an_end(
             self.alloc,
             &mut self.clauses,
             &mut self.trail,
-            self.variables,
+            &mut self.preferences,
             assumed,
             log,
             tally,
@@ -108,9 +150,9 @@ impl<'g> Solver<'g> {
         outcome
     }
 
-    /// The variable's value. After `solve` has answered `Sat`, the values meet what it was asked.
+    /// The own variable's value. After `solve` has answered `Sat`, the values meet what it was asked.
     pub fn value(&self, v: Var) -> bool
-        requires { v.0 < self.now.variables }
+        requires { Contains self.now.problem.own v }
         ensures { result ≡ value_in self.now.trues v }
     {
         let _ = self.trail.len();
@@ -119,20 +161,121 @@ impl<'g> Solver<'g> {
             None => false,
         }
     }
+
+    /// Takes the solver's trail away, for another part, until the solver is resumed. What it has learned stays.
+    pub fn suspend(self) -> (Suspended<'g>, Trail)
+        ensures problem { result.0.problem ≡ self.entry.problem }
+        ensures blocks { result.0.blocks ≡ self.entry.blocks }
+        ensures log { (log : List LogLine) → HasLog self.entry log → SuspendedHasLog result.0 log }
+        ensures variables { result.1.variables ≡ self.entry.variables }
+    {
+        let Solver {
+            alloc,
+            clauses,
+            trail,
+            preferences,
+        } = self;
+        let suspended = Suspended {
+            alloc,
+            clauses,
+            preferences,
+        };
+        (suspended, trail)
+    }
+
+    /// Ends the solver, and gives its trail back, for another part.
+    pub fn into_trail(self) -> Trail
+        ensures { result.variables ≡ self.entry.variables }
+    {
+        let Solver {
+            alloc: _,
+            clauses: _,
+            trail,
+            preferences: _,
+        } = self;
+        trail
+    }
 }
 
-// Makes the axioms known to the trail, which is new.
-fn attach_all(axioms: &ClauseStore, trail: &mut Trail) -> Result<(), AllocError>
-    requires few { length axioms.now < 2 ^ 32 }
-    requires in_range { All (AreInRange trail.old.variables) axioms.now }
-    requires blank { trail.old.entries ≡ [] }
-    requires unattached { trail.old.attached ≡ [] }
-    ensures variables { trail.new.variables ≡ trail.old.variables }
-    ensures over { IsOver axioms.now [] trail.new }
-    ensures attached { OnOk result ((n : ℕ) → n < length axioms.now → Contains trail.new.attached (Axiom n)) }
+/// A solver without its trail, so that it takes memory by its part alone: solvers of many parts may live at once, and one trail
+/// serves them in turn.
+#[derive(Drop)]
+pub struct Suspended<'g> {
+    alloc: Global,
+    clauses: Clauses<'g>,
+    preferences: Preferences,
+}
+
+impl<'g> Model for Suspended<'g> {
+    ghost use Rattle.std.specs.Prelude.{All};
+    ghost use Rattle.pc_solver.specs.Clauses.{IsOverOwn};
+    ghost use Rattle.pc_solver.specs.Solver.{SuspendedView, suspended_as};
+
+    ghost Value = { SuspendedView };
+
+    ghost view = { λ s. suspended_as s.clauses };
+
+    ghost invariant = { λ s. All (λ clause. IsOverOwn s.clauses.own clause) s.clauses.more };
+}
+
+impl<'g> Suspended<'g> {
+    /// The solver on a trail that may have served another one; what it held is forgotten. It takes time by the part's axioms,
+    /// blocks and learned clauses. Without memory both are gone.
+    pub fn resume(self, trail: Trail) -> Result<Solver<'g>, AllocError>
+        requires { IsProblem trail.variables self.problem }
+        ensures problem { IfOk result (λ s. s.problem ≡ self.entry.problem) }
+        ensures variables { IfOk result (λ s. s.variables ≡ trail.variables) }
+        ensures blocks { IfOk result (λ s. s.blocks ≡ self.entry.blocks) }
+        ensures trues { IfOk result (λ s. s.trues ≡ []) }
+        ensures log { (log : List LogLine) → SuspendedHasLog self.entry log → IfOk result (λ s. HasLog s log) }
+    {
+        let Suspended {
+            alloc,
+            mut clauses,
+            mut preferences,
+        } = self;
+        let mut trail = trail;
+        trail.clear();
+        clauses.forget_trail();
+        attach_used(clauses.axioms(), clauses.used(), clauses.own(), &mut trail)?;
+        preferences.put_all_back();
+        Ok(Solver {
+            alloc,
+            clauses,
+            trail,
+            preferences,
+        })
+    }
+}
+
+// Raises the activities of the used axioms' variables.
+fn raise_used(axioms: &ClauseStore, used: &[u32], own: &[Var], preferences: &mut Preferences)
+    requires { All (λ n. n < length axioms.now) used.now }
 {
-    for number in 0..axioms.len() {
-        trail.attach(ClauseRef::Axiom(number as u32), axioms.get(number))?;
+    for number in used {
+        preferences.raise_all(own, axioms.get(*number as usize));
+    }
+}
+
+// Makes the used axioms known to the trail, which is new.
+fn attach_used(
+    axioms: &ClauseStore,
+    used: &[u32],
+    own: &[Var],
+    trail: &mut Trail,
+) -> Result<(), AllocError>
+    requires problem { IsProblem trail.old.variables (record { axioms = axioms.now; used = used.now; own = own.now }) }
+    requires blank { IsBlank trail.old }
+    requires over { (more : List (List Lit)) → IsOver axioms.now more trail.old }
+    ensures variables { trail.new.variables ≡ trail.old.variables }
+    ensures entries { trail.new.entries ≡ [] }
+    ensures over { (more : List (List Lit)) → IsOver axioms.now more trail.new }
+    ensures attached { OnOk result ((n : ℕ) → Contains used.now n → Contains trail.new.attached (Axiom n)) }
+    ensures known { (r : ClauseRef) → Contains trail.new.attached r → (n : ℕ) × Contains used.now n × (r ≡ Axiom n) }
+{
+    let _own = own;
+    for number in used {
+        trail.attach(ClauseRef::Axiom(*number), axioms.get(*number as usize))?;
     }
     Ok(())
 }

@@ -1,0 +1,273 @@
+-- Linked lists, one place more or less.
+use Rattle.std.proofs.Common.{◌+◌, ◌⊎◌, zero, suc, replicate, ◌≡◌, ◌≢◌, ℕ, ◌<◌, List, [], ◌∷◌, ◌++◌, ◌≤◌, ◌-◌, false, length-append, inl, inr, Option, Some, None, length, get_or, set, refl, sym, ap, ◌∙◌, subst, arith, ⊎_elim, cond, eqb}
+use Rattle.std.proofs.lemmas.Bool.{cases_Bool, cases_eq, cases_lt, eqb-true, eq-eqb, false≢true}
+use Rattle.std.proofs.lemmas.List.{get_or-replicate, length-replicate, length-set, get_or-set_same, get_or-set_other, get_or_append_left, get_or-append_right}
+use Rattle.std.proofs.lemmas.Option.{slice_get-get_or, get_or_from_slice_get}
+use Rattle.pc_propagate.specs.inside.Lists.{IsAmong, IsChain, AreLists}
+
+-- a link of a place that isn't in the chain changes nothing
+chain_frame : (nexts : List (Option ℕ)) (first : Option ℕ) (places : List ℕ) (q : ℕ) (v : Option ℕ) → IsChain nexts first places → (IsAmong q places → ⊥) → IsChain (set nexts q v) first places
+chain_frame nexts first [] q v h out = h
+chain_frame nexts first (p ∷ ps) q v h out = (
+  h.0,
+  h.1,
+  subst (λ (f : Option ℕ). IsChain (set nexts q v) f ps) (sym (get_or-set_other nexts q p v None (λ same. out (inl (sym same)))))
+      (chain_frame nexts (get_or nexts p None) ps q v h.2 (λ among. out (inr among))),
+)
+
+-- more places change nothing of a chain
+chain_more : (nexts more : List (Option ℕ)) (first : Option ℕ) (places : List ℕ) → ((q : ℕ) → IsAmong q places → q < length nexts) → IsChain nexts first places → IsChain (nexts ++ more) first places
+chain_more nexts more first [] within h = h
+chain_more nexts more first (p ∷ ps) within h = (
+  h.0,
+  h.1,
+  subst (λ (f : Option ℕ). IsChain (nexts ++ more) f ps) (sym (get_or_append_left nexts more None p (within p (inl refl))))
+      (chain_more nexts more (get_or nexts p None) ps (λ q among. within q (inr among)) h.2),
+)
+
+-- lists without places
+pub lists_none : (firsts nexts list_of : List (Option ℕ)) (count : ℕ) → firsts ≡ replicate count None → nexts ≡ [] → list_of ≡ [] → AreLists firsts nexts list_of
+lists_none firsts nexts list_of count firsts_are nexts_are list_of_is = record {
+  size = rw (nexts_are, list_of_is) refl;
+  chain = λ l. [];
+  linked = λ l below. rw firsts_are (get_or-replicate count l None None (omega (arith, below, ap length firsts_are, length-replicate {A = Option ℕ} count None)));
+  complete = λ l p is. absurd (nothing p l (subst (λ (xs : List (Option ℕ)). get_or xs p None ≡ Some l) list_of_is is));
+  sound = λ l p among. absurd among;
+}
+  where
+    nothing : (p l : ℕ) → get_or {A = Option ℕ} [] p None ≡ Some l → ⊥
+    nothing p l is = cc
+
+-- a chain that begins with a place
+open_chain : (nexts : List (Option ℕ)) (first : Option ℕ) (places : List ℕ) (place : ℕ) → IsChain nexts first places → first ≡ Some place
+    → (rest : List ℕ) × (places ≡ place ∷ rest) × (IsAmong place rest → ⊥) × IsChain nexts (get_or nexts place None) rest
+open_chain nexts first [] place h is = absurd (cc h)
+open_chain nexts first (p ∷ ps) place h is =
+    let same : p ≡ place = cc (h.0, is) in
+    (ps, ap (λ (x : ℕ). x ∷ ps) same, subst (λ (x : ℕ). IsAmong x ps → ⊥) same h.1, subst (λ (x : ℕ). IsChain nexts (get_or nexts x None) ps) same h.2)
+
+-- the first place of a list is one of it
+pub first_in_list : (firsts nexts list_of : List (Option ℕ)) (list place : ℕ) → AreLists firsts nexts list_of → list < length firsts → get_or firsts list None ≡ Some place
+    → (place < length list_of) × (get_or list_of place None ≡ Some list)
+first_in_list firsts nexts list_of list place h within is =
+    let opened = open_chain nexts (get_or firsts list None) (h.chain list) place (h.linked list within) is in
+    h.sound list place (subst (IsAmong place) (sym opened.1) (inl refl))
+
+-- a list without a first place has none
+pub no_first : (firsts nexts list_of : List (Option ℕ)) (list : ℕ) → AreLists firsts nexts list_of → list < length firsts → get_or firsts list None ≡ None
+    → (place : ℕ) → get_or list_of place None ≡ Some list → ⊥
+no_first firsts nexts list_of list h within is place has = none_among (h.chain list) (h.linked list within) (h.complete list place has)
+  where
+    none_among : (places : List ℕ) → IsChain nexts (get_or firsts list None) places → IsAmong place places → ⊥
+    none_among [] linked among = among
+    none_among (p ∷ ps) linked among = absurd (cc (linked.0, is))
+
+-- a list without its first place
+pub lists_taken : (firsts nexts list_of : List (Option ℕ)) (list place : ℕ) (next : Option ℕ) → AreLists firsts nexts list_of → list < length firsts → get_or firsts list None ≡ Some place
+    → next ≡ get_or nexts place None → AreLists (set firsts list next) nexts (set list_of place None)
+lists_taken firsts nexts list_of list place next h within is next_is =
+    let opened = open_chain nexts (get_or firsts list None) (h.chain list) place (h.linked list within) is in
+    let rest = opened.0 in
+    let found = first_in_list firsts nexts list_of list place h within is in
+    record {
+      size = omega (arith, h.size, length-set list_of place None);
+      chain = λ l. cond (eqb l list) rest (h.chain l);
+      linked = λ l below. ⊎_elim
+          (λ yes.
+          let same : l ≡ list = eqb-true l list yes in
+          rw (yes, same, get_or-set_same firsts list next None within, next_is) opened.3)
+          (λ no.
+          let other : l ≢ list = λ same. differ l no same in
+          rw (no, get_or-set_other firsts list l next None other) (h.linked l (omega (arith, below, length-set firsts list next))))
+          (cases_Bool (eqb l list));
+      complete = λ l p has. ⊎_elim
+          (λ here. absurd (taken p (get_or-set_same list_of place None None found.0) l (subst (λ (n : ℕ). get_or (set list_of place None) n None ≡ Some l) here has)))
+          (λ there.
+          let was : get_or list_of p None ≡ Some l = sym (get_or-set_other list_of place p None None there) ∙ has in
+          ⊎_elim
+          (λ yes.
+          let same : l ≡ list = eqb-true l list yes in
+          rw yes (⊎_elim (λ at. absurd (there at)) (λ among. among) (subst (IsAmong p) (ap h.chain same ∙ opened.1) (h.complete l p was))))
+          (λ no. rw no (h.complete l p was))
+          (cases_Bool (eqb l list)))
+          (cases_eq p place);
+      sound = λ l p. ⊎_elim
+          (λ yes. rw yes (λ among.
+          let same : l ≡ list = eqb-true l list yes in
+          let was = h.sound list p (subst (IsAmong p) (sym opened.1) (inr among)) in
+          let other : p ≢ place = λ at. opened.2 (subst (λ (n : ℕ). IsAmong n rest) at among) in
+          (omega (arith, was.0, length-set list_of place None), get_or-set_other list_of place p None None other ∙ was.1 ∙ ap Some (sym same))))
+          (λ no. rw no (λ among.
+          let was = h.sound l p among in
+          let other : p ≢ place = λ at. differ l no (cc (was.1, found.1, ap (λ (n : ℕ). get_or list_of n None) at)) in
+          (omega (arith, was.0, length-set list_of place None), get_or-set_other list_of place p None None other ∙ was.1)))
+          (cases_Bool (eqb l list));
+    }
+  where
+    differ : (l : ℕ) → eqb l list ≡ false → l ≡ list → ⊥
+    differ l apart same = false≢true (sym apart ∙ eq-eqb l list same)
+
+    taken : (p : ℕ) → get_or (set list_of place None) place None ≡ None → (l : ℕ) → get_or (set list_of place None) place None ≡ Some l → ⊥
+    taken p none l some = cc
+
+-- a list with a place more, which was in none
+pub lists_put : (firsts nexts list_of : List (Option ℕ)) (list place : ℕ) (next : Option ℕ) → AreLists firsts nexts list_of → list < length firsts → place < length list_of
+    → get_or list_of place None ≡ None → next ≡ get_or firsts list None → AreLists (set firsts list (Some place)) (set nexts place next) (set list_of place (Some list))
+lists_put firsts nexts list_of list place next h within room free next_is = record {
+  size = omega (arith, h.size, length-set list_of place (Some list), length-set nexts place next);
+  chain = λ l. cond (eqb l list) (place ∷ h.chain list) (h.chain l);
+  linked = λ l below. ⊎_elim
+      (λ yes.
+      let same : l ≡ list = eqb-true l list yes in
+      rw (yes, same, get_or-set_same firsts list (Some place) None within) (
+        refl,
+        outside list,
+        rw (get_or-set_same nexts place next None (omega (arith, room, h.size))) (subst (λ (f : Option ℕ). IsChain (set nexts place next) f (h.chain list)) (sym next_is) (chain_frame nexts (get_or firsts list None) (h.chain list) place next (h.linked list within) (outside list))),
+      ))
+      (λ no.
+      let other : l ≢ list = λ same. differ l no same in
+      rw (no, get_or-set_other firsts list l (Some place) None other)
+      (chain_frame nexts (get_or firsts l None) (h.chain l) place next (h.linked l (omega (arith, below, length-set firsts list (Some place)))) (outside l)))
+      (cases_Bool (eqb l list));
+  complete = λ l p has. ⊎_elim
+      (λ here.
+      let same : l ≡ list = cc (has, ap (λ (n : ℕ). get_or (set list_of place (Some list)) n None) here, get_or-set_same list_of place (Some list) None room) in
+      rw (eq-eqb l list same) (inl here))
+      (λ there.
+      let was : get_or list_of p None ≡ Some l = sym (get_or-set_other list_of place p (Some list) None there) ∙ has in
+      ⊎_elim
+      (λ yes. let same : l ≡ list = eqb-true l list yes in rw yes (inr (subst (λ (n : ℕ). IsAmong p (h.chain n)) same (h.complete l p was))))
+      (λ no. rw no (h.complete l p was))
+      (cases_Bool (eqb l list)))
+      (cases_eq p place);
+  sound = λ l p. ⊎_elim
+      (λ yes. rw yes (λ among.
+      let same : l ≡ list = eqb-true l list yes in
+      ⊎_elim
+      (λ here. (
+        omega (arith, here, room, length-set list_of place (Some list)),
+        ap (λ (n : ℕ). get_or (set list_of place (Some list)) n None) here ∙ get_or-set_same list_of place (Some list) None room ∙ ap Some (sym same),
+      ))
+      (λ there.
+      let was = h.sound list p there in
+      let other : p ≢ place = λ at. outside list (subst (λ (n : ℕ). IsAmong n (h.chain list)) at there) in
+      (omega (arith, was.0, length-set list_of place (Some list)), get_or-set_other list_of place p (Some list) None other ∙ was.1 ∙ ap Some (sym same)))
+      among))
+      (λ no. rw no (λ among.
+      let was = h.sound l p among in
+      let other : p ≢ place = λ at. outside l (subst (λ (n : ℕ). IsAmong n (h.chain l)) at among) in
+      (omega (arith, was.0, length-set list_of place (Some list)), get_or-set_other list_of place p (Some list) None other ∙ was.1)))
+      (cases_Bool (eqb l list));
+}
+  where
+    differ : (l : ℕ) → eqb l list ≡ false → l ≡ list → ⊥
+    differ l apart same = false≢true (sym apart ∙ eq-eqb l list same)
+
+    outside : (l : ℕ) → IsAmong place (h.chain l) → ⊥
+    outside l among = let was = h.sound l place among in absurd (cc (was.1, free))
+
+-- two places more, in no list
+pub lists_added : (firsts nexts list_of : List (Option ℕ)) → AreLists firsts nexts list_of → AreLists firsts (nexts ++ None ∷ None ∷ []) (list_of ++ None ∷ None ∷ [])
+lists_added firsts nexts list_of h = record {
+  size = omega (arith, h.size, length-append nexts (None ∷ None ∷ []), length-append list_of (None ∷ None ∷ []));
+  chain = h.chain;
+  linked = λ l below. chain_more nexts (None ∷ None ∷ []) (get_or firsts l None) (h.chain l) (λ q among. omega (arith, h.size, (h.sound l q among).0)) (h.linked l below);
+  complete = λ l p has. ⊎_elim
+      (λ old. h.complete l p (sym (get_or_append_left list_of (None ∷ None ∷ []) None p old) ∙ has))
+      (λ past. absurd (blank p past l has))
+      (cases_lt p (length list_of));
+  sound = λ l p among.
+      let was = h.sound l p among in
+      (omega (arith, was.0, length-append list_of (None ∷ None ∷ [])), get_or_append_left list_of (None ∷ None ∷ []) None p was.0 ∙ was.1);
+}
+  where
+    nothing : (i : ℕ) → get_or {A = Option ℕ} (None ∷ None ∷ []) i None ≡ None
+    nothing zero = refl
+    nothing (suc zero) = refl
+    nothing (suc (suc i)) = refl
+
+    past_both : (xs : List (Option ℕ)) (p : ℕ) → length xs ≤ p → get_or (xs ++ None ∷ None ∷ []) p None ≡ None
+    past_both xs p past = get_or-append_right xs (None ∷ None ∷ []) (length xs) p None refl past ∙ nothing (p - length xs)
+
+    blank : (p : ℕ) → length list_of ≤ p → (l : ℕ) → get_or (list_of ++ None ∷ None ∷ []) p None ≡ Some l → ⊥
+    blank p past l has = let e : get_or (list_of ++ None ∷ None ∷ []) p None ≡ None = past_both list_of p past in cc
+
+-- an element, read under another default
+pub read_option : (xs : List (Option ℕ)) (i : ℕ) (x : Option ℕ) → i < length xs → x ≡ get_or xs i x → get_or xs i None ≡ x
+read_option xs i x within read = get_or_from_slice_get xs i x None (slice_get-get_or xs i x within ∙ ap Some (sym read))
+
+-- ---- all places are forgotten
+
+-- the list is empty, or a place from `place` on is one of it
+abbrev pub IsStillFirst : List (Option ℕ) → List (Option ℕ) → ℕ → ℕ → Type 0
+IsStillFirst firsts list_of place list = (get_or firsts list None ≡ None) ⊎ ((p : ℕ) × (place ≤ p) × (p < length list_of) × (get_or list_of p None ≡ Some list))
+
+pub still_at_first : (firsts nexts list_of : List (Option ℕ)) → AreLists firsts nexts list_of → (list : ℕ) → list < length firsts → IsStillFirst firsts list_of 0 list
+still_at_first firsts nexts list_of h list within = go (get_or firsts list None) refl
+  where
+    go : (o : Option ℕ) → get_or firsts list None ≡ o → IsStillFirst firsts list_of 0 list
+    go None is = inl is
+    go (Some place) is = let found = first_in_list firsts nexts list_of list place h within is in inr (place, omega arith, found.0, found.1)
+
+-- a place in no list
+pub still_skipped : (firsts list_of : List (Option ℕ)) (place : ℕ) → get_or list_of place None ≡ None → (list : ℕ) → IsStillFirst firsts list_of place list → IsStillFirst firsts list_of (place + 1) list
+still_skipped firsts list_of place none list h = ⊎_elim
+    (λ empty. inl empty)
+    (λ some. ⊎_elim
+    (λ later. inr (some.0, omega (arith, later), some.2, some.3))
+    (λ early.
+    let same : some.0 ≡ place = omega (arith, early, some.1) in
+    absurd (not_some none (ap (λ n. get_or list_of n None) (sym same) ∙ some.3)))
+    (cases_lt place some.0))
+    h
+  where
+    not_some : {o : Option ℕ} {l : ℕ} → o ≡ None → o ≡ Some l → ⊥
+    not_some a b = cc (a, b)
+
+-- the list of a place is emptied
+pub still_emptied : (firsts list_of : List (Option ℕ)) (place first : ℕ) → get_or list_of place None ≡ Some first → first < length firsts
+    → (list : ℕ) → IsStillFirst firsts list_of place list → IsStillFirst (set firsts first None) list_of (place + 1) list
+still_emptied firsts list_of place first is within list h = ⊎_elim
+    (λ same. inl (ap (λ n. get_or (set firsts first None) n None) same ∙ get_or-set_same firsts first None None within))
+    (λ differs. ⊎_elim
+    (λ empty. inl (get_or-set_other firsts first list None None differs ∙ empty))
+    (λ some. ⊎_elim
+    (λ later. inr (some.0, omega (arith, later), some.2, some.3))
+    (λ early.
+    let here : some.0 ≡ place = omega (arith, early, some.1) in
+    absurd (differs (one_list (ap (λ n. get_or list_of n None) (sym here) ∙ some.3) is)))
+    (cases_lt place some.0))
+    h)
+    (cases_eq list first)
+  where
+    one_list : {o : Option ℕ} {l m : ℕ} → o ≡ Some l → o ≡ Some m → l ≡ m
+    one_list a b = cc (a, b)
+
+-- the list of a place that is past all lists
+pub still_past : (firsts list_of : List (Option ℕ)) (place first : ℕ) → get_or list_of place None ≡ Some first → (first < length firsts → ⊥)
+    → (list : ℕ) → list < length firsts → IsStillFirst firsts list_of place list → IsStillFirst firsts list_of (place + 1) list
+still_past firsts list_of place first is past list within h = ⊎_elim
+    (λ empty. inl empty)
+    (λ some. ⊎_elim
+    (λ later. inr (some.0, omega (arith, later), some.2, some.3))
+    (λ early.
+    let here : some.0 ≡ place = omega (arith, early, some.1) in
+    let same : list ≡ first = one_list (ap (λ n. get_or list_of n None) (sym here) ∙ some.3) is in
+    absurd (past (subst (λ n. n < length firsts) same within)))
+    (cases_lt place some.0))
+    h
+  where
+    one_list : {o : Option ℕ} {l m : ℕ} → o ≡ Some l → o ≡ Some m → l ≡ m
+    one_list a b = cc (a, b)
+
+pub lists_cleared : (firsts nexts list_of old : List (Option ℕ)) (place : ℕ) → ((list : ℕ) → list < length firsts → IsStillFirst firsts old place list) → length old ≤ place → nexts ≡ [] → list_of ≡ [] → AreLists firsts nexts list_of
+lists_cleared firsts nexts list_of old place h past nexts_are list_of_is = record {
+  size = rw (nexts_are, list_of_is) refl;
+  chain = λ l. [];
+  linked = λ l below. ⊎_elim (λ empty. empty) (λ some. absurd (omega (arith, past, some.1, some.2))) (h l below);
+  complete = λ l p is. absurd (nothing p l (subst (λ (xs : List (Option ℕ)). get_or xs p None ≡ Some l) list_of_is is));
+  sound = λ l p among. absurd among;
+}
+  where
+    nothing : (p l : ℕ) → get_or {A = Option ℕ} [] p None ≡ Some l → ⊥
+    nothing p l is = cc

@@ -1,0 +1,95 @@
+-- What parts of a search come to.
+use Rattle.std.specs.Prelude.{◌≡◌, ℕ, ◌<◌, ◌⊎◌, Option, Some, None, List, Contains}
+use Rattle.pc_lits.specs.declared.literal.Var.{Var}
+use Rattle.pc_lits.specs.declared.literal.Lit.{Lit}
+use Rattle.pc_lits.specs.declared.tally.Tally.{Tally}
+use Rattle.pc_log.specs.declared.log.StepId.{StepId}
+use Rattle.pc_log.specs.Lines.{LogLine}
+use Rattle.pc_propagate.specs.declared.trail.Placed.{Placed}
+use Rattle.pc_propagate.specs.declared.trail.Placed.TheVariants as placed
+use Rattle.pc_propagate.specs.declared.trail.Entry.{Entry}
+use Rattle.pc_propagate.specs.declared.clauses.ClauseRef.{ClauseRef}
+use Rattle.pc_propagate.specs.declared.clauses.ClauseRef.TheVariants.{More}
+use Rattle.pc_propagate.specs.Quiet.{IsQuiet}
+use Rattle.pc_propagate.specs.TrailView.{TrailView}
+use Rattle.pc_lits.specs.Literals.{negated}
+use Rattle.pc_lits.specs.Steps.{IsLastOpen}
+use Rattle.pc_solver.specs.declared.learning.Learnt.{Learnt}
+use Rattle.pc_solver.specs.declared.learning.Learnt.TheVariants.{Asserting, Restarted}
+use Rattle.pc_propagate.specs.Entries.{literals, falses, HasValue}
+use Rattle.pc_propagate.specs.Refs.{clause_at}
+use Rattle.pc_analyze.specs.Learning.{IsOverNegated}
+use Rattle.pc_solver.specs.declared.decisions.Next.{Next}
+use Rattle.pc_solver.specs.declared.decisions.Next.TheVariants.{Place, Failed, Done}
+use Rattle.pc_solver.specs.declared.outcome.Outcome.{Outcome}
+use Rattle.pc_solver.specs.declared.outcome.Outcome.TheVariants.{Sat, Unsat, Spent, Memory}
+use Rattle.pc_solver.specs.Clauses.{ClausesView, IsGiven}
+use Rattle.pc_solver.specs.InLog.{Stands}
+use Rattle.pc_solver.specs.inside.Search.{AreTrue}
+
+-- each used axiom and each block has a literal that is true by the entries
+abbrev pub AreMet : ClausesView → List Entry → Type 0
+AreMet c entries = (r : ClauseRef) → IsGiven c r → (m : Lit) × Contains (clause_at c.axioms c.more r) m × Contains (literals entries) m
+
+-- what a search that ends says of its clauses, entries and log
+abbrev pub EndSays : ClausesView → List Entry → List Lit → List LogLine → Tally → Outcome → Type 0
+EndSays c entries assumed log tally Sat = AreMet c entries × AreTrue entries assumed
+EndSays c entries assumed log tally (Unsat id) = (clause : List Lit) × Stands c.axioms log id clause × IsOverNegated assumed clause
+EndSays c entries assumed log tally Spent = tally.placed ≡ tally.limit
+EndSays c entries assumed log tally Memory = Unit {0}
+
+-- one turn ends the search, or places a literal
+abbrev pub TurnSays : ClausesView → List Entry → List Lit → List LogLine → Tally → Tally → Option Outcome → Type 0
+TurnSays c entries assumed log before after None = before.placed < after.placed
+TurnSays c entries assumed log before after (Some outcome) = EndSays c entries assumed log after outcome
+
+-- one clause more may have been learned than literals were placed, where the search ended before a literal was placed
+abbrev pub extra : Outcome → ℕ
+extra outcome = 1
+
+-- a refutation ends with a step that isn't marked
+abbrev pub unmarked : Outcome → ℕ
+unmarked Sat = 0
+unmarked (Unsat id) = 1
+unmarked Spent = 0
+unmarked Memory = 0
+
+abbrev pub turn_extra : Option Outcome → ℕ
+turn_extra None = 0
+turn_extra (Some outcome) = extra outcome
+
+abbrev pub turn_unmarked : Option Outcome → ℕ
+turn_unmarked None = 0
+turn_unmarked (Some outcome) = unmarked outcome
+
+-- what is to be decided next
+abbrev pub DecisionSays : List Var → List Entry → List Lit → Next → Type 0
+DecisionSays own entries assumed (Place l) = Contains own l.variable × (¬ HasValue entries l.variable) × (Contains assumed l ⊎ AreTrue entries assumed)
+DecisionSays own entries assumed (Failed l) = Contains assumed l × Contains (falses entries) l
+DecisionSays own entries assumed Done = AreTrue entries assumed × ((v : Var) → Contains own v → HasValue entries v)
+
+-- what is to be done next of the assumptions
+abbrev pub NextSays : List Entry → List Lit → Next → Type 0
+NextSays entries assumed (Place l) = Contains assumed l × (¬ HasValue entries l.variable)
+NextSays entries assumed (Failed l) = Contains assumed l × Contains (falses entries) l
+NextSays entries assumed Done = AreTrue entries assumed
+
+-- the search ended with a refutation, whose line is such
+abbrev pub IsUnsat : Option Outcome → (StepId → Type 0) → Type 0
+IsUnsat None P = ⊥
+IsUnsat (Some Sat) P = ⊥
+IsUnsat (Some (Unsat id)) P = P id
+IsUnsat (Some Spent) P = ⊥
+IsUnsat (Some Memory) P = ⊥
+
+-- After a clause was learned: its literal has no value and is the last one that isn't false, or the trail is quiet.
+abbrev pub LearntSays : ClausesView → TrailView → Learnt → Type 0
+LearntSays c trail (Asserting l n) =
+    Contains trail.attached (More n) × IsLastOpen negated (falses trail.entries) (clause_at c.axioms c.more (More n)) l
+    × (¬ HasValue trail.entries l.variable) × Contains c.own l.variable
+LearntSays c trail Restarted = IsQuiet c.axioms c.more trail
+
+-- how the search ends, if it does, with a literal that was to be placed
+abbrev pub ended_by : Placed → Option Outcome
+ended_by placed.Done = None
+ended_by placed.Spent = Some Spent
