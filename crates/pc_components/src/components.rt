@@ -1,0 +1,112 @@
+//! The parts of a book: cells that pieces of the rules tie together, with the axioms and variables of each.
+ghost use Rattle.std.specs.Prelude.{◌≡◌, ◌<◌, ◌^◌, IfOk, length, slice_get, Some};
+ghost use Rattle.pc_components.specs.View.{AreComponentsOf};
+ghost use Rattle.pc_ground.specs.Grounded.{grounded};
+
+use crate::narrow::{rows_of_axioms, rows_of_cells, rows_of_variables};
+use crate::numbers::rows_of_each;
+use crate::part_numbers::PartNumbers;
+use crate::turned::turn;
+use crate::variables::variables_of_parts;
+use pc_ground::Ground;
+use pc_lits::{Rows, Var};
+use pc_logic::Book;
+use pc_sheet::CellId;
+use std::alloc::{AllocError, Global};
+use std::marker::Model;
+
+/// A part of a book, in lent memory.
+#[derive(Clone, Copy)]
+pub struct Part<'a> {
+    /// Its cells, in their order.
+    pub cells: &'a [CellId],
+    /// The numbers of its axioms in the ground's store, in order.
+    pub axioms: &'a [u32],
+    /// The variables that its axioms name, in order.
+    pub variables: &'a [Var],
+}
+
+/// The parts of a book in order: by their first cell, and last the part without cells, where there is one.
+#[derive(Drop)]
+pub struct Components {
+    cells: Rows<CellId>,
+    axioms: Rows<u32>,
+    variables: Rows<Var>,
+    numbers: Vec<usize>,
+}
+
+impl Model for Components {
+    ghost use Rattle.std.specs.Prelude.{length};
+    ghost use Rattle.pc_components.specs.View.{Kept, AreAsMany};
+
+    ghost Value = { Kept };
+
+    ghost view = { λ c. record { cells = c.cells; axioms = c.axioms; variables = c.variables; numbers = c.numbers.items } };
+
+    ghost invariant = { λ c. AreAsMany c.cells c.axioms × AreAsMany c.cells c.variables };
+}
+
+impl Components {
+    /// How many parts there are.
+    pub fn len(&self) -> usize
+        ensures { result ≡ length self.now.cells }
+    {
+        self.cells.len()
+    }
+
+    /// The part of that number.
+    pub fn part(&self, i: usize) -> Part<'_>
+        requires { i < length self.now.cells }
+        ensures cells { slice_get self.now.cells i ≡ Some result.cells.now }
+        ensures axioms { slice_get self.now.axioms i ≡ Some result.axioms.now }
+        ensures variables { slice_get self.now.variables i ≡ Some result.variables.now }
+    {
+        Part {
+            cells: self.cells.get(i),
+            axioms: self.axioms.get(i),
+            variables: self.variables.get(i),
+        }
+    }
+
+    /// The number of the cell's part.
+    pub fn of(&self, cell: CellId) -> usize
+        requires { cell.0 < length self.now.numbers }
+        ensures { slice_get self.now.numbers cell.0 ≡ Some result }
+    {
+        self.numbers[usize::from(cell.0)]
+    }
+}
+
+/// The parts of a book, by its ground, in time linear in the ground's size: the pieces' cells are read, searched for
+/// components, and each axiom's row of parts is written in one walk over the rules. An error is want of memory.
+pub fn find_components(
+    alloc: Global,
+    book: &Book,
+    ground: &Ground,
+) -> Result<Components, AllocError>
+    requires ground { ground.now ≡ grounded book.now }
+    requires few { length ground.now.clauses < 2 ^ 32 }
+    ensures { IfOk result (AreComponentsOf book.now) }
+{
+    // Every book is well formed, and has at most 4,096 cells.
+    let _entries = book.entries();
+    let _count = book.cells();
+    let numbers = PartNumbers::new(alloc, book)?;
+    let owners = numbers.owners(alloc, book)?;
+    let axioms = turn(alloc, &owners, numbers.parts)?;
+    let variables = variables_of_parts(
+        alloc,
+        ground.store(),
+        &axioms,
+        ground.variables() as usize,
+        numbers.parts,
+    )?;
+    let cells = turn(alloc, &rows_of_each(alloc, &numbers.cells)?, numbers.parts)?;
+    let PartNumbers { cells: numbers, .. } = numbers;
+    Ok(Components {
+        cells: rows_of_cells(alloc, &cells)?,
+        axioms: rows_of_axioms(alloc, &axioms)?,
+        variables: rows_of_variables(alloc, &variables)?,
+        numbers,
+    })
+}
