@@ -36,7 +36,7 @@ result_found None P there = there
 result_found (Some f) P there = refl
 
 module _ (u : Universe) where
-  cell_stands : (c : CellId) → c.0 < length (cell_sizes u) → IsCell u (written_cell u c) c (sort_of u c)
+  pub cell_stands : (c : CellId) → c.0 < length (cell_sizes u) → IsCell u (written_cell u c) c (sort_of u c)
   cell_stands c below =
       let Fits : Family → Type 0 = λ f. AreWithin (map (size_of u) f.sorts) (application_of u c).arguments in
       let there = cell_is_application u c below in
@@ -51,7 +51,7 @@ module _ (u : Universe) where
         gives = result_found (family_of u c) Fits there;
       }
 
-  entry_stands : (e : Entry) → IsEntryOf u e → IsEntryNamed u (written_cell u e.cell) (written_value u (sort_of u e.cell) e.value) e
+  pub entry_stands : (e : Entry) → IsEntryOf u e → IsEntryNamed u (written_cell u e.cell) (written_value u (sort_of u e.cell) e.value) e
   entry_stands e is = record {
     sort = sort_of u e.cell;
     cell = cell_stands e.cell (entered_cell u e is);

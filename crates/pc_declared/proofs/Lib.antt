@@ -1,5 +1,5 @@
 mod Chain
-mod Entries
+pub mod Entries
 mod Numbered
 mod Rules
 mod Standing
@@ -7,5 +7,5 @@ mod Sublists
 mod Tables
 mod Texts
 mod Universes
-mod Values
+pub mod Values
 mod Whole

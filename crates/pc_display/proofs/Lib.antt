@@ -1,4 +1,5 @@
 pub mod Below
 pub mod LineLemmas
+pub mod Marked
 pub mod SameDisplay
 pub mod SheetLemmas

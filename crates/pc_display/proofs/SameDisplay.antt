@@ -15,7 +15,8 @@ use Rattle.pc_sheet.specs.declared.ids.Entry.{Entry}
 use Rattle.pc_sheet.specs.declared.ids.Target.{Target}
 use Rattle.pc_writer.specs.Spelling.{sort_of}
 use Rattle.pc_display.specs.OneDisplay.{SheetHasOneDisplay}
-use Rattle.pc_display.specs.Reasons.{IsTargetOf, IsReasonFor, IsReasoning, Reasoning}
+use Rattle.pc_reason.specs.Reasons.{IsTargetOf}
+use Rattle.pc_display.specs.Supports.{IsSupportFor, IsReasoning, Reasoning}
 use Rattle.pc_display.specs.Show.{cell_lines, cells_below, conflict_line, conflict_of, entry_of, head_line, reason_of, value_line, value_lines, show_text}
 use Rattle.pc_display.proofs.SheetLemmas.{entry_is_of, is_target, same_reason}
 
@@ -59,7 +60,7 @@ module _ (sheet : Sheet) (formed : IsWellFormed sheet) (one other : Reasoning) (
 -- ---- a sheet has reasons
 
 module _ (sheet : Sheet) (formed : IsWellFormed sheet) where
-  reason_for : (t : Target) → (found : Option (List Entry)) × IsReasonFor sheet t found
+  reason_for : (t : Target) → (found : Option (List Entry)) × IsSupportFor sheet t found
   reason_for t =
       elim (implication_decided sheet t) [
         | inl implied ↦ let one = one_least sheet t formed.entries.distinct implied in (Some one.0, one.1)

@@ -14,7 +14,8 @@ use Rattle.pc_sheet.specs.declared.ids.Entry.{Entry}
 use Rattle.pc_sheet.specs.declared.ids.Target.{Target}
 use Rattle.pc_writer.specs.Spelling.{sort_of}
 use Rattle.pc_writer.proofs.CellLemmas.{cell_size, entered_value}
-use Rattle.pc_display.specs.Reasons.{IsTargetOf, IsReasonFor, IsReasoning, Reasoning}
+use Rattle.pc_reason.specs.Reasons.{IsTargetOf}
+use Rattle.pc_display.specs.Supports.{IsSupportFor, IsReasoning, Reasoning}
 use Rattle.pc_display.specs.Show.{against, conflict_line, conflict_of, ended, entry_of, head_line, IsConflictOf}
 
 sublist_all : (P : Entry → Type 0) (es s : List Entry) → IsSublist es s → All P es → All P s
@@ -27,7 +28,7 @@ found_by : (test : Bool) (x : Entry) (rest : Option Entry) (Q : Entry → Type 0
 found_by true x rest Q here later = here refl
 found_by false x rest Q here later = later
 
-found_in : (c : CellId) (P Q : Entry → Type 0) → ((e : Entry) → P e → e.cell ≡ c → Q e) → (es : List Entry) → All P es → IfSome (entry_of es c) Q
+pub found_in : (c : CellId) (P Q : Entry → Type 0) → ((e : Entry) → P e → e.cell ≡ c → Q e) → (es : List Entry) → All P es → IfSome (entry_of es c) Q
 found_in c P Q so [] each = tt
 found_in c P Q so (e ∷ es) each =
     found_by (nat_eq e.cell.0 c.0) e (entry_of es c) Q
@@ -48,7 +49,7 @@ module _ (sheet : Sheet) (formed : IsWellFormed sheet) where
       (λ e fit same. entered_value sheet.universe e fit (sort_of sheet.universe c) (ap (sort_of sheet.universe) (sym same)))
       sheet.entries formed.entries.each
 
-  pub support_fits : (t : Target) (found : Option (List Entry)) (s : List Entry) → IsReasonFor sheet t found → found ≡ Some s → All (IsEntryOf sheet.universe) s
+  pub support_fits : (t : Target) (found : Option (List Entry)) (s : List Entry) → IsSupportFor sheet t found → found ≡ Some s → All (IsEntryOf sheet.universe) s
   support_fits t None s is same = absurd (cc)
   support_fits t (Some r) s is same =
       let equal : r ≡ s = cc in
@@ -80,7 +81,7 @@ same_least sheet s t target least other =
       ]
     ]
 
-pub same_reason : (sheet : Sheet) (t : Target) (one other : Option (List Entry)) → IsReasonFor sheet t one → IsReasonFor sheet t other → one ≡ other
+pub same_reason : (sheet : Sheet) (t : Target) (one other : Option (List Entry)) → IsSupportFor sheet t one → IsSupportFor sheet t other → one ≡ other
 same_reason sheet t None None p q = refl
 same_reason sheet t None (Some s) p q = absurd (p (s, q.supports))
 same_reason sheet t (Some s) None p q = absurd (q (s, p.supports))

@@ -4,7 +4,7 @@ use Rattle.std.specs.List.{flat_map}
 use Rattle.pc_sheet.specs.Sheet.{listed, range, Sort, Family, Sheet}
 use Rattle.pc_sheet.specs.declared.ids.Entry.{Entry}
 use Rattle.pc_sheet.specs.declared.ids.Target.{Target}
-use Rattle.pc_display.specs.Reasons.{Reasoning}
+use Rattle.pc_display.specs.Supports.{Reasoning}
 use Rattle.pc_display.specs.Show.{ended, show_text}
 
 -- ---- their parts

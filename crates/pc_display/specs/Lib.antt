@@ -1,4 +1,5 @@
 pub mod Examples
+pub mod Marks
 pub mod OneDisplay
-pub mod Reasons
+pub mod Supports
 pub mod Show

@@ -10,7 +10,7 @@ use Rattle.pc_sheet.specs.declared.ids.CellId.{CellId}
 use Rattle.pc_sheet.specs.declared.ids.ValueId.{ValueId}
 use Rattle.pc_sheet.specs.declared.ids.Entry.{Entry}
 use Rattle.pc_writer.specs.Spelling.{value_text, cell_text, sort_of, entries_text}
-use Rattle.pc_display.specs.Reasons.{Reasoning, IsReasonFor, IsReasoning}
+use Rattle.pc_display.specs.Supports.{Reasoning, IsSupportFor, IsReasoning}
 
 -- the end of a line
 abbrev pub ended : List ℕ → List ℕ
@@ -30,7 +30,7 @@ conflict_of reason (Some e) = reason (opposite_of e)
 -- what the cell's entry clashes with
 abbrev pub IsConflictOf : Sheet → Option Entry → Option (List Entry) → Type 0
 IsConflictOf sheet None found = found ≡ None
-IsConflictOf sheet (Some e) found = IsReasonFor sheet (opposite_of e) found
+IsConflictOf sheet (Some e) found = IsSupportFor sheet (opposite_of e) found
 
 -- the reason why the cell has that value
 abbrev pub reason_of : Reasoning → CellId → ValueId → Option (List Entry)

@@ -6,7 +6,7 @@ ghost use Rattle.pc_sheet.specs.Truth.{size_of};
 ghost use Rattle.pc_sheet.specs.WellFormed.{IsEntryOf, IsWellFormed};
 ghost use Rattle.pc_writer.specs.Spelling.{sort_of};
 ghost use Rattle.pc_writer.specs.Writes.{Writes};
-ghost use Rattle.pc_display.specs.Reasons.{IsReasoning, Reasoning};
+ghost use Rattle.pc_display.specs.Supports.{IsReasoning, Reasoning};
 ghost use Rattle.pc_display.specs.Show.{cell_lines, reason_of, value_line, value_lines, IsConflictOf, IsShown};
 
 use crate::lines::{entry_of, write_conflict_line, write_head_line, write_value_line};

@@ -1,10 +1,11 @@
 ghost use Rattle.std.specs.Prelude.{◌≡◌, length};
 ghost use Rattle.pc_sheet.specs.Entailment.{cell_sizes};
 
-use crate::{Supports, show};
+use crate::show;
 use pc_logic::Book;
 use pc_port::MemorySink;
-use pc_sheet::{Entry, Target};
+use pc_reason::{Reason, Reasons};
+use pc_sheet::Target;
 use std::test::Fail;
 
 /// A book without cells.
@@ -14,14 +15,14 @@ struct Bare {
     ghost no_cells: { length (cell_sizes book.universe) ≡ 0 },
 }
 
-impl Supports for Bare {
+impl Reasons for Bare {
     ghost sheet = { λ bare. bare.book };
 
     fn book(&self) -> &Book {
         &self.book
     }
 
-    fn support(&self, _target: Target) -> Option<&[Entry]> {
+    fn reason(&self, _target: Target) -> Option<Reason<'_>> {
         None
     }
 }

@@ -7,7 +7,7 @@ use Rattle.pc_sheet.specs.Sheet.{Sheet}
 use Rattle.pc_sheet.specs.declared.ids.CellId.{CellId}
 use Rattle.pc_sheet.specs.declared.ids.ValueId.{ValueId}
 use Rattle.pc_sheet.specs.declared.ids.Target.{Target}
-use Rattle.pc_display.specs.Reasons.{IsReasonFor}
+use Rattle.pc_display.specs.Supports.{IsSupportFor}
 use Rattle.pc_reasons.specs.declared.tried.Reason.{Reason}
 use Rattle.pc_reasons.specs.Table.{support_of, IsListed, AreReasons, Adds}
 
@@ -20,12 +20,12 @@ listed_last : (rs : List Reason) (r : Reason) → IsListed (rs ++ r ∷ []) r.ta
 listed_last [] r = inl refl
 listed_last (q ∷ rs) r = inr (listed_last rs r)
 
-each_push : (sheet : Sheet) (rs : List Reason) (r : Reason) → AreReasons sheet rs → IsReasonFor sheet r.target (support_of r) → AreReasons sheet (rs ++ r ∷ [])
+each_push : (sheet : Sheet) (rs : List Reason) (r : Reason) → AreReasons sheet rs → IsSupportFor sheet r.target (support_of r) → AreReasons sheet (rs ++ r ∷ [])
 each_push sheet [] r each is = (is, tt)
 each_push sheet (q ∷ rs) r each is = (each.0, each_push sheet rs r each.1 is)
 
 -- one reason more
-pub adds_one : (sheet : Sheet) (old : List Reason) (r : Reason) → IsReasonFor sheet r.target (support_of r) → Adds sheet old (old ++ r ∷ []) (λ t. t ≡ r.target)
+pub adds_one : (sheet : Sheet) (old : List Reason) (r : Reason) → IsSupportFor sheet r.target (support_of r) → Adds sheet old (old ++ r ∷ []) (λ t. t ≡ r.target)
 adds_one sheet old r is = record {
   each = λ each. each_push sheet old r each is;
   kept = λ t. λ listed. listed_before old r t listed;
@@ -55,6 +55,6 @@ either_way c v t is =
     elim t.holds as (λ b. t.holds ≡ b → (t ≡ (let r : Target = record { cell = c; value = v; holds = true } in r)) ⊎ (t ≡ (let r : Target = record { cell = c; value = v; holds = false } in r))) [ true ↦ λ e. inl (to true e) | false ↦ λ e. inr (to false e) ] refl
 
 -- what a search for a support found
-pub reason_for : (sheet : Sheet) (t : Target) (support : Option (Vec Entry Global)) → IfSome support (λ s. IsLeastSupport sheet s.items t) → (IsSome support ↔ IsImplied sheet t) → IsReasonFor sheet t (option_map (λ (v : Vec Entry Global). v.items) support)
+pub reason_for : (sheet : Sheet) (t : Target) (support : Option (Vec Entry Global)) → IfSome support (λ s. IsLeastSupport sheet s.items t) → (IsSome support ↔ IsImplied sheet t) → IsSupportFor sheet t (option_map (λ (v : Vec Entry Global). v.items) support)
 reason_for sheet t None least implied = λ is. absurd (cc (implied.1 is))
 reason_for sheet t (Some v) least implied = least

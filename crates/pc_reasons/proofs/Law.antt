@@ -6,7 +6,8 @@ use Rattle.std.specs.Bool.{beq}
 use Rattle.pc_sheet.specs.Sheet.{Sheet}
 use Rattle.pc_sheet.specs.declared.ids.Entry.{Entry}
 use Rattle.pc_sheet.specs.declared.ids.Target.{Target}
-use Rattle.pc_display.specs.Reasons.{IsTargetOf, IsReasonFor, IsReasoning}
+use Rattle.pc_reason.specs.Reasons.{IsTargetOf}
+use Rattle.pc_display.specs.Supports.{IsSupportFor, IsReasoning}
 use Rattle.pc_reasons.specs.declared.tried.Reason.{Reason}
 use Rattle.pc_reasons.specs.Table.{support_of, is_same_target, reason_in, IsListed, AreReasons, HasReasons}
 
@@ -37,13 +38,13 @@ different_target s t e same =
     let both : true ≡ false = sym itself ∙ ap (λ (r : Target). is_same_target r t) (sym same) ∙ e in
     cc both
 
-found : (sheet : Sheet) (r : Reason) (rs : List Reason) (t : Target) (b : Bool) → is_same_target r.target t ≡ b → IsReasonFor sheet r.target (support_of r) → (r.target ≡ t) ⊎ IsListed rs t
-    → (IsListed rs t → IsReasonFor sheet t (reason_in rs t)) → IsReasonFor sheet t (cond b (support_of r) (reason_in rs t))
-found sheet r rs t true is here listed later = subst (λ (s : Target). IsReasonFor sheet s (support_of r)) (same_target r.target t is) here
+found : (sheet : Sheet) (r : Reason) (rs : List Reason) (t : Target) (b : Bool) → is_same_target r.target t ≡ b → IsSupportFor sheet r.target (support_of r) → (r.target ≡ t) ⊎ IsListed rs t
+    → (IsListed rs t → IsSupportFor sheet t (reason_in rs t)) → IsSupportFor sheet t (cond b (support_of r) (reason_in rs t))
+found sheet r rs t true is here listed later = subst (λ (s : Target). IsSupportFor sheet s (support_of r)) (same_target r.target t is) here
 found sheet r rs t false is here (inl same) later = absurd (different_target r.target t is same)
 found sheet r rs t false is here (inr listed) later = later listed
 
-first_reason : (sheet : Sheet) (rs : List Reason) (t : Target) → AreReasons sheet rs → IsListed rs t → IsReasonFor sheet t (reason_in rs t)
+first_reason : (sheet : Sheet) (rs : List Reason) (t : Target) → AreReasons sheet rs → IsListed rs t → IsSupportFor sheet t (reason_in rs t)
 first_reason sheet [] t each listed = absurd listed
 first_reason sheet (r ∷ rs) t each listed = found sheet r rs t (is_same_target r.target t) refl each.0 listed (λ more. first_reason sheet rs t each.1 more)
 
@@ -53,6 +54,6 @@ is_reasoning sheet rs has = λ t. λ within. first_reason sheet rs t has.each (h
 pub is_reasoning_of : (sheet book : Sheet) (rs : List Reason) → HasReasons book rs → sheet ≡ book → IsReasoning sheet (reason_in rs)
 is_reasoning_of sheet book rs has is = subst (λ (s : Sheet). IsReasoning s (reason_in rs)) (sym is) (is_reasoning book rs has)
 
-pub is_reason : (sheet book : Sheet) (rs rs' : List Reason) (t : Target) (found : Option (List Entry)) → HasReasons book rs → sheet ≡ book → rs' ≡ rs → found ≡ reason_in rs' t → IsTargetOf sheet.universe t → IsReasonFor sheet t found
+pub is_reason : (sheet book : Sheet) (rs rs' : List Reason) (t : Target) (found : Option (List Entry)) → HasReasons book rs → sheet ≡ book → rs' ≡ rs → found ≡ reason_in rs' t → IsTargetOf sheet.universe t → IsSupportFor sheet t found
 is_reason sheet book rs rs' t found has is same found_is within =
-    subst (λ (f : Option (List Entry)). IsReasonFor sheet t f) (sym (found_is ∙ ap (λ (l : List Reason). reason_in l t) same)) (is_reasoning_of sheet book rs has is t within)
+    subst (λ (f : Option (List Entry)). IsSupportFor sheet t f) (sym (found_is ∙ ap (λ (l : List Reason). reason_in l t) same)) (is_reasoning_of sheet book rs has is t within)

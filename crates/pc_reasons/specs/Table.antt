@@ -5,7 +5,8 @@ use Rattle.std.specs.List.{AllByRecursion}
 use Rattle.pc_sheet.specs.Sheet.{Sheet}
 use Rattle.pc_sheet.specs.declared.ids.Entry.{Entry}
 use Rattle.pc_sheet.specs.declared.ids.Target.{Target}
-use Rattle.pc_display.specs.Reasons.{IsTargetOf, IsReasonFor, Reasoning}
+use Rattle.pc_reason.specs.Reasons.{IsTargetOf}
+use Rattle.pc_display.specs.Supports.{IsSupportFor, Reasoning}
 use Rattle.pc_reasons.specs.declared.tried.Reason.{Reason}
 
 abbrev pub support_of : Reason → Option (List Entry)
@@ -26,7 +27,7 @@ IsListed (r ∷ rs) t = (r.target ≡ t) ⊎ IsListed rs t
 
 -- each is the least support of its target, or none where there is none
 abbrev pub AreReasons : Sheet → List Reason → Type 0
-AreReasons sheet rs = AllByRecursion (λ r. IsReasonFor sheet r.target (support_of r)) rs
+AreReasons sheet rs = AllByRecursion (λ r. IsSupportFor sheet r.target (support_of r)) rs
 
 -- of every target of the sheet
 pub record HasReasons (sheet : Sheet) (rs : List Reason) : Type 0 where

@@ -4,7 +4,7 @@ ghost use Rattle.pc_port.specs.Port.{HasCause, WriteGives};
 ghost use Rattle.pc_display.specs.Show.{IsShown};
 ghost use Rattle.std.specs.Option.{option_copied};
 ghost use Rattle.pc_sheet.specs.Entailment.{cell_sizes};
-ghost use Rattle.pc_display.specs.Reasons.{IsTargetOf};
+ghost use Rattle.pc_reason.specs.Reasons.{IsTargetOf};
 ghost use Rattle.pc_reasons.specs.Table.{Adds, HasReasons, is_same_target, reason_in};
 
 use pc_display::{Supports, show};

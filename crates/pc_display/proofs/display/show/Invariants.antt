@@ -2,7 +2,7 @@ use Rattle.std.proofs.Common.{Ok}
 use Rattle.std.specs.List.{flat_map}
 use Rattle.pc_port.specs.declared.source.Failed.{Failed}
 use Rattle.pc_writer.specs.Writes.{Writes}
-use Rattle.pc_display.specs.Reasons.{IsReasoning, Reasoning}
+use Rattle.pc_display.specs.Supports.{IsReasoning, Reasoning}
 use Rattle.pc_display.specs.Show.{cell_lines, cells_below}
 use Rattle.pc_display.proofs.display.show.Given as goal
 

@@ -4,7 +4,7 @@ use Rattle.pc_port.specs.declared.source.Failed.{Failed}
 use Rattle.pc_sheet.specs.Cells.{values_below}
 use Rattle.pc_writer.specs.Spelling.{sort_of}
 use Rattle.pc_writer.specs.Writes.{Writes}
-use Rattle.pc_display.specs.Reasons.{IsReasoning, Reasoning}
+use Rattle.pc_display.specs.Supports.{IsReasoning, Reasoning}
 use Rattle.pc_display.specs.Show.{reason_of, value_line}
 use Rattle.pc_display.proofs.display.write_value_lines.Given as goal
 

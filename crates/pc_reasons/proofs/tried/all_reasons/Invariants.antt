@@ -1,5 +1,5 @@
 use Rattle.std.proofs.Common.{◌<◌, []}
-use Rattle.pc_display.specs.Reasons.{IsTargetOf}
+use Rattle.pc_reason.specs.Reasons.{IsTargetOf}
 use Rattle.pc_reasons.specs.Table.{Adds}
 use Rattle.pc_reasons.proofs.tried.all_reasons.Given as goal
 

@@ -1,0 +1,10 @@
+pub mod Saying
+pub mod Marks
+pub mod Words
+pub mod Standing
+pub mod Spelled
+pub mod Paths
+pub mod Parts
+pub mod Lines
+pub mod Whole
+pub mod Alone

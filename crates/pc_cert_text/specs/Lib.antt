@@ -1,0 +1,4 @@
+pub mod CertificateText
+pub mod Examples
+pub mod Why
+pub mod inside

@@ -1,0 +1,160 @@
+// The lines of a derivation.
+ghost use Rattle.std.specs.Prelude.{◌≡◌, ◌+◌, ◌-◌, ◌<◌, ◌≤◌, ◌^◌, ◌++◌, All, length, map};
+ghost use Rattle.std.specs.List.{flat_map};
+ghost use Rattle.pc_lits.specs.declared.literal.Lit.{Lit};
+ghost use Rattle.pc_log.specs.declared.log.StepId.{StepId};
+ghost use Rattle.pc_log.specs.Shown.{shown_line};
+ghost use Rattle.pc_log.specs.Spans.{IsSpanOf, lines_of_span};
+ghost use Rattle.pc_reason.specs.Derivation.{AreLinesNamed, line_named};
+ghost use Rattle.pc_accept.specs.Writable.{AreLinesOf};
+ghost use Rattle.pc_writer.specs.Writes.{Writes};
+ghost use Rattle.pc_cert_text.specs.CertificateText.{behind_blank, ended, lines_text, number_text};
+ghost use Rattle.pc_cert_text.specs.inside.Steps.{CanBeWritten, hint_text, IsLiteralOf, logged_text, spaced_literal_text, step_text};
+
+use crate::axiom::write_axiom;
+use crate::literal::write_literal;
+use crate::number::write_number;
+use pc_lits::Lit;
+use pc_log::{Line, StepId};
+use pc_logic::Book;
+use pc_names::Names;
+use pc_port::{Failed, Sink};
+use pc_proof::Proof;
+use pc_writer::write_text;
+
+/// Writes the lines of a proof, numbered from 1, their hints counted from the first of them.
+pub(crate) fn write_lines<O: Sink>(book: &Book, proof: Proof<'_>, out: &mut O) -> Result<(), Failed>
+    requires span { IsSpanOf proof.log.now proof.span }
+    requires named { AreLinesNamed proof.names.now (lines_of_span proof.log.now proof.span) }
+    requires written { AreLinesOf book.now 0 (map (line_named proof.names.now) (lines_of_span proof.log.now proof.span)) }
+    ensures { Writes O.given O.faults out.old out.new result (lines_text book.now 1 (map (line_named proof.entry.names.now) (lines_of_span proof.entry.log.now proof.entry.span))) }
+{
+    let first = proof.span.first.0;
+    let last = proof.span.last.0;
+    prove!(last < proof.log.len());
+    for index in 0..last - first + 1 {
+        let line = proof.log.line(StepId(first + index));
+        write_ended_line(book, proof.names, line, first, index as u64 + 1, out)?;
+    }
+    Ok(())
+}
+
+// Writes a numbered line with its end.
+fn write_ended_line<O: Sink>(
+    book: &Book,
+    names: &Names,
+    line: Line<'_>,
+    first: usize,
+    number: u64,
+    out: &mut O,
+) -> Result<(), Failed>
+    requires { CanBeWritten book.now names.now first (shown_line line) }
+    ensures { Writes O.given O.faults out.old out.new result (ended (number_text number ++ behind_blank (logged_text book.now names.now first (shown_line line.entry)))) }
+{
+    write_numbered_line(book, names, line, first, number, out)?;
+    write_text(b"\n", out)
+}
+
+fn write_numbered_line<O: Sink>(
+    book: &Book,
+    names: &Names,
+    line: Line<'_>,
+    first: usize,
+    number: u64,
+    out: &mut O,
+) -> Result<(), Failed>
+    requires { CanBeWritten book.now names.now first (shown_line line) }
+    ensures { Writes O.given O.faults out.old out.new result (number_text number ++ behind_blank (logged_text book.now names.now first (shown_line line.entry))) }
+{
+    write_number(number, out)?;
+    write_text(b" ", out)?;
+    write_line(book, names, line, first, out)
+}
+
+/// Writes a line of a derivation with its hints, which are counted from 1 at the place `first`.
+pub(crate) fn write_line<O: Sink>(
+    book: &Book,
+    names: &Names,
+    line: Line<'_>,
+    first: usize,
+    out: &mut O,
+) -> Result<(), Failed>
+    requires { CanBeWritten book.now names.now first (shown_line line) }
+    ensures { Writes O.given O.faults out.old out.new result (logged_text book.now names.now first (shown_line line.entry)) }
+{
+    match line {
+        Line::Axiom(number) => write_axiom(book, names.axiom(number), out),
+        Line::Block { .. } => unreachable!(),
+        Line::Step { clause, hints, .. } => {
+            write_step_line(book, names, clause, hints, first, out)
+        }
+    }
+}
+
+/// Writes a clause with its hints, which are counted from 1 at the place `first`.
+pub(crate) fn write_step_line<O: Sink>(
+    book: &Book,
+    names: &Names,
+    clause: &[Lit],
+    hints: &[StepId],
+    first: usize,
+    out: &mut O,
+) -> Result<(), Failed>
+    requires clause { All (IsLiteralOf book.now names.now) clause.now }
+    requires from { All (λ h. first ≤ h.0) hints.now }
+    requires room { All (λ h. h.0 + 1 < 2 ^ 64) hints.now }
+    ensures { Writes O.given O.faults out.old out.new result (step_text book.now names.now first clause.now hints.now) }
+{
+    write_text(b"step", out)?;
+    write_literals(book, names, clause, out)?;
+    write_text(b" :", out)?;
+    write_hints(hints, first, out)
+}
+
+fn write_literals<O: Sink>(
+    book: &Book,
+    names: &Names,
+    clause: &[Lit],
+    out: &mut O,
+) -> Result<(), Failed>
+    requires { All (IsLiteralOf book.now names.now) clause.now }
+    ensures { Writes O.given O.faults out.old out.new result (flat_map (spaced_literal_text book.now names.now) clause.now) }
+{
+    for literal in clause {
+        write_spaced_literal(book, names, *literal, out)?;
+    }
+    Ok(())
+}
+
+fn write_spaced_literal<O: Sink>(
+    book: &Book,
+    names: &Names,
+    literal: Lit,
+    out: &mut O,
+) -> Result<(), Failed>
+    requires { IsLiteralOf book.now names.now literal }
+    ensures { Writes O.given O.faults out.old out.new result (spaced_literal_text book.now names.now literal) }
+{
+    write_text(b" ", out)?;
+    write_literal(book, names, literal, out)
+}
+
+fn write_hints<O: Sink>(hints: &[StepId], first: usize, out: &mut O) -> Result<(), Failed>
+    requires from { All (λ h. first ≤ h.0) hints.now }
+    requires room { All (λ h. h.0 + 1 < 2 ^ 64) hints.now }
+    ensures { Writes O.given O.faults out.old out.new result (flat_map (hint_text first) hints.now) }
+{
+    for hint in hints {
+        write_hint(*hint, first, out)?;
+    }
+    Ok(())
+}
+
+fn write_hint<O: Sink>(hint: StepId, first: usize, out: &mut O) -> Result<(), Failed>
+    requires from { first ≤ hint.0 }
+    requires room { hint.0 + 1 < 2 ^ 64 }
+    ensures { Writes O.given O.faults out.old out.new result (hint_text first hint) }
+{
+    write_text(b" ", out)?;
+    write_number((hint.0 - first + 1) as u64, out)
+}
