@@ -1,0 +1,107 @@
+-- Worked cases of what certificates rest on: paths, reads, the limits of atoms, and values of ranges.
+use Rattle.std.specs.Prelude.{◌≡◌, ℕ, zero, suc, pos, negsuc, List, [], ◌∷◌, length, Some, None, codes, true}
+use Rattle.pc_name.specs.declared.sign.Op.TheVariants.{Eq, Lt}
+use Rattle.pc_name.specs.declared.sign.Sign.{Sign}
+use Rattle.pc_name.specs.declared.sign.Sign.TheVariants.{Plus}
+use Rattle.pc_sheet.specs.Sheet.{range, Universe, Sheet, Item, no_items, item, variable, constant, number, cell, Statement, compare, exists}
+use Rattle.pc_sheet.specs.Nodes.{node_at}
+use Rattle.pc_sheet.specs.Reads.{GiveTruth, AreTooFew}
+use Rattle.pc_sheet.specs.WellSorted.{Variables, IsNewVariable, IsWellSorted}
+use Rattle.pc_sheet.specs.declared.ids.SortId.{SortId}
+use Rattle.pc_laws.specs.Examples.{red, green, entry, cell_side, color_side, equal_cells}
+use Rattle.pc_laws.specs.Truths.{place, sort, blocks, x, right, single, before}
+use Rattle.pc_accept.specs.Axioms.{true_rule, by_reads}
+use Rattle.pc_accept.specs.Accepts.{inconsistent, Line, taken, derived, Certificate, Accepts}
+
+-- ---- a path into a quantifier: exists a:block . before(a, right)
+
+abbrev pub some_block : Sheet
+some_block = record {
+  universe = blocks;
+  rules = record { name = codes "some"; states = exists (codes "a") (sort 1) (before (variable 0) right) } ∷ [];
+  entries = [];
+}
+
+pub record WorkedPaths : Type 0 where
+  -- the second child is the body under the second block
+  pub instance : node_at some_block 0 (1 ∷ []) ≡ Some ((sort 1, place 1) ∷ [], before (variable 0) right)
+  -- there is no third block
+  pub past_the_last : node_at some_block 0 (2 ∷ []) ≡ None
+  -- an atom has no child
+  pub below_an_atom : node_at some_block 0 (1 ∷ 0 ∷ []) ≡ None
+
+-- ---- reads of a = b
+
+abbrev pub both_equal : Statement
+both_equal = compare (cell_side 0) Eq (cell_side 1)
+
+pub record WorkedReads : Type 0 where
+  -- both cells give the truth
+  pub enough : GiveTruth equal_cells.universe [] both_equal (entry 0 green ∷ entry 1 green ∷ []) true
+  -- one of them doesn't
+  pub too_few : AreTooFew equal_cells.universe [] both_equal (entry 0 green ∷ [])
+
+-- ---- limits
+
+-- x is added so many times
+abbrev pub more_x : ℕ → List (Sign × Item)
+more_x zero = []
+more_x (suc n) = (Plus, x) ∷ more_x n
+
+abbrev pub adds_x : ℕ → Statement
+adds_x n = compare (record { first = x; rest = more_x n }) Eq (single (number (pos 0)))
+
+pub record WorkedLimits : Type 0 where
+  -- an atom may read sixteen cells, and no seventeenth
+  pub sixteen_reads : IsWellSorted blocks [] (adds_x 15)
+  pub seventeen_reads : ¬ IsWellSorted blocks [] (adds_x 16)
+  -- inside sixteen quantifiers there is no further one
+  pub no_seventeenth_quantifier : (vs : Variables) (name : List ℕ) (s : SortId) → length vs ≡ 16 → ¬ IsNewVariable blocks vs name s
+
+-- ---- a value of a range
+
+-- two ranges, with a number z of each number from -1 to 2, and a number w from 0 to 5
+abbrev pub ranges : Universe
+ranges = record {
+  sorts = record { name = codes "n"; values = range (negsuc 0) (pos 2) } ∷ record { name = codes "m"; values = range (pos 0) (pos 5) } ∷ [];
+  tables = [];
+  families = record { name = codes "z"; sorts = sort 0 ∷ []; result_sort = sort 0 } ∷ record { name = codes "w"; sorts = []; result_sort = sort 1 } ∷ [];
+}
+
+-- the number -1 as a value of its sort
+abbrev pub lowest : Item
+lowest = constant (sort 0) (place 0)
+
+abbrev pub z_of_lowest : Item
+z_of_lowest = cell (record { 0 = 0 }) (item lowest no_items)
+
+abbrev pub w : Item
+w = cell (record { 0 = 1 }) no_items
+
+pub record WorkedRanges : Type 0 where
+  -- z(-1) = 0: it may be an argument
+  pub as_argument : IsWellSorted ranges [] (compare (single z_of_lowest) Eq (single (number (pos 0))))
+  -- but no item of a side, which has numbers instead
+  pub as_item : ¬ IsWellSorted ranges [] (compare (single lowest) Eq (single (number (pos 0))))
+  -- z(-1) < w: numbers of two ranges are compared as numbers
+  pub two_ranges : IsWellSorted ranges [] (compare (single z_of_lowest) Lt (single w))
+
+-- ---- a certificate of inconsistency: the one rule says red = green
+
+abbrev pub never : Sheet
+never = record {
+  universe = equal_cells.universe;
+  rules = record { name = codes "never"; states = compare (color_side red) Eq (color_side green) } ∷ [];
+  entries = [];
+}
+
+abbrev pub refuting : List Line
+refuting = taken (true_rule 0) ∷ taken (by_reads 0 [] []) ∷ derived [] (0 ∷ 1 ∷ []) ∷ []
+
+abbrev pub refutation : List Line → Certificate
+refutation lines = record { claim = inconsistent; uses = []; values = []; lines = lines }
+
+pub record WorkedRefutation : Type 0 where
+  pub accepted : Accepts never (refutation refuting)
+  -- its axioms alone don't end with the empty clause
+  pub unfinished : ¬ Accepts never (refutation (taken (true_rule 0) ∷ []))
