@@ -1,0 +1,14 @@
+use Rattle.std.proofs.Common.{◌≡◌, List, ap, ◌∙◌, subst, map, filter}
+use Rattle.std.specs.Result.{IfOk}
+use Rattle.pc_sheet.specs.declared.ids.Target.{Target}
+use Rattle.pc_cache.specs.Rows.{Cached}
+use Rattle.pc_cache.specs.inside.Kept.{slot_target, slot_is_missing}
+use Rattle.pc_cache.specs.declared.row.Slot.{Slot}
+use Rattle.pc_cache.proofs.SlotLemmas.{missing_are}
+use Rattle.pc_cache.proofs.cache.Cache.after_enter.Goals as goal
+
+pub returns : goal.returns
+returns c =
+    subst (λ (targets : List Target). IfOk c.targets_without_row.result (λ v. v.items ≡ targets))
+    (ap (λ (ss : List Slot). map slot_target (filter slot_is_missing ss)) c.deref.ensures.value ∙ missing_are c.self.inside.log c.self.inside.starts.items c.self.inside.slots.items c.args.self.now.rows c.self.invariant.placed (ap (λ (r : Cached). r.rows) c.self.view_is))
+    c.targets_without_row.ensures

@@ -1,0 +1,5 @@
+pub mod Rows
+pub mod Targets
+pub mod Lent
+-- what only code and proofs of this crate cite
+pub mod inside

@@ -1,0 +1,5 @@
+pub mod Kept
+pub mod Places
+pub mod Slots
+pub mod Cached
+pub mod Spans

@@ -1,0 +1,123 @@
+//! Changes of rows that are not made yet.
+//!
+//! A row keeps of a log only the lines that its last line rests on. They are copied once, here, and a second time into the
+//! cache's log. Rows that are put one after another often show the same assignment: they share one copy of it.
+
+ghost use Rattle.std.specs.Prelude.{◌≡◌, ◌<◌, ◌++◌, ◌∷◌, [], List, None, Some, IfOk, IsTrue, OnErr, OnOk, length};
+ghost use Rattle.pc_log.specs.Lines.{LogLine};
+ghost use Rattle.pc_log.specs.Trimmed.{IsTrimmed};
+
+use crate::row::{Row, Slot};
+use pc_log::laws::spans_stay;
+use pc_log::{Log, StepId, Trimmer};
+use pc_logic::Assignment;
+use pc_sheet::{Entry, Target};
+use std::alloc::{AllocError, Global};
+use std::marker::Model;
+use std::rc::Rc;
+
+/// Rows that targets are to have, or to lose, seen as the list of these changes. It keeps its derivations in a log of its own.
+#[derive(Drop)]
+pub struct Patch {
+    pub(crate) log: Log,
+    pub(crate) slots: Vec<Slot>,
+    trimmer: Trimmer,
+    // The assignment that was put last.
+    last_shown: Option<Rc<Assignment>>,
+}
+
+impl Model for Patch {
+    ghost use Rattle.std.specs.Prelude.{List};
+    ghost use Rattle.pc_cache.specs.Rows.{TargetRow};
+
+    ghost Value = { List TargetRow };
+
+    ghost use Rattle.pc_cache.specs.inside.Kept.{rows_in, AreRowsIn};
+
+    ghost view = { λ p. rows_in p.log p.slots.items };
+
+    ghost invariant = { λ p. AreRowsIn p.log p.slots.items };
+}
+
+impl Patch {
+    /// No changes. It takes no memory.
+    pub fn new(alloc: Global) -> Patch
+        ensures { result ≡ [] }
+    {
+        Patch {
+            log: Log::new(alloc),
+            slots: Vec::new(alloc),
+            trimmer: Trimmer::new(alloc),
+            last_shown: None,
+        }
+    }
+
+    /// The target is to have no row. Without memory the patch stays as it is.
+    pub fn remove(&mut self, target: Target) -> Result<(), AllocError>
+        ensures ok { OnOk result (self.new ≡ self.old ++ record { target = target; row = None } ∷ []) }
+        ensures err { OnErr result (self.new ≡ self.old) }
+    {
+        self.slots.push(Slot { target, row: None })?;
+        Ok(())
+    }
+
+    /// The target is to have a row: this support and assignment, and of the log the line `last` with those that it rests
+    /// on. Without memory the patch stays as it is.
+    pub fn put(
+        &mut self,
+        target: Target,
+        support: &[Entry],
+        shown: &Assignment,
+        log: &Log,
+        last: StepId,
+    ) -> Result<(), AllocError>
+        requires { last.0 < length log.now }
+        ensures ok { OnOk result ((lines : List LogLine) × IsTrimmed log.now last.0 [] lines × (self.new ≡ self.old ++ record { target = target; row = Some (record { support = support.now; shown = shown.now; lines = lines }) } ∷ [])) }
+        ensures err { OnErr result (self.new ≡ self.old) }
+    {
+        spans_stay();
+        let alloc = *self.slots.allocator();
+        let support = Vec::from_slice(alloc, support)?;
+        let shown = shared(alloc, shown, &mut self.last_shown)?;
+        self.slots.reserve(1)?;
+        let span = self.trimmer.trim(log, last, &mut self.log)?;
+        let row = Row {
+            support,
+            shown,
+            span,
+        };
+        self.slots.push(Slot {
+            target,
+            row: Some(row),
+        })?;
+        Ok(())
+    }
+}
+
+// The last assignment, if it is the same as this one, or a copy of this one, which is then the last.
+fn shared(
+    alloc: Global,
+    shown: &Assignment,
+    last: &mut Option<Rc<Assignment>>,
+) -> Result<Rc<Assignment>, AllocError>
+    ensures { IfOk result (λ rc. rc.value ≡ shown.now) }
+{
+    if let Some(rc) = last {
+        if is_same(rc, shown) {
+            return rc.clone();
+        }
+    }
+    let copy = Rc::new(
+        alloc,
+        Assignment::new(Vec::from_slice(alloc, shown.values())?),
+    )?;
+    *last = Some(copy.clone()?);
+    Ok(copy)
+}
+
+// Whether two assignments are the same.
+fn is_same(one: &Assignment, other: &Assignment) -> bool
+    ensures { IsTrue result → one.now ≡ other.now }
+{
+    one.values() == other.values()
+}

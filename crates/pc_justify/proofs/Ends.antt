@@ -1,0 +1,141 @@
+-- Trimmed lines make accepted certificates.
+use Rattle.std.proofs.Common.{◌≡◌, inl, inr, ℕ, zero, suc, ◌+◌, ◌-◌, ◌<◌, List, [], ◌∷◌, ◌++◌, map, length, get_or, Contains, refl, ap, sym, ◌∙◌, subst, arith}
+use Rattle.std.proofs.lemmas.List.{length-map, get_or-map}
+use Rattle.std.proofs.lemmas.List.Elements.{All-contains, Contains-append_left, Contains-append_right}
+use Rattle.pc_lits.specs.declared.literal.Lit.{Lit}
+use Rattle.pc_lits.proofs.Elements.{contains_first, contains_map, contains_mapped}
+use Rattle.pc_laws.proofs.Contained.{all_contained, sub_contained}
+use Rattle.std.proofs.lemmas.List.Elements.{All-contains_itself}
+use Rattle.pc_log.specs.Lines.{LogLine}
+use Rattle.pc_log.specs.Trimmed.{IsTrimmed}
+use Rattle.pc_log.specs.Derivations.{clause_of, IsDerivation}
+use Rattle.pc_log.specs.Laws.{TrimmingKeepsDerivations}
+use Rattle.pc_sheet.specs.Sheet.{Sheet}
+use Rattle.pc_sheet.specs.Entailment.{IsAssignment, Fits, HasAll}
+use Rattle.pc_sheet.specs.WellFormed.{IsEntryOf}
+use Rattle.pc_sheet.specs.declared.ids.ValueId.{ValueId}
+use Rattle.pc_sheet.specs.declared.ids.Entry.{Entry}
+use Rattle.pc_sheet.specs.declared.ids.Target.{Target}
+use Rattle.pc_accept.specs.Literals.{Literal}
+use Rattle.pc_accept.specs.Axioms.{negated_entry}
+use Rattle.pc_accept.specs.Accepts.{Derives, literal_of_target, value_of_entry, AreInCellOrder}
+use Rattle.pc_ground.specs.Ground.{clauses, lit_of}
+use Rattle.pc_ground.specs.Naming.{names_of}
+use Rattle.pc_ground.specs.Laws.{ClausesAreOfAxioms, SymbolsAreVariables, VariablesHaveTheirPlaces, PairsAreVariables}
+use Rattle.pc_reason.specs.Derivation.{literal_named, line_named, AreLinesNamed, entries_from}
+use Rattle.pc_reason.specs.Reasons.{IsTargetOf, Justification, certificate_of}
+use Rattle.pc_reason.specs.Refutations.{certificate_against}
+use Rattle.pc_reason.specs.Written.{AcceptedReasonsAreWritable, AcceptedRefutationsAreWritable}
+use Rattle.pc_accept.specs.Accepts.{Accepts}
+use Rattle.pc_justify.specs.Found.{clause_on, IsDerivedAt, IsOfTarget}
+use Rattle.pc_justify.specs.Laws.{clauses_named, TrimmedLinesJustify, TrimmedLinesRefute}
+use Rattle.pc_justify.proofs.Named.{literal_back, named_derivation}
+use Rattle.pc_justify.proofs.Moved.{trimmed_named, some_lines, last_clause, no_longer}
+
+-- ---- an assignment, cell by cell
+
+values_back : (c : ℕ) (vs : List ValueId) → map value_of_entry (entries_from c vs) ≡ vs
+values_back c [] = refl
+values_back c (v ∷ vs) = ap (λ ws. v ∷ ws) (values_back (c + 1) vs)
+
+cell_at : (c : ℕ) (vs : List ValueId) (k : ℕ) (d : Entry) → k < length (entries_from c vs) → (get_or (entries_from c vs) k d).cell.0 ≡ c + k
+cell_at c [] k d below = absurd (omega arith)
+cell_at c (v ∷ vs) zero d below = omega arith
+cell_at c (v ∷ vs) (suc k) d below = omega (arith, cell_at (c + 1) vs k d (omega arith))
+
+in_cell_order : (vs : List ValueId) → AreInCellOrder (entries_from 0 vs)
+in_cell_order vs = record { cells = λ k d below. omega (arith, cell_at 0 vs k d below) }
+
+-- ---- the derivation
+
+module _ (of_axioms : ClausesAreOfAxioms) (symbols : SymbolsAreVariables) (places : VariablesHaveTheirPlaces) (trims : TrimmingKeepsDerivations)
+    (sheet : Sheet) (log lines : List LogLine) (last : ℕ) (found : IsDerivedAt sheet log last) (trimmed : IsTrimmed log last [] lines) where
+  abbrev name : Lit → Literal
+  name = literal_named (names_of sheet)
+
+  abbrev found_clause : List Lit
+  found_clause = clause_on (clauses sheet) log last
+
+  pub are_named : AreLinesNamed (names_of sheet) lines
+  are_named = trimmed_named log lines last trimmed (names_of sheet) found.named
+
+  derived : IsDerivation (clauses sheet) lines
+  derived = trims (clauses sheet) log last [] lines found.stands found.derivation (record { good = λ i line at. absurd (cc); earlier = λ i line at. absurd (cc) }) trimmed
+
+  ends : get_or (clauses_named sheet lines) (length (clauses_named sheet lines) - 1) [] ≡ map name found_clause
+  ends =
+      let own = map (clause_of (clauses sheet)) lines in
+      let many : length (clauses_named sheet lines) ≡ length lines = length-map own (map name) ∙ length-map lines (clause_of (clauses sheet)) in
+      let some = some_lines log lines last trimmed in
+      ap (λ n. get_or (clauses_named sheet lines) (n - 1) []) many
+      ∙ get_or-map (map name) own (length lines - 1) [] [] (omega (arith, some, length-map lines (clause_of (clauses sheet))))
+      ∙ ap (map name) (last_clause log lines last trimmed (clauses sheet) found.stands)
+
+  -- the lines derive a clause of these literals, where each of the line's clause is one by name
+  pub derives : (allowed : List Literal) → ((m : Lit) → Contains found_clause m → Contains allowed (name m)) → Derives sheet (map (line_named (names_of sheet)) lines) allowed
+  derives allowed within = record {
+    clauses = clauses_named sheet lines;
+    derivation = named_derivation of_axioms symbols places sheet lines derived are_named;
+    ends = record {
+      some_line = omega (arith, some_lines log lines last trimmed, length-map (map (clause_of (clauses sheet)) lines) (map name), length-map lines (clause_of (clauses sheet)));
+      within = λ l has. let m = contains_mapped name found_clause l (subst (λ c. Contains c l) ends has) in subst (Contains allowed) m.2 (within m.0 m.1);
+    };
+  }
+
+-- ---- a target
+
+module _ (places : VariablesHaveTheirPlaces) (pairs : PairsAreVariables) (sheet : Sheet) (t : Target) (support : List Entry) (is_target : IsTargetOf sheet.universe t)
+    (entries : (e : Entry) → Contains support e → IsEntryOf sheet.universe e) where
+  abbrev allowed_for : List Literal
+  allowed_for = map negated_entry support ++ literal_of_target t ∷ []
+
+  target_allowed : (m : Lit) → m ≡ lit_of sheet (literal_of_target t) → Contains allowed_for (literal_named (names_of sheet) m)
+  target_allowed m is =
+      let back = literal_back sheet (places sheet) (literal_of_target t) (pairs sheet t.cell t.value is_target) in
+      subst (Contains allowed_for) (sym (ap (literal_named (names_of sheet)) is ∙ back))
+      (Contains-append_right (map negated_entry support) (literal_of_target t ∷ []) (literal_of_target t) (contains_first (literal_of_target t) []))
+
+  entry_allowed : (m : Lit) (e : Entry) → Contains support e → m ≡ lit_of sheet (negated_entry e) → Contains allowed_for (literal_named (names_of sheet) m)
+  entry_allowed m e has is =
+      let back = literal_back sheet (places sheet) (negated_entry e) (pairs sheet e.cell e.value (entries e has)) in
+      subst (Contains allowed_for) (sym (ap (literal_named (names_of sheet)) is ∙ back))
+      (Contains-append_left (map negated_entry support) (literal_of_target t ∷ []) (negated_entry e) (contains_map negated_entry support e has))
+
+  pub allowed : (clause : List Lit) → IsOfTarget sheet support t clause → (m : Lit) → Contains clause m → Contains allowed_for (literal_named (names_of sheet) m)
+  allowed clause of m has = elim (of m has) [ inl is ↦ target_allowed m is | inr e ↦ entry_allowed m e.0 e.1 e.2 ]
+
+pub trimmed_lines_justify : ClausesAreOfAxioms → SymbolsAreVariables → PairsAreVariables → VariablesHaveTheirPlaces → TrimmingKeepsDerivations → AcceptedReasonsAreWritable → TrimmedLinesJustify
+trimmed_lines_justify of_axioms symbols pairs places trims writable sheet t support shown log lines last formed names is_target least shows few found of trimmed =
+    let among : (e : Entry) → Contains support e → Contains sheet.entries e = sub_contained sheet.entries support least.supports.among in
+    let entries : (e : Entry) → Contains support e → IsEntryOf sheet.universe e = λ e has. All-contains (IsEntryOf sheet.universe) sheet.entries e formed.entries.each (among e has) in
+    let back : map value_of_entry (entries_from 0 shown) ≡ shown = values_back 0 shown in
+    let j : Justification = record { support = support; shown = shown; lines = lines } in
+    let named = are_named of_axioms symbols places trims sheet log lines last found trimmed in
+    let accepted : Accepts sheet (certificate_of (names_of sheet) t j) = record {
+      entered = all_contained (Contains sheet.entries) support sheet.entries among (All-contains_itself sheet.entries);
+      in_order = in_cell_order shown;
+      assigns = subst (IsAssignment sheet.universe) (sym back) shows.assigns;
+      has = subst (λ a. HasAll a support) (sym back) shows.has;
+      fits = subst (Fits sheet) (sym back) shows.fits;
+      derives = derives of_axioms symbols places trims sheet log lines last found trimmed (map negated_entry support ++ literal_of_target t ∷ [])
+          (allowed places pairs sheet t support is_target entries (clause_on (clauses sheet) log last) of);
+    } in
+    record {
+      least = least;
+      named = named;
+      accepted = accepted;
+      written = writable sheet (names_of sheet) t j formed names is_target named (omega (arith, few, no_longer log lines last trimmed)) accepted;
+    }
+
+pub trimmed_lines_refute : ClausesAreOfAxioms → SymbolsAreVariables → VariablesHaveTheirPlaces → TrimmingKeepsDerivations → AcceptedRefutationsAreWritable → TrimmedLinesRefute
+trimmed_lines_refute of_axioms symbols places trims writable sheet log lines last names few found empty trimmed =
+    let named = are_named of_axioms symbols places trims sheet log lines last found trimmed in
+    let accepted : Accepts sheet (certificate_against (names_of sheet) lines) = record {
+      no_uses = refl;
+      no_values = refl;
+      derives = derives of_axioms symbols places trims sheet log lines last found trimmed [] (λ m has. absurd (none (subst (λ c. Contains c m) empty has)));
+    } in
+    (named, accepted, writable sheet (names_of sheet) lines names named (omega (arith, few, no_longer log lines last trimmed)) accepted)
+  where
+    none : {m : Lit} → Contains [] m → ⊥
+    none has = omega (arith, has.1)

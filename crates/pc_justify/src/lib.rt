@@ -1,0 +1,12 @@
+//! What a search derives is accepted: the lines that a line of a solver's log rests on, trimmed and called by the sheet's
+//! names, are the lines of a certificate that the sheet accepts.
+//!
+//! Nothing is computed here: each function is a law, whose contract holds for every value, and it does nothing.
+#![tactic(auto)]
+
+mod laws;
+
+pub use laws::{
+    named_lines_derive, names_are_of_their_sheet, own_lines_are_named, trimmed_lines_justify,
+    trimmed_lines_refute,
+};

@@ -1,0 +1,9 @@
+pub mod Justified
+pub mod Steps
+pub mod JoinedLemmas
+pub mod FoundLemmas
+pub mod EachLemmas
+pub mod JoinLemmas
+pub mod WorldLemmas
+pub mod SearchLemmas
+pub mod SeenLemmas

@@ -1,0 +1,7 @@
+pub mod Places
+pub mod Asked
+pub mod Narrowing
+pub mod Parts
+pub mod Sets
+pub mod Seen
+pub mod Laws

@@ -1,0 +1,12 @@
+pub mod Lits
+pub mod Reading
+pub mod Counts
+pub mod GrowLemmas
+pub mod RefutedLemmas
+pub mod Pigeons
+pub mod ListLemmas
+pub mod TurnLemmas
+pub mod FirstLemmas
+pub mod LogLemmas
+pub mod PartLemmas
+pub mod EntryLemmas

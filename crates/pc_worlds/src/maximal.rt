@@ -1,0 +1,211 @@
+//! The worlds of a part.
+
+ghost use Rattle.std.specs.Prelude.{◌≡◌, ℕ, ◌+◌, ◌<◌, ◌≤◌, ◌^◌, [], IfErr, IfOk, length, map};
+ghost use Rattle.pc_sheet.specs.Sheet.{Sheet};
+ghost use Rattle.pc_sheet.specs.Entailment.{AreWithin, HaveDistinctCells, cell_sizes};
+ghost use Rattle.pc_sheet.specs.MaximalSets.{IsMaximalSet};
+ghost use Rattle.pc_searched.specs.Searched.{IsSearched};
+ghost use Rattle.pc_components.specs.View.{number_of};
+ghost use Rattle.pc_solver.specs.Solver.{IsProblem};
+ghost use Rattle.pc_ground.specs.Grounded.{grounded};
+ghost use Rattle.pc_solver.specs.Solver.{clauses_used};
+ghost use Rattle.pc_world_list.specs.Worlds.{AreExact};
+ghost use Rattle.pc_worlds.specs.inside.Listing.{AreFewCalls, IsFullSet, IsOfSheet};
+ghost use Rattle.pc_worlds.specs.Parts.{AddsLogs, AreFewFor, IsListingLog, marked_in};
+ghost use Rattle.pc_worlds.specs.Refuted.{AreRefuted};
+ghost use Rattle.pc_worlds.specs.inside.Searching.{IsNewSearch, IsReady};
+ghost use Rattle.pc_parts.specs.PartSheets.{entries_on};
+ghost use Rattle.pc_solver.specs.Spending.{SpendsOver, marked, StopSays};
+
+use crate::entries::entries_on;
+use crate::listing::list;
+use crate::refuted::Refuted;
+use crate::search::Search;
+use crate::task::Task;
+use pc_components::Part;
+use pc_ground::Ground;
+use pc_lits::Tally;
+use pc_log::Log;
+use pc_logic::{Assignment, Book, Entry, ValueId};
+use pc_solver::Stop;
+use pc_world_list::Worlds;
+use std::alloc::{AllocError, Global};
+
+// The first value for each cell.
+fn first_values(alloc: Global, book: &Book) -> Result<Assignment, AllocError>
+    ensures { IfOk result (λ values. AreWithin (cell_sizes book.now.universe) values) }
+{
+    // Every book is well formed, so that each cell has a value.
+    let _entries = book.entries();
+    let mut values = Vec::new(alloc);
+    for _cell in 0..book.cells() {
+        values.push(ValueId(0))?;
+    }
+    Ok(Assignment::new(values))
+}
+
+// Lists the worlds, and hands over the logs of both searches, whatever comes of it.
+fn list_with_logs(
+    alloc: Global,
+    task: Task<'_>,
+    finder: Search<'_>,
+    grower: Search<'_>,
+    refuted: &mut Refuted,
+    shown: Assignment,
+    logs: &mut Vec<Log>,
+    tally: &mut Tally,
+) -> Result<Worlds, Stop>
+    requires ready { IsReady task.ground.now.sizes task.cells.now task.entries.now finder.solver }
+    requires together { (grower.solver.problem ≡ finder.solver.problem) }
+    requires no_blocks { grower.solver.blocks ≡ [] }
+    requires new { finder.solver.blocks ≡ [] }
+    requires finding { finder.log ≡ [] }
+    requires growing { grower.log ≡ [] }
+    requires distinct { HaveDistinctCells task.entries.now }
+    requires within { AreWithin task.ground.now.sizes shown }
+    requires refuted { AreRefuted task.ground.now.sizes task.cells.now (clauses_used finder.solver.problem) refuted.old }
+    requires few_entries { length task.entries.now ≤ 4096 }
+    requires few_learned { tally.old.learned + tally.old.limit < 2 ^ 121 }
+    requires few_calls { tally.old.calls < 2 ^ 121 }
+    ensures exact { (sheet : Sheet) → IsOfSheet (record { sizes = task.entry.ground.now.sizes; cells = task.entry.cells.now; entries = task.entry.entries.now; clauses = clauses_used finder.entry.solver.problem }) sheet → IfOk result (AreExact sheet) }
+    ensures refuted { AreRefuted task.entry.ground.now.sizes task.entry.cells.now (clauses_used finder.entry.solver.problem) refuted.new }
+    ensures cause { IfErr result (StopSays tally.new) }
+    ensures logs { AddsLogs 2 (IsListingLog task.entry.ground.now.sizes task.entry.entries.now (IsFullSet (record { sizes = task.entry.ground.now.sizes; cells = task.entry.cells.now; entries = task.entry.entries.now; clauses = clauses_used finder.entry.solver.problem }))
+        finder.entry.solver.problem) logs.old.items logs.new.items }
+    ensures works { (most : ℕ) × AreFewCalls (record { sizes = task.entry.ground.now.sizes; cells = task.entry.cells.now; entries = task.entry.entries.now; clauses = clauses_used finder.entry.solver.problem }) most
+        × SpendsOver (length finder.entry.solver.problem.own) tally.old tally.new (marked_in logs.old.items) (marked_in logs.new.items) most }
+{
+    logs.reserve(2)?;
+    let mut finder = finder;
+    let mut grower = grower;
+    let mut shown = shown;
+    let mut found = Worlds::new(alloc);
+    let outcome = list(
+        alloc,
+        task,
+        &mut finder,
+        &mut grower,
+        refuted,
+        &mut shown,
+        &mut found,
+        tally,
+    );
+    logs.push(finder.into_log()).unwrap();
+    logs.push(grower.into_log()).unwrap();
+    match outcome {
+        Ok(()) => Ok(found),
+        Err(stop) => Err(stop),
+    }
+}
+
+// What a listing begins with.
+struct Beginning<'g> {
+    entries: Vec<Entry>,
+    shown: Assignment,
+    finder: Search<'g>,
+    grower: Search<'g>,
+}
+
+fn new_search<'g>(
+    alloc: Global,
+    ground: &'g Ground,
+    part: Part<'g>,
+) -> Result<Search<'g>, AllocError>
+    requires { IsProblem ground.now.variables (record { axioms = ground.now.clauses; used = part.axioms.now; own = part.variables.now }) }
+    ensures { IfOk result (IsNewSearch (record { axioms = ground.now.clauses; used = part.entry.axioms.now; own = part.entry.variables.now })) }
+{
+    Search::new(alloc, ground.store(), part, ground.variables())
+}
+
+fn begin<'g>(
+    alloc: Global,
+    book: &Book,
+    ground: &'g Ground,
+    part: Part<'g>,
+) -> Result<Beginning<'g>, AllocError>
+    requires { IsProblem ground.now.variables (record { axioms = ground.now.clauses; used = part.axioms.now; own = part.variables.now }) }
+    ensures entries { IfOk result (λ s. s.entries.items ≡ entries_on (map number_of part.entry.cells.now) book.now.entries) }
+    ensures few { IfOk result (λ s. length s.entries.items ≤ 4096) }
+    ensures shown { IfOk result (λ s. AreWithin (cell_sizes book.now.universe) s.shown) }
+    ensures finder { IfOk result (λ s. IsNewSearch (record { axioms = ground.now.clauses; used = part.entry.axioms.now; own = part.entry.variables.now }) s.finder) }
+    ensures grower { IfOk result (λ s. IsNewSearch (record { axioms = ground.now.clauses; used = part.entry.axioms.now; own = part.entry.variables.now }) s.grower) }
+{
+    let entries = entries_on(alloc, book, part.cells)?;
+    let shown = first_values(alloc, book)?;
+    let finder = new_search(alloc, ground, part)?;
+    let grower = new_search(alloc, ground, part)?;
+    Ok(Beginning {
+        entries,
+        shown,
+        finder,
+        grower,
+    })
+}
+
+/// The maximal consistent sets of the entries on a part's cells, each once, each with an assignment that has it and makes
+/// the part's rules true. The logs of the two searches are added to `logs`, whatever comes of it. What is known to be refuted by
+/// the part's clauses saves calls, and what is refuted is added to it.
+pub fn worlds_knowing(
+    alloc: Global,
+    book: &Book,
+    ground: &Ground,
+    part: Part<'_>,
+    refuted: &mut Refuted,
+    logs: &mut Vec<Log>,
+    tally: &mut Tally,
+) -> Result<Worlds, Stop>
+    requires ground { ground.now ≡ grounded book.now }
+    requires problem { IsProblem ground.now.variables (record { axioms = ground.now.clauses; used = part.axioms.now; own = part.variables.now }) }
+    requires searched { (sheet : Sheet) × IsSearched sheet part.cells.now ground.now.sizes (entries_on (map number_of part.cells.now) book.now.entries) (record { axioms = ground.now.clauses; used = part.axioms.now; own = part.variables.now }) }
+    requires refuted { AreRefuted ground.now.sizes part.cells.now (clauses_used (record { axioms = ground.now.clauses; used = part.axioms.now; own = part.variables.now })) refuted.old }
+    requires few_learned { tally.old.learned < 2 ^ 120 }
+    requires few_calls { tally.old.calls < 2 ^ 120 }
+    ensures exact { (sheet : Sheet) → IsSearched sheet part.entry.cells.now ground.now.sizes (entries_on (map number_of part.entry.cells.now) book.now.entries) (record { axioms = ground.now.clauses; used = part.entry.axioms.now; own = part.entry.variables.now }) → IfOk result (AreExact sheet) }
+    ensures refuted { AreRefuted ground.now.sizes part.entry.cells.now (clauses_used (record { axioms = ground.now.clauses; used = part.entry.axioms.now; own = part.entry.variables.now })) refuted.new }
+    ensures stop { IfErr result (StopSays tally.new) }
+    ensures logs { (sheet : Sheet) → IsSearched sheet part.entry.cells.now ground.now.sizes (entries_on (map number_of part.entry.cells.now) book.now.entries) (record { axioms = ground.now.clauses; used = part.entry.axioms.now; own = part.entry.variables.now })
+        → AddsLogs 2 (IsListingLog ground.now.sizes sheet.entries (IsMaximalSet sheet) (record { axioms = ground.now.clauses; used = part.entry.axioms.now; own = part.entry.variables.now })) logs.old.items logs.new.items }
+    ensures spends { (most : ℕ) × ((sheet : Sheet) → IsSearched sheet part.entry.cells.now ground.now.sizes (entries_on (map number_of part.entry.cells.now) book.now.entries) (record { axioms = ground.now.clauses; used = part.entry.axioms.now; own = part.entry.variables.now }) → AreFewFor sheet most)
+        × SpendsOver (length part.entry.variables.now) tally.old tally.new (marked_in logs.old.items) (marked_in logs.new.items) most }
+{
+    let _limit = tally.limit;
+    let Beginning {
+        entries,
+        shown,
+        finder,
+        grower,
+    } = begin(alloc, book, ground, part)?;
+    let task = Task {
+        book,
+        ground,
+        cells: part.cells,
+        entries: &entries,
+    };
+    list_with_logs(alloc, task, finder, grower, refuted, shown, logs, tally)
+}
+
+/// The maximal consistent sets of the entries on a part's cells, each once, each with an assignment that has it and makes
+/// the part's rules true. The logs of the two searches are added to `logs`, whatever comes of it.
+pub fn worlds(
+    alloc: Global,
+    book: &Book,
+    ground: &Ground,
+    part: Part<'_>,
+    logs: &mut Vec<Log>,
+    tally: &mut Tally,
+) -> Result<Worlds, Stop>
+    requires ground { ground.now ≡ grounded book.now }
+    requires problem { IsProblem ground.now.variables (record { axioms = ground.now.clauses; used = part.axioms.now; own = part.variables.now }) }
+    requires searched { (sheet : Sheet) × IsSearched sheet part.cells.now ground.now.sizes (entries_on (map number_of part.cells.now) book.now.entries) (record { axioms = ground.now.clauses; used = part.axioms.now; own = part.variables.now }) }
+    requires few_learned { tally.old.learned < 2 ^ 120 }
+    requires few_calls { tally.old.calls < 2 ^ 120 }
+    ensures exact { (sheet : Sheet) → IsSearched sheet part.entry.cells.now ground.now.sizes (entries_on (map number_of part.entry.cells.now) book.now.entries) (record { axioms = ground.now.clauses; used = part.entry.axioms.now; own = part.entry.variables.now }) → IfOk result (AreExact sheet) }
+    ensures stop { IfErr result (StopSays tally.new) }
+    ensures logs { (sheet : Sheet) → IsSearched sheet part.entry.cells.now ground.now.sizes (entries_on (map number_of part.entry.cells.now) book.now.entries) (record { axioms = ground.now.clauses; used = part.entry.axioms.now; own = part.entry.variables.now })
+        → AddsLogs 2 (IsListingLog ground.now.sizes sheet.entries (IsMaximalSet sheet) (record { axioms = ground.now.clauses; used = part.entry.axioms.now; own = part.entry.variables.now })) logs.old.items logs.new.items }
+    ensures spends { (most : ℕ) × ((sheet : Sheet) → IsSearched sheet part.entry.cells.now ground.now.sizes (entries_on (map number_of part.entry.cells.now) book.now.entries) (record { axioms = ground.now.clauses; used = part.entry.axioms.now; own = part.entry.variables.now }) → AreFewFor sheet most)
+        × SpendsOver (length part.entry.variables.now) tally.old tally.new (marked_in logs.old.items) (marked_in logs.new.items) most }
+{
+    let mut refuted = Refuted::new(alloc);
+    worlds_knowing(alloc, book, ground, part, &mut refuted, logs, tally)
+}
