@@ -1,0 +1,7 @@
+-- The law that words leave no choice.
+use Rattle.std.specs.Prelude.{◌≡◌, ℕ, List}
+use Rattle.pc_words.specs.Words.{Request, Fits}
+
+-- words fit one request at most
+abbrev pub WordsFitOneRequest : Type 0
+WordsFitOneRequest = (words : List (List ℕ)) (x y : Request) → Fits words x → Fits words y → x ≡ y

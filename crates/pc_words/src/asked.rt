@@ -1,0 +1,32 @@
+// What words ask for.
+
+/// What is to be done.
+#[derive(Clone, Copy, Debug, PartialEq, Eq)]
+pub enum Mode<'a> {
+    /// To run a sheet and its commands, both from the input.
+    Replay,
+    /// To run the commands of the input on the sheet of this file.
+    Edit(&'a str),
+    /// To check the certificate of the input for the sheet of this file.
+    Check(&'a str),
+    /// To run the generated sheet of this many blocks, from 1 to 256.
+    Demo(u32),
+}
+
+/// What the words ask for.
+#[derive(Clone, Copy, Debug, PartialEq, Eq)]
+pub struct Request<'a> {
+    /// What is to be done.
+    pub mode: Mode<'a>,
+    /// The most propagations of each load and edit, from 1 to 1,000,000,000,000.
+    pub budget: u64,
+}
+
+/// Why words give no request.
+#[derive(Clone, Copy, Debug, PartialEq, Eq)]
+pub enum WordsFault {
+    /// The words don't fit.
+    Usage,
+    /// Memory was wanted to read words that fit.
+    Memory,
+}
