@@ -1,0 +1,4 @@
+pub mod Names
+pub mod Formed
+pub mod Weighed
+pub mod Lines
