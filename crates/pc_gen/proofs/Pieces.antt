@@ -4,7 +4,7 @@ use Rattle.std.proofs.lemmas.List.Concat.{flat_map-append}
 use Rattle.std.specs.Fmt.{decimal}
 use Rattle.std.specs.List.{flat_map}
 use Rattle.std.specs.Prelude.{Result, Ok, Err, OnOk, if◌then◌else◌}
-use Rattle.pc_gen.specs.Text.{up_to, head_lines, block_lines, generated_lines, ended, generated_text}
+use Rattle.pc_gen.specs.Text.{up_to, head_lines, block_lines, ended, generated_text}
 
 abbrev later_lines : List ℕ
 later_lines = codes "sort slot = 1 .. 4\nsort color = red green blue\ncell x(block, slot) : color\nrule chain : forall b:block . x(b, 1) = x(b, 2) & x(b, 2) = x(b, 3)\nrule other : forall b:block . x(b, 3) != x(b, 4)\n"

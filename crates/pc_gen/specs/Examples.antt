@@ -1,5 +1,5 @@
 -- The lines of the entries of three blocks.
-use Rattle.std.specs.Prelude.{◌≡◌, List, [], ◌∷◌, codes}
+use Rattle.std.specs.Prelude.{◌≡◌, [], ◌∷◌, codes}
 use Rattle.std.specs.List.{flat_map}
 use Rattle.pc_gen.specs.Text.{block_lines, up_to}
 

@@ -1,24 +1,23 @@
 -- The generated sheet is well formed.
-use Rattle.std.proofs.Common.{◌≡◌, ◌≢◌, ℕ, zero, suc, ◌<◌, ◌≤◌, ◌+◌, ◌*◌, ◌%◌, Bool, true, false, not, ◌&&◌, List, [], ◌∷◌, ◌++◌, Some, None, Option, pos, ◌-ℤ◌, codes, map, length, replicate, slice_get, get_or, sum_by, arith, refl, sym, ap, ◌∙◌, subst, inr, append_assoc}
-use Rattle.std.proofs.lemmas.Bool.Decides.{nat_tests}
+use Rattle.std.proofs.Common.{◌≡◌, ◌≢◌, ℕ, zero, suc, ◌<◌, ◌≤◌, ◌+◌, ◌*◌, ◌%◌, Bool, true, false, not, ◌&&◌, List, [], ◌∷◌, ◌++◌, Some, pos, codes, replicate, slice_get, get_or, arith, refl, sym, ap, subst, inr, append_assoc}
 use Rattle.std.proofs.lemmas.Int.{ints}
 use Rattle.std.proofs.lemmas.List.Elements.{All-nil, All-cons, All-append, All-push, All-weaker, All-from_recursion}
 use Rattle.std.proofs.lemmas.List.Kept.{AllPairs-cons}
 use Rattle.std.proofs.lemmas.List.Quantifiers.{all_pairs_push}
 use Rattle.std.proofs.lemmas.Slice.Eq.{bytes_eq-Decides}
-use Rattle.std.specs.Prelude.{All, AllPairs, Contains, IsSomeAnd, unsigned_abs}
+use Rattle.std.specs.Prelude.{All, AllPairs, Contains, IsSomeAnd}
 use Rattle.std.specs.Str.{bytes_eq}
 use Rattle.pc_name.specs.Names.{IsName}
 use Rattle.pc_name.specs.declared.sign.Op.{Op}
 use Rattle.pc_name.specs.declared.sign.Op.TheVariants.{Eq, Ne}
 use Rattle.pc_sheet.specs.Sheet.{listed, range, Sort, compare}
-use Rattle.pc_sheet.specs.Truth.{size_of, cells_in}
+use Rattle.pc_sheet.specs.Truth.{size_of}
 use Rattle.pc_sheet.specs.Entailment.{cell_sizes, HaveDistinctCells}
-use Rattle.pc_sheet.specs.WellSorted.{Variables, declared_names, IsOfSort, IsNewVariable, IsValueOf, AreComparable, IsWellSorted, IsSmallNumber, IsEquality}
-use Rattle.pc_sheet.specs.WellFormed.{AreDifferent, AreWellFormedValues, IsDeclaredSort, IsWellFormedTable, IsWellFormedFamily, IsWellFormedUniverse, IsWellFormedRule, AreWellFormedRules, IsEntryOf, AreWellFormedEntries, IsWellFormed, rule_name, rows_in}
+use Rattle.pc_sheet.specs.WellSorted.{Variables, IsNewVariable, IsValueOf, IsWellSorted, IsSmallNumber, IsEquality}
+use Rattle.pc_sheet.specs.WellFormed.{AreDifferent, AreWellFormedValues, IsDeclaredSort, IsWellFormedTable, IsWellFormedFamily, IsWellFormedUniverse, IsWellFormedRule, AreWellFormedRules, IsEntryOf, IsWellFormed}
 use Rattle.pc_sheet.specs.declared.ids.CellId.{CellId}
 use Rattle.pc_sheet.specs.declared.ids.Entry.{Entry}
-use Rattle.pc_generated.specs.Sheet.{sort, generated_universe, in_slot, each_block, same, chain, other, entry, block_entries, generated_entries, generated_sheet}
+use Rattle.pc_generated.specs.Sheet.{sort, generated_universe, in_slot, chain, other, entry, block_entries, generated_entries, generated_sheet}
 use Rattle.pc_generated.proofs.Names.{both, small_name}
 
 -- ---- names

@@ -7,10 +7,8 @@ use Rattle.std.specs.List.{flat_map}
 use Rattle.std.specs.Prelude.{unwrap_or}
 use Rattle.pc_sheet.specs.Truth.{cell_number}
 use Rattle.pc_sheet.specs.Cells.{Application, cells, CellsAreNumberedInOrder}
-use Rattle.pc_sheet.specs.declared.ids.ValueId.{ValueId}
-use Rattle.pc_gen.specs.Text.{up_to, color_name, head_lines, enter_line, block_lines, generated_lines, generated_text, ended}
+use Rattle.pc_gen.specs.Text.{up_to, color_name, head_lines, enter_line, block_lines, generated_text, ended}
 use Rattle.pc_writer.specs.SheetText as writer
-use Rattle.pc_writer.specs.Spelling.{application_of, cell_text, entry_text, value_text}
 use Rattle.pc_generated.specs.Sheet.{generated_universe, chain, other, entry, block_entries, generated_entries, generated_sheet}
 use Rattle.pc_generated.proofs.Formed.{block_size}
 

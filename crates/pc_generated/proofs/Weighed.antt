@@ -1,11 +1,11 @@
 -- What the generated sheet weighs.
-use Rattle.std.proofs.Common.{◌≡◌, ◌≢◌, ℕ, zero, suc, ◌<◌, ◌≤◌, ◌+◌, ◌*◌, ◌==◌, Bool, true, false, List, [], ◌∷◌, ◌++◌, Some, Option, slice_get, slice_index_or, replicate, sum_by, arith, refl, sym, ap, ap₂, ◌∙◌, subst, append-nil, suc-mul}
+use Rattle.std.proofs.Common.{◌≡◌, ℕ, zero, suc, ◌<◌, ◌≤◌, ◌+◌, ◌*◌, ◌==◌, Bool, false, List, [], ◌∷◌, ◌++◌, Some, slice_get, slice_index_or, replicate, sum_by, arith, refl, ap, ap₂, ◌∙◌, append-nil, suc-mul}
 use Rattle.std.proofs.lemmas.Bool.Decides.{nat_tests}
 use Rattle.std.proofs.lemmas.List.Folds.{sum_by-replicate}
 use Rattle.std.proofs.lemmas.List.Sums.{sum_by-append}
 use Rattle.pc_name.specs.declared.sign.Op.{Op}
 use Rattle.pc_name.specs.declared.sign.Op.TheVariants.{Eq, Ne}
-use Rattle.pc_sheet.specs.Sheet.{Statement, no_statements, statement, compare, all_of}
+use Rattle.pc_sheet.specs.Sheet.{no_statements, statement, compare, all_of}
 use Rattle.pc_sheet.specs.Truth.{Scope, size_of}
 use Rattle.pc_sheet.specs.Entailment.{cell_sizes}
 use Rattle.pc_sheet.specs.Cells.{values_below}

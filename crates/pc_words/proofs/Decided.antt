@@ -1,5 +1,5 @@
 -- What the steps of the reading tell of the words.
-use Rattle.std.proofs.Common.{◌≡◌, ◌↔◌, IsTrue, ℕ, Bool, true, false, List, Some, None, Option, Bor, option_map, is_some, refl, sym, ap, subst, ◌∙◌}
+use Rattle.std.proofs.Common.{◌≡◌, ◌↔◌, IsTrue, ℕ, Bool, false, List, Some, None, Option, Bor, option_map, is_some, refl, sym, ap, subst, ◌∙◌}
 use Rattle.std.specs.Option.{IsSome}
 use Rattle.std.specs.Prelude.{option_and_then}
 use Rattle.pc_words.specs.declared.asked.Request.{Request as FoundRequest}

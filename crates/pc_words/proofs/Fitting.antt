@@ -1,5 +1,5 @@
 -- The request that is found is the one that the words fit.
-use Rattle.std.proofs.Common.{◌≡◌, ℕ, ◌+◌, ◌&&◌, Bool, true, false, List, [], ◌∷◌, ◌++◌, Some, None, Option, codes, length, take, drop, arith, refl, sym, ap, ◌∙◌, subst, inl, inr, append-nil, take-append-drop}
+use Rattle.std.proofs.Common.{◌≡◌, ℕ, Bool, true, false, List, [], ◌∷◌, ◌++◌, Some, None, codes, length, take, drop, arith, refl, sym, ap, ◌∙◌, subst, inl, inr, append-nil, take-append-drop}
 use Rattle.std.proofs.Math.Seq.{take-length, drop-length, take-append_seam, drop-append_seam}
 use Rattle.std.proofs.lemmas.Bool.Decides.{nat_tests}
 use Rattle.std.proofs.lemmas.Slice.Eq.{bytes_eq-Decides}
@@ -7,8 +7,8 @@ use Rattle.std.proofs.lemmas.Str.Parse.{digit_from_value}
 use Rattle.std.specs.Prelude.{if◌then◌else◌, option_and_then}
 use Rattle.std.specs.Str.{bytes_eq}
 use Rattle.pc_words.specs.Words.{Mode, replays, edits, checks, demonstrates, Request, IsFileName, IsNumber, AreOfMode, AreOption, FitWithBudget, Fits, FitNothing}
-use Rattle.pc_words.specs.inside.Parts.{is_option, is_attached, Parts, plain_parts, valued_parts, option_parts, option_place, parts_of, request_from, request_for}
-use Rattle.pc_words.proofs.Modes.{IsBudgetOf, plain_sound, plain_complete}
+use Rattle.pc_words.specs.inside.Parts.{is_option, is_attached, plain_parts, valued_parts, option_parts, option_place, parts_of, request_from, request_for}
+use Rattle.pc_words.proofs.Modes.{plain_sound, plain_complete}
 
 -- ---- what is found fits
 

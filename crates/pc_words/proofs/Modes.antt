@@ -1,11 +1,11 @@
 -- Modes and budgets, as they are found and as they are meant.
-use Rattle.std.proofs.Common.{◌≡◌, ◌≢◌, ℕ, Bool, true, false, ◌==◌, List, [], ◌∷◌, Some, None, Option, codes, not, arith, refl, sym, ap, ap₂, ◌∙◌, subst}
+use Rattle.std.proofs.Common.{◌≡◌, ℕ, Bool, true, false, List, [], ◌∷◌, Some, None, Option, codes, arith, refl, sym, ap, ◌∙◌, subst}
 use Rattle.std.proofs.lemmas.Bool.Decides.{nat_tests}
 use Rattle.std.proofs.lemmas.Slice.Eq.{bytes_eq-Decides}
 use Rattle.std.specs.Prelude.{if◌then◌else◌, option_map, option_and_then}
 use Rattle.std.specs.Str.{bytes_eq}
 use Rattle.pc_words.specs.Words.{Mode, replays, edits, checks, demonstrates, Request, usual_budget, IsFileName, IsNumber, AreOfMode, TakesBudget}
-use Rattle.pc_words.specs.inside.Parts.{is_file_name, number_of, Parts, plain_parts, lone_mode, demo_of, mode_with, mode_from, takes_budget, with_number, with_budget, request_from}
+use Rattle.pc_words.specs.inside.Parts.{is_file_name, number_of, plain_parts, lone_mode, demo_of, mode_with, takes_budget, with_budget, request_from}
 use Rattle.pc_words.proofs.Numbers.{number_sound, number_complete}
 
 -- ---- single words

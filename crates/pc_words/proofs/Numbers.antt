@@ -1,9 +1,9 @@
 -- The numbers of words, as they are found and as they are meant.
-use Rattle.std.proofs.Common.{◌≡◌, ℕ, ◌<◌, ◌≤◌, Bool, true, false, ◌&&◌, List, Some, None, Option, nat_lt, nat_le, length, arith, refl, sym, ◌∙◌}
+use Rattle.std.proofs.Common.{◌≡◌, ℕ, ◌<◌, ◌≤◌, Bool, true, false, ◌&&◌, List, Some, None, nat_lt, nat_le, length, arith, refl, ◌∙◌}
 use Rattle.std.proofs.lemmas.Bool.Decides.{nat_tests}
 use Rattle.std.specs.Prelude.{if◌then◌else◌}
 use Rattle.std.specs.Str.{all_ascii_digits}
-use Rattle.std.specs.Str.Parse.{AllDigits, digits_value}
+use Rattle.std.specs.Str.Parse.{digits_value}
 use Rattle.pc_words.specs.Words.{IsNumber}
 use Rattle.pc_words.specs.inside.Parts.{is_short_numeral, within, number_of}
 use Rattle.pc_words.proofs.Digits.{both, all_in_ten, all_are_digits, number_is}

@@ -1,10 +1,10 @@
 -- What clap makes of words that fit.
-use Rattle.std.proofs.Common.{◌≡◌, ◌∷◌, ◌++◌, ◌==◌, ◌∙◌, cond, ap, arith, not, Bool, ℕ, List, [], codes, Some, None, Option, true, false, refl, sym, subst, inl, inr}
+use Rattle.std.proofs.Common.{◌≡◌, ◌∷◌, ◌++◌, ◌==◌, ◌∙◌, cond, ap, Bool, ℕ, List, [], codes, Some, None, Option, true, false, refl, sym, subst, inl, inr}
 use Rattle.std.specs.Str.{bytes_eq}
 use Rattle.clap.specs.Lexer.{strip_byte}
 use Rattle.clap.specs.Words.{matches_of, takes, first_of}
 use Rattle.clap.proofs.OnLiterals.{clap_on_literals}
-use Rattle.pc_words.specs.Words.{Mode, Request, AreOption, FitWithBudget, Fits, IsNumber}
+use Rattle.pc_words.specs.Words.{Request, AreOption, FitWithBudget, Fits}
 use Rattle.pc_words.specs.inside.Parse.{app}
 use Rattle.pc_words.specs.inside.Parts.{is_option, Parts, plain_parts, parts_of}
 use Rattle.pc_words.proofs.Fitting.{AllPlain, plain_front, plain_back, plain_words, plain_number, parts_plain, attached_parts, detached_parts}

@@ -1,6 +1,6 @@
 -- Worked words: what they ask for, or that they fit nothing.
 use Rattle.std.specs.Prelude.{ℕ, List, [], ◌∷◌, codes}
-use Rattle.pc_words.specs.Words.{Mode, replays, edits, checks, demonstrates, Request, usual_budget, Fits, FitNothing}
+use Rattle.pc_words.specs.Words.{Mode, replays, edits, checks, demonstrates, usual_budget, Fits, FitNothing}
 
 abbrev ask : List (List ℕ) → Mode → ℕ → Type 0
 ask words mode budget = Fits words (record { mode = mode; budget = budget })

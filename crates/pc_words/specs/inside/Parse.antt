@@ -1,5 +1,5 @@
 -- The command as clap has it, and what it finds in words.
-use Rattle.std.specs.Prelude.{◌≡◌, ℕ, true, List, Option, Some, codes}
+use Rattle.std.specs.Prelude.{◌≡◌, true, Some, codes}
 use Rattle.clap.specs.declared.parser.matches.ArgMatches.{ArgMatches}
 use Rattle.clap.specs.Simple.{on_top}
 use Rattle.clap.specs.Words.{App, Rule, new_app, new_rule, with_rule, first_value, found_of}

@@ -1,4 +1,4 @@
-use Rattle.std.proofs.Common.{◌≡◌, rules, ap, ap₂, refl, sym, map, string_bytes, codes, true, [], ◌∙◌}
+use Rattle.std.proofs.Common.{◌≡◌, rules, ap, ap₂, refl, map, string_bytes, codes, true, ◌∙◌}
 use Rattle.std.proofs.lemmas.Result.{IfErr-weaker, IfOk-weaker}
 use Rattle.clap.specs.Words.{app_of, first_of, is_simple, matches_of, rule_of, takes, with_rule, found_of}
 use Rattle.clap.proofs.WalkLemmas.{first_value-rows}

@@ -1,4 +1,4 @@
-use Rattle.std.proofs.Common.{arith, length, map, string_bytes, ◌≤◌, subst, ◌≡◌}
+use Rattle.std.proofs.Common.{arith, length, map, string_bytes, ◌≤◌}
 use Rattle.std.proofs.lemmas.List.{length-map}
 use Rattle.pc_words.specs.inside.Parts.{option_place}
 use Rattle.pc_words.proofs.Plain.{place_within}
