@@ -1,0 +1,13 @@
+pub mod Lists
+pub mod OfRules
+pub mod Parted
+pub mod OnCells
+pub mod Sizes
+pub mod ValuesRead
+pub mod Started
+pub mod Changes
+pub mod PartMoved
+pub mod Books
+pub mod Editing
+pub mod Refuted
+pub mod OneSearched

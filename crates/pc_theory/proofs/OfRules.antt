@@ -1,0 +1,117 @@
+-- Clauses, names and parts are of the rules alone.
+use Rattle.std.proofs.Common.{◌≡◌, ℕ, List, [], ◌∷◌, map, refl, ap, sym, subst, get_or}
+use Rattle.std.specs.List.{AllZip}
+use Rattle.pc_laws.proofs.Elements.{zip_weaker}
+use Rattle.pc_lits.specs.declared.literal.Lit.{Lit}
+use Rattle.pc_sheet.specs.Sheet.{Sheet}
+use Rattle.pc_sheet.specs.Entailment.{cell_sizes}
+use Rattle.pc_sheet.specs.MaximalSets.{AreRulesConsistent}
+use Rattle.pc_sheet.specs.declared.ids.ValueId.{ValueId}
+use Rattle.pc_accept.specs.Literals.{Symbol, pair, node, Literal}
+use Rattle.pc_accept.specs.Axioms.{Axiom, some_value, not_both, true_rule, parts, by_reads}
+use Rattle.pc_accept.specs.Writable.{IsSymbolOf, IsAxiomOf}
+use Rattle.pc_ground.specs.Variables.{number, variable_count}
+use Rattle.pc_ground.specs.Ground.{GroundAxiom, axioms, lit_of, clause_of, clauses}
+use Rattle.pc_ground.specs.GroundView.{Grounded}
+use Rattle.pc_ground.specs.Grounded.{grounded}
+use Rattle.pc_ground.specs.Naming.{names_of}
+use Rattle.pc_parts.specs.Parts.{Part, IsDivision}
+use Rattle.pc_parts.specs.Components.{parts_of}
+use Rattle.pc_components.specs.PartAxioms.{AreAxiomsOf, AreVariablesOf}
+use Rattle.pc_components.specs.View.{Kept, variable_number, AreComponentsOf}
+use Rattle.pc_reason.specs.Written.{AreOfSheet}
+use Rattle.pc_search.specs.Parts.{IsBase}
+use Rattle.pc_theory.specs.Theories.{rules_alone}
+
+map_same : {X Y : Type 0} (f g : X → Y) → ((x : X) → f x ≡ g x) → (xs : List X) → map f xs ≡ map g xs
+map_same f g same [] = refl
+map_same f g same (x ∷ xs) = rw (same x, map_same f g same xs) refl
+
+module _ (sheet : Sheet) where
+  abbrev alone : Sheet
+  alone = rules_alone sheet
+
+  number_alone : (x : Symbol) → number alone x ≡ number sheet x
+  number_alone (pair c v) = refl
+  number_alone (node r path) = refl
+
+  lit_alone : (l : Literal) → lit_of alone l ≡ lit_of sheet l
+  lit_alone l = let make : ℕ → Lit = λ n. record { variable = record { 0 = n }; sign = l.sign } in ap make (number_alone l.what)
+
+  clause_alone : (g : GroundAxiom) → clause_of alone g ≡ clause_of sheet g
+  clause_alone g = map_same (lit_of alone) (lit_of sheet) lit_alone g.clause
+
+  pub clauses_alone : clauses alone ≡ clauses sheet
+  clauses_alone = map_same (clause_of alone) (clause_of sheet) clause_alone (axioms sheet)
+
+  pub grounded_alone : grounded alone ≡ grounded sheet
+  grounded_alone = let make : List (List Lit) → Grounded = λ cs. record { clauses = cs; sizes = cell_sizes sheet.universe; variables = variable_count sheet; names = names_of sheet } in ap make clauses_alone
+
+  -- ---- from the rules alone to the sheet, and back
+
+  pub division_here : IsDivision alone (parts_of alone) → IsDivision sheet (parts_of sheet)
+  division_here d = record { every_cell = d.every_cell; apart = d.apart; every_piece = d.every_piece; pieces = d.pieces; reads = d.reads }
+
+  pub division_alone : IsDivision sheet (parts_of sheet) → IsDivision alone (parts_of alone)
+  division_alone d = record { every_cell = d.every_cell; apart = d.apart; every_piece = d.every_piece; pieces = d.pieces; reads = d.reads }
+
+  pub axioms_here : (part : Part) (used : List ℕ) → AreAxiomsOf alone part used → AreAxiomsOf sheet part used
+  axioms_here part used h = record { exact = h.exact; order = h.order }
+
+  axioms_alone : (part : Part) (used : List ℕ) → AreAxiomsOf sheet part used → AreAxiomsOf alone part used
+  axioms_alone part used h = record { exact = h.exact; order = h.order }
+
+  pub variables_here : (used own : List ℕ) → AreVariablesOf (clauses alone) used own → AreVariablesOf (clauses sheet) used own
+  variables_here used own h = subst (λ cs. AreVariablesOf cs used own) clauses_alone h
+
+  pub components_alone : (kept : Kept) → AreComponentsOf sheet kept → AreComponentsOf alone kept
+  components_alone kept h = record {
+    cells = h.cells;
+    axioms = zip_weaker (AreAxiomsOf sheet) (AreAxiomsOf alone) axioms_alone (parts_of sheet) kept.axioms h.axioms;
+    variables = subst (λ cs. AllZip (λ used own. AreVariablesOf cs used (map variable_number own)) kept.axioms kept.variables) (sym clauses_alone) h.variables;
+    many_numbers = h.many_numbers;
+    numbers = h.numbers;
+  }
+
+  symbol_here : (x : Symbol) → IsSymbolOf alone x → IsSymbolOf sheet x
+  symbol_here (pair c v) h = h
+  symbol_here (node r steps) h = record { leads = h.leads; small = h.small }
+
+  symbol_alone : (x : Symbol) → IsSymbolOf sheet x → IsSymbolOf alone x
+  symbol_alone (pair c v) h = h
+  symbol_alone (node r steps) h = record { leads = h.leads; small = h.small }
+
+  axiom_here : (a : Axiom) → IsAxiomOf alone a → IsAxiomOf sheet a
+  axiom_here (some_value c) h = h
+  axiom_here (not_both c v w) h = h
+  axiom_here (true_rule r) h = h
+  axiom_here (parts r steps i) h = (record { leads = h.0.leads; small = h.0.small }, h.1)
+  axiom_here (by_reads r steps reads) h = (record { leads = h.0.leads; small = h.0.small }, h.1)
+
+  axiom_alone : (a : Axiom) → IsAxiomOf sheet a → IsAxiomOf alone a
+  axiom_alone (some_value c) h = h
+  axiom_alone (not_both c v w) h = h
+  axiom_alone (true_rule r) h = h
+  axiom_alone (parts r steps i) h = (record { leads = h.0.leads; small = h.0.small }, h.1)
+  axiom_alone (by_reads r steps reads) h = (record { leads = h.0.leads; small = h.0.small }, h.1)
+
+  pub named_here : AreOfSheet alone (names_of alone) → AreOfSheet sheet (names_of sheet)
+  named_here h = record {
+    variables = λ i d below. symbol_here (get_or (names_of sheet).variables i d) (h.variables i d below);
+    axioms = λ i d below. axiom_here (get_or (names_of sheet).axioms i d) (h.axioms i d below);
+  }
+
+  pub named_alone : AreOfSheet sheet (names_of sheet) → AreOfSheet alone (names_of alone)
+  named_alone h = record {
+    variables = λ i d below. symbol_alone (get_or (names_of sheet).variables i d) (h.variables i d below);
+    axioms = λ i d below. axiom_alone (get_or (names_of sheet).axioms i d) (h.axioms i d below);
+  }
+
+  pub base_here : (base : List ValueId) → IsBase alone base → IsBase sheet base
+  base_here base h = record { assigns = h.assigns; fits = h.fits }
+
+  pub base_alone : (base : List ValueId) → IsBase sheet base → IsBase alone base
+  base_alone base h = record { assigns = h.assigns; fits = h.fits }
+
+  pub consistent_by : (base : List ValueId) → IsBase sheet base → AreRulesConsistent sheet
+  consistent_by base h = (base, h.assigns, h.fits)

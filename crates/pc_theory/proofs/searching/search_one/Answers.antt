@@ -1,0 +1,68 @@
+use Rattle.std.proofs.Common.{◌≡◌, ◌+◌, ◌-◌, ◌≤◌, ℕ, length, refl, ◌∙◌, arith}
+use Rattle.std.proofs.lemmas.Result.{on_ok_weaker, IfErr-weaker}
+use Rattle.pc_sheet.specs.Entailment.{cell_sizes}
+use Rattle.pc_solver.specs.Spending.{StopSays}
+use Rattle.pc_theory.specs.Searching.{IsMoved, StopMoves}
+use Rattle.pc_theory.specs.declared.spending.PartSpending.{PartSpending}
+use Rattle.pc_theory.proofs.OneSearched.{part_here, few_asked, searched_asked, moved_here, stop_moves}
+use Rattle.pc_theory.proofs.Parted.{cells_below}
+use Rattle.pc_theory.proofs.Started.{first_problem}
+use Rattle.pc_theory.proofs.searching.search_one.Goals as goal
+
+pub targets_on-requires : goal.targets_on-requires
+targets_on-requires c = cells_below c.args.task.book.now c.args.task.components.now c.requires.ready.components c.args.number _ c.part-part.ensures.cells
+
+pub search_started-outcome-requires-clause-problem : goal.search_started-outcome-requires-clause-problem
+search_started-outcome-requires-clause-problem c =
+    let a = c.args in
+    first_problem c.parts_are_searched.ensures a.task.book.now a.task.ground.now a.task.components.now c.requires.ready a.number _ _ _ c.part-part.ensures.cells c.part-part.ensures.axioms c.part-part.ensures.variables
+
+pub search_started-outcome-requires-clause-searched : goal.search_started-outcome-requires-clause-searched
+search_started-outcome-requires-clause-searched c =
+    let a = c.args in
+    searched_asked c.parts_are_searched.ensures a.task.book.now a.task.ground.now a.task.components.now c.requires.ready a.base.now c.requires.base a.number _ _ _ c.part-part.ensures.cells c.part-part.ensures.axioms c.part-part.ensures.variables
+    c.deref-2.result.now (c.deref-2.ensures.value ∙ c.in_ok-targets.ensures) c.deref.result.now (c.deref.ensures.value ∙ c.in_ok-entries.ensures.on)
+
+pub search_started-outcome-requires-clause-few_targets : goal.search_started-outcome-requires-clause-few_targets
+search_started-outcome-requires-clause-few_targets c =
+    let a = c.args in
+    let few : length (cell_sizes a.task.book.now.universe) ≤ 4096 = omega (arith, c.cells-cells.ensures.exact, c.cells-cells.ensures.few) in
+    few_asked c.parts_are_searched.ensures a.task.book.now a.task.ground.now a.task.components.now c.requires.ready a.base.now c.requires.base a.number _ _ _ c.part-part.ensures.cells c.part-part.ensures.axioms c.part-part.ensures.variables
+    c.deref-2.result.now (c.deref-2.ensures.value ∙ c.in_ok-targets.ensures) few
+
+pub returns-clause-worlds : goal.returns-clause-worlds
+returns-clause-worlds c p numbered =
+    let a = c.args in
+    c.search_started-outcome.ensures.worlds p
+    (part_here c.parts_are_searched.ensures a.task.book.now a.task.ground.now a.task.components.now c.requires.ready a.base.now c.requires.base a.number _ _ _ c.part-part.ensures.cells c.part-part.ensures.axioms c.part-part.ensures.variables p
+    c.deref.result.now numbered (c.deref.ensures.value ∙ c.in_ok-entries.ensures.on))
+
+pub returns-clause-place : goal.returns-clause-place
+returns-clause-place c =
+    let a = c.args in
+    let now = c.search_started-outcome.new in
+    let place : PartSpending = record { part = a.place.now.part; tally = now.tally; logs = c.push.new.self } in
+    let more : ℕ = a.spent.now + (now.tally.placed - a.place.now.tally.placed) in
+    let says = c.search_started-outcome.ensures in
+    let moved : IsMoved a.task.book.now a.task.components.now a.spent.now a.place.now more place =
+    moved_here c.parts_are_searched.ensures a.task.book.now a.task.ground.now a.task.components.now c.requires.ready a.base.now c.requires.base a.number _ _ _ c.part-part.ensures.cells c.part-part.ensures.axioms c.part-part.ensures.variables
+    c.deref-2.result.now (c.deref-2.ensures.value ∙ c.in_ok-targets.ensures) a.place.now a.solver.now c.requires.place c.requires.started a.spent.now more place c.pop.new.self.items c.reserve.new.self.items now.logs.items c.in-Some.log now.log _
+    c.deref.result.now (c.deref.ensures.value ∙ c.in_ok-entries.ensures.on) c.in-Some.ensures.items c.in_ok-reserve.ensures.items c.in_ok-push.ensures.items refl says.logs says.log says.spends refl refl refl (omega (arith, says.spends.2.placed))
+    in
+    on_ok_weaker c.search_started-outcome.result (λ _. moved) says.found
+
+pub returns-clause-stop : goal.returns-clause-stop
+returns-clause-stop c =
+    let a = c.args in
+    let now = c.search_started-outcome.new in
+    let place : PartSpending = record { part = a.place.now.part; tally = now.tally; logs = c.push.new.self } in
+    let more : ℕ = a.spent.now + (now.tally.placed - a.place.now.tally.placed) in
+    let says = c.search_started-outcome.ensures in
+    let sum : more + a.place.now.tally.placed ≡ a.spent.now + now.tally.placed = omega (arith, says.spends.2.placed) in
+    let moved : IsMoved a.task.book.now a.task.components.now a.spent.now a.place.now more place =
+    moved_here c.parts_are_searched.ensures a.task.book.now a.task.ground.now a.task.components.now c.requires.ready a.base.now c.requires.base a.number _ _ _ c.part-part.ensures.cells c.part-part.ensures.axioms c.part-part.ensures.variables
+    c.deref-2.result.now (c.deref-2.ensures.value ∙ c.in_ok-targets.ensures) a.place.now a.solver.now c.requires.place c.requires.started a.spent.now more place c.pop.new.self.items c.reserve.new.self.items now.logs.items c.in-Some.log now.log _
+    c.deref.result.now (c.deref.ensures.value ∙ c.in_ok-entries.ensures.on) c.in-Some.ensures.items c.in_ok-reserve.ensures.items c.in_ok-push.ensures.items refl says.logs says.log says.spends refl refl refl sum
+    in
+    IfErr-weaker c.search_started-outcome.result (StopSays now.tally) (StopMoves a.task.book.now a.task.components.now a.task.budget a.spent.now a.place.now more place)
+    (λ stop h. stop_moves a.task.book.now a.task.components.now a.task.budget a.spent.now more a.place.now place stop h says.spends.2.limit c.requires.within sum moved) says.stop

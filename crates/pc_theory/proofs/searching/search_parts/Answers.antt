@@ -1,0 +1,62 @@
+use Rattle.std.proofs.Common.{◌≡◌, ◌+◌, ◌<◌, ℕ, List, length, set, sym, ◌∙◌, subst, arith}
+use Rattle.std.proofs.lemmas.List.{length-set}
+use Rattle.std.proofs.lemmas.Result.{err_from_is_err_and}
+use Rattle.pc_world_list.specs.Worlds.{WorldView}
+use Rattle.pc_theory.specs.Searching.{AreSearched, IsMoved}
+use Rattle.pc_theory.specs.declared.spending.PartSpending.{PartSpending}
+use Rattle.pc_theory.proofs.PartMoved.{none_searched, started_at, stop_places, searched_more, later_started}
+use Rattle.pc_theory.proofs.searching.search_parts.Goals as goal
+
+pub loop-number-init : goal.loop-number-init
+loop-number-init c =
+    let a = c.args in
+    record {
+      within = c.requires.within;
+      many = c.requires.many;
+      solvers = c.requires.started.many;
+      searched = none_searched a.task.book.now a.task.components.now c.new-worlds.result.items a.patch.now a.spent.now a.parts.now.items c.new-worlds.ensures.items c.requires.blank c.requires.started.places;
+      later = λ j d e up below. c.requires.started.started j d e below;
+    }
+
+pub search_one-requires-clause-started : goal.search_one-requires-clause-started
+search_one-requires-clause-started c =
+    let a = c.args in
+    let l = c.loop-number in
+    let below : l.number < length l.parts.items = omega (arith, c.loop-number-test.true, c.len-number-end.ensures, l.invariant.many) in
+    started_at a.task.book.now a.task.components.now l.number l.parts.items l.solvers.items c.index_mut.result.now c.index_mut-in-loop-number.result.now l.invariant.later below c.index_mut.ensures.value c.index_mut-in-loop-number.ensures.value
+
+pub returns-in_err-found-clause-stop : goal.returns-in_err-found-clause-stop
+returns-in_err-found-clause-stop c =
+    let a = c.args in
+    let l = c.loop-number in
+    let below : l.number < length l.parts.items = omega (arith, c.loop-number-test.true, c.len-number-end.ensures, l.invariant.many) in
+    let p = err_from_is_err_and c.from_residual.result c.from_residual.ensures.1 in
+    rw (p.1, p.2)
+    (stop_places a.task.book.now a.task.components.now a.task.budget l.spent c.search_one.new.spent l.number l.parts.items c.index_mut.result.now c.search_one.new.place c.in_err-found.field-0.0 l.invariant.searched.places below
+    c.index_mut.ensures.value c.in_err-found.ensures.stop)
+
+pub loop-number-preserved : goal.loop-number-preserved
+loop-number-preserved c =
+    let a = c.args in
+    let l = c.loop-number in
+    let new = c.search_one.new in
+    let before = c.index_mut.result.now in
+    let below : l.number < length l.parts.items = omega (arith, c.loop-number-test.true, c.len-number-end.ensures, l.invariant.many) in
+    let moved = subst (λ (p : PartSpending). IsMoved a.task.book.now a.task.components.now l.spent p new.spent new.place) c.index_mut.ensures.value c.in_ok-found.ensures.place in
+    let number : new.place.part ≡ l.number = moved.numbered ∙ l.invariant.searched.places.numbered l.number before below in
+    record {
+      within = c.search_one.ensures.within;
+      many = length-set l.parts.items l.number new.place ∙ l.invariant.many;
+      solvers = omega (arith, length-set l.solvers.items l.number new.solver, length-set l.parts.items l.number new.place, l.invariant.solvers);
+      searched = subst (λ (ws : List (List WorldView)). AreSearched a.task.book.now a.task.components.now (l.number + 1) ws new.patch new.spent (set l.parts.items l.number new.place)) (sym c.in_ok-push.ensures.items)
+          (searched_more a.task.book.now a.task.components.now l.number l.spent new.spent l.worlds.items l.patch new.patch l.parts.items before new.place l.invariant.searched below moved number c.in_ok-found.ensures.found
+          c.in_ok-found.found c.in_ok-found.ensures.worlds);
+      later = later_started a.task.book.now a.task.components.now l.number l.parts.items l.solvers.items new.place new.solver l.invariant.later;
+    }
+
+pub returns-clause-searched : goal.returns-clause-searched
+returns-clause-searched c =
+    let a = c.args in
+    let l = c.loop-number in
+    let all : l.number ≡ length a.task.components.now.cells = omega (arith, c.loop-number-test.false, l.auto.number-end, c.len-number-end.ensures) in
+    subst (λ (n : ℕ). AreSearched a.task.book.now a.task.components.now n l.worlds.items l.patch l.spent l.parts.items) all l.invariant.searched

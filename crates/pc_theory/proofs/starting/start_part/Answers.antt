@@ -1,0 +1,71 @@
+use Rattle.std.proofs.Common.{◌≡◌, ◌+◌, [], ◌∷◌, ◌++◌, List, map, Contains, sym, ap, subst, arith, ℕ}
+use Rattle.std.proofs.lemmas.Result.{err_from_is_err_and}
+use Rattle.pc_ground.specs.GroundView.{Grounded}
+use Rattle.pc_components.specs.Used.{HasValues}
+use Rattle.pc_components.specs.View.{number_of}
+use Rattle.pc_parts.specs.Laws.{AgreeAt}
+use Rattle.pc_sheet.specs.Entailment.{AreWithin}
+use Rattle.pc_sheet.specs.declared.ids.ValueId.{ValueId}
+use Rattle.pc_solver.specs.Answers.{value_in}
+use Rattle.pc_solver.specs.Solver.{SolverView}
+use Rattle.pc_theory.specs.Calling.{EndSays}
+use Rattle.pc_theory.specs.Starting.{ArePlaces, AreStarted}
+use Rattle.pc_theory.specs.declared.spending.PartSpending.{PartSpending}
+use Rattle.pc_theory.specs.declared.starting.End.{End}
+use Rattle.pc_theory.proofs.Started.{first_pairs, started_next, places_more, refused_halts}
+use Rattle.pc_theory.proofs.starting.start_part.Goals as goal
+
+pub read_values-requires-clause-sizes : goal.read_values-requires-clause-sizes
+read_values-requires-clause-sizes c = let sizes : Grounded → List ℕ = λ g. g.sizes in ap sizes c.requires.ready.ground_is
+
+pub read_values-requires-clause-pairs : goal.read_values-requires-clause-pairs
+read_values-requires-clause-pairs c =
+    let a = c.args in
+    let called = c.in_ok-called.ensures.called in
+    first_pairs c.parts_are_searched.ensures a.task.book.now a.task.ground.now a.task.components.now c.requires.ready a.number _ _ _ c.part-part.ensures.cells c.part-part.ensures.axioms c.part-part.ensures.variables
+    c.in_ok-called.called.solver c.in_ok-called.called.place called.numbered called.started
+
+pub read_values-requires-clause-within : goal.read_values-requires-clause-within
+read_values-requires-clause-within c =
+    let sizes : Grounded → List ℕ = λ g. g.sizes in
+    subst (λ (ns : List ℕ). AreWithin ns c.args.base.now) (sym (ap sizes c.requires.ready.ground_is)) c.requires.started.assigns
+
+pub returns-in_ok-push-in-Met-2-clause-started : goal.returns-in_ok-push-in-Met-2-clause-started
+returns-in_ok-push-in-Met-2-clause-started c =
+    let a = c.args in
+    let called = c.in_ok-called.ensures.called in
+    let place = c.in_ok-called.called.place in
+    let solver = c.in_ok-called.called.solver in
+    let base = c.read_values.new.base in
+    let cells = c.part-part.result.cells.now in
+    let sizes : Grounded → List ℕ = λ g. g.sizes in
+    let same = ap sizes c.requires.ready.ground_is in
+    let assigns = subst (λ (ns : List ℕ). AreWithin ns base) same c.read_values.ensures.within in
+    let reads =
+    subst (λ (ns : List ℕ). (v : List ValueId) → AreWithin ns v → HasValues ns (map number_of cells) (value_in solver.trues) v → AgreeAt (Contains (map number_of cells)) v base) same c.read_values.ensures.reads
+    in
+    let next =
+    started_next c.parts_are_searched.ensures a.task.book.now a.task.ground.now a.task.components.now c.requires.ready a.spent.now a.number a.base.now base a.parts.now.items a.solvers.now.items cells _ _
+    c.part-part.ensures.cells c.part-part.ensures.axioms c.part-part.ensures.variables c.requires.started c.requires.many place solver called.numbered called.started
+    (subst (λ (e : End). EndSays solver place e) c.in-Met.is called.says) assigns reads c.read_values.ensures.elsewhere
+    in
+    subst (λ (ps : List PartSpending). AreStarted a.task.book.now a.task.components.now (a.spent.now + place.tally.placed) base ps c.push-in-Met-2.new.self.items) (sym c.in_ok-push-in-Met.ensures.items)
+    (subst (λ (ss : List SolverView). AreStarted a.task.book.now a.task.components.now (a.spent.now + place.tally.placed) base (a.parts.now.items ++ place ∷ []) ss) (sym c.in_ok-push-in-Met-2.ensures.items) next)
+
+pub returns-in_ok-push-in-Spent-clause-halt : goal.returns-in_ok-push-in-Spent-clause-halt
+returns-in_ok-push-in-Spent-clause-halt c =
+    let a = c.args in
+    let called = c.in_ok-called.ensures.called in
+    let place = c.in_ok-called.called.place in
+    let solver = c.in_ok-called.called.solver in
+    let says : place.tally.placed ≡ place.tally.limit = subst (λ (e : End). EndSays solver place e) c.in-Spent.is called.says in (
+      omega (arith, says, called.limit_is, c.requires.within),
+      subst (λ (ps : List PartSpending). ArePlaces a.task.book.now a.task.components.now (a.spent.now + place.tally.placed) ps) (sym c.in_ok-push-in-Spent.ensures.items)
+          (places_more a.task.book.now a.task.components.now a.spent.now a.number a.parts.now.items place c.requires.started.places c.requires.many called.numbered called.started.spent),
+    )
+
+pub returns-in_err-called-clause-halt : goal.returns-in_err-called-clause-halt
+returns-in_err-called-clause-halt c =
+    let a = c.args in
+    let p = err_from_is_err_and c.from_residual.result c.from_residual.ensures.1 in
+    rw (p.1, p.2) (refused_halts a.task.book.now a.task.components.now a.task.budget a.spent.now a.parts.now.items _ c.in_err-called.ensures.refused)

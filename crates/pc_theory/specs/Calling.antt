@@ -1,0 +1,42 @@
+-- The first call of a part's solver.
+use Rattle.std.specs.Prelude.{◌≡◌, ℕ, List, []}
+use Rattle.pc_log.specs.Lines.{LogLine}
+use Rattle.pc_log.specs.declared.log.StepId.{StepId}
+use Rattle.pc_sheet.specs.Sheet.{Sheet}
+use Rattle.pc_ground.specs.Ground.{clauses}
+use Rattle.pc_ground.specs.Naming.{names_of}
+use Rattle.pc_components.specs.View.{Kept}
+use Rattle.pc_justify.specs.Found.{clause_on, IsDerivedAt}
+use Rattle.pc_reason.specs.Refutations.{Refutes}
+use Rattle.pc_solver.specs.Answers.{value_in, MeetsEach}
+use Rattle.pc_solver.specs.Solver.{SolverView, clauses_used}
+use Rattle.pc_theory.specs.Starting.{IsStarted}
+use Rattle.pc_theory.specs.declared.spending.PartSpending.{PartSpending}
+use Rattle.pc_theory.specs.declared.starting.End.{End}
+use Rattle.pc_theory.specs.declared.starting.End.TheVariants.{Met}
+use Rattle.pc_theory.specs.declared.starting.End.TheVariants as end
+use Rattle.pc_theory.specs.declared.stop.Halt.{Halt}
+use Rattle.pc_theory.specs.declared.stop.Halt.TheVariants.{Inconsistent, Spent, Memory}
+
+-- the line derives the empty clause
+pub record IsEmptyAt (sheet : Sheet) (log : List LogLine) (last : StepId) : Type 0 where
+  pub derived : IsDerivedAt sheet log last.0
+  pub empty : clause_on (clauses sheet) log last.0 ≡ []
+
+-- the rules are refuted, or memory was wanting
+abbrev pub IsRefused : Sheet → Halt → Type 0
+IsRefused sheet (Inconsistent log span) = Refutes sheet (names_of sheet) log span
+IsRefused sheet Spent = ⊥
+IsRefused sheet Memory = Unit {0}
+
+-- the values meet the solver's axioms, or the limit is reached
+abbrev pub EndSays : SolverView → PartSpending → End → Type 0
+EndSays s place Met = MeetsEach (value_in s.trues) (clauses_used s.problem)
+EndSays s place end.Spent = place.tally.placed ≡ place.tally.limit
+
+-- one call was made for the part of that number
+pub record IsCalled (sheet : Sheet) (kept : Kept) (number limit : ℕ) (s : SolverView) (place : PartSpending) (how : End) : Type 0 where
+  pub numbered : place.part ≡ number
+  pub limit_is : place.tally.limit ≡ limit
+  pub started : IsStarted sheet kept place s
+  pub says : EndSays s place how

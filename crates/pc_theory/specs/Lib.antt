@@ -1,0 +1,10 @@
+pub mod Theories
+pub mod Targets
+pub mod Spendings
+pub mod Edits
+pub mod Books
+pub mod Tasks
+pub mod Reading
+pub mod Starting
+pub mod Calling
+pub mod Searching

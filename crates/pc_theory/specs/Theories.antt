@@ -1,0 +1,37 @@
+-- What is known of a sheet's rules alone: their clauses, their parts, and an assignment that fits.
+use Rattle.std.specs.Prelude.{◌≡◌, ℕ, ◌<◌, ◌^◌, List, [], length, Some, slice_get}
+use Rattle.pc_sheet.specs.Sheet.{Sheet}
+use Rattle.pc_sheet.specs.declared.ids.ValueId.{ValueId}
+use Rattle.pc_ground.specs.Ground.{clauses}
+use Rattle.pc_ground.specs.GroundView.{Grounded}
+use Rattle.pc_ground.specs.Grounded.{grounded}
+use Rattle.pc_ground.specs.Naming.{names_of}
+use Rattle.pc_parts.specs.Parts.{Part, IsDivision}
+use Rattle.pc_parts.specs.Components.{parts_of}
+use Rattle.pc_components.specs.View.{Kept, AreComponentsOf}
+use Rattle.pc_reason.specs.Written.{AreOfSheet}
+use Rattle.pc_search.specs.Parts.{IsBase}
+
+-- the sheet without its entries
+abbrev pub rules_alone : Sheet → Sheet
+rules_alone sheet = record sheet { entries = [] }
+
+pub record TheoryView : Type 0 where
+  pub ground : Grounded
+  pub components : Kept
+  -- a value for each cell
+  pub base : List ValueId
+
+-- Of a sheet without entries: the clauses of its rules with their names, its parts, which divide it, and an assignment that fits. All of
+-- it is of the rules alone, so that it stays when entries change.
+pub record IsTheory (rules : Sheet) (theory : TheoryView) : Type 0 where
+  pub ground : theory.ground ≡ grounded rules
+  pub few : length (clauses rules) < 2 ^ 32
+  pub named : AreOfSheet rules (names_of rules)
+  pub components : AreComponentsOf rules theory.components
+  pub division : IsDivision rules (parts_of rules)
+  pub base : IsBase rules theory.base
+
+-- the sheet's part of that number
+abbrev pub IsPartNumbered : Sheet → ℕ → Part → Type 0
+IsPartNumbered sheet i part = slice_get (parts_of sheet) i ≡ Some part

@@ -1,0 +1,183 @@
+//! A whole book: its theory, the worlds of its parts, and the reasons of all targets.
+ghost use Rattle.std.specs.Prelude.{◌≡◌, ◌≤◌, [], IfErr, IfOk, length};
+ghost use Rattle.pc_sheet.specs.Weight.{weight};
+ghost use Rattle.pc_theory.specs.Tasks.{IsReady};
+ghost use Rattle.pc_theory.specs.Books.{AreFound, IsCause, IsFoundIn, IsPartCause};
+
+use crate::searching::search_parts;
+use crate::spending::Spending;
+use crate::starting::start_parts;
+use crate::stop::Halt;
+use crate::task::Task;
+use crate::theory::Theory;
+use crate::totals::total;
+use pc_accept::certificates_are_sound;
+use pc_cache::Patch;
+use pc_components::{Components, find_components};
+use pc_ground::{Ground, GroundFault, ground_book};
+use pc_justify::names_are_of_their_sheet;
+use pc_log::{Log, Span};
+use pc_logic::{Assignment, Book};
+use pc_names::Names;
+use pc_parts::{divisions_divide, parts_are_a_division, parts_are_found};
+use pc_solver::Stop;
+use pc_world_list::Worlds;
+use std::alloc::{AllocError, Global};
+
+/// A derivation of the empty clause, with the names of its variables and axioms.
+#[derive(Drop)]
+pub struct Disproof {
+    pub names: Names,
+    pub log: Log,
+    pub span: Span,
+}
+
+/// Why a book has no theory.
+#[derive(Drop)]
+pub enum Fault {
+    /// It weighs more than 4,000,000.
+    TooLarge,
+    /// No assignment makes every rule true.
+    Inconsistent(Disproof),
+    /// The budget ran out.
+    Spent(Spending),
+    /// Memory was wanting.
+    Memory,
+}
+
+impl From<AllocError> for Fault {
+    ghost use Rattle.pc_theory.specs.declared.book.Fault.TheVariants.{Memory};
+
+    ghost from_gives = { λ _ fault. fault ≡ Memory };
+
+    fn from(_: AllocError) -> Fault {
+        Fault::Memory
+    }
+}
+
+/// What is found of a whole book: its theory, the worlds of each part, and what was spent.
+#[derive(Drop)]
+pub struct Found {
+    pub theory: Theory,
+    pub worlds: Vec<Worlds>,
+    pub spending: Spending,
+}
+
+// What is found of a book's parts.
+struct Searched {
+    base: Assignment,
+    worlds: Vec<Worlds>,
+    spending: Spending,
+}
+
+// What a span derives, a spending, or that memory was wanting.
+enum PartFault {
+    Inconsistent(Log, Span),
+    Spent(Spending),
+    Memory,
+}
+
+impl From<AllocError> for PartFault {
+    ghost use Rattle.pc_theory.specs.declared.book.PartFault.TheVariants.{Memory};
+
+    ghost from_gives = { λ _ fault. fault ≡ Memory };
+
+    fn from(_: AllocError) -> PartFault {
+        PartFault::Memory
+    }
+}
+
+// Searches a book's parts: first whether each part's rules are consistent, and then each part's worlds and reasons.
+fn search_task(alloc: Global, task: Task<'_>, patch: &mut Patch) -> Result<Searched, PartFault>
+    requires ready { IsReady task.book.now task.ground.now task.components.now }
+    requires few { length task.components.now.cells ≤ 4097 }
+    requires blank { patch.old ≡ [] }
+    ensures found { IfOk result (λ s. IsFoundIn task.entry.book.now task.entry.components.now task.entry.budget s.base s.worlds.items patch.new s.spending) }
+    ensures fault { IfErr result (IsPartCause task.entry.book.now task.entry.budget) }
+{
+    divisions_divide();
+    let mut spent = 0;
+    let mut parts = Vec::new(alloc);
+    let mut solvers = Vec::new(alloc);
+    let base = match start_parts(alloc, task, &mut spent, &mut parts, &mut solvers) {
+        Ok(base) => base,
+        Err(Halt::Inconsistent(log, span)) => return Err(PartFault::Inconsistent(log, span)),
+        Err(Halt::Spent) => return Err(PartFault::Spent(total(parts, spent, task.budget)?)),
+        Err(Halt::Memory) => return Err(PartFault::Memory),
+    };
+    match search_parts(
+        alloc,
+        task,
+        &base,
+        &mut spent,
+        &mut parts,
+        &mut solvers,
+        patch,
+    ) {
+        Ok(worlds) => Ok(Searched {
+            base,
+            worlds,
+            spending: total(parts, spent, task.budget)?,
+        }),
+        Err(Stop::Spent) => Err(PartFault::Spent(total(parts, spent, task.budget)?)),
+        Err(Stop::Memory) => Err(PartFault::Memory),
+    }
+}
+
+/// Grounds a book, divides it into parts, and makes one call of a solver for each part, which tells whether the rules are
+/// consistent. Then each part's worlds are listed, and the reasons of all targets are put into the patch, which is empty.
+/// The solver of a part's first call serves its reasons, so that a part has at most three logs.
+pub fn search_book(
+    alloc: Global,
+    book: &Book,
+    budget: u64,
+    patch: &mut Patch,
+) -> Result<Found, Fault>
+    requires blank { patch.old ≡ [] }
+    ensures found { IfOk result (λ f. AreFound book.now budget f.theory f.worlds.items patch.new f.spending) }
+    ensures light { IfOk result (λ _. weight book.now ≤ 4000000) }
+    ensures fault { IfErr result (IsCause book.now budget) }
+{
+    parts_are_a_division();
+    parts_are_found();
+    names_are_of_their_sheet();
+    certificates_are_sound();
+    let _entries = book.entries();
+    let _cells = book.cells();
+    let ground = match ground_book(alloc, book) {
+        Ok(ground) => ground,
+        Err(GroundFault::TooLarge) => return Err(Fault::TooLarge),
+        Err(GroundFault::Memory) => return Err(Fault::Memory),
+    };
+    let components = find_components(alloc, book, &ground)?;
+    let task = Task {
+        book,
+        ground: &ground,
+        components: &components,
+        budget,
+    };
+    match search_task(alloc, task, patch) {
+        Ok(
+            Searched {
+                base,
+                worlds,
+                spending,
+            },
+        ) => Ok(Found {
+            theory: Theory {
+                ground,
+                components,
+                base,
+            },
+            worlds,
+            spending,
+        }),
+        Err(PartFault::Inconsistent(log, span)) => Err(Fault::Inconsistent(Disproof {
+            names: ground.into_names(),
+            log,
+            span,
+        })),
+        Err(PartFault::Spent(spending)) => Err(Fault::Spent(spending)),
+        Err(PartFault::Memory) => Err(Fault::Memory),
+    }
+}

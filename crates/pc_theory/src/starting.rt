@@ -1,0 +1,200 @@
+//! The first call of each part, which tells whether its rules are consistent.
+ghost use Rattle.std.specs.Prelude.{◌≡◌, ◌+◌, ◌<◌, ◌≤◌, ◌∷◌, [], IfErr, IfOk, OnOk, length};
+ghost use Rattle.pc_ground.specs.Naming.{names_of};
+ghost use Rattle.pc_reason.specs.Refutations.{Refutes};
+ghost use Rattle.pc_theory.specs.Tasks.{IsReady};
+ghost use Rattle.pc_theory.specs.Starting.{AreStarted, HaltSays};
+ghost use Rattle.pc_theory.specs.Calling.{IsCalled, IsEmptyAt, IsRefused};
+
+use crate::reading::{first_values, read_values};
+use crate::spending::PartSpending;
+use crate::stop::Halt;
+use crate::task::Task;
+use pc_justify::{names_are_of_their_sheet, own_lines_are_named, trimmed_lines_refute};
+use pc_lits::Tally;
+use pc_log::{Log, Span, StepId, trim};
+use pc_logic::Assignment;
+use pc_searched::laws::parts_are_searched;
+use pc_solver::{Outcome, Solver};
+use std::alloc::{AllocError, Global};
+
+// A log, and a span of it.
+#[derive(Drop)]
+struct Derivation {
+    log: Log,
+    span: Span,
+}
+
+// Keeps what derives the empty clause.
+fn refuted(alloc: Global, task: Task<'_>, log: &Log, last: StepId) -> Result<Derivation, AllocError>
+    requires ready { IsReady task.book.now task.ground.now task.components.now }
+    requires empty { IsEmptyAt task.book.now log.now last }
+    ensures { IfOk result (λ r. Refutes task.entry.book.now (names_of task.entry.book.now) r.log r.span) }
+{
+    names_are_of_their_sheet();
+    trimmed_lines_refute();
+    // The numbers of a certificate's lines have at most 18 digits.
+    if log.len() >= 1_000_000_000_000_000_000 {
+        return Err(AllocError);
+    }
+    let mut kept = Log::new(alloc);
+    let span = trim(alloc, log, last, &mut kept)?;
+    Ok(Derivation { log: kept, span })
+}
+
+// How a call ended that refuted nothing.
+#[derive(Clone, Copy)]
+enum End {
+    // The values meet the axioms.
+    Met,
+    // The limit is reached.
+    Spent,
+}
+
+// A solver of a part that has made one call, what it has spent, and how it ended.
+#[derive(Drop)]
+struct Called<'g> {
+    solver: Solver<'g>,
+    place: PartSpending,
+    end: End,
+}
+
+// Makes the first call of a part.
+fn call_part<'g>(
+    alloc: Global,
+    task: Task<'g>,
+    number: usize,
+    limit: u64,
+) -> Result<Called<'g>, Halt>
+    requires ready { IsReady task.book.now task.ground.now task.components.now }
+    requires number { number < length task.components.now.cells }
+    requires few { number ≤ 4096 }
+    ensures called { IfOk result (λ c. IsCalled task.entry.book.now task.entry.components.now number limit c.solver c.place c.end) }
+    ensures refused { IfErr result (IsRefused task.entry.book.now) }
+{
+    parts_are_searched();
+    own_lines_are_named();
+    let part = task.components.part(number);
+    let mut solver = Solver::new(
+        alloc,
+        task.ground.store(),
+        part.axioms,
+        part.variables,
+        task.ground.variables(),
+    )?;
+    let mut log = Log::new(alloc);
+    let mut tally = Tally {
+        placed: 0,
+        learned: 0,
+        calls: 0,
+        limit,
+    };
+    match solver.solve(&[], &mut log, &mut tally) {
+        Outcome::Unsat(last) => {
+            let derivation = refuted(alloc, task, &log, last)?;
+            Err(Halt::Inconsistent(derivation.log, derivation.span))
+        }
+        Outcome::Sat => {
+            let called = keep(alloc, number, solver, log, tally, End::Met)?;
+            Ok(called)
+        }
+        Outcome::Spent => {
+            let called = keep(alloc, number, solver, log, tally, End::Spent)?;
+            Ok(called)
+        }
+        Outcome::Memory => Err(Halt::Memory),
+    }
+}
+
+// The place of a part with its first log.
+fn keep<'g>(
+    alloc: Global,
+    number: usize,
+    solver: Solver<'g>,
+    log: Log,
+    tally: Tally,
+    end: End,
+) -> Result<Called<'g>, AllocError>
+    requires few { number ≤ 4096 }
+    ensures solver { IfOk result (λ c. c.solver ≡ solver.entry) }
+    ensures number { IfOk result (λ c. c.place.part ≡ number) }
+    ensures tally { IfOk result (λ c. c.place.tally ≡ tally) }
+    ensures logs { IfOk result (λ c. c.place.logs.items ≡ log ∷ []) }
+    ensures end { IfOk result (λ c. c.end ≡ end) }
+{
+    let mut logs = Vec::new(alloc);
+    logs.push(log)?;
+    Ok(Called {
+        solver,
+        place: PartSpending {
+            part: number as u32,
+            tally,
+            logs,
+        },
+        end,
+    })
+}
+
+// Makes the first call of a part, and reads the values of its cells.
+fn start_part<'g>(
+    alloc: Global,
+    task: Task<'g>,
+    number: usize,
+    spent: &mut u64,
+    base: &mut Assignment,
+    parts: &mut Vec<PartSpending>,
+    solvers: &mut Vec<Solver<'g>>,
+) -> Result<(), Halt>
+    requires ready { IsReady task.book.now task.ground.now task.components.now }
+    requires number { number < length task.components.now.cells }
+    requires few { number ≤ 4096 }
+    requires many { length parts.old.items ≡ number }
+    requires within { spent.old ≤ task.budget }
+    requires started { AreStarted task.book.now task.components.now spent.old base.old parts.old.items solvers.old.items }
+    ensures many { OnOk result (length parts.new.items ≡ number + 1) }
+    ensures within { spent.new ≤ task.entry.budget }
+    ensures started { OnOk result (AreStarted task.entry.book.now task.entry.components.now spent.new base.new parts.new.items solvers.new.items) }
+    ensures halt { IfErr result (HaltSays task.entry.book.now task.entry.components.now task.entry.budget spent.new parts.new.items) }
+{
+    parts_are_searched();
+    let part = task.components.part(number);
+    let called = call_part(alloc, task, number, task.budget - *spent)?;
+    *spent += called.place.tally.placed;
+    match called.end {
+        End::Spent => {
+            parts.push(called.place)?;
+            Err(Halt::Spent)
+        }
+        End::Met => {
+            read_values(task.book, task.ground, part.cells, &called.solver, base);
+            parts.push(called.place)?;
+            solvers.push(called.solver)?;
+            Ok(())
+        }
+    }
+}
+
+/// Makes the first call of each part. The base is at first the first value of each cell, and then fits the book.
+pub(crate) fn start_parts<'g>(
+    alloc: Global,
+    task: Task<'g>,
+    spent: &mut u64,
+    parts: &mut Vec<PartSpending>,
+    solvers: &mut Vec<Solver<'g>>,
+) -> Result<Assignment, Halt>
+    requires ready { IsReady task.book.now task.ground.now task.components.now }
+    requires few { length task.components.now.cells ≤ 4097 }
+    requires none { parts.old.items ≡ [] }
+    requires no_solvers { solvers.old.items ≡ [] }
+    requires nothing { spent.old ≡ 0 }
+    ensures many { IfOk result (λ _. length parts.new.items ≡ length task.entry.components.now.cells) }
+    ensures within { spent.new ≤ task.entry.budget }
+    ensures started { IfOk result (λ base. AreStarted task.entry.book.now task.entry.components.now spent.new base parts.new.items solvers.new.items) }
+    ensures halt { IfErr result (HaltSays task.entry.book.now task.entry.components.now task.entry.budget spent.new parts.new.items) }
+{
+    let mut base = first_values(alloc, task.book)?;
+    for number in 0..task.components.len() {
+        start_part(alloc, task, number, spent, &mut base, parts, solvers)?;
+    }
+    Ok(base)
+}

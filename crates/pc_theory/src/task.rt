@@ -1,0 +1,13 @@
+//! A book with its clauses and parts.
+use pc_components::Components;
+use pc_ground::Ground;
+use pc_logic::Book;
+
+/// A book with its clauses and parts, and how many literals may be placed for all of them.
+#[derive(Clone, Copy)]
+pub(crate) struct Task<'g> {
+    pub(crate) book: &'g Book,
+    pub(crate) ground: &'g Ground,
+    pub(crate) components: &'g Components,
+    pub(crate) budget: u64,
+}
