@@ -12,8 +12,6 @@ mod shelf;
 mod sink;
 mod source;
 mod sure;
-#[cfg(test)]
-mod tests;
 
 pub use memory_shelf::MemoryShelf;
 pub use memory_sink::MemorySink;

@@ -16,6 +16,3 @@ pub use law::one_reading;
 pub use pc_formula::{CellTree, FormulaTree, ItemTree, Name, Op, SideTree, Sign, ValueTree};
 pub use sheet::parse_sheet;
 pub use tree::{Command, CommandFault, Declaration, RuleTree, SheetFault, SheetTree};
-
-#[cfg(test)]
-mod tests;

@@ -21,6 +21,3 @@ pub use number::write_integer;
 pub use pieces::write_text;
 pub use sheet::write_sheet;
 pub use value::write_value;
-
-#[cfg(test)]
-mod tests;

@@ -1,0 +1,9 @@
+//! Devices, what is written to them, and the readers of lines and sheets, with ample memory: tests of the crates of texts.
+#![tactic(auto)]
+
+#[cfg(test)]
+mod devices;
+#[cfg(test)]
+mod syntax;
+#[cfg(test)]
+mod writing;
