@@ -11,8 +11,6 @@ mod names;
 mod refusal;
 mod replay;
 mod session;
-#[cfg(test)]
-mod tests;
 mod trying;
 mod words;
 

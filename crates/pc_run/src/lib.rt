@@ -14,8 +14,6 @@ mod serve;
 mod sheet;
 mod status;
 mod tell;
-#[cfg(test)]
-mod tests;
 
 pub use machine::{LoadFault, Machine, Page, Reply};
 pub use refusal::{LimitWord, Refusal, SheetRefusal};

@@ -1,0 +1,414 @@
+// What no clause says: that runs end well with ample memory, what is printed, and that each line is answered before the
+// source is read again. The machine of these tests counts.
+ghost use Rattle.std.specs.Prelude.{◌<◌, ◌≢◌, length, slice_index, None};
+
+use pc_port::{Failed, MemorySink, MemorySource, Sink, Source};
+use pc_run::{
+    LINE_LIMIT, LimitWord, LoadFault, MAX_LINES, Machine, Page, Refusal, Reply, SHEET_LIMIT,
+    SheetRefusal, Status, replay,
+};
+use std::alloc::{AllocError, Global};
+use std::cell::Cell;
+use std::test::Fail;
+
+// Any text is a sheet, but the empty one and those that begin with `!`. The lines are `count`, `show` and blank ones.
+#[derive(Drop)]
+struct Counter {
+    count: u8,
+}
+
+impl Machine for Counter {
+    ghost IsSheet = { λ text _. (0 < length text) × (slice_index text 0 ≢ 33) };
+
+    ghost RefusesText = { λ _ _. Unit {0} };
+
+    ghost Allows = { λ _ _ _ _. Unit {0} };
+
+    ghost IsPage = { λ _ _ _. Unit {0} };
+
+    fn load(_: Global, text: &[u8]) -> Result<Self, LoadFault> {
+        if text.is_empty() {
+            return Err(LoadFault::Refused(SheetRefusal {
+                refusal: Refusal::NoBegin,
+                line: None,
+            }));
+        }
+        if text[0] == b'!' {
+            return Err(LoadFault::Refused(SheetRefusal {
+                refusal: Refusal::WrongVersion,
+                line: Some(1207),
+            }));
+        }
+        Ok(Counter { count: 0 })
+    }
+
+    fn decide(&mut self, _: Global, line: &[u8]) -> Reply {
+        match line {
+            b"" => Reply::Silent,
+            b"count" => {
+                self.count = self.count.saturating_add(1);
+                Reply::Accepted
+            }
+            b"show" => Reply::Shown(Page::Display),
+            b"dump" => Reply::Shown(Page::SheetText),
+            b"utf8" => Reply::Refused(Refusal::NotUtf8),
+            b"deep" => Reply::Refused(Refusal::TooDeep),
+            _ => Reply::Refused(Refusal::NotYet),
+        }
+    }
+
+    fn show<O: Sink>(&self, page: Page, out: &mut O) -> Result<(), Failed> {
+        match page {
+            Page::Display if self.count == 0 => out.write(b"none\n"),
+            Page::Display => out.write(b"some\n"),
+            Page::SheetText => out.write(b"sheet\n"),
+        }
+    }
+}
+
+// How a run of the machine ends: the status, and behind a line feed what is written.
+fn ends_so<M: Machine>(
+    alloc: Global,
+    mut source: MemorySource,
+    mut out: MemorySink,
+    want: &str,
+) -> Result<bool, AllocError> {
+    let ended = replay::<M, _, _>(alloc, &mut source, &mut out);
+    let (status, text) = want.split_once('\n').unwrap_or((want, ""));
+    Ok(format!(in alloc; "{ended:?}")?.as_str() == status && out.bytes() == text.as_bytes())
+}
+
+// The same of these bytes, of which so many come at a time, where nothing fails.
+fn ends_well<M: Machine>(
+    alloc: Global,
+    bytes: &[u8],
+    most: usize,
+    want: &str,
+) -> Result<bool, AllocError> {
+    let source = MemorySource::new(bytes.to_vec(alloc)?, most.max(1), Vec::new(alloc));
+    let out = MemorySink::new(alloc, 4096, Vec::new(alloc))?;
+    ends_so::<M>(alloc, source, out, want)
+}
+
+// Inputs, how their runs end, and what is written; `/` ends a line.
+const RUNS: &str = "\
+begin/show\r/count//show => Done/none/ok/some/
+ begin\t\r/ => Done/
+a begin/;begin/show/ => Done/
+begin/foo/show/ => SomeRefused/refused 20 not-yet/none/
+begin/dump/utf8/deep/ => SomeRefused/sheet/refused 1 not-utf8/refused 21 too-deep/
+ => SheetRefused/sheet refused 3 no-begin/
+!/begin/show/ => SheetRefused/sheet refused 4 wrong-version line 1207/
+";
+
+// Whether the input of a row ends as the row says.
+fn is_run(alloc: Global, row: &str, most: usize) -> Result<bool, AllocError> {
+    let row = row.replace(alloc, '/', "\n")?;
+    match row.as_str().split_once(" => ") {
+        Some((input, want)) => ends_well::<Counter>(alloc, input.as_bytes(), most, want),
+        None => Ok(false),
+    }
+}
+
+#[test]
+fn each_status(rt: HostRuntime) -> Result<(), Fail> {
+    for row in RUNS.lines() {
+        for most in [1, 7, 4096] {
+            assert!(rt; is_run(rt.alloc(), row, most)?, "{row} by {most}");
+        }
+    }
+    Ok(())
+}
+
+// The read and the write that fail, how the run ends, and what is written.
+const FAULTS: &str = "\
+1 9 => ReadFault/
+2 9 => ReadFault/
+3 9 => ReadFault/
+4 9 => ReadFault/none/
+9 1 => WriteFault/
+9 2 => WriteFault/none/
+9 9 => Done/none/ok/
+";
+
+// Whether a run with the faults of a row ends as the row says.
+fn is_stopped(alloc: Global, row: &str) -> Result<bool, AllocError> {
+    let row = row.replace(alloc, '/', "\n")?;
+    let (faults, want) = row.as_str().split_once(" => ").unwrap_or(("", ""));
+    let (read, write) = faults.split_once(' ').unwrap_or(("", ""));
+    let reads = vec![in alloc; read.parse::<u64>().unwrap_or(0)]?;
+    let writes = vec![in alloc; write.parse::<u64>().unwrap_or(0)]?;
+    let source = MemorySource::new(b"begin\nshow\ncount".to_vec(alloc)?, 5, reads);
+    let out = MemorySink::new(alloc, 4096, writes)?;
+    ends_so::<Counter>(alloc, source, out, want)
+}
+
+#[test]
+fn faults_stop_it(rt: HostRuntime) -> Result<(), Fail> {
+    for row in FAULTS.lines() {
+        assert!(rt; is_stopped(rt.alloc(), row)?, "{row}");
+    }
+    Ok(())
+}
+
+// How a run over a sheet and a line of so many bytes ends.
+fn is_limited(alloc: Global, sheet: usize, line: usize, want: &str) -> Result<bool, AllocError> {
+    let mut bytes = vec![in alloc; b'x'; sheet]?;
+    bytes.extend_from_slice(b"\nbegin\n")?;
+    bytes.extend_from_slice(&vec![in alloc; b'y'; line]?)?;
+    ends_well::<Counter>(alloc, &bytes, 4096, want)
+}
+
+const ANSWERED: &str = "SomeRefused\nrefused 20 not-yet\n";
+
+const TOO_LONG: &str = "TooLong\nrefused 19 too-long\n";
+
+#[test]
+fn limits(rt: HostRuntime) -> Result<(), Fail> {
+    let alloc = rt.alloc();
+    assert!(rt; is_limited(alloc, 10, LINE_LIMIT, ANSWERED)?);
+    assert!(rt; is_limited(alloc, 10, LINE_LIMIT + 1, TOO_LONG)?);
+    assert!(rt; is_limited(alloc, SHEET_LIMIT - 7, 1, ANSWERED)?);
+    assert!(rt; is_limited(alloc, SHEET_LIMIT - 6, 1, TOO_LONG)?);
+    Ok(())
+}
+
+// The last line that there may be is answered, and one more is too long.
+fn are_most_lines(alloc: Global) -> Result<bool, AllocError> {
+    let mut bytes = b"begin\n".to_vec(alloc)?;
+    bytes.extend_from_slice(&vec![in alloc; b'\n'; MAX_LINES - 1]?)?;
+    bytes.extend_from_slice(b"show\nshow\n")?;
+    ends_well::<Counter>(alloc, &bytes, 4096, "TooLong\nnone\nrefused 19 too-long\n")
+}
+
+#[test]
+fn most_lines(rt: HostRuntime) -> Result<(), Fail> {
+    assert!(rt; are_most_lines(rt.alloc())?);
+    Ok(())
+}
+
+// Gives a sheet that is refused, and counts the calls.
+#[derive(Drop)]
+struct Refused<'a> {
+    calls: &'a Cell<u64>,
+}
+
+impl Source for Refused<'_> {
+    ghost left = { λ _. None };
+
+    ghost faults = { λ _. 0 };
+
+    fn read(&mut self, into: &mut [u8]) -> Result<usize, Failed> {
+        self.calls.set(self.calls.get().saturating_add(1));
+        if into.len() < 8 {
+            return Ok(0);
+        }
+        into[..8].copy_from_slice(b"!\nbegin\n");
+        Ok(8)
+    }
+}
+
+#[test]
+fn nothing_is_read_after_a_refused_sheet(rt: HostRuntime) -> Result<(), Fail> {
+    let calls = Cell::new(0);
+    let mut input = Refused { calls: &calls };
+    let mut out = MemorySink::new(rt.alloc(), 4096, Vec::new(rt.alloc()))?;
+    let ended = replay::<Counter, _, _>(rt.alloc(), &mut input, &mut out);
+    assert!(rt; ended == Status::SheetRefused && calls.get() == 1);
+    Ok(())
+}
+
+#[test]
+fn numbers(rt: HostRuntime) {
+    assert!(rt; Status::Done.number() == 0);
+    assert!(rt; Status::TooLong.number() == 7);
+    assert!(rt; Status::CertRefused.number() == 8);
+}
+
+// Gives one line in each call, and notes a call that comes before the last line's answer.
+#[derive(Drop)]
+struct Asking<'a> {
+    lines: u64,
+    answers: &'a Cell<u64>,
+    early: &'a Cell<bool>,
+}
+
+impl Source for Asking<'_> {
+    ghost left = { λ _. None };
+
+    ghost faults = { λ _. 0 };
+
+    fn read(&mut self, into: &mut [u8]) -> Result<usize, Failed> {
+        if self.answers.get() != self.lines.saturating_sub(1) {
+            self.early.set(true);
+        }
+        if self.lines >= 9 || into.len() < 6 {
+            return Ok(0);
+        }
+        into[..6].copy_from_slice(if self.lines == 0 {
+            b"begin\n"
+        } else {
+            b"count\n"
+        });
+        self.lines += 1;
+        Ok(6)
+    }
+}
+
+// Counts the line feeds that are written.
+#[derive(Drop)]
+struct Counting<'a> {
+    answers: &'a Cell<u64>,
+}
+
+impl Sink for Counting<'_> {
+    ghost given = { λ _. None };
+
+    ghost faults = { λ _. 0 };
+
+    fn write(&mut self, piece: &[u8]) -> Result<(), Failed> {
+        if piece.ends_with(b"\n") {
+            self.answers.set(self.answers.get().saturating_add(1));
+        }
+        Ok(())
+    }
+}
+
+#[test]
+fn each_line_is_answered_before_the_next_read(rt: HostRuntime) -> Result<(), Fail> {
+    let answers = Cell::new(0);
+    let early = Cell::new(false);
+    let mut input = Asking {
+        lines: 0,
+        answers: &answers,
+        early: &early,
+    };
+    let mut out = Counting { answers: &answers };
+    let ended = replay::<Counter, _, _>(rt.alloc(), &mut input, &mut out);
+    assert!(rt; ended == Status::Done && answers.get() == 8 && !early.get());
+    Ok(())
+}
+
+// A machine that refuses the sheets and the lines that begin with a letter, each letter for another reason.
+#[derive(Drop)]
+struct Refusing {}
+
+const REFUSALS: [Refusal; 24] = [
+    Refusal::NotUtf8,
+    Refusal::Syntax,
+    Refusal::WrongVersion,
+    Refusal::UnknownName,
+    Refusal::DuplicateName,
+    Refusal::WrongArity,
+    Refusal::WrongSort,
+    Refusal::NotAValue,
+    Refusal::EmptySort,
+    Refusal::Limit(LimitWord::Sorts),
+    Refusal::Limit(LimitWord::Values),
+    Refusal::Limit(LimitWord::Number),
+    Refusal::Limit(LimitWord::Tables),
+    Refusal::Limit(LimitWord::Families),
+    Refusal::Limit(LimitWord::Arity),
+    Refusal::Limit(LimitWord::Cells),
+    Refusal::Limit(LimitWord::Rows),
+    Refusal::Limit(LimitWord::Rules),
+    Refusal::Limit(LimitWord::Depth),
+    Refusal::Limit(LimitWord::Reads),
+    Refusal::Limit(LimitWord::Budget),
+    Refusal::NoEntry,
+    Refusal::NotYet,
+    Refusal::TooDeep,
+];
+
+fn refusal_of(letter: u8) -> Refusal {
+    let place = letter.saturating_sub(b'a') as usize;
+    if place < REFUSALS.len() {
+        REFUSALS[place]
+    } else {
+        Refusal::NoBegin
+    }
+}
+
+impl Machine for Refusing {
+    ghost IsSheet = { λ text _. (0 < length text) × (slice_index text 0 < 97) };
+
+    ghost RefusesText = { λ _ _. Unit {0} };
+
+    ghost Allows = { λ _ _ _ _. Unit {0} };
+
+    ghost IsPage = { λ _ _ _. Unit {0} };
+
+    fn load(_: Global, text: &[u8]) -> Result<Self, LoadFault> {
+        if text.is_empty() {
+            return Err(LoadFault::Memory);
+        }
+        if text[0] < b'a' {
+            return Ok(Refusing {});
+        }
+        Err(LoadFault::Refused(SheetRefusal {
+            refusal: refusal_of(text[0]),
+            line: Some(207),
+        }))
+    }
+
+    fn decide(&mut self, _: Global, line: &[u8]) -> Reply {
+        match line.first() {
+            Some(letter) => Reply::Refused(refusal_of(*letter)),
+            None => Reply::Silent,
+        }
+    }
+
+    fn show<O: Sink>(&self, _: Page, _: &mut O) -> Result<(), Failed> {
+        Ok(())
+    }
+}
+
+// Each letter with its refusal, as it is told of a command; of the 207th line of a sheet the line stands at the comma, or at the end.
+const TOLD: &str = "\
+a => 1 not-utf8
+b => 2 syntax
+c => 4 wrong-version
+d => 5 unknown-name
+e => 6 duplicate-name
+f => 7 wrong-arity
+g => 8 wrong-sort
+h => 9 not-a-value
+i => 10 empty-sort
+j => 11 limit, sorts
+k => 11 limit, values
+l => 11 limit, number
+m => 11 limit, tables
+n => 11 limit, families
+o => 11 limit, arity
+p => 11 limit, cells
+q => 11 limit, rows
+r => 11 limit, rules
+s => 11 limit, depth
+t => 11 limit, reads
+u => 11 limit, budget
+v => 16 no-entry
+w => 20 not-yet
+x => 21 too-deep
+";
+
+// Whether the refusal of a row is told as the row says.
+fn is_refused(alloc: Global, row: &str) -> Result<bool, AllocError> {
+    let (letter, told) = row.split_once(" => ").unwrap_or((row, ""));
+    let (number, further) = told.split_once(',').unwrap_or((told, ""));
+    let sheet = format!(in alloc; "{letter}\nbegin\n")?;
+    let told = format!(in alloc; "SheetRefused\nsheet refused {number} line 207{further}\n")?;
+    let command = format!(in alloc; "-\nbegin\n{letter}\n")?;
+    let answer = format!(in alloc; "SomeRefused\nrefused {number}{further}\n")?;
+    Ok(
+        ends_well::<Refusing>(alloc, sheet.as_bytes(), 9, told.as_str())?
+            && ends_well::<Refusing>(alloc, command.as_bytes(), 9, answer.as_str())?,
+    )
+}
+
+#[test]
+fn refusals(rt: HostRuntime) -> Result<(), Fail> {
+    for row in TOLD.lines() {
+        assert!(rt; is_refused(rt.alloc(), row)?, "{row}");
+    }
+    Ok(())
+}
