@@ -17,3 +17,4 @@ pub mod Lines
 pub mod Outcomes
 pub mod DeclaredRules
 pub mod SheetOutcomes
+pub mod Formed

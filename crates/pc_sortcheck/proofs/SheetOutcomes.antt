@@ -14,7 +14,7 @@ use Rattle.pc_sortcheck.specs.declared.fault.SheetSortFault.{SheetSortFault}
 use Rattle.pc_sortcheck.proofs.Faults.{weaker}
 use Rattle.pc_sortcheck.proofs.SheetLaws.{all_one, all_never, all_same}
 
-empty_formed : IsWellFormed empty_sheet
+pub empty_formed : IsWellFormed empty_sheet
 empty_formed = record {
   universe = record {
     named = All-nil IsName;

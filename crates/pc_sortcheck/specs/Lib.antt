@@ -1,3 +1,4 @@
 pub mod Declaring
 pub mod DeclarationFaults
 pub mod Fits
+pub mod Laws

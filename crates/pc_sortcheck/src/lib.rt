@@ -3,6 +3,7 @@
 
 mod cells;
 mod fault;
+mod law;
 mod names;
 mod rule;
 mod sheet;
@@ -10,6 +11,7 @@ mod sorts;
 mod tables;
 
 pub use fault::SheetSortFault;
+pub use law::sheets_are_well_formed;
 pub use pc_elaborate::{SortFault, Which, find_cell, find_value};
 pub use rule::check_rule;
 pub use sheet::check_sheet;

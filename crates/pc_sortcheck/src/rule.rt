@@ -22,7 +22,9 @@ use pc_syntax::RuleTree;
 use std::alloc::Global;
 
 /// The rule that a tree stands for in the book, or the first fault: of its formula, from left to right, or that there
-/// are as many rules as there may be. Whether its name is new isn't tested.
+/// are as many rules as there may be. Whether its name is new isn't tested. Where memory is there, each comes exactly
+/// where it is so: by the law `trees_have_one_outcome` of `pc_elaborate` a formula stands for one statement at most, and then
+/// has no fault.
 pub fn check_rule(alloc: Global, book: &Book, tree: &RuleTree) -> Result<Rule, SortFault>
     requires sized { IsSized (formula_of tree.now.formula) }
     ensures told { MatchResult result (λ rule. IsStatement book.now.universe [] (formula_of tree.now.formula) (rule_of rule).states × IsWellSorted book.now.universe [] (rule_of rule).states) (IsFaultOf (IsRuleFault book.now (formula_of tree.now.formula) no_test)) }
