@@ -1,5 +1,5 @@
 mod Words
-mod Entries
+pub mod Entries
 mod Standing
 mod ForTheSheet
 mod Texts
@@ -8,3 +8,4 @@ mod Signs
 mod Forms
 mod Named
 mod Readings
+mod Speaks

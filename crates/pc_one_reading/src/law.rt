@@ -1,5 +1,5 @@
 // Laws over the definitions, each the contract of a function that does nothing.
-ghost use Rattle.pc_one_reading.specs.Laws.{FormsSayOneThing, InconsistencyIsBare, LinesHaveOneForm, TextsHaveOneReading, WhatIsReadIsForTheSheet};
+ghost use Rattle.pc_one_reading.specs.Laws.{FormsSayOneThing, InconsistencyIsBare, LinesHaveOneForm, TextsHaveOneReading, WhatIsReadIsForTheSheet, WhatIsReadSpeaksOfTheSheet};
 
 use pc_elaborate::trees_have_one_outcome;
 use pc_formula::one_value;
@@ -18,11 +18,12 @@ pub fn certificates_have_one_reading()
     trees_have_one_outcome();
 }
 
-/// What a text is read as in a sheet is a certificate for that sheet: its entries and axioms are of cells and values of
-/// the sheet, its symbols are different, its literals are of these, and beside a claim of inconsistency nothing is used
-/// and nothing has a value.
+/// What a text is read as in a sheet is a certificate for that sheet: its symbols are different, its literals are of these,
+/// and it speaks of the sheet alone: its claim, entries, axioms and literals are of cells, values, rules and nodes of the
+/// sheet. Beside a claim of inconsistency nothing is used and nothing has a value.
 pub fn what_is_read_is_for_the_sheet()
     ensures read { WhatIsReadIsForTheSheet }
+    ensures speaks { WhatIsReadSpeaksOfTheSheet }
     ensures bare { InconsistencyIsBare }
 {
     cells_are_numbered_in_order();
