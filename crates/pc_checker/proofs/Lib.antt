@@ -10,6 +10,7 @@ pub mod Derivations
 pub mod AxiomLemmas
 pub mod ReadLemmas
 pub mod RoomLemmas
+pub mod LineClauseLemmas
 pub mod Made
 pub mod CheckedLines
 pub mod CheckVerdict

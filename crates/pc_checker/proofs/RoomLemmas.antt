@@ -17,7 +17,7 @@ use Rattle.pc_cert.specs.declared.cert.CertPart.{CertPart}
 use Rattle.pc_cert.specs.declared.cert.CertPart.TheVariants.{Axiom, Step}
 use Rattle.pc_cert.specs.declared.cert.CertLine.{CertLine}
 use Rattle.pc_cert.specs.Views.{AreDistinct}
-use Rattle.pc_cert.specs.ReadFor.{IsNamedIn}
+use Rattle.pc_cert.specs.ReadFor.{IsNamedIn, IsPartOver}
 use Rattle.pc_checker.specs.Made.{IsPrepared, value_said}
 use Rattle.pc_cert.specs.Keys.{IsNumberedAs}
 use Rattle.pc_checker.specs.Drafts.{Grows}
@@ -58,6 +58,15 @@ prepared_still : (sheet : Sheet) (old new : List Symbol) (clause : List Lit) (go
 prepared_still sheet old new clause good (Axiom a) g all is =
     match_along good _ _ _ _ (λ h. subst (IsClauseOf sheet (axiom_of a)) (names_still old new clause g all) h) (λ h. h) is
 prepared_still sheet old new clause good (Step c hints) g all is = is
+
+part_over : (sheet : Sheet) (old new : List Symbol) (part : CertPart) → Grows old new → IsPartOver sheet old part → IsPartOver sheet new part
+part_over sheet old new (Axiom a) g over = over
+part_over sheet old new (Step c hints) g over = named_still old new c.items g over
+
+-- a line's part speaks of the sheet and of the symbols so far
+pub line_over : (sheet : Sheet) (lines : List CertLine) (n : ℕ) (line : CertLine) (old new : List Symbol) → n < length lines → line ≡ get_or lines n line → Grows old new → All (λ l. IsPartOver sheet old l.part) lines
+    → IsPartOver sheet new line.part
+line_over sheet lines n line old new within is g over = part_over sheet old new line.part g (subst (λ (l : CertLine). IsPartOver sheet old l.part) (sym is) (over n line within))
 
 pub prepared_more : (sheet : Sheet) (lines : List CertLine) (n : ℕ) (line : CertLine) (symbols old new : List Symbol) (before after : List (List Lit)) (marks more : List Bool) (good : Bool) → n < length lines
     → line ≡ get_or lines n line → ArePrepared sheet lines n symbols old before marks → IsLinePrepared sheet line.part old new before after good → more ≡ marks ++ good ∷ []

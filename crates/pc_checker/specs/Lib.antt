@@ -7,3 +7,4 @@ pub mod Numbers
 pub mod Drafts
 pub mod Written
 pub mod Prepared
+pub mod LineClauses

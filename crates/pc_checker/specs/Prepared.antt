@@ -1,5 +1,5 @@
 -- Lines that are prepared one after the other.
-use Rattle.std.specs.Prelude.{◌≡◌, ℕ, ◌<◌, Bool, false, List, [], ◌∷◌, ◌++◌, length, slice_index_or, All}
+use Rattle.std.specs.Prelude.{◌≡◌, ℕ, ◌<◌, Bool, false, List, [], ◌∷◌, ◌++◌, length, slice_index_or, All, Option, None, Some}
 use Rattle.pc_sheet.specs.Sheet.{Sheet}
 use Rattle.pc_lits.specs.declared.literal.Lit.{Lit}
 use Rattle.pc_accept.specs.Literals.{Symbol}
@@ -16,6 +16,12 @@ pub record IsLinePrepared (sheet : Sheet) (part : CertPart) (old new : List Symb
   pub pushed : after ≡ before ++ clause ∷ []
   pub within : All (IsNamedIn new) clause
   pub prepared : IsPrepared sheet new clause good part
+
+-- the same of a line that may take the clause and the mark of an earlier one
+abbrev pub IsPlacePrepared : Sheet → CertPart → Option ℕ → List Bool → List Symbol → List Symbol → List (List Lit) → List (List Lit) → Bool → Type 0
+IsPlacePrepared sheet part None marks old new before after good = IsLinePrepared sheet part old new before after good
+IsPlacePrepared sheet part (Some j) marks old new before after good =
+    (new ≡ old) × (after ≡ before ++ slice_index_or before j [] ∷ []) × (good ≡ slice_index_or marks j false)
 
 -- the first n lines are prepared
 pub record ArePrepared (sheet : Sheet) (lines : List CertLine) (n : ℕ) (symbols names : List Symbol) (clauses : List (List Lit)) (axioms : List Bool) : Type 0 where

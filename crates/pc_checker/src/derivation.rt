@@ -6,15 +6,16 @@ ghost use Rattle.pc_values.specs.Values.{IsInRange};
 ghost use Rattle.pc_checker.specs.Parts.{IsStepBy, IsGoodPart, IsFirstBad, EndsAmong, IsAmongOf, AreMarked};
 
 use crate::hints::{HintsByNumber, are_earlier};
+use crate::line_clauses::LineClauses;
 use pc_cert::{CertLine, CertPart};
-use pc_lits::{ClauseStore, Lit};
+use pc_lits::Lit;
 use pc_values::{Values, is_good_step};
 
 /// The first line that is neither marked as an axiom nor a good step by earlier lines.
 pub(crate) fn first_bad(
     lines: &[CertLine],
     axioms: &[bool],
-    clauses: &ClauseStore,
+    clauses: &LineClauses,
     values: &mut Values,
 ) -> Option<usize>
     requires count { length clauses.now ≡ length lines.now }
@@ -36,7 +37,7 @@ fn is_good(
     place: usize,
     part: &CertPart,
     axioms: &[bool],
-    clauses: &ClauseStore,
+    clauses: &LineClauses,
     values: &mut Values,
 ) -> bool
     requires place { place < length clauses.now }
@@ -52,7 +53,7 @@ fn is_good(
 }
 
 // Whether the clause of that place is a good step by hints that number earlier ones.
-fn is_step(place: usize, hints: &[u64], clauses: &ClauseStore, values: &mut Values) -> bool
+fn is_step(place: usize, hints: &[u64], clauses: &LineClauses, values: &mut Values) -> bool
     requires place { place < length clauses.now }
     requires clauses { All (All (IsInRange values.old)) clauses.now }
     ensures good { IsTrue result ↔ IsStepBy clauses.now place hints.now }
@@ -70,7 +71,7 @@ fn is_step(place: usize, hints: &[u64], clauses: &ClauseStore, values: &mut Valu
 }
 
 /// Whether there is a last clause, and its literals are among these.
-pub(crate) fn ends_among(clauses: &ClauseStore, allowed: &[Lit], values: &mut Values) -> bool
+pub(crate) fn ends_among(clauses: &LineClauses, allowed: &[Lit], values: &mut Values) -> bool
     requires clauses { All (All (IsInRange values.old)) clauses.now }
     requires allowed { All (IsInRange values.old) allowed.now }
     ensures among { IsTrue result ↔ EndsAmong clauses.now allowed.now }

@@ -5,13 +5,14 @@ ghost use Rattle.pc_values.specs.Hints.{clauses_at};
 ghost use Rattle.pc_checker.specs.Numbers.{IsNumberUpTo, places_of};
 ghost use Rattle.pc_checker.specs.Parts.{places_meant};
 
-use pc_lits::{ClauseStore, Lit};
+use crate::line_clauses::LineClauses;
+use pc_lits::Lit;
 use pc_values::Hints;
 
 /// The clauses of lines by their numbers, from 1, in the order of the numbers.
 #[derive(Clone, Copy)]
 pub(crate) struct HintsByNumber<'a> {
-    pub clauses: &'a ClauseStore,
+    pub clauses: &'a LineClauses,
     pub numbers: &'a [u64],
     ghost within: { All (IsNumberUpTo (length clauses.now)) numbers.now },
 }

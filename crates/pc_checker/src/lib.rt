@@ -9,9 +9,11 @@ mod draft;
 mod entered;
 mod hints;
 mod law;
+mod line_clauses;
 mod node;
 mod room;
 mod scratch;
+mod shared;
 mod taken;
 mod verdict;
 

@@ -1,6 +1,6 @@
 //! All that a check needs of memory.
 
-ghost use Rattle.std.specs.Prelude.{◌≡◌, [], IfOk, OnOk, All, length, map};
+ghost use Rattle.std.specs.Prelude.{◌≡◌, ◌<◌, [], IfOk, IfSome, OnOk, All, length, map};
 ghost use Rattle.pc_accept.specs.Axioms.{negated_entry};
 ghost use Rattle.pc_sheet.specs.Entailment.{cell_sizes};
 ghost use Rattle.pc_cert.specs.Text.{entry_said};
@@ -10,15 +10,16 @@ ghost use Rattle.pc_checker.specs.Made.{IsMadeFor, value_said};
 ghost use Rattle.pc_cert.specs.ReadFor.{IsPartOver, IsReadFor};
 ghost use Rattle.pc_cert.specs.Keys.{IsNumberedAs};
 ghost use Rattle.pc_cert.specs.Views.{AreDistinct};
-ghost use Rattle.pc_checker.specs.Prepared.{IsLinePrepared, ArePrepared};
+ghost use Rattle.pc_checker.specs.Prepared.{ArePrepared, IsLinePrepared, IsPlacePrepared};
 ghost use Rattle.pc_checker.specs.Verdicts.{allowed_in};
 
 use crate::draft::ClauseDraft;
 use crate::entered::entered_values;
+use crate::line_clauses::LineClauses;
 use crate::scratch::Scratch;
+use crate::shared::Shared;
 use crate::taken::write_axiom;
 use pc_cert::{Cert, CertLine, CertPart, Claim, Numbering, Said, Symbol};
-use pc_lits::ClauseStore;
 use pc_logic::{Assignment, Book};
 use pc_values::Values;
 use std::alloc::{AllocError, Global};
@@ -30,7 +31,7 @@ pub fn room_for(alloc: Global, book: &Book, cert: &Cert) -> Result<Scratch, Allo
 {
     let names = number_symbols(alloc, &cert.symbols)?;
     let mut draft = ClauseDraft::new(alloc, names);
-    let mut clauses = ClauseStore::new(alloc);
+    let mut clauses = LineClauses::new(alloc);
     let mut axioms = Vec::new(alloc);
     prepare_lines(
         alloc,
@@ -91,7 +92,7 @@ fn prepare_lines(
     book: &Book,
     lines: &[CertLine],
     draft: &mut ClauseDraft,
-    clauses: &mut ClauseStore,
+    clauses: &mut LineClauses,
     axioms: &mut Vec<bool>,
 ) -> Result<(), AllocError>
     requires over { All (λ l. IsPartOver book.now draft.old.symbols l.part) lines.now }
@@ -100,11 +101,41 @@ fn prepare_lines(
     ensures { OnOk result (ArePrepared book.now lines.now (length lines.now) draft.old.symbols draft.new.symbols clauses.new axioms.new.items) }
 {
     let mut marks = Values::new(alloc, book.cells() as u32)?;
-    for line in lines {
-        let good = prepare_line(alloc, book, &line.part, draft, clauses, &mut marks)?;
+    let mut shared = Shared::new(alloc);
+    for (place, line) in lines.iter().enumerate() {
+        let earlier = shared.earlier(alloc, lines, place)?;
+        let good = prepare_place(
+            alloc, book, &line.part, earlier, draft, clauses, axioms, &mut marks,
+        )?;
         axioms.push(good)?;
     }
     Ok(())
+}
+
+// Stores the clause of a part, or takes that of an earlier line and what was answered for it.
+fn prepare_place(
+    alloc: Global,
+    book: &Book,
+    part: &CertPart,
+    earlier: Option<usize>,
+    draft: &mut ClauseDraft,
+    clauses: &mut LineClauses,
+    axioms: &[bool],
+    marks: &mut Values,
+) -> Result<bool, AllocError>
+    requires over { IsPartOver book.now draft.old.symbols part.now }
+    requires marks { length marks.old ≡ length (cell_sizes book.now.universe) }
+    requires earlier { IfSome earlier (λ j. (j < length clauses.old) × (j < length axioms.now)) }
+    ensures room { length marks.new ≡ length marks.old }
+    ensures prepared { IfOk result (IsPlacePrepared book.now part.now earlier axioms.now draft.old.symbols draft.new.symbols clauses.old clauses.new) }
+{
+    match earlier {
+        None => prepare_line(alloc, book, part, draft, clauses, marks),
+        Some(first) => {
+            clauses.repeat(first)?;
+            Ok(axioms[first])
+        }
+    }
 }
 
 // Stores the clause of a part, and answers whether it may be taken as an axiom.
@@ -113,7 +144,7 @@ fn prepare_line(
     book: &Book,
     part: &CertPart,
     draft: &mut ClauseDraft,
-    clauses: &mut ClauseStore,
+    clauses: &mut LineClauses,
     marks: &mut Values,
 ) -> Result<bool, AllocError>
     requires over { IsPartOver book.now draft.old.symbols part.now }

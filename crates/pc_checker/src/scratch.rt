@@ -1,6 +1,7 @@
 //! What a check needs of memory.
 
-use pc_lits::{ClauseStore, Lit};
+use crate::line_clauses::LineClauses;
+use pc_lits::Lit;
 use pc_logic::Assignment;
 use pc_sheet::ValueId;
 use pc_values::Values;
@@ -14,7 +15,7 @@ pub struct Scratch {
     // The values of the certificate's `value` lines.
     pub(crate) assignment: Assignment,
     // The clause of each line of the derivation.
-    pub(crate) clauses: ClauseStore,
+    pub(crate) clauses: LineClauses,
     // Whether each line may be taken as an axiom.
     pub(crate) axioms: Vec<bool>,
     // The literals that the last clause may have.

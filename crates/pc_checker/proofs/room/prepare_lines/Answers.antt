@@ -1,10 +1,27 @@
-use Rattle.std.proofs.Common.{◌∙◌}
-use Rattle.pc_checker.proofs.RoomLemmas.{prepared_more}
+use Rattle.std.proofs.Common.{◌∙◌, List, Bool, sym, subst}
+use Rattle.pc_checker.specs.Prepared.{IsLinePrepared, ArePrepared}
+use Rattle.pc_checker.proofs.LineClauseLemmas.{place_prepared}
+use Rattle.pc_checker.proofs.RoomLemmas.{line_over, prepared_more}
 use Rattle.pc_checker.proofs.room.prepare_lines.Goals as goal
 
-pub loop-line-preserved : goal.loop-line-preserved
-loop-line-preserved c = record {
-  prepared = prepared_more c.args.book.now c.args.lines.now c.loop-line.line-index c.line-item.result c.args.draft.now.symbols c.loop-line.draft.symbols c.prepare_line.new.draft.symbols c.loop-line.clauses
-      c.prepare_line.new.clauses c.loop-line.axioms.items c.push.new.self.items c.in_ok-good.good c.loop-line-test.true c.line-item.is c.loop-line.invariant.prepared c.in_ok-good.ensures.prepared c.in_ok-push.ensures.items;
-  room = c.prepare_line.ensures.room ∙ c.loop-line.invariant.room;
-}
+pub prepare_place-requires-clause-over : goal.prepare_place-requires-clause-over
+prepare_place-requires-clause-over c =
+    let l = c.loop-place in
+    line_over c.args.book.now c.args.lines.now l.place c.index-lines-place.result c.args.draft.now.symbols l.draft.symbols c.loop-place-test.true c.index-lines-place.is l.invariant.prepared.grows c.requires.over
+
+pub loop-place-preserved : goal.loop-place-preserved
+loop-place-preserved c =
+    let l = c.loop-place in
+    let line = c.index-lines-place.result in
+    let lent : ArePrepared c.args.book.now c.args.lines.now l.place c.args.draft.now.symbols l.draft.symbols l.clauses c.deref.result.now =
+    subst (λ (marks : List Bool). ArePrepared c.args.book.now c.args.lines.now l.place c.args.draft.now.symbols l.draft.symbols l.clauses marks) (sym c.deref.ensures.value) l.invariant.prepared
+    in
+    let one : IsLinePrepared c.args.book.now line.part l.draft.symbols c.prepare_place.new.draft.symbols l.clauses c.prepare_place.new.clauses c.in_ok-good.good =
+    place_prepared c.args.book.now c.args.lines.now l.place line c.in_ok-earlier.earlier c.args.draft.now.symbols l.draft.symbols c.prepare_place.new.draft.symbols l.clauses c.prepare_place.new.clauses c.deref.result.now c.in_ok-good.good c.index-lines-place.is
+    lent c.in_ok-earlier.ensures c.in_ok-good.ensures.prepared
+    in
+    record {
+      prepared = prepared_more c.args.book.now c.args.lines.now l.place line c.args.draft.now.symbols l.draft.symbols c.prepare_place.new.draft.symbols l.clauses
+          c.prepare_place.new.clauses l.axioms.items c.push.new.self.items c.in_ok-good.good c.loop-place-test.true c.index-lines-place.is l.invariant.prepared one c.in_ok-push.ensures.items;
+      room = c.prepare_place.ensures.room ∙ l.invariant.room;
+    }
