@@ -81,3 +81,24 @@ fn the_heaviest_sheet_is_grounded(rt: HostRuntime) -> Result<(), Fail> {
     }
     Ok(())
 }
+
+// Sixteen cells of two values, and so many ones.
+const SUM: &str =
+    "sheet 1\nsort bit = 0 .. 1\nsort i = 1 .. 16\ncell c(i) : bit\nrule r : c(1) + c(2) + c(3) + c(4) + c(5) + c(6) + c(7) + c(8) + c(9) + c(10) + c(11) + c(12) + c(13) + c(14) + c(15) + c(16)";
+
+fn long_sum(alloc: Global, ones: usize) -> Result<String, Fail> {
+    let mut text = String::from_str(alloc, SUM)?;
+    for _ in 0..ones {
+        text.push_str(" + 1")?;
+    }
+    text.push_str(" > 0\nbegin\n")?;
+    Ok(text)
+}
+
+// 2^16 leaves of sixteen reads, the rule, and four literals for each cell.
+#[test]
+fn a_sum_of_many_ones_is_read_once_for_all_of_its_leaves(rt: HostRuntime) -> Result<(), Fail> {
+    let text = long_sum(rt.alloc(), 300_000)?;
+    assert_eq!(rt; weighed(rt.alloc(), &text)?, (1_114_177, 1_114_177));
+    Ok(())
+}
