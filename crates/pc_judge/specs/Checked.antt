@@ -2,6 +2,7 @@
 -- printed, and how much of it was.
 use Rattle.std.specs.Prelude.{◌≡◌, ℕ, ◌<◌, ◌≤◌, ◌⊎◌, List, [], ◌∷◌, ◌++◌, length, Some, IfSome}
 use Rattle.std.specs.declared.option.Option.{Option}
+use Rattle.pc_port.specs.Port.{Rose}
 use Rattle.pc_port.specs.Shelf.{Files, file_named}
 use Rattle.pc_sheet.specs.Sheet.{Sheet}
 use Rattle.pc_run.specs.declared.TheConstants.{SHEET_LIMIT}
@@ -28,6 +29,11 @@ AsksOnce file asked asked' = (asked' ≡ asked) ⊎ (asked' ≡ asked ++ file �
 pub record TakesFile (kept : Option Files) (file : List ℕ) (asked asked' : List (List ℕ)) (text : List ℕ) : Type 0 where
   pub once : asked' ≡ asked ++ file ∷ []
   pub whole : IfSome kept (λ files. file_named file files ≡ Some text)
+
+-- One device was at fault: the shelf, and the input was left as it was; or the input, and the shelf wasn't at fault. The counts
+-- are those of the shelf's faults, before and after.
+abbrev pub FailsToRead : {I : Type 0} → (I → ℕ) → I → I → ℕ → ℕ → Type 0
+FailsToRead faults input input' shelf shelf' = ((input' ≡ input) × Rose shelf shelf') ⊎ (Rose (faults input) (faults input') × (shelf' ≡ shelf))
 
 -- ---- what ends it before the certificate: the input stays as it was
 

@@ -3,7 +3,7 @@ ghost use Rattle.std.specs.Prelude.{◌≡◌, ◌≢◌, ◌≤◌, ◌⊎◌, 
 ghost use Rattle.pc_port.specs.Port.{Rose};
 ghost use Rattle.pc_port.specs.Shelf.{Files};
 ghost use Rattle.pc_cert.specs.declared.TheConstants.{CERT_LIMIT};
-ghost use Rattle.pc_judge.specs.Checked.{AsksOnce, Checked, CheckedFor, TakesFile};
+ghost use Rattle.pc_judge.specs.Checked.{AsksOnce, Checked, CheckedFor, FailsToRead, TakesFile};
 ghost use Rattle.pc_judge.specs.Input.{TakesAll};
 
 use crate::input::{InputStop, take_all};
@@ -38,6 +38,7 @@ fn check_text<O: Sink>(alloc: Global, book: &Book, text: &[u8], out: &mut O) -> 
 fn check_input<I: Source, O: Sink>(alloc: Global, book: &Book, input: &mut I, out: &mut O) -> Status
     ensures checked { CheckedFor book.now result (I.left input.old) (I.left input.new) (O.given out.old) (O.given out.new) }
     ensures read_fault { result ≡ Status.ReadFault → Rose (I.faults input.old) (I.faults input.new) }
+    ensures no_read_fault { result ≢ Status.ReadFault → I.faults input.new ≡ I.faults input.old }
     ensures write_fault { result ≡ Status.WriteFault → Rose (O.faults out.old) (O.faults out.new) }
 {
     match take_all(alloc, input) {
@@ -59,6 +60,7 @@ fn check_sheet<I: Source, O: Sink>(
     ensures checked { (kept : Option Files) (file : List ℕ) (asked asked' : List (List ℕ)) → TakesFile kept file asked asked' sheet.now
         → Checked kept file result asked asked' (I.left input.old) (I.left input.new) (O.given out.old) (O.given out.new) }
     ensures read_fault { result ≡ Status.ReadFault → Rose (I.faults input.old) (I.faults input.new) }
+    ensures no_read_fault { result ≢ Status.ReadFault → I.faults input.new ≡ I.faults input.old }
     ensures write_fault { result ≡ Status.WriteFault → Rose (O.faults out.old) (O.faults out.new) }
 {
     match load_book(alloc, sheet) {
@@ -85,8 +87,9 @@ pub fn check_file<I: Source, H: Shelf, O: Sink>(
     ensures asked { AsksOnce file.now (H.asked shelf.old) (H.asked shelf.new) }
     ensures kept { H.kept shelf.new ≡ H.kept shelf.old }
 
-    // A fault is told only where that device was at fault.
-    ensures read_fault { result ≡ Status.ReadFault → Rose (I.faults input.old) (I.faults input.new) ⊎ Rose (H.faults shelf.old) (H.faults shelf.new) }
+    // A read fault is the shelf's, before the input is read, or the input's, after the shelf gave its file.
+    ensures read_fault { result ≡ Status.ReadFault → FailsToRead I.faults input.old input.new (H.faults shelf.old) (H.faults shelf.new) }
+    ensures no_read_fault { result ≢ Status.ReadFault → (I.faults input.new ≡ I.faults input.old) × (H.faults shelf.new ≡ H.faults shelf.old) }
     ensures write_fault { result ≡ Status.WriteFault → Rose (O.faults out.old) (O.faults out.new) }
 {
     let mut sheet = Vec::new(alloc);

@@ -1,5 +1,5 @@
 //! An input that is read to its end.
-ghost use Rattle.std.specs.Prelude.{◌≡◌, ◌≤◌};
+ghost use Rattle.std.specs.Prelude.{◌≡◌, ◌≢◌, ◌≤◌};
 ghost use Rattle.pc_port.specs.Port.{Rose};
 ghost use Rattle.pc_judge.specs.Input.{InputGives};
 
@@ -47,9 +47,9 @@ impl From<Failed> for InputStop {
 pub fn take_all<I: Source>(alloc: Global, input: &mut I) -> Result<Vec<u8>, InputStop>
     ensures gives { InputGives result (I.left input.old) (I.left input.new) }
 
-    // A fault is told only where the input was at fault.
-    ensures later { I.faults input.old ≤ I.faults input.new }
+    // A fault is told exactly where the input was at fault.
     ensures cause { result ≡ Err InputStop.Failed → Rose (I.faults input.old) (I.faults input.new) }
+    ensures kept { result ≢ Err InputStop.Failed → I.faults input.new ≡ I.faults input.old }
 {
     let mut text = Vec::new(alloc);
     let mut chunk = [0u8; CHUNK];
