@@ -6,3 +6,4 @@ pub mod SameLines
 pub mod SheetVerdicts
 pub mod Telling
 pub mod Verdicts
+pub mod Formed

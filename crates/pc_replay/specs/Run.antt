@@ -35,6 +35,6 @@ pub record Runs (words : List (List ℕ)) (kept : Option Files) (asked asked' : 
 abbrev pub AskForFile : List (List ℕ) → Type 0
 AskForFile words = (file : List ℕ) × Asks words (checks file)
 
--- the source was at fault, or with the name of a file the shelf
-abbrev pub ReadsAtFault : List (List ℕ) → ℕ → ℕ → ℕ → ℕ → Type 0
-ReadsAtFault words input input' shelf shelf' = Rose input input' ⊎ (AskForFile words × Rose shelf shelf')
+-- the source was at fault and the shelf wasn't; or, with the name of a file, the shelf was, and the source was left as it was
+abbrev pub ReadsAtFault : {I : Type 0} → List (List ℕ) → (I → ℕ) → I → I → ℕ → ℕ → Type 0
+ReadsAtFault words faults input input' shelf shelf' = (Rose (faults input) (faults input') × (shelf' ≡ shelf)) ⊎ (AskForFile words × Rose shelf shelf' × (input' ≡ input))

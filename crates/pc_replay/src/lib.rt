@@ -15,7 +15,8 @@ mod trying;
 mod words;
 
 pub use law::{
-    lines_are_the_same, lines_have_one_verdict, texts_have_one_verdict, words_ask_for_one_mode,
+    lines_are_the_same, lines_have_one_verdict, states_are_well_formed, texts_have_one_verdict,
+    words_ask_for_one_mode,
 };
 pub use pc_run::Status;
 pub use replay::run;

@@ -1,5 +1,5 @@
 // The top call.
-ghost use Rattle.std.specs.Prelude.{◌≡◌, map, string_bytes};
+ghost use Rattle.std.specs.Prelude.{◌≡◌, ◌≢◌, map, string_bytes};
 ghost use Rattle.pc_port.specs.Port.{Rose};
 ghost use Rattle.pc_run.specs.Run.{Tells};
 ghost use Rattle.pc_replay.specs.Run.{AskForFile, ReadsAtFault, Runs, usage_text};
@@ -44,8 +44,9 @@ pub fn run<I: Source, H: Shelf, O: Sink>(
     ensures kept { H.kept shelf.new ≡ H.kept shelf.old }
     ensures shelf { ¬ AskForFile (map string_bytes words.now) → shelf.new ≡ shelf.old }
 
-    // A fault is told only where that device was at fault.
-    ensures read_fault { result ≡ Status.ReadFault → ReadsAtFault (map string_bytes words.now) (I.faults input.old) (I.faults input.new) (H.faults shelf.old) (H.faults shelf.new) }
+    // A fault is told exactly where that device was at fault.
+    ensures no_read_fault { result ≢ Status.ReadFault → (I.faults input.new ≡ I.faults input.old) × (H.faults shelf.new ≡ H.faults shelf.old) }
+    ensures read_fault { result ≡ Status.ReadFault → ReadsAtFault (map string_bytes words.now) I.faults input.old input.new (H.faults shelf.old) (H.faults shelf.new) }
     ensures write_fault { result ≡ Status.WriteFault → Rose (O.faults out.old) (O.faults out.new) }
 {
     match mode_of(words) {
