@@ -1,5 +1,14 @@
 pub mod Below
+pub mod ImpliedSoFar
+pub mod Joining
+pub mod KeptLemmas
 pub mod LineLemmas
 pub mod Marked
+pub mod ObjectLemmas
+pub mod PlainData
 pub mod SameDisplay
 pub mod SheetLemmas
+pub mod Signs
+pub mod Spaces
+pub mod Spelled
+pub mod Widths

@@ -66,8 +66,12 @@ module _ (u : Universe) (c : CellId) (within : c.0 < length (cell_sizes u)) wher
   some_number : (m n : ℕ) → Some m ≡ Some n → m ≡ n
   some_number m n same = cc
 
-  pub size_is : (n : ℕ) → slice_get (cell_sizes u) c.0 ≡ Some n → n ≡ size_of u (sort_of u c)
+  size_is : (n : ℕ) → slice_get (cell_sizes u) c.0 ≡ Some n → n ≡ size_of u (sort_of u c)
   size_is n is = some_number n (size_of u (sort_of u c)) (sym is ∙ cell_size u c within)
+
+-- the values that are gone over are those of the cell's sort
+pub values_end : (sheet book : Sheet) (c : CellId) (n : ℕ) → book ≡ sheet → c.0 < length (cell_sizes sheet.universe) → slice_get (cell_sizes book.universe) c.0 ≡ Some n → n ≡ size_of sheet.universe (sort_of sheet.universe c)
+values_end sheet book c n same within is = size_is sheet.universe c within n (ap (λ s. slice_get (cell_sizes s.universe) c.0) (sym same) ∙ is)
 
 -- ---- least supports are unique
 
@@ -116,14 +120,19 @@ module _ (sheet book : Sheet) (same : book ≡ sheet) (formed : IsWellFormed boo
         subst P (sym same) (conflict_fits sheet (subst IsWellFormed same formed) found (option_copied conflict) support.now against_it (ap option_copied some))
 
     module _ (reason : Reasoning) (reasons : IsReasoning sheet reason) where
-      conflict_is : option_copied conflict ≡ conflict_of reason (entry_of sheet.entries c)
+      pub conflict_is : option_copied conflict ≡ conflict_of reason (entry_of sheet.entries c)
       conflict_is = same_conflict sheet reason reasons found found_fits (option_copied conflict) against_it ∙ ap (conflict_of reason) found_is
 
+      -- what is made of the cell's entry, and of whether it clashes
+      pub with_entry : {A : Type 0} (made : Universe → Option Entry → Bool → A) (clashes : Bool) → clashes ≡ is_some conflict
+          → made book.universe found clashes ≡ made sheet.universe (entry_of sheet.entries c) (is_some (conflict_of reason (entry_of sheet.entries c)))
+      with_entry made clashes is =
+          ap (λ s. made s.universe found clashes) same
+          ∙ ap (λ o. made sheet.universe o clashes) found_is
+          ∙ ap (made sheet.universe (entry_of sheet.entries c)) (is ∙ is_some-copied conflict ∙ ap is_some conflict_is)
+
       pub head_is : (clashes : Bool) → clashes ≡ is_some conflict → head_line book.universe c found clashes ≡ head_line sheet.universe c (entry_of sheet.entries c) (is_some (conflict_of reason (entry_of sheet.entries c)))
-      head_is clashes is =
-          ap (λ s. head_line s.universe c found clashes) same
-          ∙ ap (λ o. head_line sheet.universe c o clashes) found_is
-          ∙ ap (head_line sheet.universe c (entry_of sheet.entries c)) (is ∙ is_some-copied conflict ∙ ap is_some conflict_is)
+      head_is clashes is = with_entry (λ u entry b. head_line u c entry b) clashes is
 
       pub no_conflict_line : conflict ≡ None → [] ≡ conflict_line sheet.universe (conflict_of reason (entry_of sheet.entries c))
       no_conflict_line none = ap (conflict_line sheet.universe) (sym (ap option_copied none) ∙ conflict_is)

@@ -1,11 +1,14 @@
--- Small sheets with the reasons that they have, and their displays line by line.
-use Rattle.std.specs.Prelude.{◌≡◌, ℕ, pos, negsuc, Bool, true, false, ◌&&◌, List, [], ◌∷◌, codes, None, Some, nat_eq, if◌then◌else◌}
+-- Small sheets with the reasons that they have, and their displays.
+use Rattle.std.specs.Prelude.{◌≡◌, ℕ, pos, negsuc, Bool, true, false, ◌&&◌, List, [], ◌∷◌, ◌++◌, codes, None, Some, nat_eq, if◌then◌else◌}
 use Rattle.std.specs.List.{flat_map}
 use Rattle.pc_sheet.specs.Sheet.{listed, range, Sort, Family, Sheet}
 use Rattle.pc_sheet.specs.declared.ids.Entry.{Entry}
 use Rattle.pc_sheet.specs.declared.ids.Target.{Target}
 use Rattle.pc_display.specs.Supports.{Reasoning}
+use Rattle.std.specs.Prelude.{encode_utf8_all}
 use Rattle.pc_display.specs.Show.{ended, show_text}
+use Rattle.pc_display.specs.Grid.{grid_text}
+use Rattle.pc_display.specs.Json.{json_text}
 
 -- ---- their parts
 
@@ -67,12 +70,29 @@ a_is_red = entry 0 0 ∷ []
 abbrev pub c_is_green : List Entry
 c_is_green = entry 2 1 ∷ []
 
+abbrev pub clash : Sheet
+clash = colored (codes "a" ∷ codes "b" ∷ codes "c" ∷ []) (entry 0 0 ∷ entry 2 1 ∷ [])
+
 abbrev pub clash_reasons : Reasoning
 clash_reasons =
     listed_reasons (
     (has 0 0, a_is_red) ∷ (has 0 1, c_is_green) ∷ (has 1 0, a_is_red) ∷ (has 1 1, c_is_green) ∷ (has 2 0, a_is_red) ∷ (has 2 1, c_is_green)
     ∷ (lacks 0 0, c_is_green) ∷ (lacks 2 1, a_is_red) ∷ []
     )
+
+-- a red cell that the rules want green
+abbrev pub against_rules : Sheet
+against_rules = colored (codes "a" ∷ []) (entry 0 0 ∷ [])
+
+abbrev pub against_rules_reasons : Reasoning
+against_rules_reasons = listed_reasons ((has 0 1, []) ∷ (lacks 0 0, []) ∷ [])
+
+-- three cells, of which two that are red make the third one red
+abbrev pub two_entries : Sheet
+two_entries = colored (codes "a" ∷ codes "b" ∷ codes "c" ∷ []) (entry 0 0 ∷ entry 1 0 ∷ [])
+
+abbrev pub two_entries_reasons : Reasoning
+two_entries_reasons = listed_reasons ((has 0 0, entry 0 0 ∷ []) ∷ (has 1 0, entry 1 0 ∷ []) ∷ (has 2 0, entry 0 0 ∷ entry 1 0 ∷ []) ∷ [])
 
 -- a number of each person and each number from -1 to 1, where f(ann, 1) = -1 is entered
 abbrev pub numbers_of_persons : Sheet
@@ -90,17 +110,17 @@ pub record DisplaysAreThese : Type 0 where
   -- what has one value only is so always
   pub always : show_text one_value (listed_reasons ((has 0 0, []) ∷ [])) ≡ lines (codes "a : -" ∷ codes "  = v always" ∷ [])
   -- two entries that clash
-  pub clash : show_text (colored (codes "a" ∷ codes "b" ∷ codes "c" ∷ []) (entry 0 0 ∷ entry 2 1 ∷ [])) clash_reasons
+  pub clashing : show_text clash clash_reasons
       ≡ lines (
       codes "a : red !" ∷ codes "  = red because a = red" ∷ codes "  = green because c = green" ∷ codes "  ! against c = green"
       ∷ codes "b : -" ∷ codes "  = red because a = red" ∷ codes "  = green because c = green"
       ∷ codes "c : green !" ∷ codes "  = red because a = red" ∷ codes "  = green because c = green" ∷ codes "  ! against a = red" ∷ []
       )
   -- an entry that the rules alone are against
-  pub against_rules : show_text (colored (codes "a" ∷ []) (entry 0 0 ∷ [])) (listed_reasons ((has 0 1, []) ∷ (lacks 0 0, []) ∷ []))
+  pub without_rules : show_text against_rules against_rules_reasons
       ≡ lines (codes "a : red !" ∷ codes "  = green always" ∷ codes "  ! against the rules" ∷ [])
   -- a reason of two entries
-  pub two_entries : show_text (colored (codes "a" ∷ codes "b" ∷ codes "c" ∷ []) (entry 0 0 ∷ entry 1 0 ∷ [])) (listed_reasons ((has 0 0, entry 0 0 ∷ []) ∷ (has 1 0, entry 1 0 ∷ []) ∷ (has 2 0, entry 0 0 ∷ entry 1 0 ∷ []) ∷ []))
+  pub two_of_them : show_text two_entries two_entries_reasons
       ≡ lines (
       codes "a : red" ∷ codes "  = red because a = red" ∷ codes "b : red" ∷ codes "  = red because b = red" ∷ codes "c : -" ∷ codes "  = red because a = red, b = red" ∷ []
       )
@@ -110,3 +130,58 @@ pub record DisplaysAreThese : Type 0 where
       codes "f(ann, -1) : -" ∷ codes "f(ann, 0) : -" ∷ codes "f(ann, 1) : -1" ∷ codes "  = -1 because f(ann, 1) = -1"
       ∷ codes "f(bob, -1) : -" ∷ codes "f(bob, 0) : -" ∷ codes "f(bob, 1) : -" ∷ codes "  = 0 because f(ann, 1) = -1" ∷ []
       )
+
+-- ---- tables
+
+-- a name by its characters
+abbrev pub spelled : List ℕ → List ℕ
+spelled characters = encode_utf8_all characters
+
+-- cells whose names have characters of one byte and column, of two columns, of none, and of more bytes than columns
+abbrev pub many_widths : Sheet
+many_widths = record {
+  universe = record {
+    sorts = record { name = codes "f"; values = listed (codes "rot" ∷ spelled (codes "grün") ∷ spelled (codes "赤") ∷ []) } ∷ [];
+    tables = [];
+    families = flat_map (λ name. plain_cell name ∷ []) (codes "plain" ∷ spelled (codes "wände") ∷ spelled (codes "名前") ∷ spelled (codes "café") ∷ spelled (codes "한") ∷ []);
+  };
+  rules = [];
+  entries = entry 1 1 ∷ entry 2 2 ∷ [];
+}
+
+abbrev pub many_widths_reasons : Reasoning
+many_widths_reasons = listed_reasons ((has 1 1, entry 1 1 ∷ []) ∷ (has 2 2, entry 2 2 ∷ []) ∷ (has 4 0, []) ∷ (has 4 2, entry 2 2 ∷ []) ∷ [])
+
+pub record GridsAreThese : Type 0 where
+  pub always : grid_text one_value (listed_reasons ((has 0 0, []) ∷ [])) ≡ lines (codes "a  -     v" ∷ [])
+  pub clashing : grid_text clash clash_reasons ≡ lines (codes "a  red    !  red, green" ∷ codes "b  -         red, green" ∷ codes "c  green  !  red, green" ∷ [])
+  pub without_rules : grid_text against_rules against_rules_reasons ≡ lines (codes "a  red  !  green" ∷ [])
+  pub arguments : grid_text numbers_of_persons (listed_reasons ((has 2 0, entry 2 0 ∷ []) ∷ (has 5 1, entry 2 0 ∷ []) ∷ []))
+      ≡ lines (
+      codes "f(ann, -1)  -      -" ∷ codes "f(ann, 0)   -      -" ∷ codes "f(ann, 1)   -1     -1"
+      ∷ codes "f(bob, -1)  -      -" ∷ codes "f(bob, 0)   -      -" ∷ codes "f(bob, 1)   -      0" ∷ []
+      )
+  -- two bytes in one column, three in two, three in one, and nine in two
+  pub wide : grid_text many_widths many_widths_reasons
+      ≡ spelled (lines (
+      codes "plain  -        -" ∷ codes "wände  grün     grün" ∷ codes "名前   赤       赤"
+      ∷ codes "café   -        -" ∷ codes "한     -        rot, 赤" ∷ []
+      ))
+
+-- ---- JSON
+
+pub record JsonTextsAreThese : Type 0 where
+  -- nothing is entered, so nothing clashes
+  pub always : json_text one_value (listed_reasons ((has 0 0, []) ∷ []))
+      ≡ codes "[{\"cell\":\"a\",\"conflict\":null,\"entry\":null,\"implied\":[{\"because\":[],\"value\":\"v\"}]}]"
+  pub without_rules : json_text against_rules against_rules_reasons
+      ≡ codes "[{\"cell\":\"a\",\"conflict\":[],\"entry\":\"red\",\"implied\":[{\"because\":[],\"value\":\"green\"}]}]"
+  pub two_of_them : json_text two_entries two_entries_reasons
+      ≡ codes "[{\"cell\":\"a\",\"conflict\":null,\"entry\":\"red\",\"implied\":[{\"because\":[\"a = red\"],\"value\":\"red\"}]},"
+      ++ (codes "{\"cell\":\"b\",\"conflict\":null,\"entry\":\"red\",\"implied\":[{\"because\":[\"b = red\"],\"value\":\"red\"}]},"
+      ++ codes "{\"cell\":\"c\",\"conflict\":null,\"entry\":null,\"implied\":[{\"because\":[\"a = red\",\"b = red\"],\"value\":\"red\"}]}]")
+  pub clashing : json_text (colored (codes "a" ∷ codes "b" ∷ []) (entry 0 0 ∷ entry 1 1 ∷ [])) (listed_reasons ((has 0 0, a_is_red) ∷ (has 0 1, entry 1 1 ∷ []) ∷ (lacks 0 0, entry 1 1 ∷ []) ∷ []))
+      ≡ codes "[{\"cell\":\"a\",\"conflict\":[\"b = green\"],\"entry\":\"red\",\"implied\":[{\"because\":[\"a = red\"],\"value\":\"red\"},{\"because\":[\"b = green\"],\"value\":\"green\"}]},"
+      ++ codes "{\"cell\":\"b\",\"conflict\":null,\"entry\":\"green\",\"implied\":[]}]"
+  -- of a sheet without cells
+  pub nothing : json_text (colored [] []) (listed_reasons []) ≡ codes "[]"

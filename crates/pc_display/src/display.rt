@@ -17,7 +17,7 @@ use pc_sheet::{CellId, Entry, Target, ValueId};
 use pc_writer::sort_of;
 
 /// The least support of the opposite of an entry, where it has one.
-fn conflict_of<V: Supports>(view: &V, entry: Option<Entry>) -> Option<&[Entry]>
+pub(crate) fn conflict_of<V: Supports>(view: &V, entry: Option<Entry>) -> Option<&[Entry]>
     requires { IfSome entry (IsEntryOf (V.sheet view.now).universe) }
     ensures { IsConflictOf (V.sheet view.now) entry (option_copied result) }
 {

@@ -20,7 +20,7 @@ pub(crate) fn entry_of(entries: &[Entry], cell: CellId) -> Option<Entry>
 }
 
 /// Writes the cell's entry, or a dash.
-fn write_entered<O: Sink>(
+pub(crate) fn write_entered<O: Sink>(
     book: &Book,
     cell: CellId,
     entry: Option<Entry>,

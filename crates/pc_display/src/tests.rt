@@ -1,7 +1,7 @@
 ghost use Rattle.std.specs.Prelude.{◌≡◌, length};
 ghost use Rattle.pc_sheet.specs.Entailment.{cell_sizes};
 
-use crate::show;
+use crate::{grid, json, show};
 use pc_logic::Book;
 use pc_port::MemorySink;
 use pc_reason::{Reason, Reasons};
@@ -35,6 +35,8 @@ fn nothing_is_shown_of_a_sheet_without_cells(rt: HostRuntime) -> Result<(), Fail
     };
     let mut out = MemorySink::new(alloc, 16, Vec::new(alloc))?;
     assert!(rt; show(&bare, &mut out).is_ok());
+    assert!(rt; grid(&bare, &mut out).is_ok());
     assert!(rt; out.bytes().is_empty());
+    assert_eq!(rt; json(alloc, &bare)?.as_str(), "[]");
     Ok(())
 }

@@ -10,16 +10,13 @@ use Rattle.pc_writer.specs.Spelling.{sort_of}
 use Rattle.pc_writer.proofs.InTurn.{Writes-nil, Writes-same}
 use Rattle.pc_display.specs.Show.{reason_of, value_line}
 use Rattle.pc_display.proofs.Below.{cut_within, one_more_written}
-use Rattle.pc_display.proofs.SheetLemmas.{size_is}
+use Rattle.pc_display.proofs.SheetLemmas.{values_end}
 use Rattle.pc_display.proofs.display.write_value_lines.Goals as goal
-
-end_is : (sheet book : Sheet) (c : CellId) (n : ℕ) → book ≡ sheet → c.0 < length (cell_sizes sheet.universe) → slice_get (cell_sizes book.universe) c.0 ≡ Some n → n ≡ size_of sheet.universe (sort_of sheet.universe c)
-end_is sheet book c n same within is = size_is sheet.universe c within n (ap (λ s. slice_get (cell_sizes s.universe) c.0) (sym same) ∙ is)
 
 pub write_if_implied-requires-clause-value : goal.write_if_implied-requires-clause-value
 write_if_implied-requires-clause-value g c =
     let sheet = g.V.Supports.sheet c.args.view.now in
-    omega (arith, end_is sheet c.book.result.now c.args.cell c.values_of-value-end.result c.book.ensures c.requires.cell c.values_of-value-end.ensures.exact)
+    omega (arith, values_end sheet c.book.result.now c.args.cell c.values_of-value-end.result c.book.ensures c.requires.cell c.values_of-value-end.ensures.exact)
 
 pub loop-value-init : goal.loop-value-init
 loop-value-init g c = λ reason is. Writes-nil g.O.Sink.given g.O.Sink.faults c.args.out.now tt
@@ -35,7 +32,7 @@ returns-in_err-write_if_implied g c = λ reason is.
     let sheet = g.V.Supports.sheet c.args.view.now in
     let u = sheet.universe in
     let line : ValueId → List ℕ = λ v. value_line u (sort_of u c.args.cell) v (reason_of reason c.args.cell v) in
-    let end = end_is sheet c.book.result.now c.args.cell c.values_of-value-end.result c.book.ensures c.requires.cell c.values_of-value-end.ensures.exact in
+    let end = values_end sheet c.book.result.now c.args.cell c.values_of-value-end.result c.book.ensures c.requires.cell c.values_of-value-end.ensures.exact in
     cut_within values_below (λ n. record { 0 = n }) (λ n. refl) line c.loop-value.value (c.loop-value.invariant reason is) (size_of u (sort_of u c.args.cell)) c.from_residual.result (omega (arith, end)) c.from_residual.ensures.0 (c.in_err-write_if_implied.ensures reason is)
 
 pub returns : goal.returns
@@ -43,6 +40,6 @@ returns g c = λ reason is.
     let sheet = g.V.Supports.sheet c.args.view.now in
     let u = sheet.universe in
     let line : ValueId → List ℕ = λ v. value_line u (sort_of u c.args.cell) v (reason_of reason c.args.cell v) in
-    let end = end_is sheet c.book.result.now c.args.cell c.values_of-value-end.result c.book.ensures c.requires.cell c.values_of-value-end.ensures.exact in
+    let end = values_end sheet c.book.result.now c.args.cell c.values_of-value-end.result c.book.ensures c.requires.cell c.values_of-value-end.ensures.exact in
     let whole : c.loop-value.value ≡ size_of u (sort_of u c.args.cell) = omega (arith, end) in
     Writes-same (ap (λ n. flat_map line (values_below n)) whole) (c.loop-value.invariant reason is)

@@ -1,0 +1,38 @@
+use Rattle.std.proofs.Common.{◌≡◌, ◌∙◌, ap, arith, length, map, refl}
+use Rattle.pc_sheet.specs.Cells.{cells}
+use Rattle.pc_sheet.proofs.CellsListed.{cells_are_numbered}
+use Rattle.pc_sheet.specs.declared.ids.CellId.{CellId}
+use Rattle.pc_writer.specs.Spelling.{cell_text, sort_of}
+use Rattle.pc_display.specs.Show.{cells_below, entered_text, entry_of}
+use Rattle.pc_display.specs.Grid.{columns, entry_column, widest}
+use Rattle.pc_display.proofs.SheetLemmas.{found_value_fits}
+use Rattle.pc_display.proofs.Widths.{widest_more}
+use Rattle.pc_display.proofs.columns.widths_of.Goals as goal
+
+pub entered_columns-entered-requires-clause-value : goal.entered_columns-entered-requires-clause-value
+entered_columns-entered-requires-clause-value c =
+    let book = c.args.book.now in
+    found_value_fits book book refl c.entries-entries.ensures.well_formed c.entries-entries.result.now c.entries-entries.ensures.items (record { 0 = c.loop-number.number }) c.entry_of.result c.entry_of.ensures
+
+pub loop-number-preserved : goal.loop-number-preserved
+loop-number-preserved c =
+    let book = c.args.book.now in
+    let cell : CellId = record { 0 = c.loop-number.number } in
+    let found = c.entry_of.ensures ∙ ap (λ es. entry_of es cell) c.entries-entries.ensures.items in
+    let entered : c.entered_columns-entered.result ≡ columns (entry_column book cell) =
+    c.entered_columns-entered.ensures ∙ ap (λ entry. columns (entered_text book.universe (sort_of book.universe cell) entry)) found in (
+      omega (arith, widest_more (cell_text book.universe) c.loop-number.number, c.max.ensures, c.cell_columns.ensures, c.loop-number.invariant.0),
+      omega (arith, widest_more (entry_column book) c.loop-number.number, c.max-in-loop-number.ensures, entered, c.loop-number.invariant.1),
+    )
+
+pub returns-clause-cell : goal.returns-clause-cell
+returns-clause-cell c =
+    let u = c.args.book.now.universe in
+    let whole : c.loop-number.number ≡ length (cells u) = omega (arith, c.cells-number-end.ensures.exact, (cells_are_numbered u).count) in
+    c.loop-number.invariant.0 ∙ ap (λ n. widest (map (cell_text u) (cells_below n))) whole
+
+pub returns-clause-entry : goal.returns-clause-entry
+returns-clause-entry c =
+    let book = c.args.book.now in
+    let whole : c.loop-number.number ≡ length (cells book.universe) = omega (arith, c.cells-number-end.ensures.exact, (cells_are_numbered book.universe).count) in
+    c.loop-number.invariant.1 ∙ ap (λ n. widest (map (entry_column book) (cells_below n))) whole

@@ -1,0 +1,7 @@
+use Rattle.std.proofs.Common.{refl}
+use Rattle.serde_json.proofs.OnLiterals.{serde_json_on_literals}
+use Rattle.pc_display.proofs.law.json_texts_are_these.Goals as goal
+
+pub returns : goal.returns
+unfolding serde_json_on_literals
+returns c = record { always = refl; without_rules = refl; two_of_them = refl; clashing = refl; nothing = refl }

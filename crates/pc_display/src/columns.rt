@@ -1,0 +1,129 @@
+// How many columns the texts of a sheet take in a terminal.
+//
+// A text stands in no single slice. Its pieces are measured one by one, since a parenthesis or a comma ends each sequence
+// of characters that is not as wide as its parts.
+ghost use Rattle.std.specs.Prelude.{◌≡◌, ◌<◌, ◌≤◌, IfSome, codes, length, map};
+ghost use Rattle.std.specs.Fmt.{signed_decimal};
+ghost use Rattle.pc_sheet.specs.Cells.{cells};
+ghost use Rattle.pc_sheet.specs.Entailment.{cell_sizes};
+ghost use Rattle.pc_sheet.specs.Truth.{argument_sorts, size_of};
+ghost use Rattle.pc_sheet.specs.WellFormed.{IsWellFormed};
+ghost use Rattle.pc_writer.specs.Separator.{separator_at};
+ghost use Rattle.pc_writer.specs.Spelling.{application_of, arguments_text, cell_text, family_of, joined, sort_of, value_text, value_texts};
+ghost use Rattle.pc_display.specs.Show.{cells_below, entered_text};
+ghost use Rattle.pc_display.specs.Grid.{columns, entry_column, widest};
+
+use crate::lines::entry_of;
+use itoa::Buffer;
+use pc_logic::Book;
+use pc_sheet::{CellId, Entry, SortId, ValueId};
+use pc_writer::sort_of;
+use unicode_width::UnicodeWidthStr;
+
+fn number_columns(number: i64) -> usize
+    ensures exact { result ≡ columns (signed_decimal number) }
+    ensures few { result ≤ 80 }
+{
+    let mut buffer = Buffer::new();
+    buffer.format(number).width()
+}
+
+fn value_columns(book: &Book, sort: SortId, value: ValueId) -> usize
+    requires formed { IsWellFormed book.now }
+    requires value { value.0 < size_of book.now.universe sort }
+    ensures exact { result ≡ columns (value_text book.now.universe sort value) }
+    ensures few { result ≤ 8388608 }
+{
+    match book.range_of(sort) {
+        Some((low, _)) => number_columns(i64::from(low) + i64::from(value.0)),
+        None => match book.value_name(sort, value) {
+            Some(name) => name.width(),
+            None => unreachable!(),
+        },
+    }
+}
+
+/// The columns of what stands before the argument of that number.
+fn separator_columns(place: usize) -> usize
+    ensures exact { result ≡ columns (separator_at (codes ", ") place) }
+    ensures few { result ≤ 2 }
+{
+    if place == 0 { 0 } else { 2 }
+}
+
+/// The columns of the arguments and what stands between them.
+fn list_columns(book: &Book, cell: CellId, sorts: &[SortId]) -> usize
+    requires formed { IsWellFormed book.now }
+    requires cell { cell.0 < length (cell_sizes book.now.universe) }
+    requires sorts { sorts.now ≡ argument_sorts (family_of book.now.universe cell) }
+    ensures exact { result ≡ columns (joined (codes ", ") (value_texts book.now.universe sorts.now (application_of book.now.universe cell).arguments)) }
+    ensures few { result ≤ 33554440 }
+{
+    let mut total = 0;
+    for (i, sort) in sorts.iter().enumerate() {
+        let value = book.cell_arg(cell, i);
+        total += separator_columns(i) + value_columns(book, *sort, value);
+    }
+    total
+}
+
+fn arguments_columns(book: &Book, cell: CellId, sorts: &[SortId]) -> usize
+    requires formed { IsWellFormed book.now }
+    requires cell { cell.0 < length (cell_sizes book.now.universe) }
+    requires sorts { sorts.now ≡ argument_sorts (family_of book.now.universe cell) }
+    ensures exact { result ≡ columns (arguments_text book.now.universe sorts.now (application_of book.now.universe cell).arguments) }
+    ensures few { result ≤ 33554442 }
+{
+    if sorts.is_empty() {
+        0
+    } else {
+        list_columns(book, cell, sorts) + 2
+    }
+}
+
+/// How many columns a cell's text takes.
+pub(crate) fn cell_columns(book: &Book, cell: CellId) -> usize
+    requires formed { IsWellFormed book.now }
+    requires cell { cell.0 < length (cell_sizes book.now.universe) }
+    ensures { result ≡ columns (cell_text book.now.universe cell) }
+{
+    let family = book.cell_family(cell);
+    let name = book.family_name(family);
+    name.width() + arguments_columns(book, cell, book.family_sorts(family))
+}
+
+/// How many columns the cell's entry takes, or a dash.
+pub(crate) fn entered_columns(book: &Book, cell: CellId, entry: Option<Entry>) -> usize
+    requires formed { IsWellFormed book.now }
+    requires cell { cell.0 < length (cell_sizes book.now.universe) }
+    requires value { IfSome entry (λ e. e.value.0 < size_of book.now.universe (sort_of book.now.universe cell)) }
+    ensures { result ≡ columns (entered_text book.now.universe (sort_of book.now.universe cell) entry) }
+{
+    match entry {
+        None => 1,
+        Some(entry) => value_columns(book, sort_of(book, cell), entry.value),
+    }
+}
+
+/// How many columns the cells take, and how many their entries.
+#[derive(Clone, Copy)]
+pub(crate) struct Widths {
+    pub(crate) cell: usize,
+    pub(crate) entry: usize,
+}
+
+/// The most columns that a cell's text takes, and that an entry or a dash takes.
+pub(crate) fn widths_of(book: &Book) -> Widths
+    ensures cell { result.cell ≡ widest (map (cell_text book.now.universe) (cells_below (length (cells book.now.universe)))) }
+    ensures entry { result.entry ≡ widest (map (entry_column book.now) (cells_below (length (cells book.now.universe)))) }
+{
+    let entries = book.entries();
+    let mut widths = Widths { cell: 0, entry: 0 };
+    for number in 0..book.cells() {
+        let cell = CellId(number as u16);
+        widths.cell = widths.cell.max(cell_columns(book, cell));
+        let entered = entered_columns(book, cell, entry_of(entries, cell));
+        widths.entry = widths.entry.max(entered);
+    }
+    widths
+}
