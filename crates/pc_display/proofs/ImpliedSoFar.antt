@@ -1,5 +1,5 @@
 -- The implied values of a cell as they are written one after another.
-use Rattle.std.proofs.Common.{◌≡◌, ℕ, suc, ◌+◌, ◌<◌, Bool, List, [], ◌∷◌, ◌++◌, codes, Option, Result, Ok, Err, IsErr, arith, refl, sym, ◌∙◌, ap, append-nil}
+use Rattle.std.proofs.Common.{◌≡◌, ℕ, suc, ◌+◌, ◌<◌, Bool, List, [], ◌++◌, codes, Option, Result, Ok, Err, IsErr, arith, refl, sym, ◌∙◌, ap, append-nil}
 use Rattle.std.specs.List.{flat_map}
 use Rattle.pc_sheet.specs.Sheet.{Universe}
 use Rattle.pc_sheet.specs.Cells.{values_below}

@@ -1,7 +1,7 @@
 -- What is built for a display has no number and nests a few levels deep, so its text is exact and reads back.
 use Rattle.std.proofs.Common.{◌≡◌, ℕ, ◌+◌, ◌≤◌, ◌||◌, false, List, [], ◌∷◌, ◌++◌, length, map, Option, None, Some, arith, refl, ap₂}
 use Rattle.std.specs.List.{flat_map}
-use Rattle.serde_json.specs.Data.{Data, null, string, array, object, depth, items_depth}
+use Rattle.serde_json.specs.Data.{Data, null, string, depth, items_depth}
 use Rattle.serde_json.specs.View.{items_of}
 use Rattle.serde_json.specs.Written.{has_float, items_have_float}
 use Rattle.pc_sheet.specs.Sheet.{Universe, Sheet}
@@ -11,10 +11,10 @@ use Rattle.pc_sheet.specs.declared.ids.SortId.{SortId}
 use Rattle.pc_sheet.specs.declared.ids.CellId.{CellId}
 use Rattle.pc_sheet.specs.declared.ids.ValueId.{ValueId}
 use Rattle.pc_sheet.specs.declared.ids.Entry.{Entry}
-use Rattle.pc_writer.specs.Spelling.{cell_text, sort_of, value_text}
+use Rattle.pc_writer.specs.Spelling.{sort_of, value_text}
 use Rattle.pc_display.specs.Supports.{Reasoning}
 use Rattle.pc_display.specs.Show.{cells_below, conflict_of, entry_of, reason_of}
-use Rattle.pc_display.specs.Json.{all_implied_data, array_of, cell_data, conflict_data, entered_data, entries_data, entry_data, implied_data, object_data, reasoned_data, sheet_data}
+use Rattle.pc_display.specs.Json.{all_implied_data, array_of, cell_data, conflict_data, entered_data, entries_data, entry_data, implied_data, sheet_data}
 
 -- without a number that has a fraction, and at most so many levels deep
 pub record IsPlain (most : ℕ) (d : Data) : Type 0 where

@@ -1,5 +1,5 @@
 -- The texts of what a well-formed universe declares are UTF-8, and short enough to be measured.
-use Rattle.std.proofs.Common.{◌≡◌, ℕ, ◌+◌, ◌*◌, ◌<◌, ◌≤◌, List, [], ◌∷◌, ◌++◌, codes, length, map, Option, None, Some, slice_get, unwrap_or, arith, refl, sym, subst, pos, ◌+ℤ◌}
+use Rattle.std.proofs.Common.{◌≡◌, ℕ, ◌<◌, ◌≤◌, List, [], ◌∷◌, ◌++◌, codes, length, map, Some, slice_get, unwrap_or, arith, refl, sym, subst, pos, ◌+ℤ◌}
 use Rattle.std.specs.List.{flat_map}
 use Rattle.std.specs.Str.{IsUtf8}
 use Rattle.std.proofs.Math.Utf8.{encode}

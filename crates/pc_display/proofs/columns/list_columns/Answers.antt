@@ -1,7 +1,6 @@
-use Rattle.std.proofs.Common.{◌≡◌, ◌≤◌, ◌∙◌, ap, arith, codes, length, sym}
+use Rattle.std.proofs.Common.{◌∙◌, ap, arith, codes, length, sym}
 use Rattle.std.proofs.lemmas.List.{take_all}
-use Rattle.pc_sheet.specs.Truth.{argument_sorts}
-use Rattle.pc_writer.specs.Spelling.{application_of, family_of, joined, value_texts}
+use Rattle.pc_writer.specs.Spelling.{application_of, joined, value_texts}
 use Rattle.pc_writer.proofs.CellLemmas.{argument_there, argument_fits, argument_text_is, length-value_texts}
 use Rattle.pc_display.specs.Grid.{columns}
 use Rattle.pc_display.proofs.Spelled.{cell_values_utf8, few_arguments}

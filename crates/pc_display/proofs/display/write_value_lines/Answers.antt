@@ -1,9 +1,6 @@
-use Rattle.std.proofs.Common.{◌≡◌, ℕ, ◌<◌, Some, List, length, slice_get, refl, sym, ◌∙◌, ap, arith}
-use Rattle.pc_sheet.specs.Sheet.{Sheet}
+use Rattle.std.proofs.Common.{◌≡◌, ℕ, List, refl, ap, arith}
 use Rattle.pc_sheet.specs.Cells.{values_below}
-use Rattle.pc_sheet.specs.Entailment.{cell_sizes}
 use Rattle.pc_sheet.specs.Truth.{size_of}
-use Rattle.pc_sheet.specs.declared.ids.CellId.{CellId}
 use Rattle.pc_sheet.specs.declared.ids.ValueId.{ValueId}
 use Rattle.std.specs.List.{flat_map}
 use Rattle.pc_writer.specs.Spelling.{sort_of}

@@ -1,4 +1,4 @@
-use Rattle.std.proofs.Common.{◌≡◌, Bool, true, List, Option, Some, None, [], ◌∷◌, sym, ◌∙◌, ap}
+use Rattle.std.proofs.Common.{◌≡◌, Bool, true, List, Option, Some, None, [], ◌∷◌, ◌∙◌, ap}
 use Rattle.pc_sheet.specs.Sheet.{Sheet}
 use Rattle.pc_sheet.specs.declared.ids.SortId.{SortId}
 use Rattle.pc_sheet.specs.declared.ids.CellId.{CellId}
@@ -6,7 +6,7 @@ use Rattle.pc_sheet.specs.declared.ids.ValueId.{ValueId}
 use Rattle.pc_sheet.specs.declared.ids.Entry.{Entry}
 use Rattle.pc_sheet.specs.declared.ids.Target.{Target}
 use Rattle.pc_writer.specs.Spelling.{sort_of, value_text}
-use Rattle.pc_writer.proofs.InTurn.{Writes-nil, Writes-cut, Writes-same}
+use Rattle.pc_writer.proofs.InTurn.{Writes-nil, Writes-same}
 use Rattle.pc_display.specs.Grid.{implied_text}
 use Rattle.pc_display.specs.inside.Columns.{next_text, some_more}
 use Rattle.pc_display.proofs.ImpliedSoFar.{Writes-done, Writes-failed}
