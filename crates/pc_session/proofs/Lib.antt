@@ -1,0 +1,16 @@
+pub mod Places
+pub mod Apart
+pub mod Bytes
+pub mod CellEntries
+pub mod Changing
+pub mod Placing
+pub mod ClearedEntries
+pub mod Making
+pub mod Unused
+pub mod RuleEdits
+pub mod LoadedBook
+pub mod Viewing
+pub mod Asking
+pub mod LeftWorlds
+pub mod UsedTargets
+pub mod Lending

@@ -1,0 +1,73 @@
+-- A session that stays as it was.
+use Rattle.std.proofs.Common.{◌≡◌, ℕ, inl, inr, Result, Ok, Err, OnOk, OnErr, List, refl, ap, sym, ◌∙◌, subst}
+use Rattle.pc_lits.specs.declared.tally.Tally.{Tally}
+use Rattle.pc_sheet.specs.Sheet.{Sheet}
+use Rattle.pc_sheet.specs.declared.ids.CellId.{CellId}
+use Rattle.pc_logic.specs.Edits.{without_entry}
+use Rattle.pc_cache.specs.Rows.{Cached, TargetRow}
+use Rattle.pc_theory.specs.Theories.{TheoryView}
+use Rattle.pc_session.specs.Answers.{IsUnchanged}
+use Rattle.pc_session.specs.Arena.{compacted}
+use Rattle.pc_session.specs.inside.Sessions.{IsSession}
+use Rattle.pc_session.specs.inside.States.{viewed, IsState, IsSame}
+use Rattle.pc_session.specs.Views.{Counts, SessionView, counts_of, none_spent}
+use Rattle.pc_session.specs.declared.state.State.{State}
+
+-- a fact that holds after any error
+pub on_err : {T E Q : Type 0} (r : Result T E) → Q → OnErr r Q
+on_err (Ok x) q = tt
+on_err (Err e) q = q
+
+-- the same error, whatever the value would have been
+pub same_err : {X Y E : Type 0} (e f : E) → ◌≡◌ {A = Result X E} (Err e) (Err f) → ◌≡◌ {A = Result Y E} (Err e) (Err f)
+same_err e f is = let inner : e ≡ f = cc in ap (λ x. Err x) inner
+
+-- a fact that holds after both
+pub either : {T E A B Q : Type 0} (r : Result T E) → OnOk r A → OnErr r B → (A → Q) → (B → Q) → Q
+either (Ok x) ok err from_ok from_err = from_ok ok
+either (Err e) ok err from_ok from_err = from_err err
+
+pub same_itself : (s : State) → IsSame s s
+same_itself s = record { book = refl; theory = refl; worlds = refl; rows = refl; bytes = inl refl; tally = refl }
+
+-- a state whose derivations were to be compacted, and have or haven't been
+pub same_compacted : (s : State) (cache : Cached) → cache.rows ≡ s.cache.rows → cache.bytes ≡ compacted s.cache.rows s.cache.bytes → IsSame s (record s { cache = cache })
+same_compacted s cache rows bytes = record { book = refl; theory = refl; worlds = refl; rows = rows; bytes = inr bytes; tally = refl }
+
+pub same_failed : (s : State) (cache : Cached) → cache ≡ s.cache → IsSame s (record s { cache = cache })
+same_failed s cache is =
+    let rows_of : Cached → List TargetRow = λ x. x.rows in
+    let bytes_of : Cached → ℕ = λ x. x.bytes in
+    record { book = refl; theory = refl; worlds = refl; rows = ap rows_of is; bytes = inl (ap bytes_of is); tally = refl }
+
+-- the same state is as right as it was
+pub still_right : (old new : State) → IsSame old new → IsState old → IsState new
+still_right old new same is =
+    subst (λ rows. IsSession new.book new.theory new.worlds.items rows) (sym same.rows)
+    (subst (λ ws. IsSession new.book new.theory ws old.cache.rows) (sym same.worlds)
+    (subst (λ th. IsSession new.book th old.worlds.items old.cache.rows) (sym same.theory) (subst (λ b. IsSession b old.theory old.worlds.items old.cache.rows) (sym same.book) is)))
+
+abbrev seen : ℕ → ℕ → Sheet → Tally → TheoryView → List TargetRow → SessionView
+seen budget bytes sheet tally theory rows = record { sheet = sheet; budget = budget; tally = counts_of tally; components = theory.components; rows = rows; bytes = bytes }
+
+same_seen : (budget : ℕ) (old new : State) → IsSame old new → viewed budget new ≡ record (viewed budget old) { bytes = new.cache.bytes }
+same_seen budget old new same =
+    let bytes = new.cache.bytes in
+    ap (λ b. seen budget bytes b new.tally new.theory new.cache.rows) same.book
+    ∙ (ap (λ t. seen budget bytes old.book t new.theory new.cache.rows) same.tally
+    ∙ (ap (λ th. seen budget bytes old.book old.tally th new.cache.rows) same.theory ∙ ap (seen budget bytes old.book old.tally old.theory) same.rows))
+
+-- and seen as the same
+pub still_seen : (budget : ℕ) (old new : State) (v : SessionView) → viewed budget old ≡ v → IsSame old new → IsUnchanged v (viewed budget new)
+still_seen budget old new v is same = subst (λ x. IsUnchanged x (viewed budget new)) is (same_seen budget old new same, same.bytes)
+
+abbrev seen_with : ℕ → Sheet → Counts → TheoryView → Cached → SessionView
+seen_with budget sheet counts theory cache = record { sheet = sheet; budget = budget; tally = counts; components = theory.components; rows = cache.rows; bytes = cache.bytes }
+
+-- a session where an entry was cleared in place
+pub cleared_seen : (budget : ℕ) (old new : State) (c : CellId) (tally : Tally) → new.book ≡ without_entry old.book c → new.theory ≡ old.theory → new.cache ≡ old.cache → counts_of tally ≡ none_spent budget
+    → viewed budget (record new { tally = tally }) ≡ record (viewed budget old) { sheet = without_entry old.book c; tally = none_spent budget }
+cleared_seen budget old new c tally book theory cache counts =
+    ap (λ b. seen_with budget b (counts_of tally) new.theory new.cache) book
+    ∙ (ap (λ n. seen_with budget (without_entry old.book c) n new.theory new.cache) counts
+    ∙ (ap (λ th. seen_with budget (without_entry old.book c) (none_spent budget) th new.cache) theory ∙ ap (seen_with budget (without_entry old.book c) (none_spent budget) old.theory) cache))

@@ -1,0 +1,40 @@
+-- Why a load or an edit is refused.
+use Rattle.std.specs.Prelude.{◌≡◌, ℕ, ◌<◌, ◌≤◌, None, Some}
+use Rattle.pc_sheet.specs.Sheet.{Sheet}
+use Rattle.pc_sheet.specs.Weight.{weight}
+use Rattle.pc_sheet.specs.MaximalSets.{AreRulesConsistent}
+use Rattle.pc_sheet.specs.declared.ids.CellId.{CellId}
+use Rattle.pc_logic.specs.Edits.{without_entry}
+use Rattle.pc_edits.specs.Edits.{Lacks}
+use Rattle.pc_theory.specs.Spendings.{IsLawful}
+use Rattle.pc_session.specs.declared.refused.LoadRefused.{LoadRefused}
+use Rattle.pc_session.specs.declared.refused.LoadRefused.TheVariants as load
+use Rattle.pc_session.specs.declared.refused.EditRefused.{EditRefused}
+use Rattle.pc_session.specs.declared.refused.EditRefused.TheVariants as edit
+
+-- of the sheet that is loaded, within that budget
+abbrev pub IsLoadCause : Sheet → ℕ → LoadRefused → Type 0
+IsLoadCause sheet budget load.TooLarge = 4000000 < weight sheet
+IsLoadCause sheet budget (load.Inconsistent refutation) = (weight sheet ≤ 4000000) × (refutation ≡ sheet) × (¬ AreRulesConsistent sheet)
+IsLoadCause sheet budget (load.Spent spending) = (weight sheet ≤ 4000000) × IsLawful sheet None budget spending
+IsLoadCause sheet budget load.Memory = Unit {0}
+
+-- of an edit of a cell's entry that would make this sheet; no other answer comes
+abbrev pub IsEntryCause : Sheet → CellId → ℕ → EditRefused → Type 0
+IsEntryCause sheet cell budget (edit.Spent spending) = IsLawful sheet (Some cell) budget spending
+IsEntryCause sheet cell budget edit.Memory = Unit {0}
+IsEntryCause sheet cell budget edit.NoEntry = ⊥
+IsEntryCause sheet cell budget edit.DuplicateRule = ⊥
+IsEntryCause sheet cell budget edit.NoRule = ⊥
+IsEntryCause sheet cell budget edit.TooLarge = ⊥
+IsEntryCause sheet cell budget (edit.Inconsistent refutation) = ⊥
+
+-- of clearing the cell: it has no entry, or its entry's removal spends too much
+abbrev pub IsClearCause : Sheet → CellId → ℕ → EditRefused → Type 0
+IsClearCause sheet cell budget edit.NoEntry = Lacks sheet.entries cell
+IsClearCause sheet cell budget edit.DuplicateRule = ⊥
+IsClearCause sheet cell budget edit.NoRule = ⊥
+IsClearCause sheet cell budget edit.TooLarge = ⊥
+IsClearCause sheet cell budget (edit.Inconsistent refutation) = ⊥
+IsClearCause sheet cell budget (edit.Spent spending) = IsLawful (without_entry sheet cell) (Some cell) budget spending
+IsClearCause sheet cell budget edit.Memory = Unit {0}

@@ -1,0 +1,36 @@
+-- A session as its callers see it.
+use Rattle.std.specs.Prelude.{◌≡◌, ◌⊎◌, ℕ, List, Option}
+use Rattle.pc_sheet.specs.Sheet.{Sheet}
+use Rattle.pc_sheet.specs.declared.ids.CellId.{CellId}
+use Rattle.pc_lits.specs.declared.tally.Tally.{Tally}
+use Rattle.pc_components.specs.View.{Kept}
+use Rattle.pc_cache.specs.Rows.{TargetRow}
+use Rattle.pc_theory.specs.Spendings.{IsSpendingOf}
+use Rattle.pc_theory.specs.declared.spending.Spending.{Spending}
+
+-- what was spent, and the limit
+pub record Counts : Type 0 where
+  pub placed : ℕ
+  pub learned : ℕ
+  pub calls : ℕ
+  pub limit : ℕ
+
+abbrev pub counts_of : Tally → Counts
+counts_of t = record { placed = t.placed; learned = t.learned; calls = t.calls; limit = t.limit }
+
+abbrev pub none_spent : ℕ → Counts
+none_spent limit = record { placed = 0; learned = 0; calls = 0; limit = limit }
+
+-- The sheet, the budget, the tally of the last accepted edit or load, the parts, a row for each target, and the bytes that the lines count
+-- for in which the derivations are kept.
+pub record SessionView : Type 0 where
+  pub sheet : Sheet
+  pub budget : ℕ
+  pub tally : Counts
+  pub components : Kept
+  pub rows : List TargetRow
+  pub bytes : ℕ
+
+-- within the limit nothing was spent, or the tally is that of a spending on the touched parts
+abbrev pub IsTallyOf : Sheet → Option CellId → ℕ → Counts → Type 0
+IsTallyOf sheet touched limit counts = (counts ≡ none_spent limit) ⊎ ((s : Spending) × IsSpendingOf sheet touched s × (s.tally.limit ≡ limit) × (counts_of s.tally ≡ counts))

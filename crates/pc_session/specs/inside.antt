@@ -1,0 +1,9 @@
+pub mod Sessions
+pub mod States
+pub mod Done
+pub mod Edits
+pub mod Stale
+pub mod Staleness
+pub mod Old
+pub mod Refusals
+pub mod Loaded

@@ -1,0 +1,19 @@
+-- The refusal of a load, and of a search that ended early, as that of an edit.
+use Rattle.std.specs.Prelude.{◌≡◌}
+use Rattle.pc_solver.specs.declared.stop.Stop.{Stop}
+use Rattle.pc_solver.specs.declared.stop.Stop.TheVariants as stop
+use Rattle.pc_theory.specs.declared.spending.Spending.{Spending}
+use Rattle.pc_session.specs.declared.refused.LoadRefused.{LoadRefused}
+use Rattle.pc_session.specs.declared.refused.LoadRefused.TheVariants as load
+use Rattle.pc_session.specs.declared.refused.EditRefused.{EditRefused}
+use Rattle.pc_session.specs.declared.refused.EditRefused.TheVariants as edit
+
+abbrev pub IsSameRefusal : LoadRefused → EditRefused → Type 0
+IsSameRefusal load.TooLarge refused = refused ≡ edit.TooLarge
+IsSameRefusal (load.Inconsistent refutation) refused = refused ≡ edit.Inconsistent refutation
+IsSameRefusal (load.Spent spending) refused = refused ≡ edit.Spent spending
+IsSameRefusal load.Memory refused = refused ≡ edit.Memory
+
+abbrev pub IsStopTold : Stop → Spending → EditRefused → Type 0
+IsStopTold stop.Spent spending refused = refused ≡ edit.Spent spending
+IsStopTold stop.Memory spending refused = refused ≡ edit.Memory

@@ -1,0 +1,29 @@
+//! When the kept derivations are compacted.
+//!
+//! A reason that is replaced leaves its lines behind. They are dropped at the start of an edit that searches, where the lines
+//! in which the derivations are kept count for more than twice the bytes of the reasons and 1,048,576 more: so the work is
+//! paid for by what was put since the last time.
+ghost use Rattle.std.specs.Prelude.{◌≡◌, ◌+◌, ◌*◌, OnErr, OnOk, nat_lt};
+ghost use Rattle.pc_session.specs.Arena.{compacted};
+
+use pc_cache::Cache;
+use std::alloc::AllocError;
+
+// Whether the first is more than twice the second and 1,048,576 more.
+fn is_due(arena: u128, live: u128) -> bool
+    ensures { result ≡ nat_lt (2 * live + 1048576) arena }
+{
+    1_048_576 < arena && live <= (arena - 1_048_577) / 2
+}
+
+/// Compacts the derivations where it is due. All reasons stay; without memory all stays as it is.
+pub(crate) fn compact_if_due(cache: &mut Cache) -> Result<(), AllocError>
+    ensures rows { cache.new.rows ≡ cache.old.rows }
+    ensures ok { OnOk result (cache.new.bytes ≡ compacted cache.old.rows cache.old.bytes) }
+    ensures err { OnErr result (cache.new ≡ cache.old) }
+{
+    if is_due(cache.arena_bytes(), cache.live_bytes()) {
+        cache.compact()?;
+    }
+    Ok(())
+}

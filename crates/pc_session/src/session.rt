@@ -1,0 +1,235 @@
+//! Sessions.
+ghost use Rattle.std.specs.Prelude.{◌≡◌, ◌↔◌, ◌≤◌, ◌<◌, [], Contains, Err, IfErr, IfOk, IfSome, IsTrue, None, Ok, OnErr, OnOk, Some, length, option_map};
+ghost use Rattle.pc_components.specs.View.{AreComponentsOf};
+ghost use Rattle.pc_cache.specs.Rows.{row_of};
+ghost use Rattle.pc_edits.specs.Edits.{Lacks};
+ghost use Rattle.pc_logic.specs.Edits.{entered, without_entry};
+ghost use Rattle.pc_reason.specs.Reasons.{IsReasonFor, IsTargetOf, justification_of};
+ghost use Rattle.pc_search.specs.Parts.{IsBase};
+ghost use Rattle.pc_sheet.specs.MaximalSets.{AreRulesConsistent};
+ghost use Rattle.pc_sheet.specs.Sheet.{with_rule};
+ghost use Rattle.pc_sheet.specs.Views.{rule_of};
+ghost use Rattle.pc_sheet.specs.Weight.{weight};
+ghost use Rattle.pc_sheet.specs.WellFormed.{IsEntryOf, IsWellFormedRule};
+ghost use Rattle.pc_sheet.specs.declared.ids.Entry.{Entry};
+ghost use Rattle.pc_session.specs.Answers.{IsSpare, IsUnchanged, IsUnused, OthersStay, Stay, Steps};
+ghost use Rattle.pc_session.specs.Arena.{IsBounded};
+ghost use Rattle.pc_session.specs.Causes.{IsClearCause, IsEntryCause, IsLoadCause};
+ghost use Rattle.pc_session.specs.Rules.{IsAddCause, IsDropCause, IsDropped, IsNewName};
+ghost use Rattle.pc_session.specs.Views.{counts_of, none_spent, IsTallyOf};
+ghost use Rattle.pc_session.specs.declared.refused.EditRefused.TheVariants.{DuplicateRule, NoEntry, NoRule};
+ghost use Rattle.pc_theory.specs.Theories.{rules_alone};
+
+use crate::clearing::{clear_unused, clear_used, rests_on};
+use crate::entering::enter_another;
+use crate::entries::entry_of;
+use crate::loading::load_book;
+use crate::refused::{EditRefused, LoadRefused};
+use crate::rules;
+use crate::state::State;
+use crate::tallies::blank_tally;
+use pc_components::Components;
+use pc_edits::standing_stays;
+use pc_lits::Tally;
+use pc_logic::{Assignment, Book};
+use pc_reason::{Reason, Reasons};
+use pc_sheet::{CellId, Entry, Rule, Target, ValueId};
+use std::alloc::Global;
+use std::marker::Model;
+
+/// A book under edits, with a reason for each implied target. It is seen as its sheet, the budget, the tally of the last
+/// accepted edit or load, the parts, what is kept of each target, and the bytes that this counts for.
+#[derive(Drop)]
+pub struct Session {
+    alloc: Global,
+    budget: u64,
+    state: State,
+}
+
+impl Model for Session {
+    ghost use Rattle.pc_session.specs.Codes.{coded_session};
+    ghost use Rattle.pc_session.specs.inside.States.{viewed, IsState};
+    ghost use Rattle.pc_session.specs.Views.{SessionView};
+
+    ghost Value = { SessionView };
+
+    ghost coded = { coded_session };
+
+    ghost view = { λ s. viewed s.budget s.state };
+
+    ghost invariant = { λ s. IsState s.state };
+}
+
+impl Session {
+    /// Loads a book: grounds its rules, divides them into parts, and finds the worlds of each part and the reason of each
+    /// implied target.
+    pub fn load(alloc: Global, book: Book, budget: u64) -> Result<Session, LoadRefused>
+        requires at_least { 1 ≤ budget }
+        requires at_most { budget ≤ 1000000000000 }
+        ensures sheet { IfOk result (λ s. s.sheet ≡ book) }
+        ensures budget { IfOk result (λ s. s.budget ≡ budget) }
+        ensures light { IfOk result (λ _. weight book ≤ 4000000) }
+        ensures consistent { IfOk result (λ _. AreRulesConsistent book) }
+        ensures spends { IfOk result (λ s. IsTallyOf book None budget s.tally) }
+        ensures steps { IfOk result (λ s. Steps [] s.rows s.tally) }
+        ensures refused { IfErr result (IsLoadCause book budget) }
+    {
+        let state = load_book(alloc, book, budget)?;
+        Ok(Session {
+            alloc,
+            budget,
+            state,
+        })
+    }
+
+    /// The tally of the last accepted edit or of the load. It takes no memory.
+    pub fn tally(&self) -> Tally
+        ensures { counts_of result ≡ self.now.tally }
+    {
+        self.state.tally
+    }
+
+    /// Sets the budget of the edits from now on. It takes no memory.
+    pub fn set_budget(&mut self, budget: u64)
+        requires at_least { 1 ≤ budget }
+        requires at_most { budget ≤ 1000000000000 }
+        ensures { self.new ≡ record self.old { budget = budget } }
+    {
+        self.budget = budget;
+    }
+
+    /// The parts of the book. It takes no memory.
+    pub fn components(&self) -> &Components
+        ensures exact { result.now ≡ self.now.components }
+        ensures are { AreComponentsOf (rules_alone self.now.sheet) result.now }
+    {
+        self.state.theory.components()
+    }
+
+    /// An assignment that makes every rule true. It takes no memory.
+    pub fn fitting(&self) -> &Assignment
+        ensures { IsBase self.now.sheet result.now }
+    {
+        self.state.theory.fitting()
+    }
+
+    /// How many bytes the lines count for in which derivations are kept: 16 each, 4 for each literal and 8 for each hint. It
+    /// takes no memory.
+    pub fn arena_bytes(&self) -> u128
+        ensures { result ≡ self.now.bytes }
+    {
+        self.state.cache.arena_bytes()
+    }
+
+    /// Enters a value: the cell's old entry goes, and the new one is the newest. On the value that stands it changes nothing,
+    /// takes no memory and is always Ok.
+    pub fn enter(&mut self, cell: CellId, value: ValueId) -> Result<(), EditRefused>
+        requires { IsEntryOf self.old.sheet.universe (record { cell = cell; value = value }) }
+        ensures sheet { OnOk result (self.new.sheet ≡ entered self.old.sheet (record { cell = cell; value = value })) }
+        ensures budget { self.new.budget ≡ self.old.budget }
+        ensures parts { self.new.components ≡ self.old.components }
+        ensures refused { IfErr result (IsEntryCause (entered self.old.sheet (record { cell = cell; value = value })) cell self.old.budget) }
+        ensures unchanged { OnErr result (IsUnchanged self.old self.new) }
+        ensures standing { Contains self.old.sheet.entries (record { cell = cell; value = value }) → (result ≡ Ok tt) × (self.new ≡ record self.old { tally = none_spent self.old.budget }) }
+        ensures spends { OnOk result (IsTallyOf self.new.sheet (Some cell) self.old.budget self.new.tally) }
+        ensures stays { OnOk result (Stay cell self.old.rows self.new.rows) }
+        ensures others { OnOk result (OthersStay cell self.old.components self.old.rows self.new.rows) }
+        ensures arena { OnOk result (IsBounded self.old.rows self.old.bytes self.new.rows self.new.bytes) }
+        ensures steps { OnOk result (Steps self.old.rows self.new.rows self.new.tally) }
+    {
+        standing_stays();
+        let entry = Entry { cell, value };
+        let old = entry_of(self.state.book.entries(), cell);
+        if stands(old, entry) {
+            self.state.tally = blank_tally(self.budget);
+            return Ok(());
+        }
+        enter_another(self.alloc, &mut self.state, self.budget, entry, old)
+    }
+
+    /// Clears the cell's entry. Where no reason rests on the entry it takes no memory, searches nothing and is always Ok.
+    pub fn clear(&mut self, cell: CellId) -> Result<(), EditRefused>
+        ensures no_entry { Lacks self.old.sheet.entries cell → result ≡ Err NoEntry }
+        ensures sheet { OnOk result (self.new.sheet ≡ without_entry self.old.sheet cell) }
+        ensures budget { self.new.budget ≡ self.old.budget }
+        ensures parts { self.new.components ≡ self.old.components }
+        ensures refused { IfErr result (IsClearCause self.old.sheet cell self.old.budget) }
+        ensures unchanged { OnErr result (IsUnchanged self.old self.new) }
+        ensures unused { (e : Entry) → Contains self.old.sheet.entries e → e.cell ≡ cell → IsUnused e self.old.rows → (result ≡ Ok tt) × (self.new ≡ record self.old { sheet = without_entry self.old.sheet cell; tally = none_spent self.old.budget }) }
+        ensures spare { (e : Entry) → Contains self.old.sheet.entries e → e.cell ≡ cell → IsSpare self.old.sheet cell → result ≡ Ok tt }
+        ensures spends { OnOk result (IsTallyOf self.new.sheet (Some cell) self.old.budget self.new.tally) }
+        ensures stays { OnOk result (Stay cell self.old.rows self.new.rows) }
+        ensures others { OnOk result (OthersStay cell self.old.components self.old.rows self.new.rows) }
+        ensures arena { OnOk result (IsBounded self.old.rows self.old.bytes self.new.rows self.new.bytes) }
+        ensures steps { OnOk result (Steps self.old.rows self.new.rows self.new.tally) }
+    {
+        let Some(entry) = entry_of(self.state.book.entries(), cell) else {
+            return Err(EditRefused::NoEntry);
+        };
+        if !rests_on(&self.state, entry) {
+            clear_unused(&mut self.state, entry);
+            self.state.tally = blank_tally(self.budget);
+            return Ok(());
+        }
+        clear_used(self.alloc, &mut self.state, self.budget, entry)
+    }
+
+    /// Adds a rule as the last one. Everything is made anew, as by a load.
+    pub fn add_rule(&mut self, rule: Rule) -> Result<(), EditRefused>
+        requires rule { IsWellFormedRule self.old.sheet.universe (rule_of rule) }
+        requires few { length self.old.sheet.rules < 1024 }
+        ensures duplicate { ¬ IsNewName self.old.sheet.rules rule.name → result ≡ Err DuplicateRule }
+        ensures sheet { OnOk result (self.new.sheet ≡ with_rule self.old.sheet (rule_of rule)) }
+        ensures budget { self.new.budget ≡ self.old.budget }
+        ensures light { OnOk result (weight self.new.sheet ≤ 4000000) }
+        ensures consistent { OnOk result (AreRulesConsistent self.new.sheet) }
+        ensures refused { IfErr result (IsAddCause self.old.sheet (rule_of rule) self.old.budget) }
+        ensures unchanged { OnErr result (IsUnchanged self.old self.new) }
+        ensures spends { OnOk result (IsTallyOf self.new.sheet None self.old.budget self.new.tally) }
+        ensures steps { OnOk result (Steps [] self.new.rows self.new.tally) }
+    {
+        rules::add_rule(self.alloc, &mut self.state, self.budget, rule)
+    }
+
+    /// Drops the rule of that name. Everything is made anew, as by a load.
+    pub fn drop_rule(&mut self, name: &str) -> Result<(), EditRefused>
+        ensures no_rule { IsNewName self.old.sheet.rules name.now → result ≡ Err NoRule }
+        ensures sheet { OnOk result (IsDropped self.old.sheet name.now self.new.sheet) }
+        ensures budget { self.new.budget ≡ self.old.budget }
+        ensures refused { IfErr result (IsDropCause self.old.sheet name.now self.old.budget) }
+        ensures unchanged { OnErr result (IsUnchanged self.old self.new) }
+        ensures spends { OnOk result (IsTallyOf self.new.sheet None self.old.budget self.new.tally) }
+        ensures steps { OnOk result (Steps [] self.new.rows self.new.tally) }
+    {
+        rules::drop_rule(self.alloc, &mut self.state, self.budget, name)
+    }
+}
+
+impl Reasons for Session {
+    ghost sheet = { λ s. s.sheet };
+
+    fn book(&self) -> &Book {
+        &self.state.book
+    }
+
+    /// Why the target is implied; `None` exactly where it isn't. It is what is kept, line for line.
+    fn reason(&self, target: Target) -> Option<Reason<'_>>
+        requires { IsTargetOf self.now.sheet.universe target }
+        ensures right { IsReasonFor self.now.sheet target result }
+        ensures kept { option_map justification_of result ≡ row_of self.now.rows target }
+    {
+        self.state
+            .cache
+            .reason(self.state.theory.ground().names(), target)
+    }
+}
+
+// Whether the entry is the cell's.
+fn stands(old: Option<Entry>, entry: Entry) -> bool
+    ensures { IsTrue result ↔ (old ≡ Some entry) }
+{
+    match old {
+        Some(found) => found.cell.0 == entry.cell.0 && found.value.0 == entry.value.0,
+        None => false,
+    }
+}

@@ -1,0 +1,72 @@
+//! What a run has shown to be spent.
+ghost use Rattle.std.specs.Prelude.{◌≡◌, ◌∷◌, ◌++◌, [], OnOk, OnErr};
+ghost use Rattle.pc_theory.specs.Spendings.{IsLawful};
+ghost use Rattle.pc_session.specs.Views.{counts_of};
+
+use pc_lits::Tally;
+use pc_logic::Book;
+use pc_sheet::CellId;
+use pc_theory::Spending;
+use std::alloc::{AllocError, Global};
+use std::marker::Model;
+
+// A book whose load or edit spent too much, the cell of an edit of an entry, and the tally.
+#[derive(Drop)]
+struct Note {
+    book: Book,
+    cell: Option<CellId>,
+    tally: Tally,
+}
+
+/// Notes of lawful spendings, oldest first.
+#[derive(Drop)]
+pub struct Spendings {
+    alloc: Global,
+    notes: Vec<Note>,
+}
+
+impl Model for Spendings {
+    ghost use Rattle.std.specs.Prelude.{List};
+    ghost use Rattle.pc_session.specs.NoteViews.{NoteView, coded_notes};
+
+    ghost Value = { List NoteView };
+
+    ghost coded = { coded_notes };
+
+    ghost use Rattle.std.specs.Prelude.{map};
+    ghost use Rattle.pc_session.specs.Notes.{note_of};
+
+    ghost view = { λ s. map note_of s.notes.items };
+}
+
+impl Spendings {
+    /// No notes. It takes no memory.
+    pub fn new(alloc: Global) -> Spendings
+        ensures { result ≡ [] }
+    {
+        Spendings {
+            alloc,
+            notes: Vec::new(alloc),
+        }
+    }
+
+    /// Adds the note of a lawful spending as the last one. Nothing else adds to the list, and without memory it stays as it is.
+    pub fn note(
+        &mut self,
+        book: &Book,
+        cell: Option<CellId>,
+        spending: &Spending,
+    ) -> Result<(), AllocError>
+        requires { IsLawful book.now cell spending.now.tally.limit spending.now }
+        ensures ok { OnOk result (self.new ≡ self.old ++ (record { sheet = book.now; cell = cell; tally = counts_of spending.now.tally }) ∷ []) }
+        ensures err { OnErr result (self.new ≡ self.old) }
+    {
+        let book = book.copy(self.alloc)?;
+        self.notes.push(Note {
+            book,
+            cell,
+            tally: spending.tally,
+        })?;
+        Ok(())
+    }
+}

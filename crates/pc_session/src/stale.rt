@@ -1,0 +1,136 @@
+//! Which targets an edit searches again.
+ghost use Rattle.std.specs.Prelude.{◌≡◌, ◌<◌, ◌≤◌, All, Contains, IfOk, IsTrue, Some, false, filter, length, true};
+ghost use Rattle.pc_cache.specs.Rows.{is_among, is_same_entry, row_of};
+ghost use Rattle.pc_sheet.specs.Entailment.{cell_sizes};
+ghost use Rattle.pc_sheet.specs.declared.ids.Target.{Target};
+ghost use Rattle.pc_session.specs.inside.Stale.{is_stale, stale_on};
+ghost use Rattle.pc_theory.specs.Targets.{target, targets_of_cell, targets_on};
+
+use pc_cache::Cache;
+use pc_logic::Book;
+use pc_names::Names;
+use pc_sheet::{CellId, Entry, Target, ValueId};
+use pc_theory::targets_on;
+use std::alloc::{AllocError, Global};
+
+fn is_same(one: Entry, other: Entry) -> bool
+    ensures { result ≡ is_same_entry one other }
+{
+    one.cell.0 == other.cell.0 && one.value.0 == other.value.0
+}
+
+fn has_entry(entries: &[Entry], entry: Entry) -> bool
+    ensures { result ≡ is_among entry entries.now }
+{
+    for one in entries {
+        if is_same(*one, entry) {
+            return true;
+        }
+    }
+    false
+}
+
+// Whether the target is to be searched again where an entry is removed, if one is, and where one is added.
+fn is_stale(
+    cache: &Cache,
+    names: &Names,
+    target: Target,
+    removed: Option<Entry>,
+    added: bool,
+) -> bool
+    ensures { result ≡ is_stale removed added (row_of cache.now.rows target) }
+{
+    match cache.reason(names, target) {
+        None => added,
+        Some(reason) => match removed {
+            None => false,
+            Some(entry) => has_entry(reason.support, entry),
+        },
+    }
+}
+
+// Those of the targets that are to be searched again.
+fn stale_among(
+    alloc: Global,
+    all: &[Target],
+    cache: &Cache,
+    names: &Names,
+    removed: Option<Entry>,
+    added: bool,
+) -> Result<Vec<Target>, AllocError>
+    ensures { IfOk result (λ ts. ts.items ≡ filter (λ t. is_stale removed added (row_of cache.now.rows t)) all.now) }
+{
+    let mut stale = Vec::new(alloc);
+    for target in all {
+        if is_stale(cache, names, *target, removed, added) {
+            stale.push(*target)?;
+        }
+    }
+    Ok(stale)
+}
+
+/// The targets on these cells that are to be searched again where an entry is removed, if one is, and where one is added.
+pub(crate) fn stale_targets(
+    alloc: Global,
+    book: &Book,
+    cells: &[CellId],
+    cache: &Cache,
+    names: &Names,
+    removed: Option<Entry>,
+    added: bool,
+) -> Result<Vec<Target>, AllocError>
+    requires { All (λ c. c.0 < length (cell_sizes book.now.universe)) cells.now }
+    ensures { IfOk result (λ ts. ts.items ≡ stale_on cache.now.rows removed added (cell_sizes book.now.universe) cells.now) }
+{
+    let all = targets_on(alloc, book, cells)?;
+    stale_among(alloc, &all, cache, names, removed, added)
+}
+
+// That the cell has a value, or that it hasn't.
+fn target(cell: CellId, value: usize, holds: bool) -> Target
+    requires { value < 256 }
+    ensures { result ≡ target cell value holds }
+{
+    Target {
+        cell,
+        value: ValueId(value as u16),
+        holds,
+    }
+}
+
+// Whether the reason of some target on the cell rests on the entry.
+fn is_used_on(cache: &Cache, names: &Names, cell: CellId, count: usize, entry: Entry) -> bool
+    requires { count ≤ 256 }
+    ensures some { IsTrue result → (t : Target) × Contains (targets_of_cell cell count) t × (is_stale (Some entry) false (row_of cache.now.rows t) ≡ true) }
+    ensures none { (t : Target) → Contains (targets_of_cell cell count) t → is_stale (Some entry) false (row_of cache.now.rows t) ≡ true → IsTrue result }
+{
+    for value in 0..count {
+        if is_stale(cache, names, target(cell, value, true), Some(entry), false) {
+            return true;
+        }
+        if is_stale(cache, names, target(cell, value, false), Some(entry), false) {
+            return true;
+        }
+    }
+    false
+}
+
+/// Whether the reason of some target on these cells rests on the entry. It takes no memory.
+pub(crate) fn is_used(
+    book: &Book,
+    cells: &[CellId],
+    cache: &Cache,
+    names: &Names,
+    entry: Entry,
+) -> bool
+    requires { All (λ c. c.0 < length (cell_sizes book.now.universe)) cells.now }
+    ensures some { IsTrue result → (t : Target) × Contains (targets_on (cell_sizes book.now.universe) cells.now) t × (is_stale (Some entry) false (row_of cache.now.rows t) ≡ true) }
+    ensures none { (t : Target) → Contains (targets_on (cell_sizes book.now.universe) cells.now) t → is_stale (Some entry) false (row_of cache.now.rows t) ≡ true → IsTrue result }
+{
+    for cell in cells {
+        if is_used_on(cache, names, *cell, book.values_of(*cell), entry) {
+            return true;
+        }
+    }
+    false
+}
