@@ -1,5 +1,5 @@
 -- How a check ends at the sheet or at the certificate.
-use Rattle.std.proofs.Common.{◌≡◌, ℕ, List, [], ◌∷◌, ◌++◌, ◌≤◌, ◌<◌, length, refl, sym, subst, inl, inr, Option}
+use Rattle.std.proofs.Common.{◌≡◌, ℕ, List, [], ◌∷◌, ◌++◌, ◌≤◌, length, refl, sym, subst, inl, inr, Option}
 use Rattle.std.specs.Io.KnownBytes.{Appends}
 use Rattle.std.proofs.KnownBytes.{Appends-nil}
 use Rattle.pc_port.specs.Port.{AppendsFront}
@@ -20,7 +20,8 @@ use Rattle.pc_judge.specs.declared.told.Told.{Told}
 use Rattle.pc_judge.specs.declared.told.Told.TheVariants as told
 use Rattle.pc_judge.specs.Judged.{IsJudged, told_text, status_of, status_of_verdict}
 use Rattle.pc_judge.specs.Input.{TakesAll, TakesSome, PassesLimit}
-use Rattle.pc_judge.specs.Checked.{AsksOnce, TakesFile, StopsAtSheet, StopsAtCertificate, LacksMemoryForSheet, HasLongSheet, RefusesSheet, LacksMemory, HasLongCertificate, Judges, CheckedFor, Checked}
+use Rattle.pc_run.specs.Files.{AsksOnce, TakesFile, TakesLongFile, LacksMemoryForFile, HasLongFile}
+use Rattle.pc_judge.specs.Checked.{StopsAtSheet, StopsAtCertificate, RefusesSheet, LacksMemory, HasLongCertificate, Judges, CheckedFor, Checked}
 use Rattle.pc_sortcheck.specs.Declaring.{ReadsAs}
 
 -- a front of a text that has no other piece
@@ -111,12 +112,12 @@ module _ (kept : Option Files) (file : List ℕ) (asked asked' : List (List ℕ)
 
   pub lacks_memory_for_sheet : (result : Status) → AsksOnce file asked asked' → Tells Memory sheet_memory_text result sink sink' → Checked kept file result asked asked' source source sink sink'
   lacks_memory_for_sheet result asks tells =
-      let lacks : LacksMemoryForSheet file (printed [] sheet_memory_text) asked asked' source source = record { asks = asks; unread = refl; text_is = refl } in
+      let lacks : LacksMemoryForFile file (printed [] sheet_memory_text) asked asked' source source = record { asks = asks; unread = refl; text_is = refl } in
       told_at Memory result sheet_memory_text lacks (inr (inl lacks)) (λ w. w) tells
 
-  pub long_sheet : (result : Status) (sheet : List ℕ) → TakesFile kept file asked asked' sheet → SHEET_LIMIT < length sheet → Tells TooLong too_long_text result sink sink' → Checked kept file result asked asked' source source sink sink'
-  long_sheet result sheet takes over tells =
-      let long : HasLongSheet kept file (printed [] too_long_text) asked asked' source source = record { sheet = sheet; takes = takes; long = over; unread = refl; text_is = refl } in
+  pub long_file : (result : Status) → TakesLongFile kept file asked asked' → Tells TooLong too_long_text result sink sink' → Checked kept file result asked asked' source source sink sink'
+  long_file result takes tells =
+      let long : HasLongFile kept file (printed [] too_long_text) asked asked' source source = record { takes = takes; unread = refl; text_is = refl } in
       told_at TooLong result too_long_text long (inr (inr long)) (λ w. w) tells
 
 pub lacks_file : (kept : Option Files) (file : List ℕ) (asked asked' : List (List ℕ)) (source sink : Option (List ℕ)) → asked' ≡ asked ++ file ∷ [] → Checked kept file ReadFault asked asked' source source sink sink

@@ -1,6 +1,5 @@
 -- That acceptance is told where the sheet accepts, and that one thing at most is told.
-use Rattle.std.proofs.Common.{◌≡◌, ℕ, List, ap, subst}
-use Rattle.pc_sheet.specs.Sheet.{Sheet}
+use Rattle.std.proofs.Common.{◌≡◌, ℕ, ap, subst}
 use Rattle.pc_cert.specs.Text.{Reading, certificate, fault_at, Fault, syntax, unknown_name}
 use Rattle.pc_checker.specs.Laws as checker
 use Rattle.pc_checker.specs.Verdicts.{IsVerdict}

@@ -1,9 +1,8 @@
 -- What a check of a certificate says by its status: what the shelf was asked for, what was taken from the input, what was to be
 -- printed, and how much of it was.
-use Rattle.std.specs.Prelude.{◌≡◌, ℕ, ◌<◌, ◌≤◌, ◌⊎◌, List, [], ◌∷◌, ◌++◌, length, Some, IfSome}
+use Rattle.std.specs.Prelude.{◌≡◌, ℕ, ◌≤◌, ◌⊎◌, List, [], length}
 use Rattle.std.specs.declared.option.Option.{Option}
-use Rattle.pc_port.specs.Port.{Rose}
-use Rattle.pc_port.specs.Shelf.{Files, file_named}
+use Rattle.pc_port.specs.Shelf.{Files}
 use Rattle.pc_sheet.specs.Sheet.{Sheet}
 use Rattle.pc_run.specs.declared.TheConstants.{SHEET_LIMIT}
 use Rattle.pc_run.specs.declared.refusal.SheetRefusal.{SheetRefusal}
@@ -12,50 +11,15 @@ use Rattle.pc_run.specs.declared.status.Status.TheVariants.{Done, SheetRefused, 
 use Rattle.pc_run.specs.Refusals.{sheet_refusal_text}
 use Rattle.pc_run.specs.Answer.{Printing, printed}
 use Rattle.pc_run.specs.Transcript.{too_long_text}
-use Rattle.pc_run.specs.Run.{IsWritten, memory_text, sheet_memory_text}
+use Rattle.pc_run.specs.Files.{TakesFile, LacksFile, LacksMemoryForFile, HasLongFile}
+use Rattle.pc_run.specs.Run.{IsWritten, memory_text}
 use Rattle.pc_load.specs.Outcome.{HasFault}
 use Rattle.pc_judge.specs.declared.told.Told.{Told}
 use Rattle.pc_judge.specs.Judged.{IsJudged, told_text, status_of}
 use Rattle.pc_judge.specs.Input.{TakesAll, TakesSome, PassesLimit}
 use Rattle.pc_sortcheck.specs.Declaring.{ReadsAs}
 
--- ---- the shelf
-
--- the shelf was asked for nothing, or once, for the file
-abbrev pub AsksOnce : List ℕ → List (List ℕ) → List (List ℕ) → Type 0
-AsksOnce file asked asked' = (asked' ≡ asked) ⊎ (asked' ≡ asked ++ file ∷ [])
-
--- the shelf was asked once, for the file; and where it tells its files, the text is all that the file has
-pub record TakesFile (kept : Option Files) (file : List ℕ) (asked asked' : List (List ℕ)) (text : List ℕ) : Type 0 where
-  pub once : asked' ≡ asked ++ file ∷ []
-  pub whole : IfSome kept (λ files. file_named file files ≡ Some text)
-
--- One device was at fault: the shelf, and the input was left as it was; or the input, and the shelf wasn't at fault. The counts
--- are those of the shelf's faults, before and after.
-abbrev pub FailsToRead : {I : Type 0} → (I → ℕ) → I → I → ℕ → ℕ → Type 0
-FailsToRead faults input input' shelf shelf' = ((input' ≡ input) × Rose shelf shelf') ⊎ (Rose (faults input) (faults input') × (shelf' ≡ shelf))
-
 -- ---- what ends it before the certificate: the input stays as it was
-
--- the shelf's one read failed, and nothing was to be printed
-pub record LacksFile (file : List ℕ) (text : Printing) (asked asked' : List (List ℕ)) (source source' : Option (List ℕ)) : Type 0 where
-  pub once : asked' ≡ asked ++ file ∷ []
-  pub unread : source' ≡ source
-  pub text_is : text ≡ printed [] []
-
--- there was no memory for the file or for its sheet
-pub record LacksMemoryForSheet (file : List ℕ) (text : Printing) (asked asked' : List (List ℕ)) (source source' : Option (List ℕ)) : Type 0 where
-  pub asks : AsksOnce file asked asked'
-  pub unread : source' ≡ source
-  pub text_is : text ≡ printed [] sheet_memory_text
-
--- the file has more than a sheet may have, and this is told
-pub record HasLongSheet (kept : Option Files) (file : List ℕ) (text : Printing) (asked asked' : List (List ℕ)) (source source' : Option (List ℕ)) : Type 0 where
-  pub sheet : List ℕ
-  pub takes : TakesFile kept file asked asked' sheet
-  pub long : SHEET_LIMIT < length sheet
-  pub unread : source' ≡ source
-  pub text_is : text ≡ printed [] too_long_text
 
 -- the file is refused, and no sheet is read from it
 pub record RefusesSheet (kept : Option Files) (file : List ℕ) (text : Printing) (asked asked' : List (List ℕ)) (source source' : Option (List ℕ)) : Type 0 where
@@ -72,10 +36,10 @@ pub record RefusesSheet (kept : Option Files) (file : List ℕ) (text : Printing
 abbrev pub StopsAtSheet : Option Files → List ℕ → Status → Printing → List (List ℕ) → List (List ℕ) → Option (List ℕ) → Option (List ℕ) → Type 0
 StopsAtSheet kept file SheetRefused text asked asked' source source' = RefusesSheet kept file text asked asked' source source'
 StopsAtSheet kept file ReadFault text asked asked' source source' = LacksFile file text asked asked' source source'
-StopsAtSheet kept file Memory text asked asked' source source' = LacksMemoryForSheet file text asked asked' source source'
-StopsAtSheet kept file TooLong text asked asked' source source' = HasLongSheet kept file text asked asked' source source'
+StopsAtSheet kept file Memory text asked asked' source source' = LacksMemoryForFile file text asked asked' source source'
+StopsAtSheet kept file TooLong text asked asked' source source' = HasLongFile kept file text asked asked' source source'
 StopsAtSheet kept file WriteFault text asked asked' source source' =
-    RefusesSheet kept file text asked asked' source source' ⊎ LacksMemoryForSheet file text asked asked' source source' ⊎ HasLongSheet kept file text asked asked' source source'
+    RefusesSheet kept file text asked asked' source source' ⊎ LacksMemoryForFile file text asked asked' source source' ⊎ HasLongFile kept file text asked asked' source source'
 StopsAtSheet kept file status text asked asked' source source' = ⊥
 
 -- ---- how it goes on from a sheet

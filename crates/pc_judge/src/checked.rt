@@ -3,7 +3,8 @@ ghost use Rattle.std.specs.Prelude.{◌≡◌, ◌≢◌, ◌≤◌, ◌⊎◌, 
 ghost use Rattle.pc_port.specs.Port.{Rose};
 ghost use Rattle.pc_port.specs.Shelf.{Files};
 ghost use Rattle.pc_cert.specs.declared.TheConstants.{CERT_LIMIT};
-ghost use Rattle.pc_judge.specs.Checked.{AsksOnce, Checked, CheckedFor, FailsToRead, TakesFile};
+ghost use Rattle.pc_run.specs.Files.{AsksOnce, FailsToRead, TakesFile};
+ghost use Rattle.pc_judge.specs.Checked.{Checked, CheckedFor};
 ghost use Rattle.pc_judge.specs.Input.{TakesAll};
 
 use crate::input::{InputStop, take_all};
@@ -11,9 +12,10 @@ use crate::judging::judge;
 use crate::told::write_told;
 use pc_load::load_book;
 use pc_logic::Book;
-use pc_port::{Failed, Shelf, ShelfFault, Sink, Source};
+use pc_port::{Failed, Shelf, Sink, Source};
 use pc_run::{
-    LoadFault, SHEET_LIMIT, Status, refuse, tell_no_memory, tell_no_memory_for_sheet, tell_too_long,
+    LoadFault, SHEET_LIMIT, SheetStop, Status, refuse, take_file, tell_no_memory,
+    tell_no_memory_for_sheet, tell_too_long,
 };
 use std::alloc::{AllocError, Global};
 
@@ -92,11 +94,10 @@ pub fn check_file<I: Source, H: Shelf, O: Sink>(
     ensures no_read_fault { result ≢ Status.ReadFault → (I.faults input.new ≡ I.faults input.old) × (H.faults shelf.new ≡ H.faults shelf.old) }
     ensures write_fault { result ≡ Status.WriteFault → Rose (O.faults out.old) (O.faults out.new) }
 {
-    let mut sheet = Vec::new(alloc);
-    match shelf.read(alloc, file, &mut sheet) {
-        Ok(()) if sheet.len() > SHEET_LIMIT => tell_too_long(out),
-        Ok(()) => check_sheet(alloc, &sheet, input, out),
-        Err(ShelfFault::Failed) => Status::ReadFault,
-        Err(ShelfFault::Memory) => tell_no_memory_for_sheet(out),
+    match take_file(alloc, file, shelf) {
+        Ok(sheet) => check_sheet(alloc, &sheet, input, out),
+        Err(SheetStop::Failed) => Status::ReadFault,
+        Err(SheetStop::TooLong) => tell_too_long(out),
+        Err(SheetStop::Memory) => tell_no_memory_for_sheet(out),
     }
 }

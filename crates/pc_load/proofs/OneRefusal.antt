@@ -7,7 +7,7 @@ use Rattle.pc_elaborate.specs.declared.fault.Which.TheVariants as which
 use Rattle.pc_run.specs.declared.refusal.LimitWord.{LimitWord}
 use Rattle.pc_run.specs.declared.refusal.LimitWord.TheVariants.{Sorts, Values, Number, Tables, Families, Arity, Cells, Rows, Rules, Depth, Reads, Budget}
 use Rattle.pc_run.specs.declared.refusal.Refusal.{Refusal}
-use Rattle.pc_run.specs.declared.refusal.Refusal.TheVariants.{NotUtf8, Syntax, NoBegin, WrongVersion, UnknownName, DuplicateName, WrongArity, WrongSort, NotAValue, EmptySort, Limit, NoEntry, NotYet, TooDeep}
+use Rattle.pc_run.specs.declared.refusal.Refusal.TheVariants.{NotUtf8, Syntax, NoBegin, WrongVersion, UnknownName, DuplicateName, WrongArity, WrongSort, NotAValue, EmptySort, Limit, TooLarge, Inconsistent, Spent, NoEntry, DuplicateRule, NoRule, TooDeep}
 use Rattle.pc_load.specs.Refusals.{IsSortRefusal, which_of}
 
 abbrev word_of : Which → LimitWord
@@ -60,8 +60,12 @@ told e NotUtf8 is = absurd is
 told e Syntax is = absurd is
 told e NoBegin is = absurd is
 told e WrongVersion is = absurd is
+told e TooLarge is = absurd is
+told e Inconsistent is = absurd is
+told e (Spent counts) is = absurd is
 told e NoEntry is = absurd is
-told e NotYet is = absurd is
+told e DuplicateRule is = absurd is
+told e NoRule is = absurd is
 told e TooDeep is = absurd is
 
 pub some_is : (q r : Refusal) → Some q ≡ Some r → q ≡ r

@@ -10,7 +10,7 @@ use Rattle.pc_sortcheck.specs.Declaring.{IsSheetOf}
 use Rattle.pc_sortcheck.specs.DeclarationFaults.{IsSheetFault}
 use Rattle.pc_sortcheck.proofs.SheetOutcomes.{only_sheet, only_fault}
 use Rattle.pc_run.specs.declared.refusal.Refusal.{Refusal}
-use Rattle.pc_run.specs.declared.refusal.Refusal.TheVariants.{NotUtf8, Syntax, NoBegin, WrongVersion, UnknownName, DuplicateName, WrongArity, WrongSort, NotAValue, EmptySort, Limit, NoEntry, NotYet, TooDeep}
+use Rattle.pc_run.specs.declared.refusal.Refusal.TheVariants.{NotUtf8, Syntax, NoBegin, WrongVersion, UnknownName, DuplicateName, WrongArity, WrongSort, NotAValue, EmptySort, Limit, TooLarge, Inconsistent, Spent, NoEntry, DuplicateRule, NoRule, TooDeep}
 use Rattle.pc_run.specs.declared.refusal.SheetRefusal.{SheetRefusal}
 use Rattle.pc_load.specs.Refusals.{IsSortRefusal, IsRefusalFor}
 use Rattle.pc_load.specs.Outcome.{HasSortFault, IsFaultAt, Outcome, reads, fails, IsOutcome}
@@ -86,10 +86,13 @@ given_fault text WrongSort (Some line) has = at_sort text line WrongSort has
 given_fault text NotAValue (Some line) has = at_sort text line NotAValue has
 given_fault text EmptySort (Some line) has = at_sort text line EmptySort has
 given_fault text (Limit word) (Some line) has = at_sort text line (Limit word) has
+given_fault text TooLarge (Some line) has = at_sort text line TooLarge has
+given_fault text Inconsistent (Some line) has = at_sort text line Inconsistent has
+given_fault text (Spent counts) (Some line) has = at_sort text line (Spent counts) has
 given_fault text NoEntry (Some line) has = at_sort text line NoEntry has
-given_fault text NotYet (Some line) has = at_sort text line NotYet has
+given_fault text DuplicateRule (Some line) has = at_sort text line DuplicateRule has
+given_fault text NoRule (Some line) has = at_sort text line NoRule has
 given_fault text NoBegin None has = record { reading = no_begin; is = has; given = refl }
-given_fault text NotYet None has = absurd has
 given_fault text NotUtf8 None has = absurd has
 given_fault text Syntax None has = absurd has
 given_fault text WrongVersion None has = absurd has
@@ -101,7 +104,12 @@ given_fault text WrongSort None has = absurd has
 given_fault text NotAValue None has = absurd has
 given_fault text EmptySort None has = absurd has
 given_fault text (Limit word) None has = absurd has
+given_fault text TooLarge None has = absurd has
+given_fault text Inconsistent None has = absurd has
+given_fault text (Spent counts) None has = absurd has
 given_fault text NoEntry None has = absurd has
+given_fault text DuplicateRule None has = absurd has
+given_fault text NoRule None has = absurd has
 
 given : (text : List ℕ) (outcome : Outcome) → IsOutcome text outcome → Given text outcome
 given text (reads found) is = record { reading = sheet is.declared; is = is.is; given = by_sheet found is.gives }

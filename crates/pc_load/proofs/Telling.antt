@@ -4,7 +4,7 @@ use Rattle.pc_elaborate.specs.declared.fault.SortFault.{SortFault}
 use Rattle.pc_elaborate.specs.declared.fault.SortFault.TheVariants as sort_fault
 use Rattle.pc_elaborate.specs.Told.{IsFaultOf}
 use Rattle.pc_run.specs.declared.refusal.Refusal.{Refusal}
-use Rattle.pc_run.specs.declared.refusal.Refusal.TheVariants.{NotUtf8, Syntax, NoBegin, WrongVersion, UnknownName, DuplicateName, WrongArity, WrongSort, NotAValue, EmptySort, Limit, NoEntry, NotYet, TooDeep}
+use Rattle.pc_run.specs.declared.refusal.Refusal.TheVariants.{NotUtf8, Syntax, NoBegin, WrongVersion, UnknownName, DuplicateName, WrongArity, WrongSort, NotAValue, EmptySort, Limit, TooLarge, Inconsistent, Spent, NoEntry, DuplicateRule, NoRule, TooDeep}
 use Rattle.pc_load.specs.Refusals.{IsSortRefusal}
 use Rattle.pc_load.specs.Outcome.{HasSortFault, IsFaultAt}
 
@@ -21,8 +21,12 @@ fails Fails e NotUtf8 tells is = absurd tells
 fails Fails e Syntax tells is = absurd tells
 fails Fails e NoBegin tells is = absurd tells
 fails Fails e WrongVersion tells is = absurd tells
+fails Fails e TooLarge tells is = absurd tells
+fails Fails e Inconsistent tells is = absurd tells
+fails Fails e (Spent counts) tells is = absurd tells
 fails Fails e NoEntry tells is = absurd tells
-fails Fails e NotYet tells is = absurd tells
+fails Fails e DuplicateRule tells is = absurd tells
+fails Fails e NoRule tells is = absurd tells
 fails Fails e TooDeep tells is = absurd tells
 
 -- the text has the refusal of its fault
@@ -38,8 +42,12 @@ is_fault text line e NotUtf8 tells is = absurd tells
 is_fault text line e Syntax tells is = absurd tells
 is_fault text line e NoBegin tells is = absurd tells
 is_fault text line e WrongVersion tells is = absurd tells
+is_fault text line e TooLarge tells is = absurd tells
+is_fault text line e Inconsistent tells is = absurd tells
+is_fault text line e (Spent counts) tells is = absurd tells
 is_fault text line e NoEntry tells is = absurd tells
-is_fault text line e NotYet tells is = absurd tells
+is_fault text line e DuplicateRule tells is = absurd tells
+is_fault text line e NoRule tells is = absurd tells
 is_fault text line e TooDeep tells is = absurd tells
 
 pub of_fault : (Fails : SortFault → Type 0) (e : SortFault) → Fails e → IsFaultOf Fails e

@@ -70,38 +70,37 @@ written_all true refused sink sink' text written = written
 written_all false true sink sink' text written = written
 written_all false false sink sink' text written = written
 
-by_all : {S : Type 0} (Allows : S → List ℕ → Answer → S → Type 0) (start : S) (no_memory refused : Bool) (text : Printing) (source source' : Option (List ℕ))
-    → AnswersAll Allows start (worse_of no_memory refused) text source source' → AnswersBy Allows start (worse_of no_memory refused) text source source'
-by_all Allows start true refused text source source' answers = answers
-by_all Allows start false true text source source' answers = answers
-by_all Allows start false false text source source' answers = answers
+by_all : {S : Type 0} (Allows : S → List ℕ → Answer → S → Type 0) (start end : S) (no_memory refused : Bool) (text : Printing) (source source' : Option (List ℕ))
+    → AnswersAll Allows start end (worse_of no_memory refused) text source source' → AnswersBy Allows start end (worse_of no_memory refused) text source source'
+by_all Allows start end true refused text source source' answers = answers
+by_all Allows start end false true text source source' answers = answers
+by_all Allows start end false false text source source' answers = answers
 
 -- all was written, and no last piece is left
 written_whole : (sink sink' : Option (List ℕ)) (text : List ℕ) → Appends sink sink' text → Appends sink sink' (text ++ [])
 written_whole sink sink' text written = subst (λ (l : List ℕ). Appends sink sink' l) (sym (append-nil text)) written
 
-answers_all : {S : Type 0} (Allows : S → List ℕ → Answer → S → Type 0) (start : S) (no_memory refused : Bool) (status : Status) (text : List ℕ) (source source' sink sink' : Option (List ℕ))
-    → status ≡ worse_of no_memory refused → AnswersAll Allows start (worse_of no_memory refused) (printed text []) source source' → Appends sink sink' text → Answers Allows start status source source' sink sink'
-answers_all Allows start no_memory refused status text source source' sink sink' is answers written =
-    subst (λ (s : Status). Answers Allows start s source source' sink sink') (sym is) record {
+answers_all : {S : Type 0} (Allows : S → List ℕ → Answer → S → Type 0) (start end : S) (no_memory refused : Bool) (status : Status) (text : List ℕ) (source source' sink sink' : Option (List ℕ))
+    → status ≡ worse_of no_memory refused → AnswersAll Allows start end (worse_of no_memory refused) (printed text []) source source' → Appends sink sink' text → Answers Allows start end status source source' sink sink'
+answers_all Allows start end no_memory refused status text source source' sink sink' is answers written =
+    subst (λ (s : Status). Answers Allows start end s source source' sink sink') (sym is) record {
       text = printed text [];
-      course = by_all Allows start no_memory refused (printed text []) source source' answers;
+      course = by_all Allows start end no_memory refused (printed text []) source source' answers;
       written = written_all no_memory refused sink sink' (printed text []) (written_whole sink sink' text written);
     }
 
 pub ends : {S : Type 0} (Allows : S → List ℕ → Answer → S → Type 0) (start state : S) (marks : Marks) (source mid sink sink' : Option (List ℕ)) (count : ℕ) (held : List ℕ) (left : Option (List ℕ)) (line : List ℕ) (status : Status)
     → Progress Allows start state marks source mid sink sink' count → count ≤ MAX_LINES → line ≡ [] → Consumes mid (prepend_known held left) line → IsAtEnd (prepend_known held left)
-    → status ≡ worse_of marks.no_memory marks.refused → Answers Allows start status source left sink sink'
-ends Allows start state marks source mid sink sink' count held left line status p few none taken end is =
+    → status ≡ worse_of marks.no_memory marks.refused → Answers Allows start state status source left sink sink'
+ends Allows start state marks source mid sink sink' count held left line status p few none taken at_end is =
     let t = p.transcript in
     let both = Consumes-trans source mid (prepend_known held left) (input_of t) line p.taken taken in
-    answers_all Allows start marks.no_memory marks.refused status (output_of t) source left sink sink' is record {
+    answers_all Allows start state marks.no_memory marks.refused status (output_of t) source left sink sink' is record {
       transcript = t;
-      state = state;
       legal = p.legal;
       commands = input_of t ++ line;
-      taken = taken_to_end source held left (input_of t ++ line) both end;
-      end = left_at_end held left end;
+      taken = taken_to_end source held left (input_of t ++ line) both at_end;
+      at_end = left_at_end held left at_end;
       all = sym (lines_of-input t line (recursion_from_All (IsWholeLine LINE_LIMIT) (lines t) p.whole) ∙ ap (λ (l : List ℕ). lines t ++ lines_of l) none ∙ append-nil (lines t));
       each = each_line t p.whole;
       count = omega (arith, p.count_is);
@@ -112,19 +111,18 @@ ends Allows start state marks source mid sink sink' count held left line status 
 -- at a last line without a line feed
 pub ends_last : {S : Type 0} (Allows : S → List ℕ → Answer → S → Type 0) (start old new : S) (marks marks' : Marks) (source mid sink sink' sink'' : Option (List ℕ)) (count : ℕ) (held : List ℕ) (left : Option (List ℕ)) (line : List ℕ) (status : Status)
     → Progress Allows start old marks source mid sink sink' count → count < MAX_LINES → IsOpenLine LINE_LIMIT line → 0 < length line → Consumes mid (prepend_known held left) line → IsAtEnd (prepend_known held left)
-    → Serves Allows old new (a_line.text_of line) marks marks' sink' sink'' → status ≡ worse_of marks'.no_memory marks'.refused → Answers Allows start status source left sink sink''
-ends_last Allows start old new marks marks' source mid sink sink' sink'' count held left line status p few open_line some taken end serves is =
+    → Serves Allows old new (a_line.text_of line) marks marks' sink' sink'' → status ≡ worse_of marks'.no_memory marks'.refused → Answers Allows start new status source left sink sink''
+ends_last Allows start old new marks marks' source mid sink sink' sink'' count held left line status p few open_line some taken at_end serves is =
     let t = p.transcript in
     let both = Consumes-trans source mid (prepend_known held left) (input_of t) line p.taken taken in
     let no_memory = any-push (λ (pair : List ℕ × Answer). is_no_memory pair.1) t (line, serves.answer) marks.no_memory marks'.no_memory p.no_memory serves.marked.no_memory in
     let refused = any-push (λ (pair : List ℕ × Answer). is_refused pair.1) t (line, serves.answer) marks.refused marks'.refused p.refused serves.marked.refused in
-    answers_all Allows start marks'.no_memory marks'.refused status (output_of (t ++ (line, serves.answer) ∷ [])) source left sink sink'' is record {
+    answers_all Allows start new marks'.no_memory marks'.refused status (output_of (t ++ (line, serves.answer) ∷ [])) source left sink sink'' is record {
       transcript = t ++ (line, serves.answer) ∷ [];
-      state = new;
       legal = Legal-push Allows start old new t line serves.answer p.legal serves.allowed;
       commands = input_of t ++ line;
-      taken = taken_to_end source held left (input_of t ++ line) both end;
-      end = left_at_end held left end;
+      taken = taken_to_end source held left (input_of t ++ line) both at_end;
+      at_end = left_at_end held left at_end;
       all = lines-push t line serves.answer ∙ sym (lines_of-input t line (recursion_from_All (IsWholeLine LINE_LIMIT) (lines t) p.whole) ∙ ap (λ (ls : List (List ℕ)). lines t ++ ls) (lines_of-open line open_line.no_end some));
       each = rw lines-push (All-push IsLine (lines t) line (each_line t p.whole) (inr open_line));
       count = omega (arith, p.count_is, length_push t (line, serves.answer));
@@ -136,7 +134,7 @@ ends_last Allows start old new marks marks' source mid sink sink' sink'' count h
 -- ---- at a fault of the source
 
 pub read_fails : {S : Type 0} (Allows : S → List ℕ → Answer → S → Type 0) (start state : S) (marks : Marks) (source mid sink sink' : Option (List ℕ)) (count : ℕ) (held : List ℕ) (left : Option (List ℕ)) (line : List ℕ)
-    → Progress Allows start state marks source mid sink sink' count → count ≤ MAX_LINES → Consumes mid (prepend_known held left) line → IsOpenLine LINE_LIMIT line → held ≡ [] → Answers Allows start ReadFault source left sink sink'
+    → Progress Allows start state marks source mid sink sink' count → count ≤ MAX_LINES → Consumes mid (prepend_known held left) line → IsOpenLine LINE_LIMIT line → held ≡ [] → Answers Allows start state ReadFault source left sink sink'
 read_fails Allows start state marks source mid sink sink' count held left line p few taken open_line none =
     let t = p.transcript in
     let both = Consumes-trans source mid (prepend_known held left) (input_of t) line p.taken taken in
@@ -144,7 +142,6 @@ read_fails Allows start state marks source mid sink sink' count held left line p
       text = printed (output_of t) [];
       course = record {
         transcript = t;
-        state = state;
         legal = p.legal;
         whole = p.whole;
         count = omega (arith, p.count_is, few);
@@ -164,7 +161,7 @@ cut_at a b c before last written part = record { count = part.count; written = A
 
 pub write_fails : {S : Type 0} (Allows : S → List ℕ → Answer → S → Type 0) (start old new : S) (marks : Marks) (source mid sink sink' sink'' : Option (List ℕ)) (count : ℕ) (held : List ℕ) (left : Option (List ℕ)) (line : List ℕ)
     → Progress Allows start old marks source mid sink sink' count → count < MAX_LINES → IsCompleteLine line (prepend_known held left) → Consumes mid (prepend_known held left) line → length held ≤ CHUNK
-    → ServesInPart Allows old new (a_line.text_of line) sink' sink'' → Answers Allows start WriteFault source left sink sink''
+    → ServesInPart Allows old new (a_line.text_of line) sink' sink'' → Answers Allows start new WriteFault source left sink sink''
 write_fails Allows start old new marks source mid sink sink' sink'' count held left line p few complete taken small serves =
     let t = p.transcript in
     record {
@@ -179,7 +176,6 @@ write_fails Allows start old new marks source mid sink sink' sink'' count held l
         rest = prepend_known held left;
         complete = complete;
         answer = serves.answer;
-        after = new;
         allowed = serves.allowed;
         taken = Consumes-trans source mid (prepend_known held left) (input_of t) line p.taken taken;
         ahead = read_ahead held left small;
@@ -192,12 +188,11 @@ write_fails Allows start old new marks source mid sink sink' sink'' count held l
 
 pub past_limit : {S : Type 0} (Allows : S → List ℕ → Answer → S → Type 0) (start state : S) (marks : Marks) (source mid sink sink' sink'' : Option (List ℕ)) (count : ℕ) (held : List ℕ) (left : Option (List ℕ)) (line : List ℕ) (status : Status)
     → Progress Allows start state marks source mid sink sink' count → count ≤ MAX_LINES → Consumes mid (prepend_known held left) line → PassesLimit count line → length held ≤ CHUNK
-    → Tells TooLong too_long_text status sink' sink'' → Answers Allows start status source left sink sink''
+    → Tells TooLong too_long_text status sink' sink'' → Answers Allows start state status source left sink sink''
 past_limit Allows start state marks source mid sink sink' sink'' count held left line status p few taken passes small told =
     let t = p.transcript in
-    let stops : StopsAtLimit Allows start (printed (output_of t) too_long_text) source left = record {
+    let stops : StopsAtLimit Allows start state (printed (output_of t) too_long_text) source left = record {
       transcript = t;
-      state = state;
       legal = p.legal;
       whole = p.whole;
       count = omega (arith, p.count_is, few);
@@ -209,12 +204,12 @@ past_limit Allows start state marks source mid sink sink' sink'' count held left
       text_is = refl;
     } in
     elim told [
-      | inl w ↦ subst (λ (s : Status). Answers Allows start s source left sink sink'') (sym w.0) record {
+      | inl w ↦ subst (λ (s : Status). Answers Allows start state s source left sink sink'') (sym w.0) record {
         text = printed (output_of t) too_long_text;
         course = stops;
         written = Appends-trans sink sink' sink'' (output_of t) too_long_text p.written w.1;
       }
-      | inr w ↦ subst (λ (s : Status). Answers Allows start s source left sink sink'') (sym w.0) record {
+      | inr w ↦ subst (λ (s : Status). Answers Allows start state s source left sink sink'') (sym w.0) record {
         text = printed (output_of t) too_long_text;
         course = inl stops;
         written = cut_at sink sink' sink'' (output_of t) too_long_text p.written w.1;

@@ -3,3 +3,5 @@ pub mod Answer
 pub mod Transcript
 pub mod SheetPart
 pub mod Run
+pub mod Files
+pub mod Edit

@@ -3,7 +3,8 @@ use Rattle.std.specs.Prelude.{ℕ, List, [], ◌++◌, codes, decimal}
 use Rattle.std.specs.declared.option.Option.{Option}
 use Rattle.std.specs.declared.option.Option.TheVariants.{Some, None}
 use Rattle.pc_run.specs.declared.refusal.Refusal.{Refusal}
-use Rattle.pc_run.specs.declared.refusal.Refusal.TheVariants.{NotUtf8, Syntax, NoBegin, WrongVersion, UnknownName, DuplicateName, WrongArity, WrongSort, NotAValue, EmptySort, Limit, NoEntry, NotYet, TooDeep}
+use Rattle.pc_run.specs.declared.refusal.Refusal.TheVariants.{NotUtf8, Syntax, NoBegin, WrongVersion, UnknownName, DuplicateName, WrongArity, WrongSort, NotAValue, EmptySort, Limit, TooLarge, Inconsistent, Spent, NoEntry, DuplicateRule, NoRule, TooDeep}
+use Rattle.pc_run.specs.declared.refusal.Counts.{Counts}
 use Rattle.pc_run.specs.declared.refusal.LimitWord.{LimitWord}
 use Rattle.pc_run.specs.declared.refusal.LimitWord.TheVariants.{Sorts, Values, Number, Tables, Families, Arity, Cells, Rows, Rules, Depth, Reads, Budget}
 use Rattle.pc_run.specs.declared.refusal.SheetRefusal.{SheetRefusal}
@@ -21,8 +22,12 @@ words_of WrongSort = codes "8 wrong-sort"
 words_of NotAValue = codes "9 not-a-value"
 words_of EmptySort = codes "10 empty-sort"
 words_of (Limit word) = codes "11 limit"
+words_of TooLarge = codes "12 too-large"
+words_of Inconsistent = codes "13 inconsistent"
+words_of (Spent counts) = codes "14 spent"
 words_of NoEntry = codes "16 no-entry"
-words_of NotYet = codes "20 not-yet"
+words_of DuplicateRule = codes "17 duplicate-rule"
+words_of NoRule = codes "18 no-rule"
 words_of TooDeep = codes "21 too-deep"
 
 -- what a limit is put on
@@ -40,9 +45,14 @@ limit_word_of Depth = codes "depth"
 limit_word_of Reads = codes "reads"
 limit_word_of Budget = codes "budget"
 
--- what is told further: the word of a limit
+-- what a search has spent: literals placed, clauses learned and calls of solvers
+abbrev pub counts_text : Counts → List ℕ
+counts_text counts = codes " placed=" ++ (decimal counts.placed ++ (codes " learned=" ++ (decimal counts.learned ++ (codes " calls=" ++ decimal counts.calls))))
+
+-- what is told further: the word of a limit, or what was spent
 abbrev pub further_text : Refusal → List ℕ
 further_text (Limit word) = codes " " ++ limit_word_of word
+further_text (Spent counts) = counts_text counts
 further_text refusal = []
 
 -- the line that a sheet's refusal is for, where it is for one

@@ -6,8 +6,10 @@ use Rattle.pc_port.specs.Port.{AppendsFront}
 use Rattle.pc_run.specs.declared.status.Status.{Status}
 use Rattle.pc_run.specs.declared.status.Status.TheVariants.{Done, SomeRefused, Usage, SheetRefused, ReadFault, WriteFault, Memory, TooLong, CertRefused}
 use Rattle.pc_run.specs.declared.refusal.SheetRefusal.{SheetRefusal}
+use Rattle.pc_run.specs.declared.machine.LoadStop.{LoadStop}
+use Rattle.pc_run.specs.declared.machine.LoadStop.TheVariants as load_stop
 use Rattle.pc_run.specs.Refusals.{sheet_refusal_text}
-use Rattle.pc_run.specs.Answer.{Answer, Printing, printed, ended}
+use Rattle.pc_run.specs.Answer.{Answer, Printing, printed, ended, Follows}
 use Rattle.pc_run.specs.Transcript.{AnswersAll, AnswersTaken, StopsAtLimit, AnswersSome, too_long_text}
 use Rattle.pc_run.specs.SheetPart.{IsReadAhead, TakesSheet, StopsInSheet, PassesSheetLimit, HasTaken}
 
@@ -17,67 +19,74 @@ memory_text = ended (codes "refused 15 memory")
 abbrev pub sheet_memory_text : List ℕ
 sheet_memory_text = ended (codes "sheet refused 15 memory")
 
--- There was no room for a line. Nothing was read.
-pub record LacksRoom (text : Printing) (source source' : Option (List ℕ)) : Type 0 where
+-- There was no room for a line. Nothing was read, and nothing noted.
+pub record LacksRoom {N : Type 0} (notes notes' : N) (text : Printing) (source source' : Option (List ℕ)) : Type 0 where
   pub unread : source' ≡ source
+  pub none_noted : notes' ≡ notes
   pub text_is : text ≡ printed [] memory_text
 
 -- There was no memory for the sheet, of which so much was taken.
-pub record LacksMemoryForSheet (text : Printing) (source source' : Option (List ℕ)) : Type 0 where
+pub record LacksMemoryForSheet {N : Type 0} (notes notes' : N) (text : Printing) (source source' : Option (List ℕ)) : Type 0 where
   pub taken : HasTaken source source'
+  pub none_noted : notes' ≡ notes
   pub text_is : text ≡ printed [] sheet_memory_text
 
--- The sheet's part was taken, it is refused, and no sheet is read from it. Nothing more is taken.
-pub record RefusesSheet {S : Type 0} (IsSheet : List ℕ → S → Type 0) (Refuses : List ℕ → SheetRefusal → Type 0) (text : Printing) (source source' : Option (List ℕ)) : Type 0 where
+-- The sheet's part was taken, and it is refused, with what is told after that. Nothing more is taken.
+pub record RefusesSheet {N : Type 0} (Refuses : List ℕ → SheetRefusal → List ℕ → N → N → Type 0) (notes notes' : N) (text : Printing) (source source' : Option (List ℕ)) : Type 0 where
   pub sheet : List ℕ
   pub rest : Option (List ℕ)
   pub takes : TakesSheet sheet source rest
   pub refusal : SheetRefusal
-  pub refused : Refuses sheet refusal
-  pub none : (start : S) → ¬ IsSheet sheet start
+  pub more : List ℕ
+  pub refused : Refuses sheet refusal more notes notes'
   pub ahead : IsReadAhead rest source'
-  pub text_is : text ≡ printed [] (sheet_refusal_text refusal)
+  pub text_is : text ≡ printed [] (sheet_refusal_text refusal ++ more)
 
--- The sheet's part was taken, a sheet is read from it, and from its state the rest of the input goes on so.
-pub record Opens {S : Type 0} (IsSheet : List ℕ → S → Type 0) (GoesOn : S → Option (List ℕ) → Type 0) (source : Option (List ℕ)) : Type 0 where
+-- The sheet's part was taken, a sheet is read from it, and from its state and these notes the rest of the input goes on so.
+pub record Opens {S N : Type 0} (IsSheet : List ℕ → S → Type 0) (notes notes' : N) (GoesOn : S × N → S × N → Option (List ℕ) → Type 0) (source : Option (List ℕ)) : Type 0 where
   pub sheet : List ℕ
   pub rest : Option (List ℕ)
   pub takes : TakesSheet sheet source rest
   pub start : S
   pub is : IsSheet sheet start
-  pub goes_on : GoesOn start rest
+  pub end : S
+  pub goes_on : GoesOn (start, notes) (end, notes') rest
 
 -- the sheet's part is too long, and this is told
-pub record HasLongSheet (text : Printing) (source source' : Option (List ℕ)) : Type 0 where
+pub record HasLongSheet {N : Type 0} (notes notes' : N) (text : Printing) (source source' : Option (List ℕ)) : Type 0 where
   pub passes : PassesSheetLimit source source'
+  pub none_noted : notes' ≡ notes
   pub text_is : text ≡ printed [] too_long_text
 
 -- reading the sheet failed, and nothing was to be printed
-pub record FailsInSheet (text : Printing) (source source' : Option (List ℕ)) : Type 0 where
+pub record FailsInSheet {N : Type 0} (notes notes' : N) (text : Printing) (source source' : Option (List ℕ)) : Type 0 where
   pub stops : StopsInSheet source source'
+  pub none_noted : notes' ≡ notes
   pub text_is : text ≡ printed [] []
 
 -- what was to be printed where a write failed
-pub data IsCut {S : Type 0} (IsSheet : List ℕ → S → Type 0) (Refuses : List ℕ → SheetRefusal → Type 0) (Allows : S → List ℕ → Answer → S → Type 0) (text : Printing) (source source' : Option (List ℕ)) : Type 0 where
-  at_memory : LacksRoom text source source' → IsCut IsSheet Refuses Allows text source source'
-  at_sheet_memory : LacksMemoryForSheet text source source' → IsCut IsSheet Refuses Allows text source source'
-  at_sheet : RefusesSheet IsSheet Refuses text source source' → IsCut IsSheet Refuses Allows text source source'
-  at_long_sheet : HasLongSheet text source source' → IsCut IsSheet Refuses Allows text source source'
-  at_limit : Opens IsSheet (λ start rest. StopsAtLimit Allows start text rest source') source → IsCut IsSheet Refuses Allows text source source'
-  at_answer : Opens IsSheet (λ start rest. AnswersSome Allows start text rest source') source → IsCut IsSheet Refuses Allows text source source'
+pub data IsCut {S N : Type 0} (IsSheet : List ℕ → S → Type 0) (Refuses : List ℕ → SheetRefusal → List ℕ → N → N → Type 0) (Allows : S × N → List ℕ → Answer → S × N → Type 0) (notes notes' : N) (text : Printing) (source source' : Option (List ℕ)) : Type 0 where
+  at_memory : LacksRoom notes notes' text source source' → IsCut IsSheet Refuses Allows notes notes' text source source'
+  at_sheet_memory : LacksMemoryForSheet notes notes' text source source' → IsCut IsSheet Refuses Allows notes notes' text source source'
+  at_sheet : RefusesSheet Refuses notes notes' text source source' → IsCut IsSheet Refuses Allows notes notes' text source source'
+  at_long_sheet : HasLongSheet notes notes' text source source' → IsCut IsSheet Refuses Allows notes notes' text source source'
+  at_limit : Opens IsSheet notes notes' (λ start end rest. StopsAtLimit Allows start end text rest source') source → IsCut IsSheet Refuses Allows notes notes' text source source'
+  at_answer : Opens IsSheet notes notes' (λ start end rest. AnswersSome Allows start end text rest source') source → IsCut IsSheet Refuses Allows notes notes' text source source'
 
--- What was taken from the input at this status, and the text that was to be printed.
-abbrev pub Replays : {S : Type 0} → (List ℕ → S → Type 0) → (List ℕ → SheetRefusal → Type 0) → (S → List ℕ → Answer → S → Type 0) → Status → Printing → Option (List ℕ) → Option (List ℕ) → Type 0
-Replays IsSheet Refuses Allows Done text source source' = Opens IsSheet (λ start rest. AnswersAll Allows start Done text rest source') source
-Replays IsSheet Refuses Allows SomeRefused text source source' = Opens IsSheet (λ start rest. AnswersAll Allows start SomeRefused text rest source') source
-Replays IsSheet Refuses Allows Usage text source source' = ⊥
-Replays IsSheet Refuses Allows SheetRefused text source source' = RefusesSheet IsSheet Refuses text source source'
-Replays IsSheet Refuses Allows ReadFault text source source' = FailsInSheet text source source' ⊎ Opens IsSheet (λ start rest. AnswersTaken Allows start text rest source') source
-Replays IsSheet Refuses Allows WriteFault text source source' = IsCut IsSheet Refuses Allows text source source'
-Replays IsSheet Refuses Allows Memory text source source' =
-    LacksRoom text source source' ⊎ LacksMemoryForSheet text source source' ⊎ Opens IsSheet (λ start rest. AnswersAll Allows start Memory text rest source') source
-Replays IsSheet Refuses Allows TooLong text source source' = HasLongSheet text source source' ⊎ Opens IsSheet (λ start rest. StopsAtLimit Allows start text rest source') source
-Replays IsSheet Refuses Allows CertRefused text source source' = ⊥
+-- What was taken from the input at this status, the text that was to be printed, and what was noted.
+abbrev pub Replays : {S N : Type 0} → (List ℕ → S → Type 0) → (List ℕ → SheetRefusal → List ℕ → N → N → Type 0) → (S × N → List ℕ → Answer → S × N → Type 0) → Status → N → N → Printing → Option (List ℕ) → Option (List ℕ) → Type 0
+Replays IsSheet Refuses Allows Done notes notes' text source source' = Opens IsSheet notes notes' (λ start end rest. AnswersAll Allows start end Done text rest source') source
+Replays IsSheet Refuses Allows SomeRefused notes notes' text source source' = Opens IsSheet notes notes' (λ start end rest. AnswersAll Allows start end SomeRefused text rest source') source
+Replays IsSheet Refuses Allows Usage notes notes' text source source' = ⊥
+Replays IsSheet Refuses Allows SheetRefused notes notes' text source source' = RefusesSheet Refuses notes notes' text source source'
+Replays IsSheet Refuses Allows ReadFault notes notes' text source source' =
+    FailsInSheet notes notes' text source source' ⊎ Opens IsSheet notes notes' (λ start end rest. AnswersTaken Allows start end text rest source') source
+Replays IsSheet Refuses Allows WriteFault notes notes' text source source' = IsCut IsSheet Refuses Allows notes notes' text source source'
+Replays IsSheet Refuses Allows Memory notes notes' text source source' =
+    LacksRoom notes notes' text source source' ⊎ LacksMemoryForSheet notes notes' text source source' ⊎ Opens IsSheet notes notes' (λ start end rest. AnswersAll Allows start end Memory text rest source') source
+Replays IsSheet Refuses Allows TooLong notes notes' text source source' =
+    HasLongSheet notes notes' text source source' ⊎ Opens IsSheet notes notes' (λ start end rest. StopsAtLimit Allows start end text rest source') source
+Replays IsSheet Refuses Allows CertRefused notes notes' text source source' = ⊥
 
 -- the text was written but for the last piece, of which a front was
 pub record AppendsPart (sink sink' : Option (List ℕ)) (text : Printing) : Type 0 where
@@ -89,31 +98,43 @@ abbrev pub IsWritten : Status → Option (List ℕ) → Option (List ℕ) → Pr
 IsWritten WriteFault sink sink' text = AppendsPart sink sink' text
 IsWritten status sink sink' text = Appends sink sink' (text.before ++ text.last)
 
--- what was to be printed for the sheet and its commands, and how much of it was
-pub record Replayed {S : Type 0} (IsSheet : List ℕ → S → Type 0) (Refuses : List ℕ → SheetRefusal → Type 0) (Allows : S → List ℕ → Answer → S → Type 0) (status : Status) (source source' sink sink' : Option (List ℕ)) : Type 0 where
+-- what was to be printed for the sheet and its commands, how much of it was, and what was noted
+pub record Replayed {S N : Type 0} (IsSheet : List ℕ → S → Type 0) (Refuses : List ℕ → SheetRefusal → List ℕ → N → N → Type 0) (Allows : S × N → List ℕ → Answer → S × N → Type 0) (status : Status) (notes notes' : N) (source source' sink sink' : Option (List ℕ)) : Type 0 where
   pub text : Printing
-  pub course : Replays IsSheet Refuses Allows status text source source'
+  pub course : Replays IsSheet Refuses Allows status notes notes' text source source'
   pub written : IsWritten status sink sink' text
 
 -- how the command lines were answered at this status, and the text that was to be printed
-abbrev pub AnswersBy : {S : Type 0} → (S → List ℕ → Answer → S → Type 0) → S → Status → Printing → Option (List ℕ) → Option (List ℕ) → Type 0
-AnswersBy Allows start Done text source source' = AnswersAll Allows start Done text source source'
-AnswersBy Allows start SomeRefused text source source' = AnswersAll Allows start SomeRefused text source source'
-AnswersBy Allows start Memory text source source' = AnswersAll Allows start Memory text source source'
-AnswersBy Allows start ReadFault text source source' = AnswersTaken Allows start text source source'
-AnswersBy Allows start TooLong text source source' = StopsAtLimit Allows start text source source'
-AnswersBy Allows start WriteFault text source source' = StopsAtLimit Allows start text source source' ⊎ AnswersSome Allows start text source source'
-AnswersBy Allows start status text source source' = ⊥
+abbrev pub AnswersBy : {S : Type 0} → (S → List ℕ → Answer → S → Type 0) → S → S → Status → Printing → Option (List ℕ) → Option (List ℕ) → Type 0
+AnswersBy Allows start end Done text source source' = AnswersAll Allows start end Done text source source'
+AnswersBy Allows start end SomeRefused text source source' = AnswersAll Allows start end SomeRefused text source source'
+AnswersBy Allows start end Memory text source source' = AnswersAll Allows start end Memory text source source'
+AnswersBy Allows start end ReadFault text source source' = AnswersTaken Allows start end text source source'
+AnswersBy Allows start end TooLong text source source' = StopsAtLimit Allows start end text source source'
+AnswersBy Allows start end WriteFault text source source' = StopsAtLimit Allows start end text source source' ⊎ AnswersSome Allows start end text source source'
+AnswersBy Allows start end status text source source' = ⊥
 
 -- what was to be printed for the command lines, and how much of it was
-pub record Answers {S : Type 0} (Allows : S → List ℕ → Answer → S → Type 0) (start : S) (status : Status) (source source' sink sink' : Option (List ℕ)) : Type 0 where
+pub record Answers {S : Type 0} (Allows : S → List ℕ → Answer → S → Type 0) (start end : S) (status : Status) (source source' sink sink' : Option (List ℕ)) : Type 0 where
   pub text : Printing
-  pub course : AnswersBy Allows start status text source source'
+  pub course : AnswersBy Allows start end status text source source'
   pub written : IsWritten status sink sink' text
 
 -- the text was written and this is the status, or a front of it was and a write failed
 abbrev pub Tells : Status → List ℕ → Status → Option (List ℕ) → Option (List ℕ) → Type 0
 Tells status text result sink sink' = ((result ≡ status) × Appends sink sink' text) ⊎ ((result ≡ WriteFault) × AppendsFront sink sink' text)
+
+-- a sheet's refusal was told, with what shows that it is right, or that memory was wanted for it
+abbrev pub TellsStop : {Q : Type 0} → (Q → List ℕ → Type 0) → LoadStop Q → Status → Option (List ℕ) → Option (List ℕ) → Type 0
+TellsStop IsProof (load_stop.Refused why proof) result sink sink' = (more : List ℕ) × Follows IsProof proof more × Tells SheetRefused (sheet_refusal_text why ++ more) result sink sink'
+TellsStop IsProof load_stop.Memory result sink sink' = Tells Memory sheet_memory_text result sink sink'
+
+-- How a run goes on from a sheet's text, where the rest is still to come, of which the source has some: no state is made of the text, this
+-- is told, and the source is left as it was; or from the text's state and these notes the rest was answered so.
+pub data GoesOn {S N : Type 0} (IsSheet : List ℕ → S → Type 0) (Refuses : List ℕ → SheetRefusal → List ℕ → N → N → Type 0) (Allows : S × N → List ℕ → Answer → S × N → Type 0) (sheet : List ℕ) (status : Status) (notes notes' : N) (rest source source' sink sink' : Option (List ℕ)) : Type 0 where
+  by_refusal : (refusal : SheetRefusal) (more : List ℕ) → Refuses sheet refusal more notes notes' → source' ≡ source → Tells SheetRefused (sheet_refusal_text refusal ++ more) status sink sink' → GoesOn IsSheet Refuses Allows sheet status notes notes' rest source source' sink sink'
+  by_want : notes' ≡ notes → source' ≡ source → Tells Memory sheet_memory_text status sink sink' → GoesOn IsSheet Refuses Allows sheet status notes notes' rest source source' sink sink'
+  by_answers : (start end : S) → IsSheet sheet start → Answers Allows (start, notes) (end, notes') status rest source' sink sink' → GoesOn IsSheet Refuses Allows sheet status notes notes' rest source source' sink sink'
 
 -- the number that a process ends with
 abbrev pub number_of : Status → ℕ

@@ -15,7 +15,7 @@ use Rattle.pc_run.specs.SheetPart.{IsReadAhead}
 abbrev pub Transcript : Type 0
 Transcript = List (List ℕ × Answer)
 
--- each line is answered by its text, in the state that the lines before it leave
+-- Each line is answered by its text, in the state that the lines before it leave. What is noted on the way is part of the state.
 abbrev pub Legal : {S : Type 0} → (S → List ℕ → Answer → S → Type 0) → S → Transcript → S → Type 0
 Legal Allows old [] new = new ≡ old
 Legal {S = S} Allows old (pair ∷ more) new = (mid : S) × Allows old (a_line.text_of pair.0) pair.1 mid × Legal Allows mid more new
@@ -45,13 +45,12 @@ abbrev pub IsLine : List ℕ → Type 0
 IsLine line = IsWholeLine LINE_LIMIT line ⊎ IsOpenLine LINE_LIMIT line
 
 -- Each line up to the end of the input was answered, and this was to be printed.
-pub record AnswersAll {S : Type 0} (Allows : S → List ℕ → Answer → S → Type 0) (start : S) (status : Status) (text : Printing) (source source' : Option (List ℕ)) : Type 0 where
+pub record AnswersAll {S : Type 0} (Allows : S → List ℕ → Answer → S → Type 0) (start end : S) (status : Status) (text : Printing) (source source' : Option (List ℕ)) : Type 0 where
   pub transcript : Transcript
-  pub state : S
-  pub legal : Legal Allows start transcript state
+  pub legal : Legal Allows start transcript end
   pub commands : List ℕ
   pub taken : Consumes source source' commands
-  pub end : IsAtEnd source'
+  pub at_end : IsAtEnd source'
   pub all : lines transcript ≡ lines_of commands
   pub each : All IsLine (lines transcript)
   pub count : length transcript ≤ MAX_LINES
@@ -59,10 +58,9 @@ pub record AnswersAll {S : Type 0} (Allows : S → List ℕ → Answer → S →
   pub status_is : status ≡ status_of transcript
 
 -- The complete lines that were taken were answered, and the start of another was read.
-pub record AnswersTaken {S : Type 0} (Allows : S → List ℕ → Answer → S → Type 0) (start : S) (text : Printing) (source source' : Option (List ℕ)) : Type 0 where
+pub record AnswersTaken {S : Type 0} (Allows : S → List ℕ → Answer → S → Type 0) (start end : S) (text : Printing) (source source' : Option (List ℕ)) : Type 0 where
   pub transcript : Transcript
-  pub state : S
-  pub legal : Legal Allows start transcript state
+  pub legal : Legal Allows start transcript end
   pub whole : All (IsWholeLine LINE_LIMIT) (lines transcript)
   pub count : length transcript ≤ MAX_LINES
   pub begun : List ℕ
@@ -75,10 +73,9 @@ abbrev pub PassesLimit : ℕ → List ℕ → Type 0
 PassesLimit count begun = IsLongStart LINE_LIMIT begun ⊎ ((count ≡ MAX_LINES) × IsLine begun × (0 < length begun))
 
 -- The lines before one that passes a limit were answered, and then that it does.
-pub record StopsAtLimit {S : Type 0} (Allows : S → List ℕ → Answer → S → Type 0) (start : S) (text : Printing) (source source' : Option (List ℕ)) : Type 0 where
+pub record StopsAtLimit {S : Type 0} (Allows : S → List ℕ → Answer → S → Type 0) (start end : S) (text : Printing) (source source' : Option (List ℕ)) : Type 0 where
   pub transcript : Transcript
-  pub state : S
-  pub legal : Legal Allows start transcript state
+  pub legal : Legal Allows start transcript end
   pub whole : All (IsWholeLine LINE_LIMIT) (lines transcript)
   pub count : length transcript ≤ MAX_LINES
   pub begun : List ℕ
@@ -93,7 +90,7 @@ abbrev pub IsCompleteLine : List ℕ → Option (List ℕ) → Type 0
 IsCompleteLine line rest = IsWholeLine LINE_LIMIT line ⊎ (IsOpenLine LINE_LIMIT line × (0 < length line) × IsAtEnd rest)
 
 -- The lines before one were answered, and then that one was to be.
-pub record AnswersSome {S : Type 0} (Allows : S → List ℕ → Answer → S → Type 0) (start : S) (text : Printing) (source source' : Option (List ℕ)) : Type 0 where
+pub record AnswersSome {S : Type 0} (Allows : S → List ℕ → Answer → S → Type 0) (start end : S) (text : Printing) (source source' : Option (List ℕ)) : Type 0 where
   pub transcript : Transcript
   pub state : S
   pub legal : Legal Allows start transcript state
@@ -103,8 +100,7 @@ pub record AnswersSome {S : Type 0} (Allows : S → List ℕ → Answer → S �
   pub rest : Option (List ℕ)
   pub complete : IsCompleteLine line rest
   pub answer : Answer
-  pub after : S
-  pub allowed : Allows state (a_line.text_of line) answer after
+  pub allowed : Allows state (a_line.text_of line) answer end
   pub taken : Consumes source rest (input_of transcript ++ line)
   pub ahead : IsReadAhead rest source'
   pub text_is : text ≡ printed (output_of transcript) (text_of answer)

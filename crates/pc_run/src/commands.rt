@@ -17,11 +17,12 @@ pub(crate) fn answer_all<M: Machine, I: Source, O: Sink>(
     alloc: Global,
     reader: &mut LineReader,
     machine: &mut M,
+    notes: &mut M::Notes,
     input: &mut I,
     out: &mut O,
 ) -> Status
     requires { LINE_LIMIT ≤ reader.old.longest }
-    ensures answers { Answers M.Allows machine.old result (coming reader.old (I.left input.old)) (I.left input.new) (O.given out.old) (O.given out.new) }
+    ensures answers { Answers M.Allows (machine.old, notes.old) (machine.new, notes.new) result (coming reader.old (I.left input.old)) (I.left input.new) (O.given out.old) (O.given out.new) }
     ensures read_fault { result ≡ Status.ReadFault → Rose (I.faults input.old) (I.faults input.new) }
     ensures no_read_fault { result ≢ Status.ReadFault → I.faults input.new ≡ I.faults input.old }
     ensures write_fault { result ≡ Status.WriteFault → Rose (O.faults out.old) (O.faults out.new) }
@@ -32,11 +33,11 @@ pub(crate) fn answer_all<M: Machine, I: Source, O: Sink>(
             Err(Failed) => return Status::ReadFault,
             Ok(Taken::End) => return marks.status(),
             Ok(Taken::TooLong) => return tell_too_long(out),
-            Ok(Taken::Line) => match serve(machine, &mut marks, alloc, reader.text(), out) {
+            Ok(Taken::Line) => match serve(machine, notes, &mut marks, alloc, reader.text(), out) {
                 Ok(()) => {}
                 Err(Failed) => return Status::WriteFault,
             },
-            Ok(Taken::Last) => match serve(machine, &mut marks, alloc, reader.text(), out) {
+            Ok(Taken::Last) => match serve(machine, notes, &mut marks, alloc, reader.text(), out) {
                 Ok(()) => return marks.status(),
                 Err(Failed) => return Status::WriteFault,
             },

@@ -1,8 +1,9 @@
 // Why texts are refused, and how that is told.
-ghost use Rattle.std.specs.Prelude.{◌≡◌};
+ghost use Rattle.std.specs.Prelude.{◌≡◌, ◌++◌, codes};
 ghost use Rattle.pc_writer.specs.Writes.{Writes};
-ghost use Rattle.pc_run.specs.Refusals.{further_text, limit_word_of, line_text, refusal_text, sheet_refusal_text, words_of};
+ghost use Rattle.pc_run.specs.Refusals.{counts_text, further_text, limit_word_of, line_text, refusal_text, sheet_refusal_text, words_of};
 
+use itoa::{Buffer, Integer};
 use pc_port::{Failed, Sink};
 use pc_writer::{write_integer, write_text};
 
@@ -35,6 +36,17 @@ pub enum LimitWord {
     Budget,
 }
 
+/// What a search has spent.
+#[derive(Clone, Copy, Debug, PartialEq, Eq)]
+pub struct Counts {
+    /// How many literals were placed.
+    pub placed: u64,
+    /// How many clauses were learned.
+    pub learned: u128,
+    /// How many calls of a solver were made.
+    pub calls: u128,
+}
+
 /// Why a sheet or a command is refused.
 #[derive(Clone, Copy, Debug, PartialEq, Eq)]
 pub enum Refusal {
@@ -60,10 +72,18 @@ pub enum Refusal {
     EmptySort,
     /// A limit is passed.
     Limit(LimitWord),
+    /// The sheet weighs too much, or would with that rule.
+    TooLarge,
+    /// No assignment makes every rule true, or would with that rule.
+    Inconsistent,
+    /// The budget ran out.
+    Spent(Counts),
     /// The cell has no entry.
     NoEntry,
-    /// It asks for nothing that is built.
-    NotYet,
+    /// A rule has that name.
+    DuplicateRule,
+    /// No rule has that name.
+    NoRule,
     /// The line nests too deep.
     TooDeep,
 }
@@ -114,8 +134,12 @@ impl Refusal {
             Refusal::NotAValue => b"9 not-a-value",
             Refusal::EmptySort => b"10 empty-sort",
             Refusal::Limit(_) => b"11 limit",
+            Refusal::TooLarge => b"12 too-large",
+            Refusal::Inconsistent => b"13 inconsistent",
+            Refusal::Spent(_) => b"14 spent",
             Refusal::NoEntry => b"16 no-entry",
-            Refusal::NotYet => b"20 not-yet",
+            Refusal::DuplicateRule => b"17 duplicate-rule",
+            Refusal::NoRule => b"18 no-rule",
             Refusal::TooDeep => b"21 too-deep",
         }
     }
@@ -132,15 +156,41 @@ fn write_line<O: Sink>(line: Option<u32>, out: &mut O) -> Result<(), Failed>
     write_integer(i64::from(number), out)
 }
 
+// Writes a number behind its word.
+fn write_count<N: Integer, O: Sink>(word: &[u8], number: N, out: &mut O) -> Result<(), Failed>
+    ensures { Writes O.given O.faults out.old out.new result (word.now ++ N.text number) }
+{
+    write_text(word, out)?;
+    let mut buffer = Buffer::new();
+    write_text(buffer.format(number).as_bytes(), out)
+}
+
+// Writes what was spent.
+fn write_counts<O: Sink>(counts: Counts, out: &mut O) -> Result<(), Failed>
+    ensures { Writes O.given O.faults out.old out.new result (counts_text counts) }
+{
+    write_count(b" placed=", counts.placed, out)?;
+    write_count(b" learned=", counts.learned, out)?;
+    write_count(b" calls=", counts.calls, out)
+}
+
+// Writes the word of a limit.
+fn write_limit<O: Sink>(word: LimitWord, out: &mut O) -> Result<(), Failed>
+    ensures { Writes O.given O.faults out.old out.new result (codes " " ++ limit_word_of word) }
+{
+    write_text(b" ", out)?;
+    write_text(word.word(), out)
+}
+
 // Writes what is told further of a refusal.
 fn write_further<O: Sink>(refusal: Refusal, out: &mut O) -> Result<(), Failed>
     ensures { Writes O.given O.faults out.old out.new result (further_text refusal) }
 {
-    let Refusal::Limit(word) = refusal else {
-        return Ok(());
-    };
-    write_text(b" ", out)?;
-    write_text(word.word(), out)
+    match refusal {
+        Refusal::Limit(word) => write_limit(word, out),
+        Refusal::Spent(counts) => write_counts(counts, out),
+        _ => Ok(()),
+    }
 }
 
 // Tells that a command is refused.

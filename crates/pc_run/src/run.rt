@@ -1,59 +1,63 @@
 // A sheet and its commands, from the first byte to the status.
-ghost use Rattle.std.specs.Prelude.{◌≡◌, ◌≢◌, ◌≤◌, ℕ, List, Option, length};
+ghost use Rattle.std.specs.Prelude.{◌≡◌, ◌≢◌, ◌≤◌, length};
 ghost use Rattle.pc_port.specs.Port.{Rose};
 ghost use Rattle.pc_lines.specs.Reader.{coming};
-ghost use Rattle.pc_lines.specs.declared.TheConstants.{CHUNK};
-ghost use Rattle.pc_run.specs.SheetPart.{TakesSheet};
-ghost use Rattle.pc_run.specs.Run.{Replayed};
+ghost use Rattle.pc_run.specs.Run.{GoesOn, Replayed};
 
 use crate::commands::answer_all;
-use crate::machine::{LoadFault, Machine};
+use crate::machine::Machine;
 use crate::sheet::{SheetStop, take_sheet};
-use crate::tell::{refuse, tell_no_memory, tell_no_memory_for_sheet, tell_too_long};
-use crate::{SHEET_LIMIT, Status};
+use crate::showing::tell_stop;
+use crate::tell::{tell_no_memory, tell_no_memory_for_sheet, tell_too_long};
+use crate::{LINE_LIMIT, MOST_BUDGET, SHEET_LIMIT, Status};
 use pc_lines::LineReader;
 use pc_port::{Sink, Source};
 use std::alloc::Global;
 
-// Reads the sheet, and then answers each command line.
-fn open<M: Machine, I: Source, O: Sink>(
+/// Reads the sheet, and then answers each command line that is still to come.
+pub(crate) fn open<M: Machine, I: Source, O: Sink>(
     alloc: Global,
+    budget: u64,
     sheet: &[u8],
     reader: &mut LineReader,
+    notes: &mut M::Notes,
     input: &mut I,
     out: &mut O,
 ) -> Status
-    requires longest { reader.old.longest ≡ SHEET_LIMIT }
+    requires longest { LINE_LIMIT ≤ reader.old.longest }
     requires small { length sheet.now ≤ SHEET_LIMIT }
-    requires few { length reader.old.held ≤ CHUNK }
-    ensures replayed { (source : Option (List ℕ)) → TakesSheet sheet.now source (coming reader.old (I.left input.old))
-        → Replayed M.IsSheet M.RefusesText M.Allows result source (I.left input.new) (O.given out.old) (O.given out.new) }
+    requires at_least { 1 ≤ budget }
+    requires at_most { budget ≤ MOST_BUDGET }
+    ensures goes_on { GoesOn (M.IsSheet budget) (M.RefusesText budget) M.Allows sheet.now result notes.old notes.new (coming reader.old (I.left input.old)) (I.left input.old) (I.left input.new) (O.given out.old) (O.given out.new) }
     ensures read_fault { result ≡ Status.ReadFault → Rose (I.faults input.old) (I.faults input.new) }
     ensures no_read_fault { result ≢ Status.ReadFault → I.faults input.new ≡ I.faults input.old }
     ensures write_fault { result ≡ Status.WriteFault → Rose (O.faults out.old) (O.faults out.new) }
 {
-    match M::load(alloc, sheet) {
-        Ok(mut machine) => answer_all(alloc, reader, &mut machine, input, out),
-        Err(LoadFault::Refused(refused)) => refuse(refused, out),
-        Err(LoadFault::Memory) => tell_no_memory_for_sheet(out),
+    match M::load(alloc, sheet, budget, notes) {
+        Ok(mut machine) => answer_all(alloc, reader, &mut machine, notes, input, out),
+        Err(stop) => tell_stop::<M, O>(&stop, out),
     }
 }
 
 // Takes the sheet's part of the input, and goes on from there.
 fn replay_from<M: Machine, I: Source, O: Sink>(
     alloc: Global,
+    budget: u64,
     reader: &mut LineReader,
+    notes: &mut M::Notes,
     input: &mut I,
     out: &mut O,
 ) -> Status
     requires longest { reader.old.longest ≡ SHEET_LIMIT }
-    ensures replayed { Replayed M.IsSheet M.RefusesText M.Allows result (coming reader.old (I.left input.old)) (I.left input.new) (O.given out.old) (O.given out.new) }
+    requires at_least { 1 ≤ budget }
+    requires at_most { budget ≤ MOST_BUDGET }
+    ensures replayed { Replayed (M.IsSheet budget) (M.RefusesText budget) M.Allows result notes.old notes.new (coming reader.old (I.left input.old)) (I.left input.new) (O.given out.old) (O.given out.new) }
     ensures read_fault { result ≡ Status.ReadFault → Rose (I.faults input.old) (I.faults input.new) }
     ensures no_read_fault { result ≢ Status.ReadFault → I.faults input.new ≡ I.faults input.old }
     ensures write_fault { result ≡ Status.WriteFault → Rose (O.faults out.old) (O.faults out.new) }
 {
     match take_sheet(alloc, reader, input) {
-        Ok(sheet) => open::<M, I, O>(alloc, &sheet, reader, input, out),
+        Ok(sheet) => open::<M, I, O>(alloc, budget, &sheet, reader, notes, input, out),
         Err(SheetStop::Failed) => Status::ReadFault,
         Err(SheetStop::TooLong) => tell_too_long(out),
         Err(SheetStop::Memory) => tell_no_memory_for_sheet(out),
@@ -62,10 +66,19 @@ fn replay_from<M: Machine, I: Source, O: Sink>(
 
 /// Runs a sheet and its commands, both on the input.
 ///
-/// It takes the sheet, up to its `begin` line, and then answers each command line before it reads on. What is printed, and
-/// how much of the input was taken, the clause `replayed` says by the status.
-pub fn replay<M: Machine, I: Source, O: Sink>(alloc: Global, input: &mut I, out: &mut O) -> Status
-    ensures replayed { Replayed M.IsSheet M.RefusesText M.Allows result (I.left input.old) (I.left input.new) (O.given out.old) (O.given out.new) }
+/// It takes the sheet, up to its `begin` line, whose load and each edit may do as many propagations as the budget says, and
+/// then answers each command line before it reads on. What is printed, how much of the input was taken, and what was noted,
+/// the clause `replayed` says by the status.
+pub fn replay<M: Machine, I: Source, O: Sink>(
+    alloc: Global,
+    budget: u64,
+    input: &mut I,
+    out: &mut O,
+    notes: &mut M::Notes,
+) -> Status
+    requires at_least { 1 ≤ budget }
+    requires at_most { budget ≤ MOST_BUDGET }
+    ensures replayed { Replayed (M.IsSheet budget) (M.RefusesText budget) M.Allows result notes.old notes.new (I.left input.old) (I.left input.new) (O.given out.old) (O.given out.new) }
 
     // A fault is told only where that device was at fault.
     ensures read_fault { result ≡ Status.ReadFault → Rose (I.faults input.old) (I.faults input.new) }
@@ -75,5 +88,5 @@ pub fn replay<M: Machine, I: Source, O: Sink>(alloc: Global, input: &mut I, out:
     let Ok(mut reader) = LineReader::new(alloc, SHEET_LIMIT) else {
         return tell_no_memory(out);
     };
-    replay_from::<M, I, O>(alloc, &mut reader, input, out)
+    replay_from::<M, I, O>(alloc, budget, &mut reader, notes, input, out)
 }

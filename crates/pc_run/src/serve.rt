@@ -1,24 +1,27 @@
 // The answer to one line.
 ghost use Rattle.std.specs.Prelude.{◌≡◌, ◌≤◌, length, false, OnOk, OnErr};
 ghost use Rattle.pc_port.specs.Port.{HasCause, WriteGives};
-ghost use Rattle.pc_run.specs.Answer.{Answer, IsAnswer, IsMarked, Serves, ServesInPart, text_of};
+ghost use Rattle.pc_run.specs.Answer.{Answer, CanBeTold, IsAnswer, IsMarked, Serves, ServesInPart, text_of};
 ghost use Rattle.pc_run.specs.Transcript.{worse_of};
 
 use crate::machine::{Machine, Reply};
-use crate::refusal::write_refusal;
+use crate::showing::print_refusal;
 use crate::{LINE_LIMIT, Status};
 use pc_port::{Failed, Sink};
 use std::alloc::Global;
 
 /// What was told so far.
 #[derive(Clone, Copy)]
-pub(crate) struct Marks {
+pub struct Marks {
+    /// Whether some line was refused.
     pub refused: bool,
+    /// Whether some line wanted memory.
     pub no_memory: bool,
 }
 
 impl Marks {
-    pub(crate) fn new() -> Self
+    /// Nothing was told.
+    pub fn new() -> Self
         ensures refused { result.refused ≡ false }
         ensures no_memory { result.no_memory ≡ false }
     {
@@ -28,8 +31,8 @@ impl Marks {
         }
     }
 
-    // The status where the input ends here.
-    pub(crate) fn status(self) -> Status
+    /// The status where the input ends here.
+    pub fn status(self) -> Status
         ensures { result ≡ worse_of self.no_memory self.refused }
     {
         if self.no_memory {
@@ -42,13 +45,15 @@ impl Marks {
     }
 }
 
-// The marks after one reply more.
-fn marked<M: Machine>(machine: &M, marks: Marks, reply: Reply) -> Marks
-    ensures { (answer : Answer) → IsAnswer M.IsPage machine.now reply answer → IsMarked marks answer result }
+/// The marks after one reply more.
+pub fn marked<M: Machine>(machine: &M, marks: Marks, reply: &Reply<M::Page, M::Proof>) -> Marks
+    ensures { (answer : Answer) → IsAnswer M.IsPage M.IsProof machine.now reply.now answer → IsMarked marks answer result }
 {
     match reply {
-        Reply::Silent | Reply::Accepted | Reply::Shown(_) => marks,
-        Reply::Refused(_) => Marks {
+        Reply::Silent => marks,
+        Reply::Accepted => marks,
+        Reply::Shown(_) => marks,
+        Reply::Refused(_, _) => Marks {
             refused: true,
             no_memory: marks.no_memory,
         },
@@ -59,16 +64,21 @@ fn marked<M: Machine>(machine: &M, marks: Marks, reply: Reply) -> Marks
     }
 }
 
-// Writes what is to be told.
-fn print<M: Machine, O: Sink>(machine: &M, reply: Reply, out: &mut O) -> Result<(), Failed>
-    ensures bytes { (answer : Answer) × IsAnswer M.IsPage machine.now reply answer × WriteGives (O.given out.old) (O.given out.new) result (text_of answer) }
+/// Writes what is told of a reply.
+pub fn print<M: Machine, O: Sink>(
+    machine: &M,
+    reply: &Reply<M::Page, M::Proof>,
+    out: &mut O,
+) -> Result<(), Failed>
+    requires { CanBeTold M.CanShow machine.now reply.now }
+    ensures bytes { (answer : Answer) × IsAnswer M.IsPage M.IsProof machine.now reply.now answer × WriteGives (O.given out.old) (O.given out.new) result (text_of answer) }
     ensures cause { HasCause (O.faults out.old) (O.faults out.new) result }
 {
     match reply {
         Reply::Silent => Ok(()),
         Reply::Accepted => out.write(b"ok\n"),
         Reply::Shown(page) => machine.show(page, out),
-        Reply::Refused(refusal) => write_refusal(refusal, out),
+        Reply::Refused(refusal, proof) => print_refusal::<M, O>(*refusal, proof, out),
         Reply::Memory => out.write(b"refused 15 memory\n"),
     }
 }
@@ -76,17 +86,18 @@ fn print<M: Machine, O: Sink>(machine: &M, reply: Reply, out: &mut O) -> Result<
 // Answers a line's text. At a fault a front of the answer was written.
 pub(crate) fn serve<M: Machine, O: Sink>(
     machine: &mut M,
+    notes: &mut M::Notes,
     marks: &mut Marks,
     alloc: Global,
     line: &[u8],
     out: &mut O,
 ) -> Result<(), Failed>
     requires { length line.now ≤ LINE_LIMIT }
-    ensures ok { OnOk result (Serves M.Allows machine.old machine.new line.now marks.old marks.new (O.given out.old) (O.given out.new)) }
-    ensures err { OnErr result (ServesInPart M.Allows machine.old machine.new line.now (O.given out.old) (O.given out.new)) }
+    ensures ok { OnOk result (Serves M.Allows (machine.old, notes.old) (machine.new, notes.new) line.now marks.old marks.new (O.given out.old) (O.given out.new)) }
+    ensures err { OnErr result (ServesInPart M.Allows (machine.old, notes.old) (machine.new, notes.new) line.now (O.given out.old) (O.given out.new)) }
     ensures cause { HasCause (O.faults out.old) (O.faults out.new) result }
 {
-    let reply = machine.decide(alloc, line);
-    *marks = marked(machine, *marks, reply);
-    print(machine, reply, out)
+    let reply = machine.decide(alloc, line, notes);
+    *marks = marked(machine, *marks, &reply);
+    print(machine, &reply, out)
 }

@@ -12,12 +12,12 @@ use pc_token::is_one_name;
 use std::alloc::{AllocError, Global};
 use std::str;
 
-/// Why the sheet's part was not taken.
-#[derive(Clone, Copy)]
-pub(crate) enum SheetStop {
-    /// The input answered a fault.
+/// Why a sheet's text was not taken.
+#[derive(Clone, Copy, Debug, PartialEq, Eq)]
+pub enum SheetStop {
+    /// The input, or the shelf, answered a fault.
     Failed,
-    /// The sheet's part is too long.
+    /// There is more than a sheet may have.
     TooLong,
     /// Memory was wanted.
     Memory,

@@ -8,4 +8,6 @@ returns-in-Shown-clause-bytes g c =
     (shown page.0, rw c.in-Shown.is (page.0, page.1, refl), page.2)
 
 pub returns-in-Refused-clause-bytes : goal.returns-in-Refused-clause-bytes
-returns-in-Refused-clause-bytes g c = (refused c.in-Refused.refusal, rw c.in-Refused.is refl, c.write_refusal.ensures.bytes)
+returns-in-Refused-clause-bytes g c =
+    let printed = c.print_refusal.ensures in
+    (refused c.in-Refused.refusal printed.0, rw c.in-Refused.is (printed.0, printed.1, refl), printed.2.bytes)

@@ -1,4 +1,4 @@
-use Rattle.std.proofs.Common.{arith, ◌∙◌}
+use Rattle.std.proofs.Common.{◌∙◌}
 use Rattle.pc_lines.specs.Reader.{coming}
 use Rattle.pc_run.proofs.SheetLines.{collects_more, stops}
 use Rattle.pc_run.proofs.sheet.take_sheet.Goals as goal

@@ -1,4 +1,4 @@
-use Rattle.std.proofs.Common.{◌≡◌, ◌≤◌, ◌-◌, length}
+use Rattle.std.proofs.Common.{◌≡◌, ◌-◌, length}
 use Rattle.pc_lines.specs.Reader.{coming}
 use Rattle.pc_run.specs.declared.TheConstants.{SHEET_LIMIT}
 use Rattle.pc_run.proofs.SheetLines.{Collected}

@@ -1,0 +1,86 @@
+// Refusals, each followed by what shows that it is right, if anything does.
+ghost use Rattle.std.specs.Prelude.{◌≡◌, ◌≢◌, ◌++◌, ℕ, List};
+ghost use Rattle.pc_port.specs.Port.{Rose};
+ghost use Rattle.pc_run.specs.Answer.{Follows};
+ghost use Rattle.pc_run.specs.Refusals.{refusal_text, sheet_refusal_text};
+ghost use Rattle.pc_run.specs.Run.{Tells, TellsStop};
+ghost use Rattle.pc_writer.specs.Writes.{Writes};
+
+use crate::Status;
+use crate::machine::{LoadStop, Machine};
+use crate::refusal::{Refusal, SheetRefusal, write_refusal, write_sheet_refusal};
+use crate::tell::tell_no_memory_for_sheet;
+use pc_port::{Failed, Sink};
+
+// What follows a refusal has a text. Nothing is done.
+fn has_text<M: Machine>(proof: &Option<M::Proof>)
+    ensures { (more : List ℕ) × Follows M.IsProof proof.now more }
+{
+    match proof {
+        None => {}
+        Some(proof) => M::has_text(proof),
+    }
+}
+
+// Writes what shows that a refusal is right, if anything does.
+fn write_proof<M: Machine, O: Sink>(proof: &Option<M::Proof>, out: &mut O) -> Result<(), Failed>
+    ensures { (more : List ℕ) × Follows M.IsProof proof.now more × Writes O.given O.faults out.old out.new result more }
+{
+    match proof {
+        None => Ok(()),
+        Some(proof) => M::prove(proof, out),
+    }
+}
+
+/// Tells that a command is refused, and then what shows that this is right.
+pub(crate) fn print_refusal<M: Machine, O: Sink>(
+    refusal: Refusal,
+    proof: &Option<M::Proof>,
+    out: &mut O,
+) -> Result<(), Failed>
+    ensures { (more : List ℕ) × Follows M.IsProof proof.now more × Writes O.given O.faults out.old out.new result (refusal_text refusal ++ more) }
+{
+    has_text::<M>(proof);
+    write_refusal(refusal, out)?;
+    write_proof::<M, O>(proof, out)
+}
+
+// Tells that a sheet is refused, and then what shows that this is right.
+fn print_sheet_refusal<M: Machine, O: Sink>(
+    refused: SheetRefusal,
+    proof: &Option<M::Proof>,
+    out: &mut O,
+) -> Result<(), Failed>
+    ensures { (more : List ℕ) × Follows M.IsProof proof.now more × Writes O.given O.faults out.old out.new result (sheet_refusal_text refused ++ more) }
+{
+    has_text::<M>(proof);
+    write_sheet_refusal(refused, out)?;
+    write_proof::<M, O>(proof, out)
+}
+
+// Ends a run by the refusal of its sheet, and what shows that this is right.
+fn refuse_showing<M: Machine, O: Sink>(
+    refused: SheetRefusal,
+    proof: &Option<M::Proof>,
+    out: &mut O,
+) -> Status
+    ensures told { (more : List ℕ) × Follows M.IsProof proof.now more × Tells Status.SheetRefused (sheet_refusal_text refused ++ more) result (O.given out.old) (O.given out.new) }
+    ensures fault { result ≡ Status.WriteFault → Rose (O.faults out.old) (O.faults out.new) }
+{
+    match print_sheet_refusal::<M, O>(refused, proof, out) {
+        Ok(()) => Status::SheetRefused,
+        Err(Failed) => Status::WriteFault,
+    }
+}
+
+/// Ends a run whose machine makes no state of the sheet.
+pub fn tell_stop<M: Machine, O: Sink>(stop: &LoadStop<M::Proof>, out: &mut O) -> Status
+    ensures told { TellsStop M.IsProof stop.now result (O.given out.old) (O.given out.new) }
+    ensures read { result ≢ Status.ReadFault }
+    ensures fault { result ≡ Status.WriteFault → Rose (O.faults out.old) (O.faults out.new) }
+{
+    match stop {
+        LoadStop::Refused(refused, proof) => refuse_showing::<M, O>(*refused, proof, out),
+        LoadStop::Memory => tell_no_memory_for_sheet(out),
+    }
+}
