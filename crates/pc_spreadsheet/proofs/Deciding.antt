@@ -1,0 +1,104 @@
+-- What the reading of a line shows of its answer.
+use Rattle.std.proofs.Common.{◌≡◌, ℕ, ◌≤◌, List, [], ◌∷◌, Err, Option, None, refl, sym, ap, ap₂, subst, arith, inl, inr, ◌∙◌}
+use Rattle.std.proofs.lemmas.List.Sums.{count_by-le-length}
+use Rattle.pc_token.specs.declared.token.Kind.TheVariants.{Name}
+use Rattle.pc_token.specs.Line.{IsOneName}
+use Rattle.pc_formula.specs.Word.{Word, name, word, HasWords, nests, nesting}
+use Rattle.pc_syntax.specs.declared.tree.CommandFault.{CommandFault}
+use Rattle.pc_syntax.specs.declared.tree.CommandFault.TheVariants as command_fault
+use Rattle.pc_syntax.specs.Spelling.{IsSpelled}
+use Rattle.pc_syntax.specs.Tree.{Asked, asks_show, asks_grid, asks_dump}
+use Rattle.pc_syntax.specs.Command.{CommandReading, no_command, asks, IsCommandReading, empty_command, spelled_command, command_keyword, FollowsCommand, TakesNoMemory}
+use Rattle.pc_syntax.specs.Told.{IsCommandTold}
+use Rattle.pc_run.specs.declared.refusal.Refusal.{Refusal}
+use Rattle.pc_run.specs.declared.machine.Reply.TheVariants.{Silent, Accepted, Shown, Refused, Memory}
+use Rattle.pc_run.specs.Answer.{Answer, silent, Follows, IsAnswer, CanBeTold}
+use Rattle.pc_sheet.specs.Sheet.{Sheet}
+use Rattle.pc_spreadsheet.specs.Judgement.{State, for_utf8, for_depth, for_syntax, for_asked}
+use Rattle.pc_spreadsheet.specs.Pages.{IsPage, CanShow, IsCertificateAgainst, kind_of}
+use Rattle.pc_spreadsheet.specs.Allowed.{Notes, Allows, RefusesLine, as_judged, as_contradiction, as_spent}
+use Rattle.pc_spreadsheet.specs.Commands.{Told, MayWantMemory, Obeys, RefusesAsked, judged, contradicted, spent, reply_to}
+
+-- ---- lines that are no command
+
+pub silent_line : (old : State × Notes) (line : List ℕ) (answer : Answer) → IsCommandReading line no_command → answer ≡ silent → Allows old line answer old
+silent_line old line answer reading is = rw is (reading, refl)
+
+pub faulty_line : (old : State × Notes) (line : List ℕ) (fault : CommandFault) (answer : Answer) → IsCommandTold line (Err fault) → (TakesNoMemory line → fault ≡ command_fault.Memory → ⊥) → IsAnswer IsPage IsCertificateAgainst old.0 (reply_to fault) answer → Allows old line answer old
+faulty_line old line command_fault.NotUtf8 answer told takes is = rw is.2 (as_judged (for_utf8 told) is.1 refl)
+faulty_line old line command_fault.TooDeep answer told takes is = rw is.2 (as_judged (for_depth told) is.1 refl)
+faulty_line old line command_fault.Syntax answer told takes is = rw is.2 (as_judged (for_syntax told) is.1 refl)
+faulty_line old line command_fault.Memory answer told takes is = rw is (λ none. takes none refl, refl)
+
+-- ---- lines of one name
+
+one_name_has : (text n : List ℕ) → word Name n ≡ name n → IsOneName text n → HasWords text (name n ∷ [])
+one_name_has text n known one = record {
+  tokens = one.0 ∷ [];
+  splits = one.1;
+  words = ap (λ w. w ∷ []) (sym known) ∙ sym (ap₂ (λ k s. word k s ∷ []) one.2 one.3);
+}
+
+-- a line of the one name that starts a command, among spelled lines
+lone_reading : (line : List ℕ) (ws : List Word) (a : Asked) → IsSpelled line ws → word Name (command_keyword a) ≡ name (command_keyword a) → FollowsCommand a [] → IsOneName line (command_keyword a) → IsCommandReading line (asks a)
+lone_reading line ws a spelled known follows one =
+    let few : nesting (name (command_keyword a) ∷ []) ≤ 1 = count_by-le-length nests (name (command_keyword a) ∷ []) in
+    spelled_command (name (command_keyword a) ∷ []) record {
+      split = record { utf8 = spelled.split.utf8; something = spelled.split.something; has = one_name_has line (command_keyword a) known one };
+      within = omega (arith, few);
+    } record { rest = []; words = refl; follows = follows }
+
+-- ---- commands that may want memory
+
+abbrev WantsIn : CommandReading → Type 0
+WantsIn (asks a) = MayWantMemory a
+WantsIn reading = ⊥
+
+module _ (line : List ℕ) (a : Asked) (may : MayWantMemory a) (only : (r : CommandReading) → IsCommandReading line r → r ≡ asks a) where
+  lone : (ws : List Word) → IsSpelled line ws → ¬ TakesNoMemory line
+  lone ws spelled takes = elim takes [
+    | inl n ↦ subst WantsIn (sym (only no_command (empty_command n))) may
+    | inr names ↦ elim names [
+      | inl show ↦ subst WantsIn (sym (only (asks asks_show) (lone_reading line ws asks_show spelled refl refl show))) may
+      | inr others ↦ elim others [
+        | inl grid ↦ subst WantsIn (sym (only (asks asks_grid) (lone_reading line ws asks_grid spelled refl refl grid))) may
+        | inr dump ↦ subst WantsIn (sym (only (asks asks_dump) (lone_reading line ws asks_dump spelled refl refl dump))) may
+      ]
+    ]
+  ]
+
+takes_memory : (line : List ℕ) (a : Asked) → MayWantMemory a → IsCommandReading line (asks a) → ((r : CommandReading) → IsCommandReading line r → r ≡ asks a) → ¬ TakesNoMemory line
+takes_memory line a may (spelled_command ws spelled is) only = lone line a may only ws spelled
+
+-- ---- commands
+
+no_more : (proof : Option Sheet) (more : List ℕ) → proof ≡ None → Follows IsCertificateAgainst proof more → more ≡ []
+no_more proof more none follows = subst (λ (p : Option Sheet). Follows IsCertificateAgainst p more) none follows
+
+refused_line : (old new : State × Notes) (line : List ℕ) (a : Asked) (why : Refusal) (proof : Option Sheet) (more : List ℕ) → IsCommandReading line (asks a) → RefusesAsked old a why proof new → Follows IsCertificateAgainst proof more → RefusesLine old line why more new
+refused_line old new line a why proof more reading (judged is none same) follows = as_judged (for_asked a reading is) (no_more proof more none follows) same
+refused_line old new line a why proof more reading (contradicted r makes is shows same) follows =
+    as_contradiction r (a, reading, makes) (subst (λ (p : Option Sheet). Follows IsCertificateAgainst p more) shows follows) is same
+refused_line old new line a why proof more reading (spent counts spends is none same) follows = as_spent counts (a, reading, spends) is (no_more proof more none follows) same
+
+pub obeyed_line : (old new : State × Notes) (line : List ℕ) (a : Asked) (reply : Told) (answer : Answer) → IsCommandReading line (asks a) → ((r : CommandReading) → IsCommandReading line r → r ≡ asks a)
+    → Obeys old a reply new → IsAnswer IsPage IsCertificateAgainst new.0 reply answer → Allows old line answer new
+obeyed_line old new line a Accepted answer reading only does is = rw is (does.0, (a, reading, does.1), does.2, does.3)
+obeyed_line old new line a (Shown page) answer reading only does is = rw is.2 (kind_of page, (a, reading, does.0), subst (λ (s : State × Notes). IsPage page s.0 is.0) does.2 is.1, does.2)
+obeyed_line old new line a (Refused why proof) answer reading only does is = rw is.2 (refused_line old new line a why proof is.0 reading does is.1)
+obeyed_line old new line a Memory answer reading only does is = rw is (takes_memory line a does.0 reading only, does.1)
+obeyed_line old new line a Silent answer reading only does is = absurd does
+
+-- a page that is shown can be
+pub can_be_told : (old new : State × Notes) (a : Asked) (reply : Told) → Obeys old a reply new → CanBeTold CanShow new.0 reply
+can_be_told old new a (Shown page) does = subst (λ (s : State × Notes). CanShow page s.0) (sym does.2) does.1
+can_be_told old new a Accepted does = tt
+can_be_told old new a (Refused why proof) does = tt
+can_be_told old new a Memory does = tt
+can_be_told old new a Silent does = tt
+
+pub fault_can_be_told : (state : State) (fault : CommandFault) → CanBeTold CanShow state (reply_to fault)
+fault_can_be_told state command_fault.NotUtf8 = tt
+fault_can_be_told state command_fault.TooDeep = tt
+fault_can_be_told state command_fault.Syntax = tt
+fault_can_be_told state command_fault.Memory = tt

@@ -1,0 +1,49 @@
+-- Every state of a run is well formed.
+use Rattle.std.proofs.Common.{◌≡◌, sym, subst}
+use Rattle.pc_syntax.specs.Tree.{Asked}
+use Rattle.pc_sheet.specs.Cells.{CellsAreNumberedInOrder}
+use Rattle.pc_sheet.specs.WellFormed.{IsWellFormed}
+use Rattle.pc_logic.specs.Edits.{entered_to, cleared}
+use Rattle.pc_logic.proofs.BookLemmas.{with_entries}
+use Rattle.pc_logic.proofs.EditLemmas.{rules_stay}
+use Rattle.pc_logic.proofs.EntryLemmas.{entries_stay, entries_left}
+use Rattle.pc_one_reading.proofs.Entries.{entry_of}
+use Rattle.pc_run.specs.Answer.{silent, accepted, shown, refused, no_memory}
+use Rattle.pc_sortcheck.specs.Laws.{SheetsAreWellFormed}
+use Rattle.pc_spreadsheet.specs.Judgement.{State, Task, entering, clearing, adding, dropping, budgeting, asking, showing, showing_grid, showing_json, dumping, IsTaskOf, IsEdit, after}
+use Rattle.pc_spreadsheet.specs.Allowed.{Notes, as_judged, as_contradiction, as_spent}
+use Rattle.pc_spreadsheet.specs.Laws.{StartsAreWellFormed, AnswersKeepForm}
+use Rattle.pc_spreadsheet.proofs.Rules.{formed_with}
+
+pub starts_formed : SheetsAreWellFormed → StartsAreWellFormed
+starts_formed sheets budget text state starts = sheets text state.sheet starts.reads
+
+same_formed : (old new : State) → IsWellFormed old.sheet → new ≡ old → IsWellFormed new.sheet
+same_formed old new formed same = subst (λ (s : State). IsWellFormed s.sheet) (sym same) formed
+
+same_pair_formed : (old new : State × Notes) → IsWellFormed old.0.sheet → new ≡ old → IsWellFormed new.0.sheet
+same_pair_formed old new formed same = subst (λ (s : State × Notes). IsWellFormed s.0.sheet) (sym same) formed
+
+module _ (ordered : CellsAreNumberedInOrder) where
+  edit_keeps : (state : State) (asked : Asked) (task : Task) → IsWellFormed state.sheet → IsTaskOf state.sheet asked task → IsEdit task → IsWellFormed (after state task).sheet
+  edit_keeps state asked task formed (entering {c = c} {v = v} e named) edit =
+      with_entries state.sheet (entered_to state.sheet.entries e) formed (entries_stay state.sheet.universe state.sheet.entries e formed.entries (entry_of state.sheet.universe ordered c v named.sort e named.cell named.value))
+  edit_keeps state asked task formed (clearing k named has) edit = with_entries state.sheet (cleared state.sheet.entries k) formed (entries_left state.sheet.universe state.sheet.entries k formed.entries)
+  edit_keeps state asked task formed (adding {n = n} {f = f} r new light consistent) edit = formed_with state.sheet n f r formed new
+  edit_keeps state asked task formed (dropping place at) edit = record { universe = formed.universe; rules = rules_stay state.sheet.universe state.sheet.rules place at.0 formed.rules; entries = formed.entries }
+  edit_keeps state asked task formed (budgeting within) edit = formed
+  edit_keeps state asked task formed (asking t named holds) edit = absurd edit
+  edit_keeps state asked task formed showing edit = absurd edit
+  edit_keeps state asked task formed showing_grid edit = absurd edit
+  edit_keeps state asked task formed showing_json edit = absurd edit
+  edit_keeps state asked task formed dumping edit = absurd edit
+
+  pub answers_keep : AnswersKeepForm
+  answers_keep old new line silent formed is = same_pair_formed old new formed is.1
+  answers_keep old new line accepted formed (task, (asked, reading, asks), edit, same) =
+      subst (λ (s : State × Notes). IsWellFormed s.0.sheet) (sym same) (edit_keeps old.0 asked task formed asks edit)
+  answers_keep old new line (shown text) formed is = same_pair_formed old new formed is.3
+  answers_keep old new line (refused why more) formed (as_judged is none same) = same_pair_formed old new formed same
+  answers_keep old new line (refused why more) formed (as_contradiction r is against why_is same) = same_pair_formed old new formed same
+  answers_keep old new line (refused why more) formed (as_spent counts spends why_is none same) = same_formed old.0 new.0 formed same
+  answers_keep old new line no_memory formed is = same_pair_formed old new formed is.1

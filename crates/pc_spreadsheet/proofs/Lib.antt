@@ -1,0 +1,12 @@
+pub mod Counting
+pub mod Deciding
+pub mod Editing
+pub mod Formed
+pub mod Loading
+pub mod Places
+pub mod Questions
+pub mod Rules
+pub mod SheetVerdicts
+pub mod Summing
+pub mod Telling
+pub mod Verdicts

@@ -1,0 +1,91 @@
+-- What may answer a sheet and a command line, and what is noted on the way.
+use Rattle.std.specs.Prelude.{◌≡◌, ℕ, List, [], ◌∷◌, ◌++◌, Option, Some, None, Contains}
+use Rattle.pc_syntax.specs.Tree.{Asked, asks_enter, asks_clear, asks_rule, asks_drop, Cell, Value, Formula}
+use Rattle.pc_syntax.specs.Command.{IsCommandReading, asks, TakesNoMemory}
+use Rattle.pc_sheet.specs.Sheet.{Sheet, NamedStatement, with_rule}
+use Rattle.pc_sheet.specs.declared.ids.CellId.{CellId}
+use Rattle.pc_sheet.specs.declared.ids.Entry.{Entry}
+use Rattle.pc_logic.specs.Edits.{entered, without_entry, without_rule}
+use Rattle.pc_elaborate.specs.Elaboration.{IsEntryNamed, IsCellNamed}
+use Rattle.pc_sortcheck.specs.Declaring.{ReadsAs}
+use Rattle.pc_lits.specs.declared.tally.Tally.{Tally}
+use Rattle.pc_theory.specs.Spendings.{IsLawful}
+use Rattle.pc_theory.specs.declared.spending.Spending.{Spending}
+use Rattle.pc_session.specs.Answers.{IsSpare}
+use Rattle.pc_session.specs.NoteViews.{NoteView}
+use Rattle.pc_session.specs.Rules.{IsRuleAt}
+use Rattle.pc_session.specs.Views as session
+use Rattle.pc_load.specs.Outcome.{HasFault}
+use Rattle.pc_run.specs.declared.refusal.Counts.{Counts}
+use Rattle.pc_run.specs.declared.refusal.SheetRefusal.{SheetRefusal}
+use Rattle.pc_run.specs.declared.refusal.Refusal.{Refusal}
+use Rattle.pc_run.specs.declared.refusal.Refusal.TheVariants.{TooLarge, Inconsistent, Spent}
+use Rattle.pc_run.specs.Answer.{Answer, silent, accepted, shown, refused, no_memory}
+use Rattle.pc_spreadsheet.specs.Judgement.{State, IsLight, IsTooLarge, IsContradictory, of_whole, Task, shows, PageKind, HasEntryOf, IsNewRule, AsksNothing, IsTask, IsEdit, after, IsRefused, IsContradiction}
+use Rattle.pc_spreadsheet.specs.Pages.{Says, IsCertificateAgainst}
+
+-- ---- what is spent
+
+-- of each search that spent too much the sheet, the cell of an edit of an entry or none, and what was spent; oldest first
+abbrev pub Notes : Type 0
+Notes = List NoteView
+
+-- the three numbers that are told
+abbrev pub counts_of : Tally → Counts
+counts_of t = record { placed = t.placed; learned = t.learned; calls = t.calls }
+
+-- A search on this sheet, of the parts that an edit of this cell touches, or of all, lawfully spends the budget. That is told by these
+-- counts, and noted as the last of the notes.
+pub record IsSpent (budget : ℕ) (sheet : Sheet) (cell : Option CellId) (counts : Counts) (old new : Notes) : Type 0 where
+  pub spending : Spending
+  pub lawful : IsLawful sheet cell budget spending
+  pub counts_are : counts ≡ counts_of spending.tally
+  pub noted : new ≡ old ++ record { sheet = sheet; cell = cell; tally = session.counts_of spending.tally } ∷ []
+
+-- ---- sheets
+
+-- By a run with that budget the text is refused so, with what is told after that, and these notes become those: for its first fault; as too
+-- large; as inconsistent, with a certificate; or since its search spends too much.
+pub data RefusesText (budget : ℕ) (text : List ℕ) (why : SheetRefusal) (more : List ℕ) (old new : Notes) : Type 0 where
+  for_fault : HasFault text why → more ≡ [] → new ≡ old → RefusesText budget text why more old new
+  for_weight : IsTooLarge text → why ≡ of_whole TooLarge → more ≡ [] → new ≡ old → RefusesText budget text why more old new
+  for_rules : (sheet : Sheet) → IsContradictory text sheet → IsCertificateAgainst sheet more → why ≡ of_whole Inconsistent → new ≡ old → RefusesText budget text why more old new
+  for_search : (sheet : Sheet) (counts : Counts) → ReadsAs text sheet → IsLight sheet → IsSpent budget sheet None counts old new → why ≡ of_whole (Spent counts) → more ≡ [] → RefusesText budget text why more old new
+
+-- ---- command lines
+
+-- The command asks for an edit that needs a search, of the parts that an edit of this cell touches, or of all, and would make this sheet:
+-- to enter another value than stands; to clear an entry that is in some implied target's least support; to add a rule of a new name, with
+-- which the sheet isn't too large; to drop a rule.
+pub data NeedsSearch (sheet : Sheet) : Asked → Option CellId → Sheet → Type 0 where
+  to_enter : {c : Cell} {v : Value} (e : Entry) → IsEntryNamed sheet.universe c v e → ¬ Contains sheet.entries e → NeedsSearch sheet (asks_enter c v) (Some e.cell) (entered sheet e)
+  to_clear : {c : Cell} (k : CellId) → IsCellNamed sheet.universe c k → HasEntryOf sheet k → ¬ IsSpare sheet k → NeedsSearch sheet (asks_clear c) (Some k) (without_entry sheet k)
+  to_add : {n : List ℕ} {f : Formula} (r : NamedStatement) → IsNewRule sheet n f r → IsLight (with_rule sheet r) → NeedsSearch sheet (asks_rule n f) None (with_rule sheet r)
+  to_drop : {n : List ℕ} (place : ℕ) → IsRuleAt sheet.rules n place → NeedsSearch sheet (asks_drop n) None (without_rule sheet place)
+
+-- the command's search spends too much, which is told by these counts and noted
+pub record SpendsFor (state : State) (asked : Asked) (counts : Counts) (old new : Notes) : Type 0 where
+  pub cell : Option CellId
+  pub made : Sheet
+  pub needs : NeedsSearch state.sheet asked cell made
+  pub spent : IsSpent state.budget made cell counts old new
+
+-- the same of the command that a line asks
+abbrev pub Spends : State → List ℕ → Counts → Notes → Notes → Type 0
+Spends state line counts old new = (a : Asked) × IsCommandReading line (asks a) × SpendsFor state a counts old new
+
+-- The line is refused so, with what is told after that: as it is judged; as a contradiction, with a certificate for the sheet with that
+-- rule; or since its search spends too much.
+pub data RefusesLine (old : State × Notes) (line : List ℕ) (why : Refusal) (more : List ℕ) (new : State × Notes) : Type 0 where
+  as_judged : IsRefused old.0 line why → more ≡ [] → new ≡ old → RefusesLine old line why more new
+  as_contradiction : (r : NamedStatement) → IsContradiction old.0 line r → IsCertificateAgainst (with_rule old.0.sheet r) more → why ≡ Inconsistent → new ≡ old → RefusesLine old line why more new
+  as_spent : (counts : Counts) → Spends old.0 line counts old.1 new.1 → why ≡ Spent counts → more ≡ [] → new.0 ≡ old.0 → RefusesLine old line why more new
+
+-- In the state, the line may have this answer, and the next state and notes follow. Any line but one that takes none may want memory instead,
+-- and an edit that needs a search may spend too much instead.
+abbrev pub Allows : State × Notes → List ℕ → Answer → State × Notes → Type 0
+Allows old line silent new = AsksNothing line × (new ≡ old)
+Allows old line accepted new = (task : Task) × IsTask old.0 line task × IsEdit task × (new ≡ (after old.0 task, old.1))
+Allows old line (shown text) new = (kind : PageKind) × IsTask old.0 line (shows kind) × Says kind old.0.sheet text × (new ≡ old)
+Allows old line (refused why more) new = RefusesLine old line why more new
+Allows old line no_memory new = (¬ TakesNoMemory line) × (new ≡ old)

@@ -1,0 +1,100 @@
+-- What is done at a line.
+use Rattle.std.specs.Prelude.{◌≡◌, [], ◌∷◌, ◌++◌, Result, Ok, Err, String, string_bytes}
+use Rattle.std.specs.declared.alloc.Global.{Global}
+use Rattle.std.specs.declared.option.Option.{Option}
+use Rattle.std.specs.declared.option.Option.TheVariants.{Some, None}
+use Rattle.pc_syntax.specs.declared.tree.CommandFault.{CommandFault}
+use Rattle.pc_syntax.specs.declared.tree.CommandFault.TheVariants as command_fault
+use Rattle.pc_syntax.specs.Tree.{Asked, asks_enter, asks_clear, asks_rule, asks_drop, asks_json, asks_why}
+use Rattle.pc_sheet.specs.Sheet.{Sheet, NamedStatement, with_rule}
+use Rattle.pc_sheet.specs.declared.ids.CellId.{CellId}
+use Rattle.pc_sheet.specs.declared.ids.Target.{Target}
+use Rattle.pc_reason.specs.Reasons.{IsTargetOf}
+use Rattle.pc_run.specs.declared.refusal.Counts.{Counts}
+use Rattle.pc_elaborate.specs.declared.fault.SortFault.{SortFault}
+use Rattle.pc_elaborate.specs.declared.fault.SortFault.TheVariants as sort_fault
+use Rattle.pc_theory.specs.declared.spending.Spending.{Spending}
+use Rattle.pc_session.specs.Views.{SessionView}
+use Rattle.pc_session.specs.Views as session
+use Rattle.pc_session.specs.declared.refused.EditRefused.{EditRefused}
+use Rattle.pc_session.specs.declared.refused.EditRefused.TheVariants as edit
+use Rattle.pc_run.specs.declared.machine.Reply.{Reply}
+use Rattle.pc_run.specs.declared.machine.Reply.TheVariants.{Silent, Accepted, Shown, Refused, Memory}
+use Rattle.pc_run.specs.declared.refusal.Refusal.{Refusal}
+use Rattle.pc_run.specs.declared.refusal.Refusal.TheVariants.{NotUtf8, Syntax, TooDeep, TooLarge, Inconsistent, Spent, NoEntry, DuplicateRule, NoRule}
+use Rattle.pc_display.specs.Json.{IsJson}
+use Rattle.pc_load.specs.Refusals.{IsSortRefusal}
+use Rattle.pc_spreadsheet.specs.Judgement.{State, Task, shows, why_page, IsTaskOf, IsEdit, after, MakesContradiction, IsRefusalOf}
+use Rattle.pc_spreadsheet.specs.Pages.{CanShow, kind_of}
+use Rattle.pc_spreadsheet.specs.Allowed.{Notes, counts_of, SpendsFor}
+use Rattle.pc_spreadsheet.specs.declared.page.Page.{Page}
+use Rattle.pc_spreadsheet.specs.declared.page.Page.TheVariants.{Json, Why}
+
+-- what is told of a command line, where refutations are seen as their sheets
+abbrev pub Told : Type 0
+Told = Reply Page Sheet
+
+abbrev pub state_of : SessionView → State
+state_of s = record { sheet = s.sheet; budget = s.budget }
+
+-- how the fault of a command line is told
+abbrev pub reply_to : CommandFault → Told
+reply_to command_fault.NotUtf8 = Refused NotUtf8 None
+reply_to command_fault.TooDeep = Refused TooDeep None
+reply_to command_fault.Syntax = Refused Syntax None
+reply_to command_fault.Memory = Memory
+
+-- a fault of names or sorts is told so
+pub data IsToldAs (e : SortFault) : Told → Type 0 where
+  as_refusal : (why : Refusal) → IsSortRefusal e why → IsToldAs e (Refused why None)
+  as_memory : e ≡ sort_fault.Memory → IsToldAs e Memory
+
+-- what a refused edit has spent, or how else it is told
+abbrev pub parted : EditRefused → Result Spending Told
+parted edit.NoEntry = Err (Refused NoEntry None)
+parted edit.DuplicateRule = Err (Refused DuplicateRule None)
+parted edit.NoRule = Err (Refused NoRule None)
+parted edit.TooLarge = Err (Refused TooLarge None)
+parted (edit.Inconsistent sheet) = Err (Refused Inconsistent (Some sheet))
+parted (edit.Spent spending) = Ok spending
+parted edit.Memory = Err Memory
+
+-- what was spent on the sheet is noted and told, or there was no memory for it
+pub data NotesSpent (sheet : Sheet) (cell : Option CellId) (spending : Spending) (old new : Notes) : Told → Type 0 where
+  noted : (counts : Counts) → counts ≡ counts_of spending.tally → new ≡ old ++ record { sheet = sheet; cell = cell; tally = session.counts_of spending.tally } ∷ [] → NotesSpent sheet cell spending old new (Refused (Spent counts) None)
+  not_noted : new ≡ old → NotesSpent sheet cell spending old new Memory
+
+-- a question is a page, or it is refused
+pub data Explains (sheet : Sheet) (a : Asked) : Told → Type 0 where
+  by_page : (t : Target) → IsTaskOf sheet a (shows (why_page t)) → IsTargetOf sheet.universe t → Explains sheet a (Shown (Why t))
+  by_refusal : (why : Refusal) → IsRefusalOf sheet a why → Explains sheet a (Refused why None)
+  by_memory : Explains sheet a Memory
+
+-- the display as JSON is a page, or there was no memory for it
+pub data ShowsJson (sheet : Sheet) : Told → Type 0 where
+  by_text : (text : String Global) → IsJson sheet (string_bytes text) → ShowsJson sheet (Shown (Json text))
+  for_memory : ShowsJson sheet Memory
+
+-- the commands that may want memory once they are read
+abbrev pub MayWantMemory : Asked → Type 0
+MayWantMemory (asks_enter c v) = Unit {0}
+MayWantMemory (asks_clear c) = Unit {0}
+MayWantMemory (asks_rule n f) = Unit {0}
+MayWantMemory (asks_drop n) = Unit {0}
+MayWantMemory (asks_why c v holds) = Unit {0}
+MayWantMemory asks_json = Unit {0}
+MayWantMemory a = ⊥
+
+-- A refused command: as it is judged; as a contradiction, which the sheet with that rule shows; or since its search spends too much.
+pub data RefusesAsked (old : State × Notes) (a : Asked) (why : Refusal) (proof : Option Sheet) (new : State × Notes) : Type 0 where
+  judged : IsRefusalOf old.0.sheet a why → proof ≡ None → new ≡ old → RefusesAsked old a why proof new
+  contradicted : (r : NamedStatement) → MakesContradiction old.0.sheet a r → why ≡ Inconsistent → proof ≡ Some (with_rule old.0.sheet r) → new ≡ old → RefusesAsked old a why proof new
+  spent : (counts : Counts) → SpendsFor old.0 a counts old.1 new.1 → why ≡ Spent counts → proof ≡ None → new.0 ≡ old.0 → RefusesAsked old a why proof new
+
+-- What a command does: an edit, a page, or a refusal, and then the state stays, as it does at want of memory.
+abbrev pub Obeys : State × Notes → Asked → Told → State × Notes → Type 0
+Obeys old a Accepted new = (task : Task) × IsTaskOf old.0.sheet a task × IsEdit task × (new ≡ (after old.0 task, old.1))
+Obeys old a (Shown page) new = IsTaskOf old.0.sheet a (shows (kind_of page)) × CanShow page old.0 × (new ≡ old)
+Obeys old a (Refused why proof) new = RefusesAsked old a why proof new
+Obeys old a Memory new = MayWantMemory a × (new ≡ old)
+Obeys old a Silent new = ⊥

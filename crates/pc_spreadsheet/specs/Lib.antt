@@ -1,0 +1,8 @@
+pub mod Allowed
+pub mod Commands
+pub mod Judgement
+pub mod Laws
+pub mod Loading
+pub mod Pages
+pub mod State
+pub mod Summary

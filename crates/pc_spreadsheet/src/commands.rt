@@ -1,0 +1,98 @@
+//! What each command does.
+ghost use Rattle.std.specs.Prelude.{◌≤◌, length};
+ghost use Rattle.pc_syntax.specs.Command.{asks};
+ghost use Rattle.pc_syntax.specs.Sized.{IsNestedReading, IsSizedReading};
+ghost use Rattle.pc_syntax.specs.Tree.{asked_of, asks_budget, asks_clear, asks_enter, asks_why, cell_of, value_of};
+ghost use Rattle.pc_run.specs.Answer.{Answer, CanBeTold, IsAnswer};
+ghost use Rattle.pc_spreadsheet.specs.Allowed.{Allows, Notes};
+ghost use Rattle.pc_spreadsheet.specs.Commands.{Explains, Obeys, ShowsJson, state_of};
+ghost use Rattle.pc_spreadsheet.specs.Pages.{CanShow, IsCertificateAgainst, IsPage};
+
+use crate::edits::{add_rule, clear, drop_rule, enter};
+use crate::names::find_entry;
+use crate::page::Page;
+use crate::pages::has_displays;
+use crate::refusal::{refuse, reply_to};
+use crate::spending::Told;
+use pc_display::json;
+use pc_logic::Book;
+use pc_reason::Reasons;
+use pc_run::{LimitWord, MOST_BUDGET, Refusal, Reply};
+use pc_session::{Session, Spendings};
+use pc_sheet::Target;
+use pc_syntax::{CellTree, Command, ValueTree, parse_command};
+use std::alloc::{AllocError, Global};
+
+// Asks why the cell has the value, or why it hasn't.
+fn explain(book: &Book, cell: &CellTree, value: &ValueTree, holds: bool) -> Told
+    ensures { Explains book.now (asks_why (cell_of cell.now) (value_of value.now) holds) result }
+{
+    match find_entry(book, cell, value) {
+        Ok(entry) => Reply::Shown(Page::Why(Target {
+            cell: entry.cell,
+            value: entry.value,
+            holds,
+        })),
+        Err(fault) => refuse(fault),
+    }
+}
+
+// Shows the display as JSON, whose text is made here.
+fn show_json(alloc: Global, session: &Session) -> Told
+    ensures { ShowsJson session.now.sheet result }
+{
+    has_displays(session.book());
+    match json(alloc, session) {
+        Ok(text) => Reply::Shown(Page::Json(text)),
+        Err(AllocError) => Reply::Memory,
+    }
+}
+
+// Sets the budget.
+fn set_budget(session: &mut Session, number: u64) -> Told
+    ensures { (notes : Notes) → Obeys (state_of session.old, notes) (asks_budget number) result (state_of session.new, notes) }
+{
+    if number < 1 || number > MOST_BUDGET {
+        return Reply::Refused(Refusal::Limit(LimitWord::Budget), None);
+    }
+    session.set_budget(number);
+    Reply::Accepted
+}
+
+// Does what the command asks for.
+fn obey(alloc: Global, session: &mut Session, command: &Command, notes: &mut Spendings) -> Told
+    requires sized { IsSizedReading (asks (asked_of command.now)) }
+    requires nested { IsNestedReading (asks (asked_of command.now)) }
+    ensures { Obeys (state_of session.old, notes.old) (asked_of command.now) result (state_of session.new, notes.new) }
+{
+    match command {
+        Command::Show => Reply::Shown(Page::Display),
+        Command::Dump => Reply::Shown(Page::SheetText),
+        Command::Enter(cell, value) => enter(alloc, session, cell, value, notes),
+        Command::Clear(cell) => clear(alloc, session, cell, notes),
+        Command::AddRule(rule) => add_rule(alloc, session, rule, notes),
+        Command::DropRule(name) => drop_rule(alloc, session, name, notes),
+        Command::Why { cell, value, holds } => explain(session.book(), cell, value, *holds),
+        Command::Budget(number) => set_budget(session, *number),
+        Command::Grid => Reply::Shown(Page::Grid),
+        Command::Json => show_json(alloc, session),
+    }
+}
+
+/// Does what the line's text asks for, and says what is to be told of it.
+pub(crate) fn answer(
+    alloc: Global,
+    session: &mut Session,
+    line: &[u8],
+    notes: &mut Spendings,
+) -> Told
+    requires { length line.now ≤ 4096 }
+    ensures allowed { (answer : Answer) → IsAnswer IsPage IsCertificateAgainst (state_of session.new) result answer → Allows (state_of session.old, notes.old) line.now answer (state_of session.new, notes.new) }
+    ensures shown { CanBeTold CanShow (state_of session.new) result }
+{
+    match parse_command(alloc, line) {
+        Ok(Some(command)) => obey(alloc, session, &command, notes),
+        Ok(None) => Reply::Silent,
+        Err(fault) => reply_to(fault),
+    }
+}

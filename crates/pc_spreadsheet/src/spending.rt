@@ -1,0 +1,61 @@
+//! What searches spend: how it is told and noted.
+ghost use Rattle.std.specs.Prelude.{◌≡◌};
+ghost use Rattle.pc_theory.specs.Spendings.{IsLawful};
+ghost use Rattle.pc_spreadsheet.specs.Allowed.{counts_of};
+ghost use Rattle.pc_spreadsheet.specs.Commands.{NotesSpent, parted};
+
+use crate::page::Page;
+use pc_lits::Tally;
+use pc_logic::Book;
+use pc_reason::Refutation;
+use pc_run::{Counts, Refusal, Reply};
+use pc_session::{EditRefused, Spending, Spendings};
+use pc_sheet::CellId;
+use std::alloc::AllocError;
+
+/// What is told of a command line.
+pub(crate) type Told = Reply<Page, Refutation>;
+
+/// The numbers that are told of what was spent.
+pub(crate) fn counts_of(tally: Tally) -> Counts
+    ensures { result ≡ counts_of tally }
+{
+    Counts {
+        placed: tally.placed,
+        learned: tally.learned,
+        calls: tally.calls,
+    }
+}
+
+/// What a refused edit has spent, or how else it is told.
+pub(crate) fn parted(refused: EditRefused) -> Result<Spending, Told>
+    ensures { result ≡ parted refused }
+{
+    match refused {
+        EditRefused::NoEntry => Err(Reply::Refused(Refusal::NoEntry, None)),
+        EditRefused::DuplicateRule => Err(Reply::Refused(Refusal::DuplicateRule, None)),
+        EditRefused::NoRule => Err(Reply::Refused(Refusal::NoRule, None)),
+        EditRefused::TooLarge => Err(Reply::Refused(Refusal::TooLarge, None)),
+        EditRefused::Inconsistent(refutation) => {
+            Err(Reply::Refused(Refusal::Inconsistent, Some(refutation)))
+        }
+        EditRefused::Spent(spending) => Ok(spending),
+        EditRefused::Memory => Err(Reply::Memory),
+    }
+}
+
+/// Notes what the search of an edit has spent that would have made the book, and tells it.
+pub(crate) fn note_spent(
+    made: &Book,
+    cell: Option<CellId>,
+    spending: &Spending,
+    notes: &mut Spendings,
+) -> Told
+    requires { IsLawful made.now cell spending.now.tally.limit spending.now }
+    ensures { NotesSpent made.now cell spending.now notes.old notes.new result }
+{
+    match notes.note(made, cell, spending) {
+        Ok(()) => Reply::Refused(Refusal::Spent(counts_of(spending.tally)), None),
+        Err(AllocError) => Reply::Memory,
+    }
+}
