@@ -1,0 +1,81 @@
+-- The lines that clear cells.
+use Rattle.std.proofs.Common.{◌≡◌, ◌≢◌, ℕ, zero, suc, ◌+◌, ◌-◌, ◌<◌, ◌≤◌, ◌%◌, Bool, true, false, ◌||◌, ◌==◌, List, [], ◌∷◌, ◌++◌, length, take, codes, slice_range, arith, refl, sym, ◌∙◌, ap, inl, inr, ◌⊎◌, length-append}
+use Rattle.std.specs.Prelude.{decimal}
+use Rattle.std.specs.List.{list_any}
+use Rattle.std.proofs.lemmas.Fmt.{decimal_by_steps, length-decimal-le}
+use Rattle.std.proofs.lemmas.List.Elements.{All-append, All-push, All-cons, All-nil}
+use Rattle.pc_token.specs.Token.{AreBlank}
+use Rattle.pc_token.specs.Line.{IsBlankLine, IsComment, IsOneName}
+use Rattle.pc_syntax.specs.Command.{TakesNoMemory}
+use Rattle.pc_lines.specs.Lines.{HasNoEnd, text_of}
+use Rattle.pc_lines.proofs.Ends.{text_of-open}
+use Rattle.pc_demo.specs.Demonstration.{clear_line}
+
+-- ---- no line feed
+
+feedless_digits : (n : ℕ) → n ≤ 256 → HasNoEnd (decimal n)
+feedless_digits n few =
+    decimal_by_steps (λ m ds. HasNoEnd ds)
+    (λ m lt. All-cons (λ b. b ≢ 10) (48 + m) [] (λ is. omega (arith, is)) (All-nil (λ b. b ≢ 10)))
+    (λ m ds le each. All-push (λ b. b ≢ 10) ds (48 + m % 10) each (λ is. omega (arith, is)))
+    n (omega arith)
+
+abbrev is_feed : ℕ → Bool
+is_feed b = b == 10
+
+neither : (a b : Bool) → (a || b) ≡ false → (a ≡ false) × (b ≡ false)
+neither true b is = absurd (cc)
+neither false b is = (refl, is)
+
+feed_is : (b : ℕ) → b ≡ 10 → is_feed b ≡ true
+feed_is b is = rw is refl
+
+feedless_text : (bs : List ℕ) → list_any is_feed bs ≡ false → HasNoEnd bs
+feedless_text [] none = All-nil (λ b. b ≢ 10)
+feedless_text (b ∷ bs) none =
+    let both = neither (is_feed b) (list_any is_feed bs) none in
+    All-cons (λ b. b ≢ 10) b bs (λ is. cc (sym (feed_is b is) ∙ both.0)) (feedless_text bs both.1)
+
+feedless : (n : ℕ) → n ≤ 256 → HasNoEnd (clear_line n)
+feedless n few =
+    All-append (λ b. b ≢ 10) (codes "clear x(") (decimal n ++ codes ", 1)") (feedless_text (codes "clear x(") refl)
+    (All-append (λ b. b ≢ 10) (decimal n) (codes ", 1)") (feedless_digits n few) (feedless_text (codes ", 1)") refl))
+
+-- ---- it may want memory
+
+not_blank : {P : Type 0} (xs : List ℕ) (to : ℕ) → AreBlank (99 ∷ xs) 0 to → 0 < to → P
+not_blank xs to blank lt = absurd (cc (blank 0 (omega arith) lt))
+
+not_empty : (xs : List ℕ) → IsBlankLine (99 ∷ xs) ⊎ IsComment (99 ∷ xs) → ⊥
+not_empty xs (inl blank) = not_blank xs (length (99 ∷ xs)) blank (omega arith)
+not_empty xs (inr (zero, blank, is)) = omega (arith, is)
+not_empty xs (inr (suc at, blank, is)) = not_blank xs (suc at) blank (omega arith)
+
+first_of : (xs : List ℕ) (c : ℕ) (more : List ℕ) (start end : ℕ) → AreBlank (99 ∷ xs) 0 start → start < end → slice_range (99 ∷ xs) start end ≡ c ∷ more → 99 ≡ c
+first_of xs c more zero zero blank lt is = absurd (omega (arith, lt))
+first_of xs c more zero (suc end) blank lt is =
+    let size : suc end - 0 ≡ suc end = omega arith in
+    let front : slice_range (99 ∷ xs) zero (suc end) ≡ 99 ∷ take end xs = ap (λ k. take k (99 ∷ xs)) size in
+    cc (front, is)
+first_of xs c more (suc start) end blank lt is = not_blank xs (suc start) blank (omega arith)
+
+not_named : (xs : List ℕ) (c : ℕ) (more : List ℕ) → IsOneName (99 ∷ xs) (c ∷ more) → 99 ≡ c
+not_named xs c more (t, (le, blank, token, rest), kind, is) = first_of xs c more t.start t.end blank token.nonempty is
+
+takes_memory : (xs : List ℕ) → ¬ TakesNoMemory (99 ∷ xs)
+takes_memory xs (inl nothing) = not_empty xs nothing.empty
+takes_memory xs (inr (inl show)) = omega (arith, not_named xs 115 (codes "how") show)
+takes_memory xs (inr (inr (inl grid))) = omega (arith, not_named xs 103 (codes "rid") grid)
+takes_memory xs (inr (inr (inr dump))) = omega (arith, not_named xs 100 (codes "ump") dump)
+
+-- ---- the line
+
+pub own_text : (n : ℕ) → n ≤ 256 → text_of (clear_line n) ≡ clear_line n
+own_text n few = text_of-open (clear_line n) (feedless n few)
+
+pub may_want : (n : ℕ) → ¬ TakesNoMemory (clear_line n)
+may_want n = takes_memory (codes "lear x(" ++ (decimal n ++ codes ", 1)"))
+
+pub short_line : (n : ℕ) → n ≤ 256 → length (clear_line n) ≤ 4096
+short_line n few =
+    omega (arith, length-append (codes "clear x(") (decimal n ++ codes ", 1)"), length-append (decimal n) (codes ", 1)"), length-decimal-le 3 n (omega arith) (omega (arith, few)) (omega (arith, few)))
