@@ -1,9 +1,3 @@
-pub mod Deciding
-pub mod Editing
-pub mod Loading
-pub mod OneMode
+pub mod Asked
+pub mod Demos
 pub mod SameLines
-pub mod SheetVerdicts
-pub mod Telling
-pub mod Verdicts
-pub mod Formed

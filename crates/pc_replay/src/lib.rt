@@ -1,23 +1,16 @@
 //! The run of the program: from its words, its input and its files to what it prints and its status.
 //!
-//! With `replay` it is a sheet and its commands. A [`Session`] is what answers the command lines: it tries every assignment
-//! and every sublist of the entries, so its sheets have few of them. How lines are taken and answers written is `pc_run`.
-//! With `check FILE` it is `pc_judge`.
+//! With `replay` and `edit FILE` it is a sheet and its commands: `pc_spreadsheet` answers the command lines, and `pc_run` takes
+//! them and writes the answers. With `check FILE` it is `pc_judge`. What the words ask for is `pc_words`' own.
 #![tactic(auto)]
 
 mod law;
-mod load;
-mod names;
-mod refusal;
 mod replay;
-mod session;
-mod trying;
-mod words;
 
-pub use law::{
-    lines_are_the_same, lines_have_one_verdict, states_are_well_formed, texts_have_one_verdict,
-    words_ask_for_one_mode,
-};
+pub use law::lines_are_the_same;
 pub use pc_run::Status;
+pub use pc_spreadsheet::{
+    Spendings, lines_have_one_verdict, states_are_well_formed, texts_have_one_verdict,
+};
+pub use pc_words::words_fit_one_request;
 pub use replay::run;
-pub use session::Session;

@@ -2,7 +2,7 @@
 #![tactic(auto)]
 
 use pc_port::{Failed, RealShelf, RealSink, RealSource, Sink};
-use pc_replay::{Status, run};
+use pc_replay::{Spendings, Status, run};
 use std::alloc::AllocError;
 use std::process::ExitCode;
 use std::{env, io};
@@ -11,6 +11,7 @@ fn main(rt: HostRuntime) -> ExitCode {
     let mut input = RealSource::new(rt.reader());
     let mut shelf = RealShelf::new(rt.alloc(), &rt);
     let mut out = RealSink::new(io::writer(&rt));
+    let mut spent = Spendings::new(rt.alloc());
     let args = match env::args(&rt) {
         Ok(args) => args,
         Err(error) if error.kind() == io::ErrorKind::OutOfMemory => {
@@ -18,7 +19,14 @@ fn main(rt: HostRuntime) -> ExitCode {
         }
         // A word that isn't UTF-8 fits nothing, as no words do.
         Err(_) => {
-            let status = run(rt.alloc(), &[], &mut input, &mut shelf, &mut out);
+            let status = run(
+                rt.alloc(),
+                &[],
+                &mut input,
+                &mut shelf,
+                &mut out,
+                &mut spent,
+            );
             return ExitCode::from(status.number());
         }
     };
@@ -26,7 +34,15 @@ fn main(rt: HostRuntime) -> ExitCode {
     let Ok(words) = words else {
         return ExitCode::from(tell_no_memory(&mut out).number());
     };
-    ExitCode::from(run(rt.alloc(), &words, &mut input, &mut shelf, &mut out).number())
+    ExitCode::from(run(
+        rt.alloc(),
+        &words,
+        &mut input,
+        &mut shelf,
+        &mut out,
+        &mut spent,
+    )
+    .number())
 }
 
 // Tells that there was no memory for the words.

@@ -1,5 +1,0 @@
-use Rattle.pc_replay.proofs.Verdicts.{one_verdict}
-use Rattle.pc_replay.proofs.law.lines_have_one_verdict.Goals as goal
-
-pub returns : goal.returns
-returns c = one_verdict c.one_reading.ensures.command c.trees_have_one_outcome.ensures
