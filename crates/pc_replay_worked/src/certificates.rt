@@ -89,7 +89,190 @@ fn cut_certificates(rt: HostRuntime) -> Result<(), Fail> {
     Ok(())
 }
 
-// Rules that contradict each other, and a certificate of that, though the sheet can't be tried out.
+// Sheets and commands; how their run ends and what is printed before a certificate; how that begins; and the sheet that it is
+// for, which accepts it. The certificates are of implied and of excluded values, with and without entries, and of rules that
+// contradict each other, in a sheet and with one rule more.
+const WRITTEN: &str = "\
+sheet 1
+sort color = red green
+cell a : color
+cell b : color
+cell c : color
+rule ab : a = b
+rule bc : b = c
+begin
+enter a = red
+why b = red
+--- Done
+ok
+--- certificate 1
+claim b = red
+use a = red
+value a = red
+value b = red
+value c = red
+--- sheet 1
+sort color = red green
+cell a : color
+cell b : color
+cell c : color
+rule ab : a = b
+rule bc : b = c
+enter a = red
+begin
+===
+sheet 1
+sort color = red green
+cell a : color
+cell b : color
+cell c : color
+rule ab : a = b
+rule bc : b = c
+begin
+enter c = green
+enter a = red
+why b != red
+--- Done
+ok
+ok
+--- certificate 1
+claim b != red
+use c = green
+value a = green
+value b = green
+value c = green
+--- sheet 1
+sort color = red green
+cell a : color
+cell b : color
+cell c : color
+rule ab : a = b
+rule bc : b = c
+enter c = green
+enter a = red
+begin
+===
+sheet 1
+sort color = red green
+cell a : color
+cell b : color
+cell c : color
+rule ab : a = b
+rule bc : b = c
+begin
+enter a = red
+rule bad : a != c
+--- SomeRefused
+ok
+refused 13 inconsistent
+--- certificate 1
+claim inconsistent
+--- sheet 1
+sort color = red green
+cell a : color
+cell b : color
+cell c : color
+rule ab : a = b
+rule bc : b = c
+rule bad : a != c
+enter a = red
+begin
+===
+sheet 1
+sort pigeon = 1 .. 4
+sort hole = 1 .. 3
+cell nest(pigeon) : hole
+rule apart : forall x:pigeon . forall y:pigeon . x = y | nest(x) != nest(y)
+begin
+--- SheetRefused
+sheet refused 13 inconsistent
+--- certificate 1
+claim inconsistent
+--- sheet 1
+sort pigeon = 1 .. 4
+sort hole = 1 .. 3
+cell nest(pigeon) : hole
+rule apart : forall x:pigeon . forall y:pigeon . x = y | nest(x) != nest(y)
+begin
+===
+sheet 1
+sort n = 0 .. 3
+sort who = ann bob cho
+table knows(who, who)
+row knows(ann, bob)
+row knows(bob, cho)
+cell lead : who
+cell next(who) : who
+cell x : n
+cell y : n
+rule next : forall p:who . knows(p, next(p)) <-> !p = cho
+rule some : exists p:who . lead = p & next(p) = cho & knows(p, cho)
+rule sum : lead = bob -> x + y = 3
+rule low : !(x > 1) | y > 1
+begin
+why lead = bob
+--- Done
+--- certificate 1
+claim lead = bob
+value lead = bob
+value next(ann) = bob
+value next(bob) = cho
+--- sheet 1
+sort n = 0 .. 3
+sort who = ann bob cho
+table knows(who, who)
+row knows(ann, bob)
+row knows(bob, cho)
+cell lead : who
+cell next(who) : who
+cell x : n
+cell y : n
+rule next : forall p:who . knows(p, next(p)) <-> !p = cho
+rule some : exists p:who . lead = p & next(p) = cho & knows(p, cho)
+rule sum : lead = bob -> x + y = 3
+rule low : !(x > 1) | y > 1
+begin
+";
+
+// What stands behind the front, if the bytes begin with it.
+fn behind<'a>(bytes: &'a [u8], front: &[u8]) -> &'a [u8] {
+    match bytes.get(front.len()..) {
+        Some(rest) if bytes.starts_with(front) => rest,
+        _ => &[],
+    }
+}
+
+// Whether a run ends so, prints this and then a certificate that begins so, and the sheet accepts that.
+pub(crate) fn is_written(alloc: Global, block: &str) -> Result<bool, AllocError> {
+    let (input, rest) = block.split_once("--- ").unwrap_or((block, ""));
+    let (want, rest) = rest.split_once("--- ").unwrap_or((rest, ""));
+    let (head, sheet) = rest.split_once("--- ").unwrap_or((rest, ""));
+    let (status, front) = want.split_once('\n').unwrap_or((want, ""));
+    let (ended, out) = run_with(alloc, "replay", b"", input.as_bytes())?;
+    let certificate = behind(out.bytes(), front.as_bytes());
+    let accepted = ends_so(
+        alloc,
+        "check k.sheet",
+        sheet.as_bytes(),
+        certificate,
+        "Done\naccepted\n",
+    )?;
+    Ok(
+        accepted
+            && certificate.starts_with(head.as_bytes())
+            && format!(in alloc; "{ended:?}")?.as_str() == status,
+    )
+}
+
+#[test]
+fn written_certificates(rt: HostRuntime) -> Result<(), Fail> {
+    for block in WRITTEN.split("===\n") {
+        assert!(rt; is_written(rt.alloc(), block)?, "{block}");
+    }
+    Ok(())
+}
+
+// Rules that contradict each other, and a certificate of that by hand.
 const CONTRADICTORY: &str =
     "sheet 1\nsort color = red green\ncell a : color\ncell b : color\ncell c : color\nrule ab : a = b\nrule bc : b = c\nrule bad : a != c\nbegin\n";
 

@@ -6,6 +6,10 @@ mod certificates;
 #[cfg(test)]
 mod judging;
 #[cfg(test)]
+mod modes;
+#[cfg(test)]
+mod roster;
+#[cfg(test)]
 mod runs;
 #[cfg(test)]
 mod sheets;

@@ -2,84 +2,109 @@
 // source is read again. The machine of these tests counts.
 ghost use Rattle.std.specs.Prelude.{◌<◌, ◌≢◌, length, slice_index, None};
 
-use pc_port::{Failed, MemorySink, MemorySource, Sink, Source};
+use pc_port::{Failed, MemoryShelf, MemorySink, MemorySource, Sink, Source};
 use pc_run::{
-    LINE_LIMIT, LimitWord, LoadFault, MAX_LINES, Machine, Page, Refusal, Reply, SHEET_LIMIT,
-    SheetRefusal, Status, replay,
+    Counts, LINE_LIMIT, LimitWord, LoadStop, MAX_LINES, MOST_BUDGET, Machine, Refusal, Reply,
+    SHEET_LIMIT, SheetRefusal, Status, edit, replay,
 };
 use std::alloc::{AllocError, Global};
 use std::cell::Cell;
 use std::test::Fail;
 
-// Any text is a sheet, but the empty one and those that begin with `!`. The lines are `count`, `show` and blank ones.
+#[derive(Drop)]
+enum Page {
+    Count,
+    Name,
+}
+
+// Any text is a sheet, but the empty one and those that begin with `!`.
+// Behind a refusal stands the byte that shows it, in a line of its own.
 #[derive(Drop)]
 struct Counter {
     count: u8,
 }
 
 impl Machine for Counter {
-    ghost IsSheet = { λ text _. (0 < length text) × (slice_index text 0 ≢ 33) };
+    type Page = Page;
 
-    ghost RefusesText = { λ _ _. Unit {0} };
+    type Proof = u8;
+
+    type Notes = u8;
+
+    ghost IsSheet = { λ _ text _. (0 < length text) × (slice_index text 0 ≢ 33) };
+
+    ghost RefusesText = { λ _ _ _ _ _ _. Unit {0} };
 
     ghost Allows = { λ _ _ _ _. Unit {0} };
 
+    ghost CanShow = { λ _ _. Unit {0} };
+
     ghost IsPage = { λ _ _ _. Unit {0} };
 
-    fn load(_: Global, text: &[u8]) -> Result<Self, LoadFault> {
-        if text.is_empty() {
-            return Err(LoadFault::Refused(SheetRefusal {
-                refusal: Refusal::NoBegin,
-                line: None,
-            }));
+    ghost IsProof = { λ _ _. Unit {0} };
+
+    fn load(_: Global, text: &[u8], _: u64, _: &mut u8) -> Result<Self, LoadStop<u8>> {
+        match text.first() {
+            None => Err(stop_for(Refusal::NoBegin, None, None)),
+            Some(b'!') => Err(stop_for(Refusal::WrongVersion, Some(1207), Some(b's'))),
+            Some(_) => Ok(Counter { count: 0 }),
         }
-        if text[0] == b'!' {
-            return Err(LoadFault::Refused(SheetRefusal {
-                refusal: Refusal::WrongVersion,
-                line: Some(1207),
-            }));
-        }
-        Ok(Counter { count: 0 })
     }
 
-    fn decide(&mut self, _: Global, line: &[u8]) -> Reply {
+    fn decide(&mut self, _: Global, line: &[u8], notes: &mut u8) -> Reply<Page, u8> {
         match line {
             b"" => Reply::Silent,
             b"count" => {
                 self.count = self.count.saturating_add(1);
                 Reply::Accepted
             }
-            b"show" => Reply::Shown(Page::Display),
-            b"dump" => Reply::Shown(Page::SheetText),
-            b"utf8" => Reply::Refused(Refusal::NotUtf8),
-            b"deep" => Reply::Refused(Refusal::TooDeep),
-            _ => Reply::Refused(Refusal::NotYet),
+            b"note" => {
+                *notes = notes.saturating_add(1);
+                Reply::Accepted
+            }
+            b"show" => Reply::Shown(Page::Count),
+            b"dump" => Reply::Shown(Page::Name),
+            b"utf8" => Reply::Refused(Refusal::NotUtf8, None),
+            b"deep" => Reply::Refused(Refusal::TooDeep, Some(b'd')),
+            b"memory" => Reply::Memory,
+            _ => Reply::Refused(Refusal::NoRule, None),
         }
     }
 
-    fn show<O: Sink>(&self, page: Page, out: &mut O) -> Result<(), Failed> {
+    fn show<O: Sink>(&self, page: &Page, out: &mut O) -> Result<(), Failed> {
         match page {
-            Page::Display if self.count == 0 => out.write(b"none\n"),
-            Page::Display => out.write(b"some\n"),
-            Page::SheetText => out.write(b"sheet\n"),
+            Page::Count if self.count == 0 => out.write(b"none\n"),
+            Page::Count => out.write(b"some\n"),
+            Page::Name => out.write(b"sheet\n"),
         }
+    }
+
+    fn has_text(_: &u8) {}
+
+    fn prove<O: Sink>(proof: &u8, out: &mut O) -> Result<(), Failed> {
+        out.write(&[*proof, b'\n'])
     }
 }
 
+// A sheet is refused so.
+fn stop_for(refusal: Refusal, line: Option<u32>, proof: Option<u8>) -> LoadStop<u8> {
+    LoadStop::Refused(SheetRefusal { refusal, line }, proof)
+}
+
 // How a run of the machine ends: the status, and behind a line feed what is written.
-fn ends_so<M: Machine>(
+fn ends_so<M: Machine<Notes = u8>>(
     alloc: Global,
     mut source: MemorySource,
     mut out: MemorySink,
     want: &str,
 ) -> Result<bool, AllocError> {
-    let ended = replay::<M, _, _>(alloc, &mut source, &mut out);
+    let ended = replay::<M, _, _>(alloc, 7, &mut source, &mut out, &mut 0);
     let (status, text) = want.split_once('\n').unwrap_or((want, ""));
     Ok(format!(in alloc; "{ended:?}")?.as_str() == status && out.bytes() == text.as_bytes())
 }
 
 // The same of these bytes, of which so many come at a time, where nothing fails.
-fn ends_well<M: Machine>(
+fn ends_well<M: Machine<Notes = u8>>(
     alloc: Global,
     bytes: &[u8],
     most: usize,
@@ -95,10 +120,11 @@ const RUNS: &str = "\
 begin/show\r/count//show => Done/none/ok/some/
  begin\t\r/ => Done/
 a begin/;begin/show/ => Done/
-begin/foo/show/ => SomeRefused/refused 20 not-yet/none/
-begin/dump/utf8/deep/ => SomeRefused/sheet/refused 1 not-utf8/refused 21 too-deep/
+begin/foo/show/ => SomeRefused/refused 18 no-rule/none/
+begin/dump/utf8/deep/note/ => SomeRefused/sheet/refused 1 not-utf8/refused 21 too-deep/d/ok/
  => SheetRefused/sheet refused 3 no-begin/
-!/begin/show/ => SheetRefused/sheet refused 4 wrong-version line 1207/
+!/begin/show/ => SheetRefused/sheet refused 4 wrong-version line 1207/s/
+begin/memory/foo/show => Memory/refused 15 memory/refused 18 no-rule/none/
 ";
 
 // Whether the input of a row ends as the row says.
@@ -159,7 +185,7 @@ fn is_limited(alloc: Global, sheet: usize, line: usize, want: &str) -> Result<bo
     ends_well::<Counter>(alloc, &bytes, 4096, want)
 }
 
-const ANSWERED: &str = "SomeRefused\nrefused 20 not-yet\n";
+const ANSWERED: &str = "SomeRefused\nrefused 18 no-rule\n";
 
 const TOO_LONG: &str = "TooLong\nrefused 19 too-long\n";
 
@@ -213,7 +239,7 @@ fn nothing_is_read_after_a_refused_sheet(rt: HostRuntime) -> Result<(), Fail> {
     let calls = Cell::new(0);
     let mut input = Refused { calls: &calls };
     let mut out = MemorySink::new(rt.alloc(), 4096, Vec::new(rt.alloc()))?;
-    let ended = replay::<Counter, _, _>(rt.alloc(), &mut input, &mut out);
+    let ended = replay::<Counter, _, _>(rt.alloc(), 1, &mut input, &mut out, &mut 0);
     assert!(rt; ended == Status::SheetRefused && calls.get() == 1);
     Ok(())
 }
@@ -284,8 +310,129 @@ fn each_line_is_answered_before_the_next_read(rt: HostRuntime) -> Result<(), Fai
         early: &early,
     };
     let mut out = Counting { answers: &answers };
-    let ended = replay::<Counter, _, _>(rt.alloc(), &mut input, &mut out);
+    let ended = replay::<Counter, _, _>(rt.alloc(), 1, &mut input, &mut out, &mut 0);
     assert!(rt; ended == Status::Done && answers.get() == 8 && !early.get());
+    Ok(())
+}
+
+// A shelf with the file `k` of these bytes, whose calls of these numbers fail.
+fn shelf_of(alloc: Global, bytes: &[u8], fails: Vec<u64>) -> Result<MemoryShelf, AllocError> {
+    let mut files = Vec::new(alloc);
+    files.push((String::from_str(alloc, "k")?, bytes.to_vec(alloc)?))?;
+    Ok(MemoryShelf::new(files, fails))
+}
+
+// The same of commands on the sheet of a file.
+fn are_answered_in_turn(alloc: Global) -> Result<bool, AllocError> {
+    let answers = Cell::new(0);
+    let early = Cell::new(false);
+    let mut shelf = shelf_of(alloc, b"begin\n", Vec::new(alloc))?;
+    let mut input = Asking {
+        lines: 1,
+        answers: &answers,
+        early: &early,
+    };
+    let mut out = Counting { answers: &answers };
+    let ended = edit::<Counter, _, _, _>(
+        alloc,
+        MOST_BUDGET,
+        "k",
+        &mut input,
+        &mut shelf,
+        &mut out,
+        &mut 0,
+    );
+    Ok(ended == Status::Done && answers.get() == 8 && !early.get())
+}
+
+#[test]
+fn each_line_of_an_edit_is_answered_before_the_next_read(rt: HostRuntime) -> Result<(), Fail> {
+    assert!(rt; are_answered_in_turn(rt.alloc())?);
+    Ok(())
+}
+
+// Gives one line, and counts the calls.
+#[derive(Drop)]
+struct OneLine<'a> {
+    calls: &'a Cell<u64>,
+}
+
+impl Source for OneLine<'_> {
+    ghost left = { λ _. None };
+
+    ghost faults = { λ _. 0 };
+
+    fn read(&mut self, into: &mut [u8]) -> Result<usize, Failed> {
+        self.calls.set(self.calls.get().saturating_add(1));
+        if self.calls.get() > 1 || into.len() < 6 {
+            return Ok(0);
+        }
+        into[..6].copy_from_slice(b"count\n");
+        Ok(6)
+    }
+}
+
+// Whether an edit of the file over one command line ends so: its status, how often the input was read, how much was noted, and
+// what is written.
+fn is_edited(
+    alloc: Global,
+    file: &str,
+    mut shelf: MemoryShelf,
+    want: &str,
+) -> Result<bool, AllocError> {
+    let calls = Cell::new(0);
+    let mut input = OneLine { calls: &calls };
+    let mut out = MemorySink::new(alloc, 4096, Vec::new(alloc))?;
+    let mut notes = 0;
+    let ended = edit::<Counter, _, _, _>(
+        alloc, 7, file, &mut input, &mut shelf, &mut out, &mut notes,
+    );
+    let (status, text) = want.split_once('/').unwrap_or((want, ""));
+    let text = text.replace(alloc, '/', "\n")?;
+    let how = format!(in alloc; "{ended:?} {} {notes}", calls.get())?;
+    Ok(how.as_str() == status && out.bytes() == text.as_bytes())
+}
+
+// The file that is asked for, what the file `k` has, the call of the shelf that fails, and how the edit ends; `/` ends a line.
+const EDITS: &str = "\
+k,a,9 => Done 2 0/ok/
+k,a/begin/show/,9 => Done 2 0/ok/
+k,,9 => SheetRefused 0 0/sheet refused 3 no-begin/
+k,!,9 => SheetRefused 0 0/sheet refused 4 wrong-version line 1207/s/
+k,a,1 => ReadFault 0 0
+other,a,9 => ReadFault 0 0
+";
+
+// Whether the edit of a row ends as the row says.
+fn is_edit(alloc: Global, row: &str) -> Result<bool, AllocError> {
+    let (from, want) = row.split_once(" => ").unwrap_or((row, ""));
+    let (file, from) = from.split_once(',').unwrap_or((from, ""));
+    let (bytes, call) = from.split_once(',').unwrap_or((from, ""));
+    let fails = vec![in alloc; call.parse::<u64>().unwrap_or(0)]?;
+    let shelf = shelf_of(alloc, bytes.as_bytes(), fails)?;
+    is_edited(alloc, file, shelf, want)
+}
+
+#[test]
+fn edits(rt: HostRuntime) -> Result<(), Fail> {
+    for row in EDITS.lines() {
+        assert!(rt; is_edit(rt.alloc(), row)?, "{row}");
+    }
+    Ok(())
+}
+
+// How the edit of a file of so many bytes ends.
+fn is_edited_by_size(alloc: Global, size: usize, want: &str) -> Result<bool, AllocError> {
+    let bytes = vec![in alloc; b'x'; size]?;
+    let shelf = shelf_of(alloc, &bytes, Vec::new(alloc))?;
+    is_edited(alloc, "k", shelf, want)
+}
+
+#[test]
+fn long_files(rt: HostRuntime) -> Result<(), Fail> {
+    let alloc = rt.alloc();
+    assert!(rt; is_edited_by_size(alloc, SHEET_LIMIT, "Done 2 0/ok/")?);
+    assert!(rt; is_edited_by_size(alloc, SHEET_LIMIT + 1, "TooLong 0 0/refused 19 too-long/")?);
     Ok(())
 }
 
@@ -293,7 +440,14 @@ fn each_line_is_answered_before_the_next_read(rt: HostRuntime) -> Result<(), Fai
 #[derive(Drop)]
 struct Refusing {}
 
-const REFUSALS: [Refusal; 24] = [
+// Numbers of which two have more than 64 bits.
+const SPENT: Counts = Counts {
+    placed: 1_000_000_000_000,
+    learned: 18_446_744_073_709_551_616,
+    calls: 340_282_366_920_938_463_463_374_607_431_768_211_455,
+};
+
+const REFUSALS: [Refusal; 28] = [
     Refusal::NotUtf8,
     Refusal::Syntax,
     Refusal::WrongVersion,
@@ -315,8 +469,12 @@ const REFUSALS: [Refusal; 24] = [
     Refusal::Limit(LimitWord::Depth),
     Refusal::Limit(LimitWord::Reads),
     Refusal::Limit(LimitWord::Budget),
+    Refusal::TooLarge,
+    Refusal::Inconsistent,
+    Refusal::Spent(SPENT),
     Refusal::NoEntry,
-    Refusal::NotYet,
+    Refusal::DuplicateRule,
+    Refusal::NoRule,
     Refusal::TooDeep,
 ];
 
@@ -330,35 +488,46 @@ fn refusal_of(letter: u8) -> Refusal {
 }
 
 impl Machine for Refusing {
-    ghost IsSheet = { λ text _. (0 < length text) × (slice_index text 0 < 97) };
+    type Page = Page;
 
-    ghost RefusesText = { λ _ _. Unit {0} };
+    type Proof = u8;
+
+    type Notes = u8;
+
+    ghost IsSheet = { λ _ text _. (0 < length text) × (slice_index text 0 < 97) };
+
+    ghost RefusesText = { λ _ _ _ _ _ _. Unit {0} };
 
     ghost Allows = { λ _ _ _ _. Unit {0} };
 
+    ghost CanShow = { λ _ _. Unit {0} };
+
     ghost IsPage = { λ _ _ _. Unit {0} };
 
-    fn load(_: Global, text: &[u8]) -> Result<Self, LoadFault> {
-        if text.is_empty() {
-            return Err(LoadFault::Memory);
+    ghost IsProof = { λ _ _. Unit {0} };
+
+    fn load(_: Global, text: &[u8], _: u64, _: &mut u8) -> Result<Self, LoadStop<u8>> {
+        match text.first() {
+            None => Err(LoadStop::Memory),
+            Some(letter) if *letter < b'a' => Ok(Refusing {}),
+            Some(letter) => Err(stop_for(refusal_of(*letter), Some(207), None)),
         }
-        if text[0] < b'a' {
-            return Ok(Refusing {});
-        }
-        Err(LoadFault::Refused(SheetRefusal {
-            refusal: refusal_of(text[0]),
-            line: Some(207),
-        }))
     }
 
-    fn decide(&mut self, _: Global, line: &[u8]) -> Reply {
+    fn decide(&mut self, _: Global, line: &[u8], _: &mut u8) -> Reply<Page, u8> {
         match line.first() {
-            Some(letter) => Reply::Refused(refusal_of(*letter)),
+            Some(letter) => Reply::Refused(refusal_of(*letter), None),
             None => Reply::Silent,
         }
     }
 
-    fn show<O: Sink>(&self, _: Page, _: &mut O) -> Result<(), Failed> {
+    fn show<O: Sink>(&self, _: &Page, _: &mut O) -> Result<(), Failed> {
+        Ok(())
+    }
+
+    fn has_text(_: &u8) {}
+
+    fn prove<O: Sink>(_: &u8, _: &mut O) -> Result<(), Failed> {
         Ok(())
     }
 }
@@ -386,9 +555,13 @@ r => 11 limit, rules
 s => 11 limit, depth
 t => 11 limit, reads
 u => 11 limit, budget
-v => 16 no-entry
-w => 20 not-yet
-x => 21 too-deep
+v => 12 too-large
+w => 13 inconsistent
+x => 14 spent, placed=1000000000000 learned=18446744073709551616 calls=340282366920938463463374607431768211455
+y => 16 no-entry
+z => 17 duplicate-rule
+{ => 18 no-rule
+| => 21 too-deep
 ";
 
 // Whether the refusal of a row is told as the row says.

@@ -1,7 +1,7 @@
 // Worked sheets from their bytes to the printed text, with ample memory.
 
 use pc_port::{MemoryShelf, MemorySink, MemorySource};
-use pc_replay::{Status, run};
+use pc_replay::{Spendings, Status, run};
 use std::alloc::{AllocError, Global};
 use std::test::Fail;
 
@@ -31,8 +31,9 @@ pub(crate) fn run_with(
     let words = parted(alloc, words)?;
     let mut shelf = shelf_of(alloc, sheet)?;
     let mut input = MemorySource::new(input.to_vec(alloc)?, 100, Vec::new(alloc));
-    let mut out = MemorySink::new(alloc, 4096, Vec::new(alloc))?;
-    let status = run(alloc, &words, &mut input, &mut shelf, &mut out);
+    let mut out = MemorySink::new(alloc, 65_536, Vec::new(alloc))?;
+    let mut spent = Spendings::new(alloc);
+    let status = run(alloc, &words, &mut input, &mut shelf, &mut out, &mut spent);
     Ok((status, out))
 }
 
@@ -72,6 +73,7 @@ c : -
 enter a = red
 enter c = green
 show
+grid
 --- Done
 ok
 ok
@@ -86,6 +88,9 @@ c : green !
   = red because a = red
   = green because c = green
   ! against a = red
+a  red    !  red, green
+b  -         red, green
+c  green  !  red, green
 ===
 enter a = red
 enter c = red
@@ -145,12 +150,43 @@ begin
 clear b
 enter a(red) = red
 enter a = 1
-grid
 --- SomeRefused
 refused 16 no-entry
 refused 7 wrong-arity
 refused 8 wrong-sort
-refused 20 not-yet
+===
+enter a = red
+rule ab : a = c
+rule ac : a = c
+drop bc
+drop bc
+budget 7
+why b != red
+show
+dump
+--- SomeRefused
+ok
+refused 17 duplicate-rule
+ok
+ok
+refused 18 no-rule
+ok
+not implied
+a : red
+  = red because a = red
+b : -
+  = red because a = red
+c : -
+  = red because a = red
+sheet 1
+sort color = red green
+cell a : color
+cell b : color
+cell c : color
+rule ab : a = b
+rule ac : a = c
+enter a = red
+begin
 ===
 enter a = red
 enter c = red
@@ -221,11 +257,13 @@ rule na : a != red
 begin
 enter a = red
 show
+json
 --- Done
 ok
 a : red !
   = green always
   ! against the rules
+[{\"cell\":\"a\",\"conflict\":[],\"entry\":\"red\",\"implied\":[{\"because\":[],\"value\":\"green\"}]}]
 ===
 sheet 1
 sort color = red green
@@ -309,15 +347,6 @@ f(2) : -
 f(3) : -
 ===
 sheet 1
-sort color = red
-cell a : color
-rule no : a != red
-begin
-show
---- SheetRefused
-sheet refused 20 not-yet
-===
-sheet 1
 sort n = 0 .. 3
 cell x : n
 cell y : n
@@ -395,9 +424,13 @@ cell wände : f
 rule r : wände = grün
 begin
 show
+grid
+json
 --- Done
 wände : -
   = grün always
+wände  -     grün
+[{\"cell\":\"wände\",\"conflict\":null,\"entry\":null,\"implied\":[{\"because\":[],\"value\":\"grün\"}]}]
 ===
 sheet 1
 sort n = -2 .. 1
@@ -471,14 +504,13 @@ const SHEET: Frame = Frame {
     behind: "",
 };
 
-// Sheets at fault, and what can't be tried: too many assignments, too much weight, rules that contradict each other.
+// Sheets at fault, and two that weigh too much, one of them by a single literal.
 const SHEETS: &str = "\
 sheet 1/sort color = red green/cell a : color/rule r : a = => 2 syntax line 4
 sheet 1/sort color = red/ => 3 no-begin
 sheet 9/begin/ => 4 wrong-version line 1
-sheet 1/sort n = 1 .. 17/cell f(n) : n/begin/ => 20 not-yet
-sheet 1/sort n = 1 .. 200/rule r : forall a:n . forall b:n . forall c:n . a = a/begin/ => 20 not-yet
-sheet 1/sort n = 1 .. 2/cell a : n/rule r : forall b:n . a != b/begin/ => 20 not-yet
+sheet 1/sort n = 1 .. 200/rule r : forall a:n . forall b:n . forall c:n . a = a/begin/ => 12 too-large
+sheet 1/sort n = 1 .. 200/sort i = 1 .. 100/cell c(i) : n/sort u = 1 .. 1/cell d : u/begin/ => 12 too-large
 ";
 
 // Behind the second of three equal cells.
@@ -535,15 +567,13 @@ clear d => 5 unknown-name
 clear a(red) => 7 wrong-arity
 rule q : a < b => 8 wrong-sort
 rule q : forall a:color . b = a => 6 duplicate-name
-rule q : forall x:n . x = e -> a = b => 20 not-yet
+rule ab : a = c => 17 duplicate-rule
+rule ab : a = 1 => 8 wrong-sort
+drop zz => 18 no-rule
 budget 0 => 11 limit budget
 budget 1000000000001 => 11 limit budget
-budget 1000000000000 => 20 not-yet
 why d = red => 5 unknown-name
 why a != 1 => 8 wrong-sort
-why a != red => 20 not-yet
-drop ab => 20 not-yet
-json => 20 not-yet
 ";
 
 #[test]
@@ -564,6 +594,71 @@ fn commands_at_fault(rt: HostRuntime) -> Result<(), Fail> {
     }
     for row in SORTED_COMMANDS.lines() {
         assert!(rt; is_refused(rt.alloc(), &SORTED_COMMAND, row)?, "{row}");
+    }
+    Ok(())
+}
+
+// Pigeons that don't fit, under a budget that is spent before that shows; a sheet that is loaded within so many
+// propagations, and an edit of it that isn't, until the budget is raised.
+const BUDGETS: &str = "\
+replay --budget 50
+sheet 1
+sort pigeon = 1 .. 7
+sort hole = 1 .. 6
+cell nest(pigeon) : hole
+rule apart : forall x:pigeon . forall y:pigeon . x = y | nest(x) != nest(y)
+begin
+--- SheetRefused
+sheet refused 14 spent placed=50 learned=0 calls=1
+===
+replay --budget=157688
+sheet 1
+sort color = red green
+cell a : color
+cell b : color
+cell c : color
+rule ab : a = b
+rule bc : b = c
+begin
+show
+budget 1
+enter a = red
+show
+enter a = red
+budget 157688
+enter a = red
+show
+--- SomeRefused
+a : -
+b : -
+c : -
+ok
+refused 14 spent placed=1 learned=0 calls=1
+a : -
+b : -
+c : -
+refused 14 spent placed=1 learned=0 calls=1
+ok
+ok
+a : red
+  = red because a = red
+b : -
+  = red because a = red
+c : -
+  = red because a = red
+";
+
+// Whether a run with the words of the first line over the further ones ends as the block says.
+fn is_within(alloc: Global, block: &str) -> Result<bool, AllocError> {
+    let (words, rest) = block.split_once('\n').unwrap_or((block, ""));
+    let (input, want) = rest.split_once("--- ").unwrap_or((rest, ""));
+    ends_so(alloc, words, b"", input.as_bytes(), want)
+}
+
+#[test]
+fn budgets(rt: HostRuntime) -> Result<(), Fail> {
+    for block in BUDGETS.split("===\n") {
+        assert!(rt; is_within(rt.alloc(), block)?, "{block}");
     }
     Ok(())
 }
@@ -609,45 +704,5 @@ fn cut_sheets(rt: HostRuntime) -> Result<(), Fail> {
     for end in 0..sheet.len() - 1 {
         assert!(rt; is_cut_sheet(rt.alloc(), &sheet[..end])?, "{end}");
     }
-    Ok(())
-}
-
-// So many lines, numbered from 1.
-fn numbered(alloc: Global, before: &str, count: u32, after: &str) -> Result<String, AllocError> {
-    let mut lines = String::new(alloc);
-    for number in 1..=count {
-        let line = format!(in alloc; "{before}{number}{after}\n")?;
-        lines.push_str(line.as_str())?;
-    }
-    Ok(lines)
-}
-
-// A sheet of so many cells, which is shown.
-fn many_cells(alloc: Global, count: u32) -> Result<String, AllocError> {
-    let cells = numbered(alloc, "cell c", count, " : t")?;
-    format!(in alloc; "sheet 1\nsort t = y n\n{cells}begin\nshow\nenter c1 = y\n")
-}
-
-// Twelve cells of two values can be tried without entries, and no more.
-fn twelve_and_no_more(alloc: Global) -> Result<bool, AllocError> {
-    let shown = numbered(alloc, "c", 12, " : -")?;
-    let want = format!(in alloc; "SomeRefused\n{shown}refused 20 not-yet\n")?;
-    let twelve = many_cells(alloc, 12)?;
-    let thirteen = many_cells(alloc, 13)?;
-    Ok(
-        ends_so(alloc, "replay", b"", twelve.as_bytes(), want.as_str())?
-            && ends_so(
-                alloc,
-                "replay",
-                b"",
-                thirteen.as_bytes(),
-                "SheetRefused\nsheet refused 20 not-yet\n",
-            )?,
-    )
-}
-
-#[test]
-fn the_largest_sheet_to_try(rt: HostRuntime) -> Result<(), Fail> {
-    assert!(rt; twelve_and_no_more(rt.alloc())?);
     Ok(())
 }
