@@ -3,15 +3,20 @@
 #![tactic(auto)]
 
 use pc_port::{MemorySink, MemorySource, RealShelf, Shelf, ShelfFault};
-use pc_replay::{Status, run};
+use pc_replay::{Spendings, Status, run};
 use std::alloc::{AllocError, Global};
 use std::io;
 
 /// The most bytes that an example prints.
-const ROOM: usize = 4096;
+const ROOM: usize = 16384;
 
 /// The words of a run, the files that its input is made of, and the file that has what it prints.
-const EXAMPLES: [(&str, &[&str], &str); 5] = [
+const EXAMPLES: [(&str, &[&str], &str); 8] = [
+    (
+        "replay",
+        &["clinic.sheet", "clinic.commands"],
+        "clinic.display",
+    ),
     (
         "replay",
         &["configurator.sheet", "configurator.commands"],
@@ -21,6 +26,16 @@ const EXAMPLES: [(&str, &[&str], &str); 5] = [
         "replay",
         &["roster.sheet", "roster.commands"],
         "roster.display",
+    ),
+    (
+        "replay",
+        &["school.sheet", "school.commands"],
+        "school.display",
+    ),
+    (
+        "replay",
+        &["server.sheet", "server.commands"],
+        "server.display",
     ),
     (
         "replay",
@@ -67,7 +82,8 @@ fn prints<H: Shelf>(
     let bytes = read_all(alloc, shelf, input)?;
     let mut source = MemorySource::new(bytes, ROOM, Vec::new(alloc));
     let mut sink = MemorySink::new(alloc, ROOM, Vec::new(alloc))?;
-    let status = run(alloc, &words, &mut source, shelf, &mut sink);
+    let mut spent = Spendings::new(alloc);
+    let status = run(alloc, &words, &mut source, shelf, &mut sink, &mut spent);
     let printed = read_all(alloc, shelf, &[text])?;
     Ok((status, sink.bytes() == printed.as_slice()))
 }
