@@ -33,6 +33,3 @@ pub use read::read_cert;
 
 /// The most bytes that the text of a certificate may have.
 pub const CERT_LIMIT: usize = 67_108_864;
-
-#[cfg(test)]
-mod tests;

@@ -15,6 +15,3 @@ pub use law::sheets_are_well_formed;
 pub use pc_elaborate::{SortFault, Which, find_cell, find_value};
 pub use rule::check_rule;
 pub use sheet::check_sheet;
-
-#[cfg(test)]
-mod tests;

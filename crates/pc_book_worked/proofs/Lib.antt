@@ -1,0 +1,2 @@
+mod NewName
+mod WithRule
