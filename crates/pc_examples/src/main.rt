@@ -10,45 +10,17 @@ use std::io;
 /// The most bytes that an example prints.
 const ROOM: usize = 16384;
 
-/// The words of a run, the files that its input is made of, and the file that has what it prints.
-const EXAMPLES: [(&str, &[&str], &str); 8] = [
-    (
-        "replay",
-        &["clinic.sheet", "clinic.commands"],
-        "clinic.display",
-    ),
-    (
-        "replay",
-        &["configurator.sheet", "configurator.commands"],
-        "configurator.display",
-    ),
-    (
-        "replay",
-        &["roster.sheet", "roster.commands"],
-        "roster.display",
-    ),
-    (
-        "replay",
-        &["school.sheet", "school.commands"],
-        "school.display",
-    ),
-    (
-        "replay",
-        &["server.sheet", "server.commands"],
-        "server.display",
-    ),
-    (
-        "replay",
-        &["timetable.sheet", "timetable.commands"],
-        "timetable.display",
-    ),
-    ("replay", &["trip.sheet", "trip.commands"], "trip.display"),
-    (
-        "check weekend.sheet",
-        &["weekend.certificate"],
-        "weekend.display",
-    ),
-];
+/// The words of each run, the files that its input is made of, and the file that has what it prints.
+const EXAMPLES: &str = "\
+replay; clinic.sheet clinic.commands; clinic.display
+replay; configurator.sheet configurator.commands; configurator.display
+replay; roster.sheet roster.commands; roster.display
+replay; school.sheet school.commands; school.display
+replay; server.sheet server.commands; server.display
+replay; timetable.sheet timetable.commands; timetable.display
+replay; trip.sheet trip.commands; trip.display
+check weekend.sheet; weekend.certificate; weekend.display
+";
 
 // The words, parted by spaces.
 fn parted(alloc: Global, text: &str) -> Result<Vec<String>, AllocError> {
@@ -59,11 +31,11 @@ fn parted(alloc: Global, text: &str) -> Result<Vec<String>, AllocError> {
     Ok(words)
 }
 
-// The bytes of the files, one after the other.
-fn read_all<H: Shelf>(alloc: Global, shelf: &mut H, names: &[&str]) -> Result<Vec<u8>, ShelfFault> {
+// The bytes of the files of these names, one after the other.
+fn read_all<H: Shelf>(alloc: Global, shelf: &mut H, names: &str) -> Result<Vec<u8>, ShelfFault> {
     let mut bytes = Vec::new(alloc);
     let mut file = Vec::new(alloc);
-    for name in names {
+    for name in names.split(' ') {
         shelf.read(alloc, name, &mut file)?;
         bytes.extend_from_slice(&file)?;
     }
@@ -75,7 +47,7 @@ fn prints<H: Shelf>(
     alloc: Global,
     shelf: &mut H,
     words: &str,
-    input: &[&str],
+    input: &str,
     text: &str,
 ) -> Result<(Status, bool), ShelfFault> {
     let words = parted(alloc, words)?;
@@ -84,13 +56,15 @@ fn prints<H: Shelf>(
     let mut sink = MemorySink::new(alloc, ROOM, Vec::new(alloc))?;
     let mut spent = Spendings::new(alloc);
     let status = run(alloc, &words, &mut source, shelf, &mut sink, &mut spent);
-    let printed = read_all(alloc, shelf, &[text])?;
+    let printed = read_all(alloc, shelf, text)?;
     Ok((status, sink.bytes() == printed.as_slice()))
 }
 
 fn main(rt: HostRuntime) -> io::Result<()> {
     let mut shelf = RealShelf::new(rt.alloc(), &rt);
-    for (words, input, text) in EXAMPLES {
+    for example in EXAMPLES.lines() {
+        let (words, files) = example.split_once("; ").unwrap_or((example, ""));
+        let (input, text) = files.split_once("; ").unwrap_or((files, ""));
         match prints(rt.alloc(), &mut shelf, words, input, text) {
             Ok((status, true)) => println!(rt; "{text} status {}", status.number())?,
             Ok((status, false)) => println!(rt; "{text} differs, status {}", status.number())?,

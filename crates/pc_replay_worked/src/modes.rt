@@ -22,6 +22,7 @@ replay --budget 1000;sheet 1|begin|show => Done|
 replay --budget 0;sheet 1|begin|show => Usage|@
 demo 1;show => Done|loaded cells 4 entries 2 conflicts 0 implied 3|cleared cells 4 entries 1 conflicts 0 implied 3|
 demo 2;show => Done|loaded cells 8 entries 4 conflicts 2 implied 9|cleared cells 8 entries 2 conflicts 0 implied 6|
+demo 3; => Done|loaded cells 12 entries 6 conflicts 2 implied 12|cleared cells 12 entries 3 conflicts 0 implied 9|
 --budget 100000 demo 200; => Done|loaded cells 800 entries 400 conflicts 134 implied 801|cleared cells 800 entries 200 conflicts 0 implied 600|
 demo 1 --budget 1; => SheetRefused|sheet refused 14 spent placed=1 learned=0 calls=
 demo 257; => Usage|@

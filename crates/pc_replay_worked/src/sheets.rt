@@ -210,6 +210,18 @@ b : -
 c : red
   = red because c = red
 ===
+enter a = red
+enter c = red
+budget 1
+clear c
+enter a = red
+--- Done
+ok
+ok
+ok
+ok
+ok
+===
 enter c = red
 enter a = green
 enter b = red
