@@ -12,8 +12,8 @@ ghost use Rattle.pc_solver.specs.inside.Search.{IsSearch, KnowsAll, AssumesFirst
 
 use crate::clauses::Clauses;
 use crate::decisions::put_back;
-use crate::preferences::Preferences;
 use pc_lits::{Lit, Var};
+use pc_preferences::Preferences;
 use pc_propagate::Trail;
 use pc_propagate::laws::quiet_is_kept;
 use std::alloc::AllocError;

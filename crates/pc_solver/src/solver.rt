@@ -13,12 +13,12 @@ ghost use Rattle.pc_solver.specs.Solver.{SolverView, IsProblem, AreOwn, HasLog, 
 
 use crate::clauses::Clauses;
 use crate::outcome::Outcome;
-use crate::preferences::Preferences;
 use crate::preparing::prepare;
 use crate::search::search_to_an_end;
 use pc_lits::{ClauseStore, Lit, Tally, Var};
 use pc_log::Log;
 use pc_log::laws::derivations_are_sound;
+use pc_preferences::Preferences;
 use pc_propagate::{ClauseRef, Trail};
 use std::alloc::{AllocError, Global};
 use std::marker::Model;

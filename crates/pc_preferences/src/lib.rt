@@ -1,0 +1,7 @@
+//! What a search prefers: which variable it decides next, and when it begins anew. No contract rests on any of it.
+#![tactic(auto)]
+
+mod order;
+pub mod preferences;
+
+pub use preferences::Preferences;

@@ -1,0 +1,108 @@
+//! What a search prefers: the variable that it decides next, and when it begins anew.
+//!
+//! Activities as in Chaff and MiniSat: a variable's activity is at first the number of its literals in the used axioms. It rises
+//! at each literal that the analysis of a conflict meets, and later conflicts count for more. Restarts come at the conflict
+//! counts of Luby, Sinclair and Zuckerman, found by Knuth's reluctant doubling. No contract rests on any of it. A variable is
+//! found among the own ones by halving, so that where these don't rise, some are left out.
+
+use crate::order::{Order, SCALE};
+use pc_lits::{Lit, Var};
+use std::alloc::{AllocError, Global};
+
+// Past this step all activities are made smaller. The first step is `SCALE`.
+const LARGEST_STEP: u64 = 281_474_976_710_656;
+
+// How many conflicts the shortest run has.
+const SHORTEST_RUN: u64 = 512;
+
+/// The activities of the own variables, and the length of runs.
+#[derive(Drop)]
+pub struct Preferences {
+    order: Order,
+    step: u64,
+    // how many conflicts are left of this run
+    left: u64,
+    runs: u64,
+    length: u64,
+}
+
+impl Preferences {
+    /// No activity yet, for so many own variables. It takes all the memory that it will need.
+    pub fn new(alloc: Global, own: usize) -> Result<Preferences, AllocError> {
+        let order = Order::new(alloc, own)?;
+        Ok(Preferences {
+            order,
+            step: SCALE,
+            left: SHORTEST_RUN,
+            runs: 1,
+            length: 1,
+        })
+    }
+
+    /// Raises the variable's activity.
+    pub fn raise(&mut self, own: &[Var], variable: Var) {
+        if let Ok(place) = own.binary_search(&variable) {
+            self.order.raise(place, self.step);
+        }
+    }
+
+    /// Raises the activity of each literal's variable.
+    pub fn raise_all(&mut self, own: &[Var], clause: &[Lit]) {
+        for lit in clause {
+            self.raise(own, lit.var());
+        }
+    }
+
+    /// The place among the own variables of the most active one that may be decided.
+    pub fn first(&self) -> Option<usize> {
+        self.order.top()
+    }
+
+    /// The most active variable that may be decided has a value: it isn't to be decided until it is put back.
+    pub fn drop_first(&mut self) {
+        self.order.drop_top();
+    }
+
+    /// The variable loses its value, and may be decided again.
+    pub fn put_back(&mut self, own: &[Var], variable: Var) {
+        if let Ok(place) = own.binary_search(&variable) {
+            self.order.put_back(place);
+        }
+    }
+
+    /// No variable has a value any more.
+    pub fn put_all_back(&mut self) {
+        self.order.put_all_back();
+    }
+
+    /// Counts a conflict, and answers whether the search is to begin anew.
+    pub fn note_conflict(&mut self) -> bool {
+        self.step = self.step.saturating_add(self.step / 12);
+        if self.step > LARGEST_STEP {
+            self.make_smaller();
+        }
+        self.left = self.left.saturating_sub(1);
+        if self.left > 0 {
+            return false;
+        }
+        self.begin_run();
+        true
+    }
+
+    // Divides all activities, and the step with them.
+    fn make_smaller(&mut self) {
+        self.order.make_smaller();
+        self.step /= SCALE;
+    }
+
+    // The next run's length.
+    fn begin_run(&mut self) {
+        if self.runs & self.runs.wrapping_neg() == self.length {
+            self.runs = self.runs.wrapping_add(1);
+            self.length = 1;
+        } else {
+            self.length = self.length.saturating_mul(2);
+        }
+        self.left = self.length.saturating_mul(SHORTEST_RUN);
+    }
+}
