@@ -88,6 +88,6 @@ pub fn demo<O: Sink>(
     };
     match Spreadsheet::load(alloc, &text, budget, notes) {
         Ok(mut machine) => start(alloc, &mut machine, blocks, notes, out),
-        Err(stop) => tell_stop::<Spreadsheet, O>(&stop, out),
+        Err(stop) => tell_stop::<Spreadsheet, O>(alloc, &stop, out),
     }
 }

@@ -146,15 +146,15 @@ fn each_status(rt: HostRuntime) -> Result<(), Fail> {
     Ok(())
 }
 
-// The read and the write that fail, how the run ends, and what is written.
+// The read and the write that fail, how the run ends, and what is written: the refusal, which is made of pieces, in one write.
 const FAULTS: &str = "\
 1 9 => ReadFault/
 2 9 => ReadFault/
 3 9 => ReadFault/
-4 9 => ReadFault/none/
+4 9 => ReadFault/refused 18 no-rule/
 9 1 => WriteFault/
-9 2 => WriteFault/none/
-9 9 => Done/none/ok/
+9 2 => WriteFault/refused 18 no-rule/
+9 9 => SomeRefused/refused 18 no-rule/ok/
 ";
 
 // Whether a run with the faults of a row ends as the row says.
@@ -164,7 +164,7 @@ fn is_stopped(alloc: Global, row: &str) -> Result<bool, AllocError> {
     let (read, write) = faults.split_once(' ').unwrap_or(("", ""));
     let reads = vec![in alloc; read.parse::<u64>().unwrap_or(0)]?;
     let writes = vec![in alloc; write.parse::<u64>().unwrap_or(0)]?;
-    let source = MemorySource::new(b"begin\nshow\ncount".to_vec(alloc)?, 5, reads);
+    let source = MemorySource::new(b"begin\nfool\ncount".to_vec(alloc)?, 5, reads);
     let out = MemorySink::new(alloc, 4096, writes)?;
     ends_so::<Counter>(alloc, source, out, want)
 }

@@ -4,3 +4,4 @@ pub mod SheetLines
 pub mod Courses
 pub mod Contents
 pub mod EditCourses
+pub mod InOneWrite

@@ -4,6 +4,7 @@ ghost use Rattle.pc_port.specs.Port.{Rose};
 ghost use Rattle.pc_lines.specs.Reader.{coming};
 ghost use Rattle.pc_run.specs.Run.{Answers};
 
+use crate::gathered::take_room;
 use crate::machine::Machine;
 use crate::serve::{Marks, serve};
 use crate::tell::tell_too_long;
@@ -27,17 +28,34 @@ pub(crate) fn answer_all<M: Machine, I: Source, O: Sink>(
     ensures no_read_fault { result ≢ Status.ReadFault → I.faults input.new ≡ I.faults input.old }
     ensures write_fault { result ≡ Status.WriteFault → Rose (O.faults out.old) (O.faults out.new) }
 {
+    let mut room = take_room(alloc);
     let mut marks = Marks::new();
     for _ in 0..MAX_LINES {
         match reader.next(input, LINE_LIMIT) {
             Err(Failed) => return Status::ReadFault,
             Ok(Taken::End) => return marks.status(),
             Ok(Taken::TooLong) => return tell_too_long(out),
-            Ok(Taken::Line) => match serve(machine, notes, &mut marks, alloc, reader.text(), out) {
+            Ok(Taken::Line) => match serve(
+                machine,
+                notes,
+                &mut marks,
+                alloc,
+                reader.text(),
+                &mut room,
+                out,
+            ) {
                 Ok(()) => {}
                 Err(Failed) => return Status::WriteFault,
             },
-            Ok(Taken::Last) => match serve(machine, notes, &mut marks, alloc, reader.text(), out) {
+            Ok(Taken::Last) => match serve(
+                machine,
+                notes,
+                &mut marks,
+                alloc,
+                reader.text(),
+                &mut room,
+                out,
+            ) {
                 Ok(()) => return marks.status(),
                 Err(Failed) => return Status::WriteFault,
             },

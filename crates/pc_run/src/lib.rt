@@ -9,6 +9,7 @@
 mod commands;
 mod editing;
 mod file;
+mod gathered;
 mod machine;
 mod refusal;
 mod run;

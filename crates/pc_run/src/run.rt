@@ -35,7 +35,7 @@ pub(crate) fn open<M: Machine, I: Source, O: Sink>(
 {
     match M::load(alloc, sheet, budget, notes) {
         Ok(mut machine) => answer_all(alloc, reader, &mut machine, notes, input, out),
-        Err(stop) => tell_stop::<M, O>(&stop, out),
+        Err(stop) => tell_stop::<M, O>(alloc, &stop, out),
     }
 }
 

@@ -4,9 +4,11 @@ ghost use Rattle.pc_port.specs.Port.{HasCause, WriteGives};
 ghost use Rattle.pc_run.specs.Answer.{Answer, CanBeTold, IsAnswer, IsMarked, Serves, ServesInPart, text_of};
 ghost use Rattle.pc_run.specs.Transcript.{worse_of};
 
+use crate::gathered::print_gathered;
 use crate::machine::{Machine, Reply};
 use crate::showing::print_refusal;
 use crate::{LINE_LIMIT, Status};
+use pc_gather::Gathering;
 use pc_port::{Failed, Sink};
 use std::alloc::Global;
 
@@ -64,7 +66,7 @@ pub fn marked<M: Machine>(machine: &M, marks: Marks, reply: &Reply<M::Page, M::P
     }
 }
 
-/// Writes what is told of a reply.
+/// Writes what is told of a reply, piece by piece.
 pub fn print<M: Machine, O: Sink>(
     machine: &M,
     reply: &Reply<M::Page, M::Proof>,
@@ -90,6 +92,7 @@ pub(crate) fn serve<M: Machine, O: Sink>(
     marks: &mut Marks,
     alloc: Global,
     line: &[u8],
+    room: &mut Gathering,
     out: &mut O,
 ) -> Result<(), Failed>
     requires { length line.now ≤ LINE_LIMIT }
@@ -99,5 +102,5 @@ pub(crate) fn serve<M: Machine, O: Sink>(
 {
     let reply = machine.decide(alloc, line, notes);
     *marks = marked(machine, *marks, &reply);
-    print(machine, &reply, out)
+    print_gathered(machine, &reply, room, out)
 }

@@ -7,10 +7,12 @@ ghost use Rattle.pc_run.specs.Run.{Tells, TellsStop};
 ghost use Rattle.pc_writer.specs.Writes.{Writes};
 
 use crate::Status;
+use crate::gathered::{print_sheet_refusal_gathered, take_room};
 use crate::machine::{LoadStop, Machine};
 use crate::refusal::{Refusal, SheetRefusal, write_refusal, write_sheet_refusal};
 use crate::tell::tell_no_memory_for_sheet;
 use pc_port::{Failed, Sink};
+use std::alloc::Global;
 
 // What follows a refusal has a text. Nothing is done.
 fn has_text<M: Machine>(proof: &Option<M::Proof>)
@@ -45,8 +47,8 @@ pub(crate) fn print_refusal<M: Machine, O: Sink>(
     write_proof::<M, O>(proof, out)
 }
 
-// Tells that a sheet is refused, and then what shows that this is right.
-fn print_sheet_refusal<M: Machine, O: Sink>(
+/// Tells that a sheet is refused, and then what shows that this is right.
+pub(crate) fn print_sheet_refusal<M: Machine, O: Sink>(
     refused: SheetRefusal,
     proof: &Option<M::Proof>,
     out: &mut O,
@@ -60,6 +62,7 @@ fn print_sheet_refusal<M: Machine, O: Sink>(
 
 // Ends a run by the refusal of its sheet, and what shows that this is right.
 fn refuse_showing<M: Machine, O: Sink>(
+    alloc: Global,
     refused: SheetRefusal,
     proof: &Option<M::Proof>,
     out: &mut O,
@@ -67,20 +70,25 @@ fn refuse_showing<M: Machine, O: Sink>(
     ensures told { (more : List ℕ) × Follows M.IsProof proof.now more × Tells Status.SheetRefused (sheet_refusal_text refused ++ more) result (O.given out.old) (O.given out.new) }
     ensures fault { result ≡ Status.WriteFault → Rose (O.faults out.old) (O.faults out.new) }
 {
-    match print_sheet_refusal::<M, O>(refused, proof, out) {
+    let mut room = take_room(alloc);
+    match print_sheet_refusal_gathered::<M, O>(refused, proof, &mut room, out) {
         Ok(()) => Status::SheetRefused,
         Err(Failed) => Status::WriteFault,
     }
 }
 
 /// Ends a run whose machine makes no state of the sheet.
-pub fn tell_stop<M: Machine, O: Sink>(stop: &LoadStop<M::Proof>, out: &mut O) -> Status
+pub fn tell_stop<M: Machine, O: Sink>(
+    alloc: Global,
+    stop: &LoadStop<M::Proof>,
+    out: &mut O,
+) -> Status
     ensures told { TellsStop M.IsProof stop.now result (O.given out.old) (O.given out.new) }
     ensures read { result ≢ Status.ReadFault }
     ensures fault { result ≡ Status.WriteFault → Rose (O.faults out.old) (O.faults out.new) }
 {
     match stop {
-        LoadStop::Refused(refused, proof) => refuse_showing::<M, O>(*refused, proof, out),
+        LoadStop::Refused(refused, proof) => refuse_showing::<M, O>(alloc, *refused, proof, out),
         LoadStop::Memory => tell_no_memory_for_sheet(out),
     }
 }

@@ -109,8 +109,8 @@ returns-in-Ok-Line-next-clause-answers g c =
     past_limit g.M.Machine.Allows (c.args.machine.now, c.args.notes.now) (c.loop.machine, c.loop.notes) c.loop.marks _ _ _ _ _ c.loop.counter c.next-2.new.self.held (g.I.Source.left c.next-2.new.source) c.next-2.new.self.line c.tell_too_long-in-Ok-Line-next.result c.loop.invariant.progress within c.next-2.ensures.takes (inr (all, inl got, some)) c.next-2.ensures.few
     c.tell_too_long-in-Ok-Line-next.ensures.told
 
-pub returns-in-Ok-Last-next-clause-answers : goal.returns-in-Ok-Last-next-clause-answers
-returns-in-Ok-Last-next-clause-answers g c =
+pub returns-clause-answers : goal.returns-clause-answers
+returns-clause-answers g c =
     let got = rw c.in-Ok-Last-next.field-0-is at c.in-Ok-Last-next.ensures.taken in
     let all : c.loop.counter ≡ MAX_LINES = omega arith in
     let within : c.loop.counter ≤ MAX_LINES = omega arith in
