@@ -18,6 +18,3 @@ pub use values::{
     read_cell, read_integer, read_name_arguments, read_names, read_number, read_value, read_values,
 };
 pub use words::{Quantifier, Words, has_short_names};
-
-#[cfg(test)]
-mod tests;

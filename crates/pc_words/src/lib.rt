@@ -12,6 +12,3 @@ mod word;
 pub use asked::{Mode, Request, WordsFault};
 pub use law::{words_are_worked, words_fit_one_request};
 pub use reading::read;
-
-#[cfg(test)]
-mod tests;
