@@ -1,5 +1,5 @@
 //! A demonstration, from its number of blocks to its status.
-ghost use Rattle.std.specs.Prelude.{◌≡◌, ◌≤◌, ℕ, List, codes};
+ghost use Rattle.std.specs.Prelude.{◌≡◌, ◌≢◌, ◌≤◌, ℕ, List, codes};
 ghost use Rattle.pc_port.specs.Port.{Rose};
 ghost use Rattle.pc_run.specs.Run.{Tells};
 ghost use Rattle.pc_run.specs.Transcript.{worse_of};
@@ -20,6 +20,7 @@ use std::alloc::Global;
 fn finish<O: Sink>(machine: &Spreadsheet, marks: Marks, out: &mut O) -> Status
     ensures told { (text : List ℕ) × SumsUp (codes "cleared") machine.now.sheet text × Tells (worse_of marks.no_memory marks.refused) text result (O.given out.old) (O.given out.new) }
     ensures fault { result ≡ Status.WriteFault → Rose (O.faults out.old) (O.faults out.new) }
+    ensures no_fault { result ≢ Status.WriteFault → O.faults out.new ≡ O.faults out.old }
 {
     match write_summary(b"cleared", machine.summary(), out) {
         Ok(()) => marks.status(),
@@ -38,6 +39,7 @@ fn go_on<O: Sink>(
     requires { blocks ≤ 256 }
     ensures goes { GoesOn blocks (machine.old, notes.old) (machine.new, notes.new) result (O.given out.old) (O.given out.new) }
     ensures fault { result ≡ Status.WriteFault → Rose (O.faults out.old) (O.faults out.new) }
+    ensures no_fault { result ≢ Status.WriteFault → O.faults out.new ≡ O.faults out.old }
 {
     match clear_all(alloc, machine, blocks, notes, out) {
         Ok(marks) => finish(machine, marks, out),
@@ -56,6 +58,7 @@ fn start<O: Sink>(
     requires { blocks ≤ 256 }
     ensures begins { Begins blocks (machine.old, notes.old) (machine.new, notes.new) result (O.given out.old) (O.given out.new) }
     ensures fault { result ≡ Status.WriteFault → Rose (O.faults out.old) (O.faults out.new) }
+    ensures no_fault { result ≢ Status.WriteFault → O.faults out.new ≡ O.faults out.old }
 {
     match write_summary(b"loaded", machine.summary(), out) {
         Ok(()) => go_on(alloc, machine, blocks, notes, out),
@@ -80,6 +83,7 @@ pub fn demo<O: Sink>(
     requires at_most { budget ≤ MOST_BUDGET }
     ensures demonstrated { Demonstrated blocks budget result notes.old notes.new (O.given out.old) (O.given out.new) }
     ensures write_fault { result ≡ Status.WriteFault → Rose (O.faults out.old) (O.faults out.new) }
+    ensures no_write_fault { result ≢ Status.WriteFault → O.faults out.new ≡ O.faults out.old }
 {
     generated_texts_read_back();
     texts_have_one_outcome();

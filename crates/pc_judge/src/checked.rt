@@ -26,6 +26,7 @@ fn check_text<O: Sink>(alloc: Global, book: &Book, text: &[u8], out: &mut O) -> 
         → CheckedFor book.now result source rest (O.given out.old) (O.given out.new) }
     ensures read { result ≢ Status.ReadFault }
     ensures write_fault { result ≡ Status.WriteFault → Rose (O.faults out.old) (O.faults out.new) }
+    ensures no_write_fault { result ≢ Status.WriteFault → O.faults out.new ≡ O.faults out.old }
 {
     match judge(alloc, book, text) {
         Ok(told) => match write_told(book, told, out) {
@@ -42,6 +43,7 @@ fn check_input<I: Source, O: Sink>(alloc: Global, book: &Book, input: &mut I, ou
     ensures read_fault { result ≡ Status.ReadFault → Rose (I.faults input.old) (I.faults input.new) }
     ensures no_read_fault { result ≢ Status.ReadFault → I.faults input.new ≡ I.faults input.old }
     ensures write_fault { result ≡ Status.WriteFault → Rose (O.faults out.old) (O.faults out.new) }
+    ensures no_write_fault { result ≢ Status.WriteFault → O.faults out.new ≡ O.faults out.old }
 {
     match take_all(alloc, input) {
         Ok(text) => check_text(alloc, book, &text, out),
@@ -64,6 +66,7 @@ fn check_sheet<I: Source, O: Sink>(
     ensures read_fault { result ≡ Status.ReadFault → Rose (I.faults input.old) (I.faults input.new) }
     ensures no_read_fault { result ≢ Status.ReadFault → I.faults input.new ≡ I.faults input.old }
     ensures write_fault { result ≡ Status.WriteFault → Rose (O.faults out.old) (O.faults out.new) }
+    ensures no_write_fault { result ≢ Status.WriteFault → O.faults out.new ≡ O.faults out.old }
 {
     match load_book(alloc, sheet) {
         Ok(book) => check_input(alloc, &book, input, out),
@@ -93,6 +96,7 @@ pub fn check_file<I: Source, H: Shelf, O: Sink>(
     ensures read_fault { result ≡ Status.ReadFault → FailsToRead I.faults input.old input.new (H.faults shelf.old) (H.faults shelf.new) }
     ensures no_read_fault { result ≢ Status.ReadFault → (I.faults input.new ≡ I.faults input.old) × (H.faults shelf.new ≡ H.faults shelf.old) }
     ensures write_fault { result ≡ Status.WriteFault → Rose (O.faults out.old) (O.faults out.new) }
+    ensures no_write_fault { result ≢ Status.WriteFault → O.faults out.new ≡ O.faults out.old }
 {
     match take_file(alloc, file, shelf) {
         Ok(sheet) => check_sheet(alloc, &sheet, input, out),

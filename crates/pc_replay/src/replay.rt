@@ -19,6 +19,7 @@ const USAGE: &[u8] = b"usage: predicalc replay / edit FILE / check FILE / demo N
 fn tell_usage<O: Sink>(out: &mut O) -> Status
     ensures told { Tells Status.Usage usage_text result (O.given out.old) (O.given out.new) }
     ensures fault { result ≡ Status.WriteFault → Rose (O.faults out.old) (O.faults out.new) }
+    ensures no_fault { result ≢ Status.WriteFault → O.faults out.new ≡ O.faults out.old }
 {
     end_with(Status::Usage, USAGE, out)
 }
@@ -43,6 +44,7 @@ fn run_request<I: Source, H: Shelf, O: Sink>(
     ensures read_fault { result ≡ Status.ReadFault → (Rose (I.faults input.old) (I.faults input.new) × (H.faults shelf.new ≡ H.faults shelf.old))
         ⊎ (HasFile (mode_of request.entry.mode) × Rose (H.faults shelf.old) (H.faults shelf.new) × (input.new ≡ input.old)) }
     ensures write_fault { result ≡ Status.WriteFault → Rose (O.faults out.old) (O.faults out.new) }
+    ensures no_write_fault { result ≢ Status.WriteFault → O.faults out.new ≡ O.faults out.old }
 {
     let budget = request.budget;
     match request.mode {
@@ -87,6 +89,7 @@ pub fn run<I: Source, H: Shelf, O: Sink>(
     ensures no_read_fault { result ≢ Status.ReadFault → (I.faults input.new ≡ I.faults input.old) × (H.faults shelf.new ≡ H.faults shelf.old) }
     ensures read_fault { result ≡ Status.ReadFault → ReadsAtFault (map string_bytes words.now) I.faults input.old input.new (H.faults shelf.old) (H.faults shelf.new) }
     ensures write_fault { result ≡ Status.WriteFault → Rose (O.faults out.old) (O.faults out.new) }
+    ensures no_write_fault { result ≢ Status.WriteFault → O.faults out.new ≡ O.faults out.old }
 {
     match read(alloc, words) {
         Ok(request) => run_request(alloc, request, input, shelf, out, spent),

@@ -38,6 +38,7 @@ pub fn edit<M: Machine, I: Source, H: Shelf, O: Sink>(
     ensures read_fault { result ≡ Status.ReadFault → FailsToRead I.faults input.old input.new (H.faults shelf.old) (H.faults shelf.new) }
     ensures no_read_fault { result ≢ Status.ReadFault → (I.faults input.new ≡ I.faults input.old) × (H.faults shelf.new ≡ H.faults shelf.old) }
     ensures write_fault { result ≡ Status.WriteFault → Rose (O.faults out.old) (O.faults out.new) }
+    ensures no_write_fault { result ≢ Status.WriteFault → O.faults out.new ≡ O.faults out.old }
 {
     let Ok(mut reader) = LineReader::new(alloc, LINE_LIMIT) else {
         return tell_no_memory(out);

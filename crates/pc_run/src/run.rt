@@ -32,6 +32,7 @@ pub(crate) fn open<M: Machine, I: Source, O: Sink>(
     ensures read_fault { result ≡ Status.ReadFault → Rose (I.faults input.old) (I.faults input.new) }
     ensures no_read_fault { result ≢ Status.ReadFault → I.faults input.new ≡ I.faults input.old }
     ensures write_fault { result ≡ Status.WriteFault → Rose (O.faults out.old) (O.faults out.new) }
+    ensures no_write_fault { result ≢ Status.WriteFault → O.faults out.new ≡ O.faults out.old }
 {
     match M::load(alloc, sheet, budget, notes) {
         Ok(mut machine) => answer_all(alloc, reader, &mut machine, notes, input, out),
@@ -55,6 +56,7 @@ fn replay_from<M: Machine, I: Source, O: Sink>(
     ensures read_fault { result ≡ Status.ReadFault → Rose (I.faults input.old) (I.faults input.new) }
     ensures no_read_fault { result ≢ Status.ReadFault → I.faults input.new ≡ I.faults input.old }
     ensures write_fault { result ≡ Status.WriteFault → Rose (O.faults out.old) (O.faults out.new) }
+    ensures no_write_fault { result ≢ Status.WriteFault → O.faults out.new ≡ O.faults out.old }
 {
     match take_sheet(alloc, reader, input) {
         Ok(sheet) => open::<M, I, O>(alloc, budget, &sheet, reader, notes, input, out),
@@ -84,6 +86,7 @@ pub fn replay<M: Machine, I: Source, O: Sink>(
     ensures read_fault { result ≡ Status.ReadFault → Rose (I.faults input.old) (I.faults input.new) }
     ensures no_read_fault { result ≢ Status.ReadFault → I.faults input.new ≡ I.faults input.old }
     ensures write_fault { result ≡ Status.WriteFault → Rose (O.faults out.old) (O.faults out.new) }
+    ensures no_write_fault { result ≢ Status.WriteFault → O.faults out.new ≡ O.faults out.old }
 {
     let Ok(mut reader) = LineReader::new(alloc, SHEET_LIMIT) else {
         return tell_no_memory(out);

@@ -69,6 +69,7 @@ fn refuse_showing<M: Machine, O: Sink>(
 ) -> Status
     ensures told { (more : List ℕ) × Follows M.IsProof proof.now more × Tells Status.SheetRefused (sheet_refusal_text refused ++ more) result (O.given out.old) (O.given out.new) }
     ensures fault { result ≡ Status.WriteFault → Rose (O.faults out.old) (O.faults out.new) }
+    ensures no_fault { result ≢ Status.WriteFault → O.faults out.new ≡ O.faults out.old }
 {
     let mut room = take_room(alloc);
     match print_sheet_refusal_gathered::<M, O>(refused, proof, &mut room, out) {
@@ -86,6 +87,7 @@ pub fn tell_stop<M: Machine, O: Sink>(
     ensures told { TellsStop M.IsProof stop.now result (O.given out.old) (O.given out.new) }
     ensures read { result ≢ Status.ReadFault }
     ensures fault { result ≡ Status.WriteFault → Rose (O.faults out.old) (O.faults out.new) }
+    ensures no_fault { result ≢ Status.WriteFault → O.faults out.new ≡ O.faults out.old }
 {
     match stop {
         LoadStop::Refused(refused, proof) => refuse_showing::<M, O>(alloc, *refused, proof, out),

@@ -14,6 +14,7 @@ pub fn end_with<O: Sink>(status: Status, line: &[u8], out: &mut O) -> Status
     requires { status ≢ Status.WriteFault }
     ensures told { Tells status line.now result (O.given out.old) (O.given out.new) }
     ensures fault { result ≡ Status.WriteFault → Rose (O.faults out.old) (O.faults out.new) }
+    ensures no_fault { result ≢ Status.WriteFault → O.faults out.new ≡ O.faults out.old }
 {
     match out.write(line) {
         Ok(()) => status,
@@ -25,6 +26,7 @@ pub fn end_with<O: Sink>(status: Status, line: &[u8], out: &mut O) -> Status
 pub fn refuse<O: Sink>(refused: SheetRefusal, out: &mut O) -> Status
     ensures told { Tells Status.SheetRefused (sheet_refusal_text refused) result (O.given out.old) (O.given out.new) }
     ensures fault { result ≡ Status.WriteFault → Rose (O.faults out.old) (O.faults out.new) }
+    ensures no_fault { result ≢ Status.WriteFault → O.faults out.new ≡ O.faults out.old }
 {
     match write_sheet_refusal(refused, out) {
         Ok(()) => Status::SheetRefused,
@@ -36,6 +38,7 @@ pub fn refuse<O: Sink>(refused: SheetRefusal, out: &mut O) -> Status
 pub fn tell_too_long<O: Sink>(out: &mut O) -> Status
     ensures told { Tells Status.TooLong too_long_text result (O.given out.old) (O.given out.new) }
     ensures fault { result ≡ Status.WriteFault → Rose (O.faults out.old) (O.faults out.new) }
+    ensures no_fault { result ≢ Status.WriteFault → O.faults out.new ≡ O.faults out.old }
 {
     end_with(Status::TooLong, b"refused 19 too-long\n", out)
 }
@@ -44,6 +47,7 @@ pub fn tell_too_long<O: Sink>(out: &mut O) -> Status
 pub fn tell_no_memory<O: Sink>(out: &mut O) -> Status
     ensures told { Tells Status.Memory memory_text result (O.given out.old) (O.given out.new) }
     ensures fault { result ≡ Status.WriteFault → Rose (O.faults out.old) (O.faults out.new) }
+    ensures no_fault { result ≢ Status.WriteFault → O.faults out.new ≡ O.faults out.old }
 {
     end_with(Status::Memory, b"refused 15 memory\n", out)
 }
@@ -52,6 +56,7 @@ pub fn tell_no_memory<O: Sink>(out: &mut O) -> Status
 pub fn tell_no_memory_for_sheet<O: Sink>(out: &mut O) -> Status
     ensures told { Tells Status.Memory sheet_memory_text result (O.given out.old) (O.given out.new) }
     ensures fault { result ≡ Status.WriteFault → Rose (O.faults out.old) (O.faults out.new) }
+    ensures no_fault { result ≢ Status.WriteFault → O.faults out.new ≡ O.faults out.old }
 {
     end_with(Status::Memory, b"sheet refused 15 memory\n", out)
 }

@@ -13,7 +13,7 @@ loop-init g c = record {
   progress = starts g.M.Machine.Allows (c.args.machine.now, c.args.notes.now) c.new-marks.result _ _ c.new-marks.ensures.refused c.new-marks.ensures.no_memory;
   room = c.requires;
   read_kept = refl;
-  write_later = omega arith;
+  write_kept = refl;
 }
 
 pub next-requires : goal.next-requires
@@ -56,7 +56,7 @@ loop-preserved g c =
       progress = goes_on g.M.Machine.Allows (c.args.machine.now, c.args.notes.now) (c.loop.machine, c.loop.notes) (c.serve.new.machine, c.serve.new.notes) c.loop.marks c.serve.new.marks _ _ _ _ _ _ c.loop.counter c.next.new.self.line c.loop.invariant.progress got c.next.ensures.takes serves;
       room = omega (arith, c.next.ensures.longest, c.loop.invariant.room);
       read_kept = (rw c.in-Ok-Line.is at c.next.ensures.cause.kept) ∙ c.loop.invariant.read_kept;
-      write_later = omega (arith, c.serve.ensures.cause.later);
+      write_kept = (rw c.in-Ok.is at c.serve.ensures.cause.kept) ∙ c.loop.invariant.write_kept;
     }
 
 pub serve-requires-in-Ok-Last : goal.serve-requires-in-Ok-Last
