@@ -189,9 +189,13 @@ back_over axioms more level head old mid back same fewer within h =
     (ap (λ (w : Watching). w.literals) same) (ap (λ (w : Watching). w.lists) same) (omega (arith, fewer, ap (λ (w : Watching). w.head) same)) within h
 
 -- the lists of the trail with two places more
-pub attached_lists : (old mid new : ListsView) (place list variables : ℕ) → mid ≡ record old { list_of = old.list_of ++ None ∷ None ∷ [] } → new ≡ record mid { list_of = set mid.list_of place (Some list) }
+pub attached_lists : (old mid new : ListsView) (place list variables : ℕ) (l : Lit) → mid ≡ record old { list_of = old.list_of ++ None ∷ None ∷ []; literals = old.literals ++ l ∷ l ∷ [] } → new ≡ record mid { list_of = set mid.list_of place (Some list) }
     → place ≡ length old.list_of → list ≡ pending variables → new.list_of ≡ set (old.list_of ++ None ∷ None ∷ []) (length old.list_of) (Some (pending variables))
-attached_lists old mid new place list variables mid_is new_is place_is list_is = rw (new_is, mid_is, place_is, list_is) refl
+attached_lists old mid new place list variables l mid_is new_is place_is list_is = rw (new_is, mid_is, place_is, list_is) refl
+
+pub attached_literals : (old mid new : ListsView) (place list : ℕ) (l : Lit) → mid ≡ record old { list_of = old.list_of ++ None ∷ None ∷ []; literals = old.literals ++ l ∷ l ∷ [] } → new ≡ record mid { list_of = set mid.list_of place (Some list) }
+    → new.literals ≡ old.literals ++ l ∷ l ∷ []
+attached_literals old mid new place list l mid_is new_is = rw (new_is, mid_is) refl
 
 pub two_pushed : {X : Type 0} (a b c d : List X) (x : X) → b ≡ a → c ≡ b ++ x ∷ [] → d ≡ c ++ x ∷ [] → d ≡ a ++ x ∷ x ∷ []
 two_pushed a b c d x first second third = rw (third, second, first) (append_assoc a (x ∷ []) (x ∷ []))

@@ -1,8 +1,8 @@
 -- Looks at clauses, one after another.
 use Rattle.std.proofs.Common.{◌≡◌, ◌≢◌, ℕ, ◌+◌, ◌*◌, ◌/◌, ◌%◌, ◌<◌, ◌≤◌, ◌⊎◌, inl, inr, List, [], ◌∷◌, ◌++◌, Option, Some, None, length, get_or, set, cond, count_by, true, false, Bool, refl, sym, ap, ◌∙◌, subst, arith, ⊎_elim, Contains, All, AllPairs, eqb, suc, zero, length-append}
-use Rattle.std.proofs.lemmas.Bool.{cases_eq, cases_Bool, eqb-true, eq-eqb}
+use Rattle.std.proofs.lemmas.Bool.{cases_Bool, eqb-true, eq-eqb}
 use Rattle.std.proofs.lemmas.Option.{slice_get-get_or, get_or_from_slice_get}
-use Rattle.std.proofs.lemmas.List.{length-set, append-nil}
+use Rattle.std.proofs.lemmas.List.{append-nil}
 use Rattle.std.proofs.lemmas.List.Sums.{sum_by-set, sum_by-append}
 use Rattle.pc_lits.specs.declared.literal.Lit.{Lit}
 use Rattle.pc_lits.specs.declared.tally.Tally.{Tally}
@@ -67,6 +67,11 @@ pub taken_but : (axioms more : List (List Lit)) (old new : TrailView) (place : �
 taken_but axioms more old new place is within h =
     but_changed axioms more old new place place (inl refl) (same_but_put old new place None is) (inl (list_put old new place None is within)) (all_but (IsOf place) axioms more old h)
 
+pub taken_based : (axioms more : List (List Lit)) (old new : TrailView) (place : ℕ) → new ≡ record old { watching = record old.watching { lists = set old.watching.lists place None } } → IsOver axioms more old → IsBased axioms more new
+taken_based axioms more old new place is h =
+    let same = same_but_put old new place None is in
+    based_same axioms more old new same.variables same.entries same.attached (based axioms more old h)
+
 -- How many places are in the list.
 pub is_in : ℕ → Option ℕ → Bool
 is_in list None = false
@@ -109,22 +114,6 @@ count_no_more list (x ∷ xs) (y ∷ ys) size h =
     head_less false b imp = omega arith
 
 -- a place leaves the list, and no place comes into it
-pub wake_smaller : (list place : ℕ) (a b d : TrailView) → place < length a.watching.lists → list_at a.watching place ≡ Some list
-    → b ≡ record a { watching = record a.watching { lists = set a.watching.lists place None } }
-    → d ≡ record b { watching = record b.watching { lists = set b.watching.lists place (Some (list + 1)) } } → count_in list d.watching.lists < count_in list a.watching.lists
-wake_smaller list place a b d within at taken put =
-    let second = same_but_put b d place (Some (list + 1)) put in
-    let lists : b.watching.lists ≡ set a.watching.lists place None = ap (λ (t : TrailView). t.watching.lists) taken in
-    let room : place < length b.watching.lists = omega (arith, within, ap length lists, length-set a.watching.lists place None) in
-    let no_more = count_no_more list b.watching.lists d.watching.lists (sym second.lists_size) (λ k has. ⊎_elim
-    (λ here. absurd (differ (sym (list_put b d place (Some (list + 1)) put room) ∙ subst (λ (n : ℕ). list_at d.watching n ≡ Some list) here has)))
-    (λ there. sym (second.lists k there) ∙ has)
-    (cases_eq k place)) in
-    omega (arith, no_more, ap (count_in list) lists, count_taken list a.watching.lists place within at)
-  where
-    differ : Some (list + 1) ≡ Some list → ⊥
-    differ same = let e : list + 1 ≡ list = cc in omega (arith, e)
-
 pub steady_smaller : (list place : ℕ) (a b d : TrailView) → place < length a.watching.lists → list_at a.watching place ≡ Some list
     → b ≡ record a { watching = record a.watching { lists = set a.watching.lists place None } } → IsSteady place b d → list % 2 ≡ 1 → count_in list d.watching.lists < count_in list a.watching.lists
 steady_smaller list place a b d within at taken steady odd =
@@ -141,37 +130,6 @@ waiting_odd l = by_sign l.sign
 
 pub pending_odd : (variables : ℕ) → (pending variables + 1) % 2 ≡ 1
 pending_odd variables = omega arith
-
--- waking, place by place
-pub woken_none : (list : ℕ) (trail : TrailView) → IsWoken list trail trail
-woken_none list trail = record { variables = refl; entries = refl; attached = refl; head = refl; literals = refl; lists_size = refl; moved = λ p. inl refl }
-
-pub woken_step : (list place : ℕ) (old a b d : TrailView) → IsWoken list old a → place < length a.watching.lists → list_at a.watching place ≡ Some list
-    → b ≡ record a { watching = record a.watching { lists = set a.watching.lists place None } }
-    → d ≡ record b { watching = record b.watching { lists = set b.watching.lists place (Some (list + 1)) } } → IsWoken list old d
-woken_step list place old a b d h within at taken put =
-    let first = same_but_put a b place None taken in
-    let second = same_but_put b d place (Some (list + 1)) put in
-    record {
-      variables = second.variables ∙ first.variables ∙ h.variables;
-      entries = second.entries ∙ first.entries ∙ h.entries;
-      attached = second.attached ∙ first.attached ∙ h.attached;
-      head = second.head ∙ first.head ∙ h.head;
-      literals = ap (λ (t : TrailView). t.watching.literals) put ∙ ap (λ (t : TrailView). t.watching.literals) taken ∙ h.literals;
-      lists_size = second.lists_size ∙ first.lists_size ∙ h.lists_size;
-      moved = λ p. ⊎_elim
-          (λ here.
-          let now : list_at d.watching place ≡ Some (list + 1) = list_put b d place (Some (list + 1)) put (omega (arith, within, first.lists_size)) in
-          subst (λ (n : ℕ). (list_at d.watching n ≡ list_at old.watching n) ⊎ ((list_at old.watching n ≡ Some list) × (list_at d.watching n ≡ Some (list + 1)))) (sym here)
-          (⊎_elim (λ same. inr (sym same ∙ at, now)) (λ moved. absurd (differ (sym at ∙ moved.1))) (h.moved place)))
-          (λ there.
-          let same : list_at d.watching p ≡ list_at a.watching p = second.lists p there ∙ first.lists p there in
-          ⊎_elim (λ was. inl (same ∙ was)) (λ moved. inr (moved.0, same ∙ moved.1)) (h.moved p))
-          (cases_eq p place);
-    }
-  where
-    differ : Some list ≡ Some (list + 1) → ⊥
-    differ same = let e : list ≡ list + 1 = cc in omega (arith, e)
 
 -- the place waits to be looked at
 abbrev pub Waits : Lit → TrailView → ℕ → Type 0
@@ -331,17 +289,29 @@ pub waited_stands : (axioms more : List (List Lit)) (a b : TrailView) (place : �
 waited_stands axioms more a b place lit taken within waits in_range h =
     rw taken (listed_says (λ p. ⊥) axioms more a place (resting lit + 1) h within waits (resting_below lit a.variables in_range)).1
 
--- the places go on to watch the same
-pub kept_watching : (axioms more : List (List Lit)) (old new : TrailView) (place other : ℕ) (lit other_lit : Lit) → other ≡ partner place → IsBased axioms more old → AreWatchedBut (IsOf place) axioms more old
-    → place < length old.watching.lists → lit ≡ literal_at old.watching place → Contains (clause_of axioms more old place) (literal_at old.watching place)
-    → (list : ℕ) × (list_at old.watching other ≡ Some list) × (list < pending old.variables) → other_lit ≡ literal_at old.watching other → ((h : ℕ) → IsPair old.entries h lit other_lit)
-    → new ≡ record old { watching = record old.watching { literals = set old.watching.literals place lit; lists = set old.watching.lists place (Some (resting lit)) } }
-    → IsRewatched axioms more place old new
-kept_watching axioms more old new place other lit other_lit other_is based h within lit_is stands listed other_lit_is pair is =
+-- the other place, where it is in a list of a literal, watches one of the clause
+pub other_says : (axioms more : List (List Lit)) (old : TrailView) (place other : ℕ) → other ≡ partner place → AreWatchedBut (IsOf place) axioms more old → place < length old.watching.lists
+    → (list : ℕ) × (list_at old.watching other ≡ Some list) × (list < pending old.variables) → IsListed old (partner place) × Contains (clause_of axioms more old place) (literal_at old.watching (partner place))
+other_says axioms more old place other other_is h within listed =
     let inside = partner_inside (IsOf place) axioms more old place h within in
     let at : list_at old.watching (partner place) ≡ Some listed.0 = subst (λ (n : ℕ). list_at old.watching n ≡ Some listed.0) other_is listed.1 in
-    now_watched axioms more old new place lit is within (listed_says (IsOf place) axioms more old (partner place) listed.0 h inside at listed.2).0
-    (rw lit_is stands) (subst (λ (m : Lit). (n : ℕ) → IsPair old.entries n lit m) (other_lit_is ∙ ap (literal_at old.watching) other_is) pair) h
+    let says = listed_says (IsOf place) axioms more old (partner place) listed.0 h inside at listed.2 in
+    (says.0, subst (λ (clause : List Lit). Contains clause (literal_at old.watching (partner place))) (clause_of-partner axioms more old place) says.1)
+
+-- the place goes on to watch its literal, or watches the other one
+pub kept_watching : (axioms more : List (List Lit)) (old new : TrailView) (place other : ℕ) (own lit other_lit : Lit) → other ≡ partner place → IsBased axioms more old → AreWatchedBut (IsOf place) axioms more old
+    → place < length old.watching.lists → own ≡ literal_at old.watching place → Contains (clause_of axioms more old place) (literal_at old.watching place)
+    → (list : ℕ) × (list_at old.watching other ≡ Some list) × (list < pending old.variables) → other_lit ≡ literal_at old.watching other → (lit ≡ own) ⊎ (lit ≡ other_lit) → ((h : ℕ) → IsPair old.entries h lit other_lit)
+    → new ≡ record old { watching = record old.watching { literals = set old.watching.literals place lit; lists = set old.watching.lists place (Some (resting lit)) } }
+    → IsRewatched axioms more place old new
+kept_watching axioms more old new place other own lit other_lit other_is based h within own_is stands listed other_lit_is which pair is =
+    let says = other_says axioms more old place other other_is h within listed in
+    let other_at : other_lit ≡ literal_at old.watching (partner place) = other_lit_is ∙ ap (literal_at old.watching) other_is in
+    let has : Contains (clause_of axioms more old place) lit = ⊎_elim
+    (λ same. subst (Contains (clause_of axioms more old place)) (sym (same ∙ own_is)) stands)
+    (λ same. subst (Contains (clause_of axioms more old place)) (sym (same ∙ other_at)) says.1)
+    which in
+    now_watched axioms more old new place lit is within says.0 has (subst (λ (m : Lit). (n : ℕ) → IsPair old.entries n lit m) other_at pair) h
 
 pub rewatched_over : (axioms more : List (List Lit)) (place : ℕ) (old new : TrailView) → IsRewatched axioms more place old new → IsBased axioms more old → IsOver axioms more new
 rewatched_over axioms more place old new r h = over_from axioms more new (based_same axioms more old new r.variables r.entries r.attached h) r.watched

@@ -1,59 +1,80 @@
-//! Numbered places in numbered linked lists. Each place is in one list, or in none.
+//! Numbered places in numbered linked lists. Each place is in one list, or in none, and has a literal.
 //!
-//! The lists are linked by the numbers of the places, so that moving a place from one list to another takes no memory.
+//! The lists are linked by the numbers of the places, so that moving a place from one list to another takes no memory. A place
+//! comes in at the end and goes out at the beginning.
 
 ghost use Rattle.std.specs.Prelude.{◌≡◌, ◌≢◌, ◌<◌, ℕ, [], ◌∷◌, ◌++◌, length, IfOk, OnOk, OnErr, IfSome, IfNone, Some, None, slice_index_or, slice_set};
+ghost use Rattle.pc_propagate.specs.Watching.{no_literal};
+ghost use Rattle.pc_propagate.specs.inside.Links.{emptied, firsts_of, linked};
 ghost use Rattle.pc_propagate.specs.inside.Lists.{ListsView};
 
+use crate::links::{Ends, NOWHERE, Place, link_to, linked};
+use pc_lits::Lit;
 use std::alloc::{AllocError, Global};
 use std::marker::Model;
+
+// How many lists or places there are at most: their numbers fit into links.
+const MOST: usize = u32::MAX as usize;
 
 /// Linked lists of places.
 #[derive(Drop)]
 pub(crate) struct Lists {
-    // The first place of each list.
-    firsts: Vec<Option<usize>>,
-    // The place after each place, in its list.
-    nexts: Vec<Option<usize>>,
-    // The list of each place.
-    list_of: Vec<Option<usize>>,
+    ends: Vec<Ends>,
+    places: Vec<Place>,
 }
 
 impl Model for Lists {
     ghost use Rattle.std.specs.Prelude.{length};
-    ghost use Rattle.pc_propagate.specs.inside.Lists.{ListsView, AreLists};
+    ghost use Rattle.pc_propagate.specs.inside.Links.{lists_of, literals_of};
+    ghost use Rattle.pc_propagate.specs.inside.Lists.{ListsView, AreLinked};
 
     ghost Value = { ListsView };
 
-    ghost view = { λ l. record { count = length l.firsts.items; list_of = l.list_of.items } };
+    ghost view = { λ l. record { count = length l.ends.items; list_of = lists_of l.places.items; literals = literals_of l.places.items } };
 
-    ghost invariant = { λ l. AreLists l.firsts.items l.nexts.items l.list_of.items };
+    ghost invariant = { λ l. AreLinked l.ends.items l.places.items };
 }
 
 impl Lists {
-    /// So many lists, and no places.
+    /// So many lists, and no places. There are none where their numbers don't fit into links.
     pub(crate) fn new(alloc: Global, count: usize) -> Result<Lists, AllocError>
-        ensures { IfOk result (λ l. l ≡ record { count = count; list_of = [] }) }
+        ensures { IfOk result (λ l. l ≡ record { count = count; list_of = []; literals = [] }) }
     {
-        let firsts = vec![in alloc; None; count]?;
-        Ok(Lists {
-            firsts,
-            nexts: Vec::new(alloc),
-            list_of: Vec::new(alloc),
-        })
+        if count >= MOST {
+            return Err(AllocError);
+        }
+        let blank = Ends {
+            first: NOWHERE,
+            last: 0,
+        };
+        let ends = vec![in alloc; blank; count]?;
+        let places = Vec::new(alloc);
+        Ok(Lists { ends, places })
     }
 
-    /// Two further places, which are in no list. Without memory there are none.
-    pub(crate) fn add_two(&mut self) -> Result<(), AllocError>
-        ensures ok { OnOk result (self.new ≡ record self.old { list_of = self.old.list_of ++ None ∷ None ∷ [] }) }
+    /// How many places there are.
+    pub(crate) fn count(&self) -> usize
+        ensures { result ≡ length self.now.list_of }
+    {
+        self.places.len()
+    }
+
+    /// Two further places with the literal, which are in no list. Without memory there are none.
+    pub(crate) fn add_two(&mut self, literal: Lit) -> Result<(), AllocError>
+        ensures ok { OnOk result (self.new ≡ record self.old { list_of = self.old.list_of ++ None ∷ None ∷ []; literals = self.old.literals ++ literal ∷ literal ∷ [] }) }
         ensures err { OnErr result (self.new ≡ self.old) }
     {
-        self.nexts.reserve(2)?;
-        self.list_of.reserve(2)?;
-        self.nexts.push(None)?;
-        self.nexts.push(None)?;
-        self.list_of.push(None)?;
-        self.list_of.push(None)?;
+        if self.places.len() >= MOST - 2 {
+            return Err(AllocError);
+        }
+        self.places.reserve(2)?;
+        let place = Place {
+            next: NOWHERE,
+            list: NOWHERE,
+            literal,
+        };
+        self.places.push(place)?;
+        self.places.push(place)?;
         Ok(())
     }
 
@@ -62,7 +83,28 @@ impl Lists {
         requires { place < length self.now.list_of }
         ensures { result ≡ slice_index_or self.now.list_of place None }
     {
-        self.list_of[place]
+        linked(self.places[place].list)
+    }
+
+    /// The literal of the place.
+    pub(crate) fn literal_of(&self, place: usize) -> Lit
+        requires { place < length self.now.list_of }
+        ensures { result ≡ slice_index_or self.now.literals place no_literal }
+    {
+        self.places[place].literal
+    }
+
+    /// Gives the place another literal.
+    pub(crate) fn set_literal(&mut self, place: usize, literal: Lit)
+        requires { place < length self.old.list_of }
+        ensures { self.new ≡ record self.old { literals = slice_set self.old.literals place literal } }
+    {
+        let at = self.places[place];
+        self.places[place] = Place {
+            next: at.next,
+            list: at.list,
+            literal,
+        };
     }
 
     /// Takes the first place out of the list, if there is one.
@@ -74,39 +116,77 @@ impl Lists {
         ensures same { IfNone result (self.new ≡ self.old) }
         ensures none { IfNone result ((place : ℕ) → slice_index_or self.old.list_of place None ≢ Some list) }
     {
-        match self.firsts[list] {
-            None => None,
-            Some(place) => {
-                self.firsts[list] = self.nexts[place];
-                self.list_of[place] = None;
-                Some(place)
-            }
-        }
+        let ends = self.ends[list];
+        let place = linked(ends.first)?;
+        let at = self.places[place];
+        self.ends[list] = Ends {
+            first: at.next,
+            last: ends.last,
+        };
+        self.places[place] = Place {
+            next: at.next,
+            list: NOWHERE,
+            literal: at.literal,
+        };
+        Some(place)
     }
 
-    /// Puts a place that is in no list into this one.
+    /// Puts a place that is in no list at the end of this one.
     pub(crate) fn put(&mut self, place: usize, list: usize)
         requires list { list < self.old.count }
         requires within { place < length self.old.list_of }
         requires free { slice_index_or self.old.list_of place None ≡ None }
         ensures { self.new ≡ record self.old { list_of = slice_set self.old.list_of place (Some list) } }
     {
-        self.nexts[place] = self.firsts[list];
-        self.firsts[list] = Some(place);
-        self.list_of[place] = Some(list);
+        let ends = self.ends[list];
+        let literal = self.places[place].literal;
+        self.places[place] = Place {
+            next: NOWHERE,
+            list: link_to(list),
+            literal,
+        };
+        if ends.first == NOWHERE {
+            self.ends[list] = Ends {
+                first: link_to(place),
+                last: place as u32,
+            };
+        } else {
+            let last = ends.last as usize;
+            let at = self.places[last];
+            self.places[last] = Place {
+                next: link_to(place),
+                list: at.list,
+                literal: at.literal,
+            };
+            self.ends[list] = Ends {
+                first: ends.first,
+                last: place as u32,
+            };
+        }
     }
+
     /// Forgets all places. It takes time by their number, and not by that of the lists.
     pub(crate) fn clear(&mut self)
-        ensures { self.new ≡ record self.old { list_of = [] } }
+        ensures { self.new ≡ record self.old { list_of = []; literals = [] } }
     {
-        for place in 0..self.list_of.len() {
-            if let Some(list) = self.list_of[place] {
-                if list < self.firsts.len() {
-                    self.firsts[list] = None;
-                }
-            }
+        for place in 0..self.places.len() {
+            empty(&mut self.ends, self.places[place].list);
         }
-        self.nexts.clear();
-        self.list_of.clear();
+        self.places.clear();
+    }
+}
+
+// Empties the list to which the link leads.
+fn empty(ends: &mut Vec<Ends>, link: u32)
+    ensures size { length ends.new.items ≡ length ends.old.items }
+    ensures emptied { firsts_of ends.new.items ≡ emptied (linked link) (firsts_of ends.old.items) }
+{
+    if let Some(list) = linked(link) {
+        if list < ends.len() {
+            ends[list] = Ends {
+                first: NOWHERE,
+                last: 0,
+            };
+        }
     }
 }

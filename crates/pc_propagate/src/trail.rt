@@ -3,7 +3,8 @@
 //! The trail of Marques-Silva and Sakallah's GRASP, as in MiniSat: each decision starts a level, each other literal
 //! is there by a clause whose other literals were false before it.
 
-ghost use Rattle.std.specs.Prelude.{◌≡◌, ◌≢◌, ◌^◌, ◌+◌, ◌*◌, ◌/◌, ◌<◌, ◌≤◌, ℕ, List, [], ◌∷◌, ◌++◌, slice_set, slice_index_or, IfOk, OnOk, OnErr, IfSome, IfNone, IsTrue, ◌↔◌, Some, None, All, length, map, count_by, slice_get, if◌then◌else◌, Contains, not};
+ghost use Rattle.std.specs.Prelude.{◌≡◌, ◌≢◌, ◌^◌, ◌+◌, ◌*◌, ◌/◌, ◌%◌, ◌<◌, ◌≤◌, ℕ, List, [], ◌∷◌, ◌++◌, slice_set, slice_index_or, IfOk, OnOk, OnErr, IfSome, IfNone, IsTrue, ◌↔◌, Some, None, All, length, map, count_by, slice_get, if◌then◌else◌, Contains, not};
+ghost use Rattle.std.specs.Bool.{OnTrue};
 ghost use Rattle.pc_lits.specs.declared.literal.Lit.{Lit};
 ghost use Rattle.pc_lits.specs.Literals.{negated};
 ghost use Rattle.pc_lits.specs.Steps.{IsLastOpen};
@@ -18,9 +19,10 @@ ghost use Rattle.pc_propagate.specs.inside.Slots.{IsSlotOf};
 ghost use Rattle.pc_propagate.specs.Attached.{IsAttached, IsBlank};
 ghost use Rattle.pc_propagate.specs.Watching.{resting, pending, no_literal, literal_at, list_at};
 ghost use Rattle.pc_propagate.specs.Watched.{IsFalseAt};
+ghost use Rattle.pc_propagate.specs.inside.Steady.{IsWoken};
 
 use crate::clauses::ClauseRef;
-use crate::lists::Lists;
+use crate::pairs::Pairs;
 use pc_lits::{Lit, Tally, Var};
 use pc_values::{Left, Values, left_of};
 use std::alloc::{AllocError, Global};
@@ -75,10 +77,9 @@ pub struct Trail {
     level: u32,
     slots: Vec<Slot>,
     attached: Vec<ClauseRef>,
-    // The literal that each place watches, and the lists of the places: two for each literal, and two for the clauses that
+    // The literal that each place watches, and the lists of the places: a pair for each literal, and one for the clauses that
     // each propagation looks at.
-    watches: Vec<Lit>,
-    lists: Lists,
+    pairs: Pairs,
     // How many entries are propagated.
     head: usize,
 }
@@ -92,9 +93,9 @@ impl Model for Trail {
 
     ghost Value = { TrailView };
 
-    ghost view = { λ t. record { variables = length t.values; entries = t.entries.items; attached = t.attached.items; watching = record { literals = t.watches.items; lists = t.lists.list_of; head = t.head } } };
+    ghost view = { λ t. record { variables = length t.values; entries = t.entries.items; attached = t.attached.items; watching = record { literals = t.pairs.literals; lists = t.pairs.list_of; head = t.head } } };
 
-    ghost invariant = { λ t. IsTrail t.values t.entries.items t.level (vec_capacity t.entries) × AreSlots t.slots.items t.entries.items (length t.values) × (t.lists.count ≡ pending (length t.values) + 2) × (length t.watches.items ≡ length t.lists.list_of) };
+    ghost invariant = { λ t. IsTrail t.values t.entries.items t.level (vec_capacity t.entries) × AreSlots t.slots.items t.entries.items (length t.values) × (t.pairs.count ≡ pending (length t.values) + 2) × (length t.pairs.literals ≡ length t.pairs.list_of) };
 }
 
 impl Trail {
@@ -109,8 +110,7 @@ impl Trail {
         let level = 0;
         let slots = vec![in alloc; Slot::BLANK; variables as usize]?;
         let attached = Vec::new(alloc);
-        let watches = Vec::new(alloc);
-        let lists = Lists::new(alloc, 4 * variables as usize + 2)?;
+        let pairs = Pairs::new(alloc, 2 * variables as usize + 1)?;
         let head = 0;
         Ok(Trail {
             values,
@@ -118,8 +118,7 @@ impl Trail {
             level,
             slots,
             attached,
-            watches,
-            lists,
+            pairs,
             head,
         })
     }
@@ -133,13 +132,10 @@ impl Trail {
             → IsOver axioms more self.new }
     {
         self.attached.reserve(1)?;
-        self.watches.reserve(2)?;
-        self.lists.add_two()?;
-        let place = self.watches.len();
+        let place = self.pairs.count();
+        self.pairs.add_two(NO_LITERAL)?;
         let list = 4 * self.values.len();
-        self.lists.put(place, list);
-        self.watches.push(NO_LITERAL)?;
-        self.watches.push(NO_LITERAL)?;
+        self.pairs.put(place, list);
         self.attached.push(clause)?;
         Ok(())
     }
@@ -341,8 +337,7 @@ impl Trail {
     {
         self.pop_all();
         self.attached.clear();
-        self.watches.clear();
-        self.lists.clear();
+        self.pairs.clear();
         self.head = 0;
     }
 
@@ -387,6 +382,7 @@ impl Trail {
     // The list of the clauses that each propagation looks at.
     pub(crate) fn pending_list(&self) -> usize
         ensures is { result ≡ pending self.now.variables }
+        ensures even { result % 2 ≡ 0 }
         ensures small { result < 2 ^ 34 }
     {
         4 * self.values.len()
@@ -397,7 +393,15 @@ impl Trail {
         requires { place < length self.now.watching.lists }
         ensures { result ≡ list_at self.now.watching place }
     {
-        self.lists.list_of(place)
+        self.pairs.list_of(place)
+    }
+
+    // Whether the place is in a list of a literal.
+    pub(crate) fn is_listed(&self, place: usize) -> bool
+        requires { place < length self.now.watching.lists }
+        ensures { OnTrue result ((list : ℕ) × (list_at self.now.watching place ≡ Some list) × (list < pending self.now.variables)) }
+    {
+        self.pairs.is_before(place, self.pending_list())
     }
 
     // The literal that the place watches.
@@ -405,7 +409,18 @@ impl Trail {
         requires { place < length self.now.watching.lists }
         ensures { result ≡ literal_at self.now.watching place }
     {
-        self.watches[place]
+        self.pairs.literal_of(place)
+    }
+
+    // Lets all places of the list wait.
+    pub(crate) fn wake(&mut self, list: usize)
+        requires list { list < pending self.old.variables + 1 }
+        requires even { list % 2 ≡ 0 }
+        requires small { list < 2 ^ 34 }
+        ensures woken { IsWoken list self.old self.new }
+        ensures none { (place : ℕ) → list_at self.new.watching place ≢ Some list }
+    {
+        self.pairs.wake(list);
     }
 
     // Takes the first place out of the list, if there is one.
@@ -417,7 +432,7 @@ impl Trail {
         ensures same { IfNone result (self.new ≡ self.old) }
         ensures none { IfNone result ((place : ℕ) → list_at self.old.watching place ≢ Some list) }
     {
-        self.lists.take_first(list)
+        self.pairs.take_first(list)
     }
 
     // Puts a place that is in no list into this one.
@@ -427,7 +442,7 @@ impl Trail {
         requires free { list_at self.old.watching place ≡ None }
         ensures { self.new ≡ record self.old { watching = record self.old.watching { lists = slice_set self.old.watching.lists place (Some list) } } }
     {
-        self.lists.put(place, list);
+        self.pairs.put(place, list);
     }
 
     // Lets a place that is in no list watch the literal.
@@ -437,14 +452,15 @@ impl Trail {
         requires free { list_at self.old.watching place ≡ None }
         ensures { self.new ≡ record self.old { watching = record self.old.watching { literals = slice_set self.old.watching.literals place literal; lists = slice_set self.old.watching.lists place (Some (resting literal)) } } }
     {
-        self.watches[place] = literal;
-        self.lists.put(place, resting_list(literal));
+        self.pairs.set_literal(place, literal);
+        self.pairs.put(place, resting_list(literal));
     }
 }
 
 // The list of the places that watch the literal.
 pub(crate) fn resting_list(literal: Lit) -> usize
     ensures is { result ≡ resting literal }
+    ensures even { result % 2 ≡ 0 }
     ensures small { result < 2 ^ 34 }
 {
     let sign = if literal.sign { 2 } else { 0 };

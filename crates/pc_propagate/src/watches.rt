@@ -2,14 +2,14 @@
 //!
 //! A clause needs no look while two of its literals aren't false, or one is true that stays true as long as the others stay
 //! false. So each clause watches two literals, and is looked at only when one of them becomes false. Going back needs no
-//! look at all. These are the watched literals of Moskewicz and others' Chaff, with lists as in MiniSat. Where no two
+//! look at all. Where a literal is true for good, both places come to watch it, and the clause is never looked at again. These are the watched literals of Moskewicz and others' Chaff, with lists as in MiniSat. Where no two
 //! literals of a clause are fit to be watched, as while a clause of one literal isn't true for good, each propagation looks
 //! at the clause.
 
-ghost use Rattle.std.specs.Prelude.{◌≡◌, ◌<◌, ◌*◌, ℕ, None, Some, IfSome, IfNone, Contains, length};
+ghost use Rattle.std.specs.Prelude.{◌≡◌, ◌<◌, ◌*◌, ◌⊎◌, ℕ, None, Some, IfSome, IfNone, Contains, length};
 ghost use Rattle.std.specs.Bool.{OnTrue};
 ghost use Rattle.pc_propagate.specs.Over.{AreInRange, IsBased};
-ghost use Rattle.pc_propagate.specs.Watching.{pending, partner, list_at, literal_at};
+ghost use Rattle.pc_propagate.specs.Watching.{partner, list_at, literal_at};
 ghost use Rattle.pc_propagate.specs.Watched.{AreWatchedBut, GuardsAt, IsListed, IsOf, IsPair, IsTrueFromStart, clause_of};
 ghost use Rattle.pc_propagate.specs.inside.Steady.{IsRewatched};
 
@@ -77,6 +77,23 @@ impl Trail {
         true
     }
 
+    // What a place that watches the first literal may watch beside the second one: the second where that is true for good, so
+    // that no propagation looks at the clause again, else the first where it fits.
+    pub(crate) fn kept_beside(&self, lit: Lit, other: Lit) -> Option<Lit>
+        requires lit { lit.variable.0 < self.now.variables }
+        requires other { other.variable.0 < self.now.variables }
+        ensures which { IfSome result (λ l. (l ≡ lit) ⊎ (l ≡ other)) }
+        ensures pair { IfSome result (λ l. (head : ℕ) → IsPair self.now.entries head l other) }
+    {
+        if self.is_true_from_start(other) {
+            return Some(other);
+        }
+        if self.fits(lit, other) {
+            return Some(lit);
+        }
+        None
+    }
+
     // How late the literal became false, and the highest number where it isn't false.
     fn rank(&self, lit: Lit) -> u32
         requires { lit.variable.0 < self.now.variables }
@@ -88,12 +105,15 @@ impl Trail {
         }
     }
 
-    // The literal of highest rank beside this one, or this one where it is alone.
+    // The literal of highest rank beside this one, or this one where it is alone or true for good.
     fn best_beside(&self, lit: Lit, clause: &[Lit]) -> Lit
         requires in_range { AreInRange self.now.variables clause.now }
         requires stands { Contains clause.now lit }
         ensures { Contains clause.now result }
     {
+        if self.is_true_from_start(lit) {
+            return lit;
+        }
         let mut best = lit;
         let mut highest = 0;
         for next in clause {
@@ -139,17 +159,6 @@ impl Trail {
         ensures in_range { AreInRange self.now.variables result.now }
     {
         self.attached_at(place / 2).clause(axioms, more)
-    }
-
-    // Whether the place is in a list of a literal.
-    pub(crate) fn is_listed(&self, place: usize) -> bool
-        requires { place < length self.now.watching.lists }
-        ensures { OnTrue result ((list : ℕ) × (list_at self.now.watching place ≡ Some list) × (list < pending self.now.variables)) }
-    {
-        match self.list_at(place) {
-            Some(list) => list < self.pending_list(),
-            None => false,
-        }
     }
 
     // Chooses what the clause of the place watches. The place is in no list.

@@ -1,39 +1,46 @@
-use Rattle.std.proofs.Common.{◌∙◌, ◌<◌, sym, ap, arith, length}
-use Rattle.pc_propagate.specs.inside.Lists.{ListsView}
-use Rattle.pc_propagate.proofs.ListLemmas.{first_in_list, no_first, lists_taken, read_option}
+use Rattle.std.proofs.Common.{ℕ, ◌≡◌, None, Some, get_or, sym, ◌∙◌, refl, arith}
+use Rattle.std.proofs.lemmas.List.{length-set, length-map}
+use Rattle.pc_propagate.specs.declared.links.Place.{Place}
+use Rattle.pc_propagate.specs.inside.Links.{linked, lists_of}
+use Rattle.pc_propagate.proofs.LinkLemmas.{first_found, none_found, linked_taken, seen_written, same_view}
 use Rattle.pc_propagate.proofs.lists.Lists.take_first.Goals as goal
 
-pub returns-in-None-clause-none : goal.returns-in-None-clause-none
-returns-in-None-clause-none c =
-    let within : c.args.list < length c.self.inside.firsts.items = omega (arith, c.requires, ap (λ (v : ListsView). v.count) c.self.view_is) in
-    rw (← c.self.view_is) (no_first c.self.inside.firsts.items _ _ c.args.list c.self.invariant within (read_option _ _ _ within c.index.ensures ∙ c.in-None.is))
+pub returns-in_err-place-clause-none : goal.returns-in_err-place-clause-none
+returns-in_err-place-clause-none c =
+    let list = rw (← c.self.view_is) at c.requires in
+    let nothing : (place : ℕ) → get_or (lists_of c.self.inside.places.items) place None ≡ Some c.args.list → ⊥ =
+    none_found _ c.self.inside.places.items c.args.list _ c.self.invariant list c.index-ends.ensures (sym c.linked.ensures ∙ c.in_err-place.was) in
+    rw (c.from_residual.ensures, ← c.self.view_is) nothing
 
-pub index-requires-in-Some : goal.index-requires-in-Some
-index-requires-in-Some c =
-    let within : c.args.list < length c.self.inside.firsts.items = omega (arith, c.requires, ap (λ (v : ListsView). v.count) c.self.view_is) in
-    let found = first_in_list c.self.inside.firsts.items _ _ c.args.list c.in-Some.place c.self.invariant within (read_option _ _ _ within c.index.ensures ∙ c.in-Some.is) in
-    omega (arith, found.0, c.self.invariant.size, c.self.inside.nexts.ok.0)
+pub index-at-requires : goal.index-at-requires
+index-at-requires c =
+    let list = rw (← c.self.view_is) at c.requires in
+    omega (arith, (first_found _ c.self.inside.places.items c.args.list c.in_ok-place.place _ c.self.invariant list c.index-ends.ensures (sym c.linked.ensures ∙ c.in_ok-place.was)).0, c.self.inside.places.ok.0)
 
-pub index_mut-requires-in-Some : goal.index_mut-requires-in-Some
-index_mut-requires-in-Some c =
-    let within : c.args.list < length c.self.inside.firsts.items = omega (arith, c.requires, ap (λ (v : ListsView). v.count) c.self.view_is) in
-    let found = first_in_list c.self.inside.firsts.items _ _ c.args.list c.in-Some.place c.self.invariant within (read_option _ _ _ within c.index.ensures ∙ c.in-Some.is) in
-    omega (arith, found.0, c.self.inside.list_of.ok.0)
+pub index_mut-requires-2 : goal.index_mut-requires-2
+index_mut-requires-2 c =
+    let list = rw (← c.self.view_is) at c.requires in
+    omega (arith, (first_found _ c.self.inside.places.items c.args.list c.in_ok-place.place _ c.self.invariant list c.index-ends.ensures (sym c.linked.ensures ∙ c.in_ok-place.was)).0, c.self.inside.places.ok.0)
 
 pub invariant_of-self : goal.invariant_of-self
 invariant_of-self c =
-    let within : c.args.list < length c.self.inside.firsts.items = omega (arith, c.requires, ap (λ (v : ListsView). v.count) c.self.view_is) in
-    let is = read_option _ _ _ within c.index.ensures ∙ c.in-Some.is in
-    let found = first_in_list c.self.inside.firsts.items _ _ c.args.list c.in-Some.place c.self.invariant within is in
-    let room : c.in-Some.place < length c.self.inside.nexts.items = omega (arith, found.0, c.self.invariant.size) in
-    lists_taken _ _ _ c.args.list c.in-Some.place _ c.self.invariant within is (sym (read_option c.self.inside.nexts.items c.in-Some.place _ room c.index-in-Some.ensures))
+    let list = rw (← c.self.view_is) at c.requires in
+    linked_taken _ _ c.args.list c.in_ok-place.place c.index-ends.result.now c.index-at.result.now c.self.invariant list c.index-ends.ensures (sym c.linked.ensures ∙ c.in_ok-place.was) c.index-at.ensures
 
-pub returns-in-Some-clause-within : goal.returns-in-Some-clause-within
-returns-in-Some-clause-within c =
-    let within : c.args.list < length c.self.inside.firsts.items = omega (arith, c.requires, ap (λ (v : ListsView). v.count) c.self.view_is) in
-    rw (← c.self.view_is) (first_in_list c.self.inside.firsts.items _ _ c.args.list c.in-Some.place c.self.invariant within (read_option _ _ _ within c.index.ensures ∙ c.in-Some.is)).0
+pub returns-clause-within : goal.returns-clause-within
+returns-clause-within c =
+    let list = rw (← c.self.view_is) at c.requires in
+    let found = first_found _ c.self.inside.places.items c.args.list c.in_ok-place.place _ c.self.invariant list c.index-ends.ensures (sym c.linked.ensures ∙ c.in_ok-place.was) in
+    rw (← c.self.view_is) (omega (arith, found.0, length-map c.self.inside.places.items (λ (x : Place). linked x.list)))
 
-pub returns-in-Some-clause-was : goal.returns-in-Some-clause-was
-returns-in-Some-clause-was c =
-    let within : c.args.list < length c.self.inside.firsts.items = omega (arith, c.requires, ap (λ (v : ListsView). v.count) c.self.view_is) in
-    rw (← c.self.view_is) (first_in_list c.self.inside.firsts.items _ _ c.args.list c.in-Some.place c.self.invariant within (read_option _ _ _ within c.index.ensures ∙ c.in-Some.is)).1
+pub returns-clause-was : goal.returns-clause-was
+returns-clause-was c =
+    let list = rw (← c.self.view_is) at c.requires in
+    rw (← c.self.view_is) (first_found _ c.self.inside.places.items c.args.list c.in_ok-place.place _ c.self.invariant list c.index-ends.ensures (sym c.linked.ensures ∙ c.in_ok-place.was)).1
+
+pub returns-clause-taken : goal.returns-clause-taken
+returns-clause-taken c =
+    let list = rw (← c.self.view_is) at c.requires in
+    let found = first_found _ c.self.inside.places.items c.args.list c.in_ok-place.place _ c.self.invariant list c.index-ends.ensures (sym c.linked.ensures ∙ c.in_ok-place.was) in
+    let seen = seen_written c.self.inside.places.items c.in_ok-place.place c.index-at.result.now (record { next = c.index-at.result.now.next; list = 0; literal = c.index-at.result.now.literal }) found.0 c.index-at.ensures refl in
+    rw (← c.self.view_is) (same_view _ _ _ _ _ _ (length-set c.self.inside.ends.items _ _) seen.0 seen.1)

@@ -9,8 +9,7 @@ invariant-loop-entry l = record {
   slots : AreSlots l.self-inside.slots.items l.self-inside.entries.items (length l.self-inside.values);
   size : length l.self-inside.values ≡ length l.initial.self-inside.values;
   attached : l.self-inside.attached.items ≡ l.initial.self-inside.attached.items;
-  watches : l.self-inside.watches.items ≡ l.initial.self-inside.watches.items;
-  lists : l.self-inside.lists ≡ l.initial.self-inside.lists;
+  pairs : l.self-inside.pairs ≡ l.initial.self-inside.pairs;
   head : l.self-inside.head ≡ l.initial.self-inside.head;
 }
 

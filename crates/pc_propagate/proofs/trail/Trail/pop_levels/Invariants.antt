@@ -12,8 +12,7 @@ invariant-loop-self l =
       left : IsLeftOf l.level l.initial.self-inside.entries.items l.self-inside.entries.items;
       size : length l.self-inside.values ≡ length l.initial.self-inside.values;
       attached : l.self-inside.attached.items ≡ l.initial.self-inside.attached.items;
-      watches : l.self-inside.watches.items ≡ l.initial.self-inside.watches.items;
-      lists : l.self-inside.lists ≡ l.initial.self-inside.lists;
+      pairs : l.self-inside.pairs ≡ l.initial.self-inside.pairs;
       head : l.self-inside.head ≡ l.initial.self-inside.head;
     }
 

@@ -1,0 +1,48 @@
+//! Links between numbered places, in half a word each.
+
+ghost use Rattle.std.specs.Prelude.{◌≡◌, ◌<◌, ◌+◌, ◌^◌, Some};
+ghost use Rattle.pc_propagate.specs.inside.Links.{linked};
+
+use pc_lits::Lit;
+
+/// The link that leads nowhere.
+pub(crate) const NOWHERE: u32 = 0;
+
+/// A place in a list, and the literal that stands with it. A place takes 16 bytes, so that the two of a clause lie side by
+/// side and are fetched together.
+#[derive(Clone, Copy)]
+pub(crate) struct Place {
+    /// The link to the place after it, in its list.
+    pub(crate) next: u32,
+    /// The link to its list.
+    pub(crate) list: u32,
+    pub(crate) literal: Lit,
+}
+
+/// Where a list begins and ends.
+#[derive(Clone, Copy)]
+pub(crate) struct Ends {
+    /// The link to its first place.
+    pub(crate) first: u32,
+    /// Its last place, if it has one.
+    pub(crate) last: u32,
+}
+
+/// The number to which the link leads, if it leads to one.
+pub(crate) fn linked(link: u32) -> Option<usize>
+    ensures { result ≡ linked link }
+{
+    if link == NOWHERE {
+        None
+    } else {
+        Some(link as usize - 1)
+    }
+}
+
+/// The link to the number.
+pub(crate) fn link_to(number: usize) -> u32
+    requires { number + 1 < 2 ^ 32 }
+    ensures { linked result ≡ Some number }
+{
+    (number + 1) as u32
+}
