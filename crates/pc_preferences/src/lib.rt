@@ -2,6 +2,7 @@
 #![tactic(auto)]
 
 mod order;
+mod places;
 pub mod preferences;
 
 pub use preferences::Preferences;

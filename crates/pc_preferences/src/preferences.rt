@@ -2,10 +2,11 @@
 //!
 //! Activities as in Chaff and MiniSat: a variable's activity is at first the number of its literals in the used axioms. It rises
 //! at each literal that the analysis of a conflict meets, and later conflicts count for more. Restarts come at the conflict
-//! counts of Luby, Sinclair and Zuckerman, found by Knuth's reluctant doubling. No contract rests on any of it. A variable is
-//! found among the own ones by halving, so that where these don't rise, some are left out.
+//! counts of Luby, Sinclair and Zuckerman, found by Knuth's reluctant doubling. No contract rests on any of it. The own
+//! variables are to rise; where they don't, some may be left out.
 
 use crate::order::{Order, SCALE};
+use crate::places::Places;
 use pc_lits::{Lit, Var};
 use std::alloc::{AllocError, Global};
 
@@ -19,6 +20,7 @@ const SHORTEST_RUN: u64 = 512;
 #[derive(Drop)]
 pub struct Preferences {
     order: Order,
+    places: Places,
     step: u64,
     // how many conflicts are left of this run
     left: u64,
@@ -27,11 +29,13 @@ pub struct Preferences {
 }
 
 impl Preferences {
-    /// No activity yet, for so many own variables. It takes all the memory that it will need.
-    pub fn new(alloc: Global, own: usize) -> Result<Preferences, AllocError> {
-        let order = Order::new(alloc, own)?;
+    /// No activity yet, for these own variables. It takes all the memory that it will need.
+    pub fn new(alloc: Global, own: &[Var]) -> Result<Preferences, AllocError> {
+        let order = Order::new(alloc, own.len())?;
+        let places = Places::new(alloc, own)?;
         Ok(Preferences {
             order,
+            places,
             step: SCALE,
             left: SHORTEST_RUN,
             runs: 1,
@@ -39,9 +43,9 @@ impl Preferences {
         })
     }
 
-    /// Raises the variable's activity.
+    /// Raises the variable's activity. Here and below `own` are the variables for which these preferences were made.
     pub fn raise(&mut self, own: &[Var], variable: Var) {
-        if let Ok(place) = own.binary_search(&variable) {
+        if let Some(place) = self.places.of(own, variable) {
             self.order.raise(place, self.step);
         }
     }
@@ -65,7 +69,7 @@ impl Preferences {
 
     /// The variable loses its value, and may be decided again.
     pub fn put_back(&mut self, own: &[Var], variable: Var) {
-        if let Ok(place) = own.binary_search(&variable) {
+        if let Some(place) = self.places.of(own, variable) {
             self.order.put_back(place);
         }
     }

@@ -85,7 +85,7 @@ impl<'g> Solver<'g> {
         let mut trail = trail;
         trail.clear();
         attach_used(axioms, used, own, &mut trail)?;
-        let mut preferences = Preferences::new(alloc, own.len())?;
+        let mut preferences = Preferences::new(alloc, own)?;
         raise_used(axioms, used, own, &mut preferences);
         Ok(Solver {
             alloc,

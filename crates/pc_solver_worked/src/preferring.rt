@@ -74,7 +74,7 @@ take => Some(1)
 
 // The most active variable comes first, before and after many conflicts.
 fn prefers_the_most_active(alloc: Global) -> Result<bool, AllocError> {
-    let mut preferences = Preferences::new(alloc, 4)?;
+    let mut preferences = Preferences::new(alloc, OWN)?;
     Ok(
         follows(alloc, &mut preferences, BEFORE)?
             && runs(&mut preferences) == [512, 512, 1024]
