@@ -219,8 +219,8 @@ module _ (s : SolverView) (literals : List Lit) (goal : Lit) (set : List Bool) (
 
 -- ---- what an answer is kept as
 
-pub same_basis : (old new : SolverView) → new.problem ≡ old.problem → new.blocks ≡ old.blocks → basis_of new ≡ basis_of old
-same_basis old new problem blocks = (cc)
+pub same_basis : (old new : SolverView) → new.variables ≡ old.variables → new.problem ≡ old.problem → new.blocks ≡ old.blocks → basis_of new ≡ basis_of old
+same_basis old new variables problem blocks = (cc)
 
 pub own_assumed : (own : List Var) (literals : List Lit) (goal : Lit) (watched : List Var) (set : List Bool) (seen assumed : List Lit) → seen ≡ assumed → assumed ≡ negated goal ∷ chosen set literals
     → AreAllOwn own literals goal watched → AreOwn own seen
