@@ -21,7 +21,7 @@ use Rattle.pc_world_list.specs.Worlds.{WorldView, set_of, AreExact}
 use Rattle.std.proofs.lemmas.List.Sums.{sum_by-append}
 use Rattle.pc_lits.specs.declared.literal.Lit.{Lit}
 use Rattle.pc_solver.specs.InLog.{is_marked}
-use Rattle.pc_solver.specs.Solver.{Problem, SolverView, HasLog, IsLawfulLog}
+use Rattle.pc_solver.specs.Solver.{Problem, SolverView, HasLog, IsLawfulLog, SuspendedView, SuspendedHasLog}
 use Rattle.pc_solver.specs.Spending.{Basis, basis_of, marked, SpendsIn, SpendsOver}
 use Rattle.pc_search.specs.Found.{steps_in}
 use Rattle.pc_search.proofs.EachLemmas.{steps-append, steps_split}
@@ -163,7 +163,7 @@ lawful_after p s after log is none same has =
     let blocks : Basis → List (List Lit) = λ b. b.blocks in
     subst (λ q. IsLawfulLog q [] log) (ap problem same ∙ is) (subst (λ bs. IsLawfulLog after.problem bs log) (ap blocks same ∙ none) has.lawful)
 
-pub lawful_before : (p : Problem) (s : SolverView) (log : List LogLine) → s.problem ≡ p → s.blocks ≡ [] → HasLog s log → IsLawfulLog p [] log
+pub lawful_before : (p : Problem) (s : SuspendedView) (log : List LogLine) → s.problem ≡ p → s.blocks ≡ [] → SuspendedHasLog s log → IsLawfulLog p [] log
 lawful_before p s log is none has = subst (λ q. IsLawfulLog q [] log) is (subst (λ bs. IsLawfulLog s.problem bs log) none has.lawful)
 
 -- of listing alone, beside the solver's log

@@ -1,10 +1,11 @@
 //! The search for reasons with a solver of its own.
 
-ghost use Rattle.std.specs.Prelude.{◌≡◌, ◌≤◌, ◌<◌, ◌+◌, ◌*◌, ◌^◌, [], IfErr, IfOk, OnOk, length, vec_capacity, vec_len};
+ghost use Rattle.std.specs.Prelude.{◌≡◌, ◌≤◌, ◌<◌, ◌+◌, ◌*◌, ◌^◌, [], IfErr, IfOk, List, OnOk, length, vec_capacity, vec_len};
 ghost use Rattle.pc_ground.specs.Grounded.{grounded};
 ghost use Rattle.pc_search.specs.Found.{Finds, work_between};
 ghost use Rattle.pc_search.specs.Parts.{AreAskedOf};
-ghost use Rattle.pc_solver.specs.Solver.{HasLog, IsLawfulLog, IsProblem};
+ghost use Rattle.pc_log.specs.Lines.{LogLine};
+ghost use Rattle.pc_solver.specs.Solver.{HasLog, IsLawfulLog, IsProblem, SuspendedHasLog};
 ghost use Rattle.pc_solver.specs.Spending.{Basis, basis_of, SpendsOver, StopSays};
 ghost use Rattle.pc_support.specs.Seen.{AreSeen};
 ghost use Rattle.pc_worlds.specs.Parts.{AddsLogs, marked_in};
@@ -16,41 +17,66 @@ use pc_ground::Ground;
 use pc_lits::{Tally, Var};
 use pc_log::Log;
 use pc_logic::Book;
+use pc_searched::SpareTrails;
 use pc_sheet::{Entry, Target};
-use pc_solver::{Solver, Stop};
+use pc_solver::{Solver, Stop, Suspended};
 use pc_support::Seen;
 use pc_world_list::Worlds;
 use std::alloc::{AllocError, Global};
 
 // A solver of a part, and no assignment that was seen.
-struct Beginning<'g> {
-    solver: Solver<'g>,
-    seen: Seen,
+pub(crate) struct Beginning<'g> {
+    pub(crate) solver: Solver<'g>,
+    pub(crate) seen: Seen,
 }
 
 // What was seen over these variables, which is nothing yet.
-pub(crate) fn nothing_seen(alloc: Global, variables: &[Var]) -> Result<Seen, AllocError>
+fn nothing_seen(alloc: Global, variables: &[Var]) -> Result<Seen, AllocError>
     ensures { IfOk result (λ seen. (s : Basis) → s.problem.own ≡ variables.now → AreSeen s seen) }
 {
     let watched = Vec::from_slice(alloc, variables)?;
     Ok(Seen::new(alloc, watched))
 }
 
-fn begin<'g>(alloc: Global, ground: &'g Ground, part: Part<'g>) -> Result<Beginning<'g>, AllocError>
-    requires { IsProblem ground.now.variables (record { axioms = ground.now.clauses; used = part.axioms.now; own = part.variables.now }) }
+fn begin<'g>(
+    alloc: Global,
+    ground: &'g Ground,
+    part: Part<'g>,
+    trails: &mut SpareTrails,
+) -> Result<Beginning<'g>, AllocError>
+    requires { IsProblem trails.old (record { axioms = ground.now.clauses; used = part.axioms.now; own = part.variables.now }) }
     ensures problem { IfOk result (λ b. b.solver.problem ≡ record { axioms = ground.now.clauses; used = part.entry.axioms.now; own = part.entry.variables.now }) }
     ensures blocks { IfOk result (λ b. b.solver.blocks ≡ []) }
     ensures log { IfOk result (λ b. HasLog b.solver []) }
     ensures seen { IfOk result (λ b. AreSeen (basis_of b.solver) b.seen) }
+    ensures variables { IfOk result (λ b. b.solver.variables ≡ trails.old) }
+    ensures trails { trails.new ≡ trails.old }
 {
-    let solver = Solver::new(
-        alloc,
-        ground.store(),
-        part.axioms,
-        part.variables,
-        ground.variables(),
-    )?;
+    let trail = trails.take()?;
+    let solver = Solver::on(alloc, ground.store(), part.axioms, part.variables, trail)?;
     let seen = nothing_seen(alloc, part.variables)?;
+    Ok(Beginning { solver, seen })
+}
+
+/// The same with a solver of the part that has answered before.
+pub(crate) fn begin_again<'g>(
+    alloc: Global,
+    part: Part<'_>,
+    solver: Suspended<'g>,
+    trails: &mut SpareTrails,
+) -> Result<Beginning<'g>, AllocError>
+    requires problem { IsProblem trails.old solver.problem }
+    requires own { solver.problem.own ≡ part.variables.now }
+    ensures problem { IfOk result (λ b. b.solver.problem ≡ solver.entry.problem) }
+    ensures blocks { IfOk result (λ b. b.solver.blocks ≡ solver.entry.blocks) }
+    ensures log { (log : List LogLine) → SuspendedHasLog solver.entry log → IfOk result (λ b. HasLog b.solver log) }
+    ensures seen { IfOk result (λ b. AreSeen (basis_of b.solver) b.seen) }
+    ensures variables { IfOk result (λ b. b.solver.variables ≡ trails.old) }
+    ensures trails { trails.new ≡ trails.old }
+{
+    let seen = nothing_seen(alloc, part.variables)?;
+    let trail = trails.take()?;
+    let solver = solver.resume(trail)?;
     Ok(Beginning { solver, seen })
 }
 
@@ -66,11 +92,13 @@ pub fn find_reasons(
     entries: &[Entry],
     worlds: &Worlds,
     targets: &[Target],
+    trails: &mut SpareTrails,
     logs: &mut Vec<Log>,
     tally: &mut Tally,
     patch: &mut Patch,
 ) -> Result<(), Stop>
     requires ground { ground.now ≡ grounded book.now }
+    requires trails { trails.old ≡ ground.now.variables }
     requires problem { IsProblem ground.now.variables (record { axioms = ground.now.clauses; used = part.axioms.now; own = part.variables.now }) }
     requires asked { AreAskedOf book.now entries.now (record { axioms = ground.now.clauses; used = part.axioms.now; own = part.variables.now }) worlds.now targets.now }
     requires few_targets { length targets.now ≤ 2 ^ 21 }
@@ -81,12 +109,13 @@ pub fn find_reasons(
     ensures logs { AddsLogs 1 (IsLawfulLog (record { axioms = ground.now.clauses; used = part.entry.axioms.now; own = part.entry.variables.now }) []) logs.old.items logs.new.items }
     ensures spends { SpendsOver (length part.entry.variables.now) tally.old tally.new (marked_in logs.old.items) (marked_in logs.new.items) (length targets.now * (length worlds.now * (length entries.now + 2))) }
     ensures stop { IfErr result (StopSays tally.new) }
+    ensures trails { trails.new ≡ trails.old }
 {
     logs.reserve(1)?;
     let Beginning {
         mut solver,
         mut seen,
-    } = begin(alloc, ground, part)?;
+    } = begin(alloc, ground, part, trails)?;
     let mut log = Log::new(alloc);
     let outcome = find_each(
         alloc,
@@ -101,6 +130,7 @@ pub fn find_reasons(
         tally,
         patch,
     );
+    trails.give(solver.into_trail());
     logs.push(log).unwrap();
     outcome
 }

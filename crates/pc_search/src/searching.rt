@@ -21,6 +21,7 @@ use pc_ground::Ground;
 use pc_lits::Tally;
 use pc_log::Log;
 use pc_logic::{Assignment, Book};
+use pc_searched::SpareTrails;
 use pc_sheet::{Entry, Target};
 use pc_solver::Stop;
 use pc_world_list::Worlds;
@@ -38,11 +39,13 @@ pub fn search_part(
     base: &Assignment,
     entries: &[Entry],
     targets: &[Target],
+    trails: &mut SpareTrails,
     logs: &mut Vec<Log>,
     tally: &mut Tally,
     patch: &mut Patch,
 ) -> Result<Worlds, Stop>
     requires ground { ground.now ≡ grounded book.now }
+    requires trails { trails.old ≡ ground.now.variables }
     requires problem { IsProblem ground.now.variables (record { axioms = ground.now.clauses; used = part.axioms.now; own = part.variables.now }) }
     requires base { IsBase book.now base.now }
     requires entries { entries.now ≡ entries_on (map number_of part.cells.now) book.now.entries }
@@ -59,15 +62,16 @@ pub fn search_part(
     ensures spends { (most : ℕ) × ((p : SheetPart) → IsPartOf book.now p part.entry.cells.now entries.now (record { axioms = ground.now.clauses; used = part.entry.axioms.now; own = part.entry.variables.now }) → AreFewFor (sheet_of book.now p) (length targets.now) most)
         × SpendsOver (length part.entry.variables.now) tally.old tally.new (marked_in logs.old.items) (marked_in logs.new.items) most }
     ensures stop { IfErr result (StopSays tally.new) }
+    ensures trails { trails.new ≡ trails.old }
 {
     exact_worlds_are_on();
     joined_worlds_are_worlds();
     let _limit = tally.limit;
-    let found = worlds(alloc, book, ground, part, logs, tally)?;
+    let found = worlds(alloc, book, ground, part, trails, logs, tally)?;
     let joined = join_worlds(alloc, base, &found, part.cells)?;
     let _worlds = joined.len();
     find_reasons(
-        alloc, book, ground, part, entries, &joined, targets, logs, tally, patch,
+        alloc, book, ground, part, entries, &joined, targets, trails, logs, tally, patch,
     )?;
     Ok(joined)
 }

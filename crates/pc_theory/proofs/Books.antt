@@ -25,7 +25,7 @@ use Rattle.pc_reason.specs.Refutations.{certificate_against, Refutes}
 use Rattle.pc_edits.specs.Reasons.{IsRowFor}
 use Rattle.pc_cache.specs.Rows.{TargetRow, row_after}
 use Rattle.pc_world_list.specs.Worlds.{WorldView}
-use Rattle.pc_solver.specs.Solver.{SolverView}
+use Rattle.pc_solver.specs.Solver.{SuspendedView}
 use Rattle.pc_search.specs.Parts.{AreWorldsOf, IsBase}
 use Rattle.pc_theory.specs.Theories.{rules_alone, IsTheory}
 use Rattle.pc_theory.specs.Tasks.{IsReady}
@@ -41,7 +41,7 @@ use Rattle.pc_theory.proofs.OfRules.{grounded_alone, clauses_alone, division_alo
 
 -- ---- the base
 
-pub base_fits : DivisionsDivide → (sheet : Sheet) (g : Grounded) (kept : Kept) (spent : ℕ) (base : List ValueId) (parts : List PartSpending) (solvers : List SolverView) → IsReady sheet g kept → AreStarted sheet kept spent base parts solvers
+pub base_fits : DivisionsDivide → (sheet : Sheet) (g : Grounded) (kept : Kept) (spent : ℕ) (base : List ValueId) (parts : List PartSpending) (solvers : List SuspendedView) → IsReady sheet g kept → AreStarted sheet kept spent base parts solvers
     → length parts ≡ length kept.cells → IsBase sheet base
 base_fits divide sheet g kept spent base parts solvers ready are many = record {
   assigns = are.assigns;

@@ -16,7 +16,7 @@ use Rattle.pc_ground.specs.GroundView.{Grounded}
 use Rattle.pc_parts.specs.Parts.{Part}
 use Rattle.pc_parts.specs.PartSheets.{entries_on, sheet_of}
 use Rattle.pc_components.specs.View.{Kept, number_of}
-use Rattle.pc_solver.specs.Solver.{Problem, SolverView, IsLawfulLog}
+use Rattle.pc_solver.specs.Solver.{Problem, SuspendedView, IsLawfulLog}
 use Rattle.pc_solver.specs.Spending.{marked, SpendsOver, StopSays}
 use Rattle.pc_solver.specs.declared.stop.Stop.{Stop}
 use Rattle.pc_solver.specs.declared.stop.Stop.TheVariants.{Spent, Memory}
@@ -64,7 +64,7 @@ module _ (searched : PartsAreSearched) (sheet : Sheet) (g : Grounded) (kept : Ke
   consistent : AreRulesConsistent sheet
   consistent = consistent_by sheet base is_base
 
-  module _ (before : PartSpending) (s : SolverView) (number : before.part ≡ i) (on : IsStarted sheet kept before s) where
+  module _ (before : PartSpending) (s : SuspendedView) (number : before.part ≡ i) (on : IsStarted sheet kept before s) where
     -- what was spent before
     here : IsPartSpending sheet found.0 used own before
     here =
@@ -112,7 +112,7 @@ module _ (searched : PartsAreSearched) (sheet : Sheet) (g : Grounded) (kept : Ke
     searched_asked entries are = subst (AreSearchedOf sheet cells entries given) (sym same) (searched_of searched sheet theory ready.formed known i cells used own at_cells at_used at_own ts asked entries are)
 
     -- what was spent, as the search says it; room was made in the logs
-    pub moved_here : (before : PartSpending) (s : SolverView) (number : before.part ≡ i) (on : IsStarted sheet kept before s) (spent more : ℕ) (place : PartSpending) (rest room mid : List (List LogLine)) (log grown : List LogLine) (blank : Tally)
+    pub moved_here : (before : PartSpending) (s : SuspendedView) (number : before.part ≡ i) (on : IsStarted sheet kept before s) (spent more : ℕ) (place : PartSpending) (rest room mid : List (List LogLine)) (log grown : List LogLine) (blank : Tally)
         (entries : List Entry) → entries ≡ entries_on (map number_of cells) sheet.entries → before.logs.items ≡ rest ++ log ∷ [] → room ≡ rest → place.logs.items ≡ mid ++ grown ∷ [] → place.part ≡ before.part
         → ((p : Part) → IsPartOf sheet p cells entries given → AddsLogs 2 (IsLogOf (sheet_of sheet p) given) room mid) → IsLawfulLog given [] grown
         → ((most : ℕ) × ((p : Part) → IsPartOf sheet p cells entries given → AreFewFor (sheet_of sheet p) (length targets) most) × SpendsOver (length own) blank place.tally (marked log + marked_in room) (marked grown + marked_in mid) most)

@@ -1,5 +1,5 @@
 -- One part's search, and one more part that is searched.
-use Rattle.std.proofs.Common.{◌≡◌, ◌≢◌, ℕ, ◌+◌, ◌*◌, ◌<◌, ◌≤◌, inl, inr, List, [], ◌∷◌, ◌++◌, length, sum_by, get_or, set, All, Contains, None, Some, IfSome, slice_get, refl, ap, sym, ◌∙◌, subst, arith}
+use Rattle.std.proofs.Common.{◌≡◌, ◌≢◌, ℕ, zero, suc, ◌+◌, ◌*◌, ◌<◌, ◌≤◌, inl, inr, List, [], ◌∷◌, ◌++◌, length, sum_by, get_or, set, All, Contains, None, Some, IfSome, slice_get, refl, ap, sym, ◌∙◌, subst, arith}
 use Rattle.std.proofs.lemmas.List.{get_or-set_other, get_or-set_same, length-set, length_push}
 use Rattle.std.proofs.lemmas.List.Sums.{sum_by-set}
 use Rattle.std.proofs.lemmas.List.Elements.{All-nil, All-cons, All-append, Contains-append_cases}
@@ -22,7 +22,7 @@ use Rattle.pc_reason.specs.Reasons.{IsTargetOf, Justification}
 use Rattle.pc_edits.specs.Reasons.{IsRowFor}
 use Rattle.pc_cache.specs.Rows.{TargetRow, row_after}
 use Rattle.pc_world_list.specs.Worlds.{WorldView}
-use Rattle.pc_solver.specs.Solver.{SolverView, IsLawfulLog}
+use Rattle.pc_solver.specs.Solver.{SuspendedView, IsLawfulLog}
 use Rattle.pc_solver.specs.Spending.{marked, SpendsOver}
 use Rattle.pc_solver.specs.declared.stop.Stop.{Stop}
 use Rattle.pc_solver.specs.declared.stop.Stop.TheVariants.{Spent, Memory}
@@ -197,19 +197,31 @@ module _ (sheet : Sheet) (kept : Kept) (n spent more : ℕ) (worlds : List (List
 
 -- ---- the places that are still to be searched
 
-pub later_started : (sheet : Sheet) (kept : Kept) (n : ℕ) (parts : List PartSpending) (solvers : List SolverView) (place : PartSpending) (s : SolverView)
-    → ((j : ℕ) (d : PartSpending) (e : SolverView) → n ≤ j → j < length parts → IsStarted sheet kept (get_or parts j d) (get_or solvers j e))
-    → (j : ℕ) (d : PartSpending) (e : SolverView) → n + 1 ≤ j → j < length (set parts n place) → IsStarted sheet kept (get_or (set parts n place) j d) (get_or (set solvers n s) j e)
-later_started sheet kept n parts solvers place s started j d e up within =
-    let other : j ≢ n = λ is. omega (arith, is, up) in
-    subst (λ p. IsStarted sheet kept p (get_or (set solvers n s) j e)) (sym (get_or-set_other parts n j place d other))
-    (subst (IsStarted sheet kept (get_or parts j d)) (sym (get_or-set_other solvers n j s e other)) (started j d e (omega (arith, up)) (omega (arith, within, length-set parts n place))))
+pub later_started : (sheet : Sheet) (kept : Kept) (n : ℕ) (parts : List PartSpending) (solvers rest : List SuspendedView) (place : PartSpending) (s : SuspendedView) → solvers ≡ s ∷ rest
+    → ((k : ℕ) (d : PartSpending) (e : SuspendedView) → k < length solvers → IsStarted sheet kept (get_or parts (n + k) d) (get_or solvers k e))
+    → (k : ℕ) (d : PartSpending) (e : SuspendedView) → k < length rest → IsStarted sheet kept (get_or (set parts n place) (n + 1 + k) d) (get_or rest k e)
+later_started sheet kept n parts solvers rest place s is started k d e within =
+    let all = subst (λ (q : List SuspendedView). (k : ℕ) (d : PartSpending) (e : SuspendedView) → k < length q → IsStarted sheet kept (get_or parts (n + k) d) (get_or q k e)) is started in
+    let next : IsStarted sheet kept (get_or parts (n + suc k) d) (get_or rest k e) = all (suc k) d e (omega (arith, within)) in
+    let same : n + suc k ≡ n + 1 + k = omega arith in
+    subst (λ p. IsStarted sheet kept p (get_or rest k e)) (sym (get_or-set_other parts n (n + 1 + k) place d (λ at. omega (arith, at))))
+    (subst (λ (m : ℕ). IsStarted sheet kept (get_or parts m d) (get_or rest k e)) same next)
 
-pub started_at : (sheet : Sheet) (kept : Kept) (n : ℕ) (parts : List PartSpending) (solvers : List SolverView) (place : PartSpending) (s : SolverView)
-    → ((j : ℕ) (d : PartSpending) (e : SolverView) → n ≤ j → j < length parts → IsStarted sheet kept (get_or parts j d) (get_or solvers j e)) → n < length parts → place ≡ get_or parts n place → s ≡ get_or solvers n s
-    → IsStarted sheet kept place s
-started_at sheet kept n parts solvers place s started below is_place is_solver =
-    subst (λ p. IsStarted sheet kept p s) (sym is_place) (subst (IsStarted sheet kept (get_or parts n place)) (sym is_solver) (started n place s (omega arith) below))
+pub started_at : (sheet : Sheet) (kept : Kept) (n : ℕ) (parts : List PartSpending) (solvers rest : List SuspendedView) (place : PartSpending) (s : SuspendedView) → solvers ≡ s ∷ rest
+    → ((k : ℕ) (d : PartSpending) (e : SuspendedView) → k < length solvers → IsStarted sheet kept (get_or parts (n + k) d) (get_or solvers k e)) → place ≡ get_or parts n place → IsStarted sheet kept place s
+started_at sheet kept n parts solvers rest place s is started is_place =
+    let all = subst (λ (q : List SuspendedView). (k : ℕ) (d : PartSpending) (e : SuspendedView) → k < length q → IsStarted sheet kept (get_or parts (n + k) d) (get_or q k e)) is started in
+    let first : IsStarted sheet kept (get_or parts (n + zero) place) s = all zero place s (omega arith) in
+    let same : n + zero ≡ n = omega arith in
+    subst (λ p. IsStarted sheet kept p s) (sym is_place) (subst (λ (m : ℕ). IsStarted sheet kept (get_or parts m place) s) same first)
+
+-- at first none is searched
+pub all_started : (sheet : Sheet) (kept : Kept) (parts : List PartSpending) (solvers : List SuspendedView) → length solvers ≡ length parts
+    → ((j : ℕ) (d : PartSpending) (e : SuspendedView) → j < length parts → IsStarted sheet kept (get_or parts j d) (get_or solvers j e))
+    → (k : ℕ) (d : PartSpending) (e : SuspendedView) → k < length solvers → IsStarted sheet kept (get_or parts (0 + k) d) (get_or solvers k e)
+all_started sheet kept parts solvers many started k d e below =
+    let same : k ≡ 0 + k = omega arith in
+    subst (λ (m : ℕ). IsStarted sheet kept (get_or parts m d) (get_or solvers k e)) same (started k d e (omega (arith, below, many)))
 
 -- what was spent when the budget ran out
 pub stop_places : (sheet : Sheet) (kept : Kept) (budget spent more i : ℕ) (parts : List PartSpending) (before place : PartSpending) (stop : Stop) → ArePlaces sheet kept spent parts → i < length parts → before ≡ get_or parts i before

@@ -31,7 +31,7 @@ use Rattle.pc_justify.specs.Found.{clause_on, HasNoBlock}
 use Rattle.pc_justify.specs.Laws.{OwnLinesAreNamed}
 use Rattle.pc_analyze.specs.Learning.{IsOverNegated}
 use Rattle.pc_solver.specs.Answers.{value_in, MeetsEach}
-use Rattle.pc_solver.specs.Solver.{Problem, SolverView, IsProblem, IsLawfulLog, HasLog, Spends, clauses_used}
+use Rattle.pc_solver.specs.Solver.{Problem, SolverView, SuspendedView, SuspendedHasLog, IsProblem, IsLawfulLog, HasLog, Spends, clauses_used}
 use Rattle.pc_solver.specs.Spending.{marked}
 use Rattle.pc_searched.specs.Laws.{problem_of, AreSearchedBy, PartsAreSearched}
 use Rattle.pc_search.specs.Found.{steps_in}
@@ -43,7 +43,7 @@ use Rattle.pc_theory.specs.Tasks.{IsReady, IsPartAt}
 use Rattle.pc_theory.specs.Reading.{HasPairs}
 use Rattle.pc_theory.specs.Spendings.{IsGoodLog, IsPartSpending, placed_of, IsSpentOn}
 use Rattle.pc_theory.specs.Starting.{ArePlaces, IsStarted, AreStarted, HaltSays}
-use Rattle.pc_theory.specs.Calling.{IsEmptyAt, EndSays, IsCalled, IsRefused}
+use Rattle.pc_theory.specs.Calling.{IsEmptyAt, EndSays, IsCalled, IsRefused, set_aside}
 use Rattle.pc_theory.specs.declared.starting.End.{End}
 use Rattle.pc_theory.specs.declared.spending.PartSpending.{PartSpending}
 use Rattle.pc_theory.proofs.Lists.{within_at, at_within, get_early, get_last, sum_push, same_some}
@@ -144,13 +144,13 @@ module _ (sheet : Sheet) (kept : Kept) (number : ℕ) (part : Part) (cells : Lis
       logs = subst (All (IsGoodLog sheet part used own)) (sym logs) (All-cons (IsGoodLog sheet part used own) log [] good (All-nil (IsGoodLog sheet part used own)));
     }
 
-    pub started : IsStarted sheet kept place s
+    pub started : IsStarted sheet kept place (set_aside s)
     unfolding spent_there
     started = record {
       spent = spent_there part_spending;
       problem = problem;
       no_blocks = none;
-      only = record { log = log; only = logs; has = has; steps = steps };
+      only = record { log = log; only = logs; has = record { lawful = has.lawful; kept = has.kept }; steps = steps };
       one_call = omega (arith, spends.calls, no_calls);
     }
 
@@ -249,14 +249,25 @@ module _ (searched : PartsAreSearched) (sheet : Sheet) (g : Grounded) (kept : Ke
         says = says;
       }))
 
-  pub problem_there : (s : SolverView) (place : PartSpending) → place.part ≡ i → IsStarted sheet kept place s → s.problem ≡ problem_of sheet used own
+  pub problem_there : (s : SuspendedView) (place : PartSpending) → place.part ≡ i → IsStarted sheet kept place s → s.problem ≡ problem_of sheet used own
   problem_there s place number on =
       let us : on.spent.used ≡ used = same_some (sym on.spent.used_are ∙ (ap (slice_get kept.axioms) number ∙ at_used)) in
       let os : on.spent.own ≡ own = same_some (sym on.spent.own_are ∙ (ap (slice_get kept.variables) number ∙ at_own)) in
       on.problem ∙ (ap (λ xs. problem_of sheet xs on.spent.own) us ∙ ap (problem_of sheet used) os)
 
-  pub first_pairs : (s : SolverView) (place : PartSpending) → place.part ≡ i → IsStarted sheet kept place s → HasPairs g.sizes cells s
-  first_pairs s place number on = has_pairs searched sheet g kept ready i at_part.0 cells used own at_part.1 s (problem_there s place number on)
+  pub first_pairs : (s : SolverView) (place : PartSpending) → place.part ≡ i → IsStarted sheet kept place (set_aside s) → HasPairs g.sizes cells s
+  first_pairs s place number on = has_pairs searched sheet g kept ready i at_part.0 cells used own at_part.1 s (problem_there (set_aside s) place number on)
+
+-- the solver when its trail was taken away
+pub aside_started : (sheet : Sheet) (kept : Kept) (place : PartSpending) (s : SolverView) (t : SuspendedView) → t.problem ≡ s.problem → t.blocks ≡ s.blocks → ((log : List LogLine) → HasLog s log → SuspendedHasLog t log)
+    → IsStarted sheet kept place (set_aside s) → IsStarted sheet kept place t
+aside_started sheet kept place s t problem blocks logged on = record {
+  spent = on.spent;
+  problem = problem ∙ on.problem;
+  no_blocks = blocks ∙ on.no_blocks;
+  only = record { log = on.only.log; only = on.only.only; has = logged on.only.log (record { lawful = on.only.has.lawful; kept = on.only.has.kept }); steps = on.only.steps };
+  one_call = on.one_call;
+}
 
 -- ---- one more part
 
@@ -273,8 +284,8 @@ places_more sheet kept spent number parts place are many numbered on = record {
   each = All-append (IsSpentOn sheet None kept) parts (place ∷ []) are.each (All-cons (IsSpentOn sheet None kept) place [] on (All-nil (IsSpentOn sheet None kept)));
 }
 
-module _ (sheet : Sheet) (kept : Kept) (spent number : ℕ) (base now : List ValueId) (parts : List PartSpending) (solvers : List SolverView) (are : AreStarted sheet kept spent base parts solvers)
-    (many : length parts ≡ number) (place : PartSpending) (s : SolverView) (numbered : place.part ≡ number) (on : IsStarted sheet kept place s) where
+module _ (sheet : Sheet) (kept : Kept) (spent number : ℕ) (base now : List ValueId) (parts : List PartSpending) (solvers : List SuspendedView) (are : AreStarted sheet kept spent base parts solvers)
+    (many : length parts ≡ number) (place : PartSpending) (s : SuspendedView) (numbered : place.part ≡ number) (on : IsStarted sheet kept place s) where
   pub started_more : IsAssignment sheet.universe now → ((j : ℕ) (part : Part) → j < number → IsPartNumbered (rules_alone sheet) j part → Fits (sheet_of sheet part) base → Fits (sheet_of sheet part) now)
       → ((part : Part) → IsPartNumbered (rules_alone sheet) number part → Fits (sheet_of sheet part) now) → AreStarted sheet kept (spent + place.tally.placed) now (parts ++ place ∷ []) (solvers ++ s ∷ [])
   started_more assigns others here = record {
@@ -299,15 +310,15 @@ module _ (sheet : Sheet) (kept : Kept) (spent number : ℕ) (base now : List Val
   }
 
 -- the part that made its first call, with its values
-pub started_next : PartsAreSearched → (sheet : Sheet) (g : Grounded) (kept : Kept) → IsReady sheet g kept → (spent number : ℕ) (base now : List ValueId) (parts : List PartSpending) (solvers : List SolverView) (cells : List CellId) (used : List ℕ) (own : List Var)
+pub started_next : PartsAreSearched → (sheet : Sheet) (g : Grounded) (kept : Kept) → IsReady sheet g kept → (spent number : ℕ) (base now : List ValueId) (parts : List PartSpending) (solvers : List SuspendedView) (cells : List CellId) (used : List ℕ) (own : List Var)
     → slice_get kept.cells number ≡ Some cells → slice_get kept.axioms number ≡ Some used → slice_get kept.variables number ≡ Some own → AreStarted sheet kept spent base parts solvers → length parts ≡ number
-    → (place : PartSpending) (s : SolverView) → place.part ≡ number → IsStarted sheet kept place s → MeetsEach (value_in s.trues) (clauses_used s.problem)
+    → (place : PartSpending) (s : SolverView) (t : SuspendedView) → place.part ≡ number → IsStarted sheet kept place (set_aside s) → IsStarted sheet kept place t → MeetsEach (value_in s.trues) (clauses_used s.problem)
     → IsAssignment sheet.universe now → ((a : List ValueId) → IsAssignment sheet.universe a → HasValues (cell_sizes sheet.universe) (map number_of cells) (value_in s.trues) a → AgreeAt (Contains (map number_of cells)) a now)
-    → AgreeAt (λ c. ¬ Contains (map number_of cells) c) base now → AreStarted sheet kept (spent + place.tally.placed) now (parts ++ place ∷ []) (solvers ++ s ∷ [])
-started_next searched sheet g kept ready spent number base now parts solvers cells used own at_cells at_used at_own are many place s numbered on meets assigns reads elsewhere =
+    → AgreeAt (λ c. ¬ Contains (map number_of cells) c) base now → AreStarted sheet kept (spent + place.tally.placed) now (parts ++ place ∷ []) (solvers ++ t ∷ [])
+started_next searched sheet g kept ready spent number base now parts solvers cells used own at_cells at_used at_own are many place s t numbered called on meets assigns reads elsewhere =
     let found = at_part searched sheet g kept ready number cells used own at_cells at_used at_own in
-    let problem = problem_there searched sheet g kept ready number cells used own at_cells at_used at_own s place numbered on in
-    started_more sheet kept spent number base now parts solvers are many place s numbered on assigns
+    let problem = problem_there searched sheet g kept ready number cells used own at_cells at_used at_own (set_aside s) place numbered called in
+    started_more sheet kept spent number base now parts solvers are many place t numbered on assigns
     (λ j part below at fits.
     let c = within_at kept.cells j (number_within sheet kept ready.components j part at) in
     let us = within_at kept.axioms j (omega (arith, as_many_axioms sheet kept ready.components, number_within sheet kept ready.components j part at)) in
@@ -323,7 +334,7 @@ started_next searched sheet g kept ready spent number base now parts solvers cel
     let same : found.0 ≡ part = same_some (sym found.1.numbered ∙ at) in
     subst (λ p. Fits (sheet_of sheet p) now) same (read_fits searched sheet g kept ready number found.0 cells used own found.1 s now problem meets assigns reads))
 
-pub none_started : (sheet : Sheet) (kept : Kept) (base : List ValueId) (spent : ℕ) (parts : List PartSpending) (solvers : List SolverView) → parts ≡ [] → solvers ≡ [] → spent ≡ 0 → IsAssignment sheet.universe base → AreStarted sheet kept spent base parts solvers
+pub none_started : (sheet : Sheet) (kept : Kept) (base : List ValueId) (spent : ℕ) (parts : List PartSpending) (solvers : List SuspendedView) → parts ≡ [] → solvers ≡ [] → spent ≡ 0 → IsAssignment sheet.universe base → AreStarted sheet kept spent base parts solvers
 none_started sheet kept base spent parts solvers none no_solvers zero_spent assigns =
     subst (λ ps. AreStarted sheet kept spent base ps solvers) (sym none) (subst (AreStarted sheet kept spent base []) (sym no_solvers)
     (record {

@@ -9,7 +9,7 @@ use Rattle.pc_components.specs.View.{Kept}
 use Rattle.pc_justify.specs.Found.{clause_on, IsDerivedAt}
 use Rattle.pc_reason.specs.Refutations.{Refutes}
 use Rattle.pc_solver.specs.Answers.{value_in, MeetsEach}
-use Rattle.pc_solver.specs.Solver.{SolverView, clauses_used}
+use Rattle.pc_solver.specs.Solver.{SolverView, SuspendedView, clauses_used}
 use Rattle.pc_theory.specs.Starting.{IsStarted}
 use Rattle.pc_theory.specs.declared.spending.PartSpending.{PartSpending}
 use Rattle.pc_theory.specs.declared.starting.End.{End}
@@ -34,9 +34,13 @@ abbrev pub EndSays : SolverView → PartSpending → End → Type 0
 EndSays s place Met = MeetsEach (value_in s.trues) (clauses_used s.problem)
 EndSays s place end.Spent = place.tally.placed ≡ place.tally.limit
 
+-- the solver without its trail
+abbrev pub set_aside : SolverView → SuspendedView
+set_aside s = record { problem = s.problem; blocks = s.blocks; clauses = s.clauses }
+
 -- one call was made for the part of that number
 pub record IsCalled (sheet : Sheet) (kept : Kept) (number limit : ℕ) (s : SolverView) (place : PartSpending) (how : End) : Type 0 where
   pub numbered : place.part ≡ number
   pub limit_is : place.tally.limit ≡ limit
-  pub started : IsStarted sheet kept place s
+  pub started : IsStarted sheet kept place (set_aside s)
   pub says : EndSays s place how

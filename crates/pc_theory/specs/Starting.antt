@@ -12,7 +12,7 @@ use Rattle.pc_components.specs.View.{Kept}
 use Rattle.pc_reason.specs.Refutations.{Refutes}
 use Rattle.pc_searched.specs.Laws.{problem_of}
 use Rattle.pc_search.specs.Found.{steps_in}
-use Rattle.pc_solver.specs.Solver.{SolverView, HasLog}
+use Rattle.pc_solver.specs.Solver.{SuspendedView, SuspendedHasLog}
 use Rattle.pc_solver.specs.declared.stop.Stop.{Stop}
 use Rattle.pc_solver.specs.declared.stop.Stop.TheVariants as stop
 use Rattle.pc_theory.specs.Theories.{rules_alone, IsPartNumbered}
@@ -29,14 +29,14 @@ pub record ArePlaces (sheet : Sheet) (kept : Kept) (spent : ℕ) (parts : List P
   pub each : All (IsSpentOn sheet None kept) parts
 
 -- The solver's log is the only one, and has at most as many steps as clauses were learned and calls made.
-pub record HasOnlyLog (s : SolverView) (tally : Tally) (logs : List (List LogLine)) : Type 0 where
+pub record HasOnlyLog (s : SuspendedView) (tally : Tally) (logs : List (List LogLine)) : Type 0 where
   pub log : List LogLine
   pub only : logs ≡ log ∷ []
-  pub has : HasLog s log
+  pub has : SuspendedHasLog s log
   pub steps : steps_in log ≤ tally.learned + tally.calls
 
--- The solver is one of the place's part, has made one call, and its log is the place's only one.
-pub record IsStarted (sheet : Sheet) (kept : Kept) (place : PartSpending) (s : SolverView) : Type 0 where
+-- The solver, which is without its trail, is one of the place's part, has made one call, and its log is the place's only one.
+pub record IsStarted (sheet : Sheet) (kept : Kept) (place : PartSpending) (s : SuspendedView) : Type 0 where
   pub spent : IsSpentOn sheet None kept place
   pub problem : s.problem ≡ problem_of sheet spent.used spent.own
   pub no_blocks : s.blocks ≡ []
@@ -44,10 +44,10 @@ pub record IsStarted (sheet : Sheet) (kept : Kept) (place : PartSpending) (s : S
   pub one_call : place.tally.calls ≤ 1
 
 -- the first parts have their solvers, and the assignment fits each of them
-pub record AreStarted (sheet : Sheet) (kept : Kept) (spent : ℕ) (base : List ValueId) (parts : List PartSpending) (solvers : List SolverView) : Type 0 where
+pub record AreStarted (sheet : Sheet) (kept : Kept) (spent : ℕ) (base : List ValueId) (parts : List PartSpending) (solvers : List SuspendedView) : Type 0 where
   pub places : ArePlaces sheet kept spent parts
   pub many : length solvers ≡ length parts
-  pub started : (j : ℕ) (d : PartSpending) (e : SolverView) → j < length parts → IsStarted sheet kept (slice_index_or parts j d) (slice_index_or solvers j e)
+  pub started : (j : ℕ) (d : PartSpending) (e : SuspendedView) → j < length parts → IsStarted sheet kept (slice_index_or parts j d) (slice_index_or solvers j e)
   pub assigns : IsAssignment sheet.universe base
   pub fits : (j : ℕ) (part : Part) → j < length parts → IsPartNumbered (rules_alone sheet) j part → Fits (sheet_of sheet part) base
 

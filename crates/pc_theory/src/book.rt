@@ -20,9 +20,11 @@ use pc_log::{Log, Span};
 use pc_logic::{Assignment, Book};
 use pc_names::Names;
 use pc_parts::{divisions_divide, parts_are_a_division, parts_are_found};
+use pc_searched::SpareTrails;
 use pc_solver::Stop;
 use pc_world_list::Worlds;
 use std::alloc::{AllocError, Global};
+use std::collections::VecDeque;
 
 /// A derivation of the empty clause, with the names of its variables and axioms.
 #[derive(Drop)]
@@ -87,7 +89,8 @@ impl From<AllocError> for PartFault {
     }
 }
 
-// Searches a book's parts: first whether each part's rules are consistent, and then each part's worlds and reasons.
+// Searches a book's parts: first whether each part's rules are consistent, and then each part's worlds and reasons. The trails
+// serve one part after the other.
 fn search_task(alloc: Global, task: Task<'_>, patch: &mut Patch) -> Result<Searched, PartFault>
     requires ready { IsReady task.book.now task.ground.now task.components.now }
     requires few { length task.components.now.cells ≤ 4097 }
@@ -99,7 +102,15 @@ fn search_task(alloc: Global, task: Task<'_>, patch: &mut Patch) -> Result<Searc
     let mut spent = 0;
     let mut parts = Vec::new(alloc);
     let mut solvers = Vec::new(alloc);
-    let base = match start_parts(alloc, task, &mut spent, &mut parts, &mut solvers) {
+    let mut trails = SpareTrails::new(alloc, task.ground.variables());
+    let base = match start_parts(
+        alloc,
+        task,
+        &mut spent,
+        &mut trails,
+        &mut parts,
+        &mut solvers,
+    ) {
         Ok(base) => base,
         Err(Halt::Inconsistent(log, span)) => return Err(PartFault::Inconsistent(log, span)),
         Err(Halt::Spent) => return Err(PartFault::Spent(total(parts, spent, task.budget)?)),
@@ -111,7 +122,8 @@ fn search_task(alloc: Global, task: Task<'_>, patch: &mut Patch) -> Result<Searc
         &base,
         &mut spent,
         &mut parts,
-        &mut solvers,
+        VecDeque::from_vec(solvers),
+        &mut trails,
         patch,
     ) {
         Ok(worlds) => Ok(Searched {

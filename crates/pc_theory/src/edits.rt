@@ -13,6 +13,7 @@ use crate::spending::PartSpending;
 use crate::theory::Theory;
 use pc_cache::Patch;
 use pc_logic::Book;
+use pc_searched::SpareTrails;
 use pc_searched::laws::parts_are_searched;
 use pc_sheet::Target;
 use pc_solver::Stop;
@@ -46,6 +47,7 @@ pub fn search_part(
     let own = theory.components.part(part);
     let entries = entries_on(alloc, book, own.cells)?;
     place.logs.reserve(2)?;
+    let mut trails = SpareTrails::new(alloc, theory.ground.variables());
     pc_search::search_part(
         alloc,
         book,
@@ -54,6 +56,7 @@ pub fn search_part(
         &theory.base,
         &entries,
         targets,
+        &mut trails,
         &mut place.logs,
         &mut place.tally,
         patch,
@@ -86,6 +89,7 @@ pub fn find_reasons(
     let _cells = book.cells();
     let own = theory.components.part(part);
     let entries = entries_on(alloc, book, own.cells)?;
+    let mut trails = SpareTrails::new(alloc, theory.ground.variables());
     pc_search::find_reasons(
         alloc,
         book,
@@ -94,6 +98,7 @@ pub fn find_reasons(
         &entries,
         worlds,
         targets,
+        &mut trails,
         &mut place.logs,
         &mut place.tally,
         patch,

@@ -13,11 +13,13 @@ use crate::task::Task;
 use pc_cache::Patch;
 use pc_logic::Assignment;
 use pc_search::search_started;
+use pc_searched::SpareTrails;
 use pc_searched::laws::parts_are_searched;
-use pc_solver::{Solver, Stop};
+use pc_solver::{Stop, Suspended};
 use pc_world_list::Worlds;
 use pc_worlds::entries_on;
 use std::alloc::Global;
+use std::collections::VecDeque;
 
 // Lists the worlds of a part whose solver has made its first call, and finds the reasons of all targets on its cells.
 fn search_one(
@@ -27,14 +29,16 @@ fn search_one(
     number: usize,
     spent: &mut u64,
     place: &mut PartSpending,
-    solver: &mut Solver<'_>,
+    solver: Suspended<'_>,
+    trails: &mut SpareTrails,
     patch: &mut Patch,
 ) -> Result<Worlds, Stop>
     requires ready { IsReady task.book.now task.ground.now task.components.now }
+    requires trails { trails.old ≡ task.ground.now.variables }
     requires number { number < length task.components.now.cells }
     requires base { IsBase task.book.now base.now }
     requires place { place.old.part ≡ number }
-    requires started { IsStarted task.book.now task.components.now place.old solver.old }
+    requires started { IsStarted task.book.now task.components.now place.old solver }
     requires part_of { place.old.tally.placed ≤ spent.old }
     requires within { spent.old ≤ task.budget }
     ensures worlds { (p : Part) → IsPartNumbered (rules_alone task.entry.book.now) number p → IfOk result (AreWorldsOf task.entry.book.now p) }
@@ -42,6 +46,7 @@ fn search_one(
     ensures place { OnOk result (IsMoved task.entry.book.now task.entry.components.now spent.old place.old spent.new place.new) }
     ensures within { spent.new ≤ task.entry.budget }
     ensures stop { IfErr result (StopMoves task.entry.book.now task.entry.components.now task.entry.budget spent.old place.old spent.new place.new) }
+    ensures trails { trails.new ≡ trails.old }
 {
     parts_are_searched();
     let _cells = task.book.cells();
@@ -65,6 +70,7 @@ fn search_one(
         &targets,
         solver,
         &mut log,
+        trails,
         &mut place.logs,
         &mut place.tally,
         patch,
@@ -74,18 +80,20 @@ fn search_one(
     outcome
 }
 
-/// Searches all parts, one after the other.
+/// Searches all parts, one after the other, each with the solver of its first call.
 pub(crate) fn search_parts(
     alloc: Global,
     task: Task<'_>,
     base: &Assignment,
     spent: &mut u64,
     parts: &mut Vec<PartSpending>,
-    solvers: &mut Vec<Solver<'_>>,
+    solvers: VecDeque<Suspended<'_>>,
+    trails: &mut SpareTrails,
     patch: &mut Patch,
 ) -> Result<Vec<Worlds>, Stop>
     requires ready { IsReady task.book.now task.ground.now task.components.now }
-    requires started { AreStarted task.book.now task.components.now spent.old base.now parts.old.items solvers.old.items }
+    requires trails { trails.old ≡ task.ground.now.variables }
+    requires started { AreStarted task.book.now task.components.now spent.old base.now parts.old.items solvers.items }
     requires many { length parts.old.items ≡ length task.components.now.cells }
     requires base { IsBase task.book.now base.now }
     requires blank { patch.old ≡ [] }
@@ -94,8 +102,13 @@ pub(crate) fn search_parts(
     ensures within { spent.new ≤ task.entry.budget }
     ensures stop { IfErr result (StopPlaces task.entry.book.now task.entry.components.now task.entry.budget spent.new parts.new.items) }
 {
+    let mut solvers = solvers;
     let mut worlds = Vec::new(alloc);
     for number in 0..task.components.len() {
+        let Some(solver) = solvers.pop_front() else {
+            // There is one for each part.
+            unreachable!();
+        };
         let found = search_one(
             alloc,
             task,
@@ -103,7 +116,8 @@ pub(crate) fn search_parts(
             number,
             spent,
             &mut parts[number],
-            &mut solvers[number],
+            solver,
+            trails,
             patch,
         )?;
         worlds.push(found)?;

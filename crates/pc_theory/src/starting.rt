@@ -14,8 +14,9 @@ use pc_justify::{names_are_of_their_sheet, own_lines_are_named, trimmed_lines_re
 use pc_lits::Tally;
 use pc_log::{Log, Span, StepId, trim};
 use pc_logic::Assignment;
+use pc_searched::SpareTrails;
 use pc_searched::laws::parts_are_searched;
-use pc_solver::{Outcome, Solver};
+use pc_solver::{Outcome, Solver, Suspended};
 use std::alloc::{AllocError, Global};
 
 // A log, and a span of it.
@@ -65,22 +66,27 @@ fn call_part<'g>(
     task: Task<'g>,
     number: usize,
     limit: u64,
+    trails: &mut SpareTrails,
 ) -> Result<Called<'g>, Halt>
     requires ready { IsReady task.book.now task.ground.now task.components.now }
+    requires trails { trails.old ≡ task.ground.now.variables }
     requires number { number < length task.components.now.cells }
     requires few { number ≤ 4096 }
     ensures called { IfOk result (λ c. IsCalled task.entry.book.now task.entry.components.now number limit c.solver c.place c.end) }
+    ensures variables { IfOk result (λ c. c.solver.variables ≡ trails.old) }
     ensures refused { IfErr result (IsRefused task.entry.book.now) }
+    ensures trails { trails.new ≡ trails.old }
 {
     parts_are_searched();
     own_lines_are_named();
     let part = task.components.part(number);
-    let mut solver = Solver::new(
+    let trail = trails.take()?;
+    let mut solver = Solver::on(
         alloc,
         task.ground.store(),
         part.axioms,
         part.variables,
-        task.ground.variables(),
+        trail,
     )?;
     let mut log = Log::new(alloc);
     let mut tally = Tally {
@@ -135,17 +141,19 @@ fn keep<'g>(
     })
 }
 
-// Makes the first call of a part, and reads the values of its cells.
+// Makes the first call of a part, and reads the values of its cells. The solver is kept without its trail.
 fn start_part<'g>(
     alloc: Global,
     task: Task<'g>,
     number: usize,
     spent: &mut u64,
     base: &mut Assignment,
+    trails: &mut SpareTrails,
     parts: &mut Vec<PartSpending>,
-    solvers: &mut Vec<Solver<'g>>,
+    solvers: &mut Vec<Suspended<'g>>,
 ) -> Result<(), Halt>
     requires ready { IsReady task.book.now task.ground.now task.components.now }
+    requires trails { trails.old ≡ task.ground.now.variables }
     requires number { number < length task.components.now.cells }
     requires few { number ≤ 4096 }
     requires many { length parts.old.items ≡ number }
@@ -155,10 +163,11 @@ fn start_part<'g>(
     ensures within { spent.new ≤ task.entry.budget }
     ensures started { OnOk result (AreStarted task.entry.book.now task.entry.components.now spent.new base.new parts.new.items solvers.new.items) }
     ensures halt { IfErr result (HaltSays task.entry.book.now task.entry.components.now task.entry.budget spent.new parts.new.items) }
+    ensures trails { trails.new ≡ trails.old }
 {
     parts_are_searched();
     let part = task.components.part(number);
-    let called = call_part(alloc, task, number, task.budget - *spent)?;
+    let called = call_part(alloc, task, number, task.budget - *spent, trails)?;
     *spent += called.place.tally.placed;
     match called.end {
         End::Spent => {
@@ -167,22 +176,27 @@ fn start_part<'g>(
         }
         End::Met => {
             read_values(task.book, task.ground, part.cells, &called.solver, base);
+            let (solver, trail) = called.solver.suspend();
+            trails.give(trail);
             parts.push(called.place)?;
-            solvers.push(called.solver)?;
+            solvers.push(solver)?;
             Ok(())
         }
     }
 }
 
-/// Makes the first call of each part. The base is at first the first value of each cell, and then fits the book.
+/// Makes the first call of each part, all on one trail. The base is at first the first value of each cell, and then fits the
+/// book.
 pub(crate) fn start_parts<'g>(
     alloc: Global,
     task: Task<'g>,
     spent: &mut u64,
+    trails: &mut SpareTrails,
     parts: &mut Vec<PartSpending>,
-    solvers: &mut Vec<Solver<'g>>,
+    solvers: &mut Vec<Suspended<'g>>,
 ) -> Result<Assignment, Halt>
     requires ready { IsReady task.book.now task.ground.now task.components.now }
+    requires trails { trails.old ≡ task.ground.now.variables }
     requires few { length task.components.now.cells ≤ 4097 }
     requires none { parts.old.items ≡ [] }
     requires no_solvers { solvers.old.items ≡ [] }
@@ -191,10 +205,13 @@ pub(crate) fn start_parts<'g>(
     ensures within { spent.new ≤ task.entry.budget }
     ensures started { IfOk result (λ base. AreStarted task.entry.book.now task.entry.components.now spent.new base parts.new.items solvers.new.items) }
     ensures halt { IfErr result (HaltSays task.entry.book.now task.entry.components.now task.entry.budget spent.new parts.new.items) }
+    ensures trails { trails.new ≡ trails.old }
 {
     let mut base = first_values(alloc, task.book)?;
     for number in 0..task.components.len() {
-        start_part(alloc, task, number, spent, &mut base, parts, solvers)?;
+        start_part(
+            alloc, task, number, spent, &mut base, trails, parts, solvers,
+        )?;
     }
     Ok(base)
 }

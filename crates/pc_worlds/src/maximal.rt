@@ -27,6 +27,7 @@ use pc_ground::Ground;
 use pc_lits::Tally;
 use pc_log::Log;
 use pc_logic::{Assignment, Book, Entry, ValueId};
+use pc_searched::SpareTrails;
 use pc_solver::Stop;
 use pc_world_list::Worlds;
 use std::alloc::{AllocError, Global};
@@ -44,7 +45,7 @@ fn first_values(alloc: Global, book: &Book) -> Result<Assignment, AllocError>
     Ok(Assignment::new(values))
 }
 
-// Lists the worlds, and hands over the logs of both searches, whatever comes of it.
+// Lists the worlds, and hands over the logs of both searches and their trails, whatever comes of it.
 fn list_with_logs(
     alloc: Global,
     task: Task<'_>,
@@ -52,6 +53,7 @@ fn list_with_logs(
     grower: Search<'_>,
     refuted: &mut Refuted,
     shown: Assignment,
+    trails: &mut SpareTrails,
     logs: &mut Vec<Log>,
     tally: &mut Tally,
 ) -> Result<Worlds, Stop>
@@ -74,6 +76,7 @@ fn list_with_logs(
         finder.entry.solver.problem) logs.old.items logs.new.items }
     ensures works { (most : ℕ) × AreFewCalls (record { sizes = task.entry.ground.now.sizes; cells = task.entry.cells.now; entries = task.entry.entries.now; clauses = clauses_used finder.entry.solver.problem }) most
         × SpendsOver (length finder.entry.solver.problem.own) tally.old tally.new (marked_in logs.old.items) (marked_in logs.new.items) most }
+    ensures trails { trails.new ≡ trails.old }
 {
     logs.reserve(2)?;
     let mut finder = finder;
@@ -90,8 +93,8 @@ fn list_with_logs(
         &mut found,
         tally,
     );
-    logs.push(finder.into_log()).unwrap();
-    logs.push(grower.into_log()).unwrap();
+    logs.push(finder.into_log(trails)).unwrap();
+    logs.push(grower.into_log(trails)).unwrap();
     match outcome {
         Ok(()) => Ok(found),
         Err(stop) => Err(stop),
@@ -110,11 +113,13 @@ fn new_search<'g>(
     alloc: Global,
     ground: &'g Ground,
     part: Part<'g>,
+    trails: &mut SpareTrails,
 ) -> Result<Search<'g>, AllocError>
-    requires { IsProblem ground.now.variables (record { axioms = ground.now.clauses; used = part.axioms.now; own = part.variables.now }) }
-    ensures { IfOk result (IsNewSearch (record { axioms = ground.now.clauses; used = part.entry.axioms.now; own = part.entry.variables.now })) }
+    requires { IsProblem trails.old (record { axioms = ground.now.clauses; used = part.axioms.now; own = part.variables.now }) }
+    ensures new { IfOk result (IsNewSearch (record { axioms = ground.now.clauses; used = part.entry.axioms.now; own = part.entry.variables.now })) }
+    ensures trails { trails.new ≡ trails.old }
 {
-    Search::new(alloc, ground.store(), part, ground.variables())
+    Search::new(alloc, ground.store(), part, trails)
 }
 
 fn begin<'g>(
@@ -122,18 +127,20 @@ fn begin<'g>(
     book: &Book,
     ground: &'g Ground,
     part: Part<'g>,
+    trails: &mut SpareTrails,
 ) -> Result<Beginning<'g>, AllocError>
-    requires { IsProblem ground.now.variables (record { axioms = ground.now.clauses; used = part.axioms.now; own = part.variables.now }) }
+    requires { IsProblem trails.old (record { axioms = ground.now.clauses; used = part.axioms.now; own = part.variables.now }) }
     ensures entries { IfOk result (λ s. s.entries.items ≡ entries_on (map number_of part.entry.cells.now) book.now.entries) }
     ensures few { IfOk result (λ s. length s.entries.items ≤ 4096) }
     ensures shown { IfOk result (λ s. AreWithin (cell_sizes book.now.universe) s.shown) }
     ensures finder { IfOk result (λ s. IsNewSearch (record { axioms = ground.now.clauses; used = part.entry.axioms.now; own = part.entry.variables.now }) s.finder) }
     ensures grower { IfOk result (λ s. IsNewSearch (record { axioms = ground.now.clauses; used = part.entry.axioms.now; own = part.entry.variables.now }) s.grower) }
+    ensures trails { trails.new ≡ trails.old }
 {
     let entries = entries_on(alloc, book, part.cells)?;
     let shown = first_values(alloc, book)?;
-    let finder = new_search(alloc, ground, part)?;
-    let grower = new_search(alloc, ground, part)?;
+    let finder = new_search(alloc, ground, part, trails)?;
+    let grower = new_search(alloc, ground, part, trails)?;
     Ok(Beginning {
         entries,
         shown,
@@ -144,17 +151,19 @@ fn begin<'g>(
 
 /// The maximal consistent sets of the entries on a part's cells, each once, each with an assignment that has it and makes
 /// the part's rules true. The logs of the two searches are added to `logs`, whatever comes of it. What is known to be refuted by
-/// the part's clauses saves calls, and what is refuted is added to it.
+/// the part's clauses saves calls, and what is refuted is added to it. Two of the trails serve at once.
 pub fn worlds_knowing(
     alloc: Global,
     book: &Book,
     ground: &Ground,
     part: Part<'_>,
     refuted: &mut Refuted,
+    trails: &mut SpareTrails,
     logs: &mut Vec<Log>,
     tally: &mut Tally,
 ) -> Result<Worlds, Stop>
     requires ground { ground.now ≡ grounded book.now }
+    requires trails { trails.old ≡ ground.now.variables }
     requires problem { IsProblem ground.now.variables (record { axioms = ground.now.clauses; used = part.axioms.now; own = part.variables.now }) }
     requires searched { (sheet : Sheet) × IsSearched sheet part.cells.now ground.now.sizes (entries_on (map number_of part.cells.now) book.now.entries) (record { axioms = ground.now.clauses; used = part.axioms.now; own = part.variables.now }) }
     requires refuted { AreRefuted ground.now.sizes part.cells.now (clauses_used (record { axioms = ground.now.clauses; used = part.axioms.now; own = part.variables.now })) refuted.old }
@@ -167,6 +176,7 @@ pub fn worlds_knowing(
         → AddsLogs 2 (IsListingLog ground.now.sizes sheet.entries (IsMaximalSet sheet) (record { axioms = ground.now.clauses; used = part.entry.axioms.now; own = part.entry.variables.now })) logs.old.items logs.new.items }
     ensures spends { (most : ℕ) × ((sheet : Sheet) → IsSearched sheet part.entry.cells.now ground.now.sizes (entries_on (map number_of part.entry.cells.now) book.now.entries) (record { axioms = ground.now.clauses; used = part.entry.axioms.now; own = part.entry.variables.now }) → AreFewFor sheet most)
         × SpendsOver (length part.entry.variables.now) tally.old tally.new (marked_in logs.old.items) (marked_in logs.new.items) most }
+    ensures trails { trails.new ≡ trails.old }
 {
     let _limit = tally.limit;
     let Beginning {
@@ -174,14 +184,16 @@ pub fn worlds_knowing(
         shown,
         finder,
         grower,
-    } = begin(alloc, book, ground, part)?;
+    } = begin(alloc, book, ground, part, trails)?;
     let task = Task {
         book,
         ground,
         cells: part.cells,
         entries: &entries,
     };
-    list_with_logs(alloc, task, finder, grower, refuted, shown, logs, tally)
+    list_with_logs(
+        alloc, task, finder, grower, refuted, shown, trails, logs, tally,
+    )
 }
 
 /// The maximal consistent sets of the entries on a part's cells, each once, each with an assignment that has it and makes
@@ -191,10 +203,12 @@ pub fn worlds(
     book: &Book,
     ground: &Ground,
     part: Part<'_>,
+    trails: &mut SpareTrails,
     logs: &mut Vec<Log>,
     tally: &mut Tally,
 ) -> Result<Worlds, Stop>
     requires ground { ground.now ≡ grounded book.now }
+    requires trails { trails.old ≡ ground.now.variables }
     requires problem { IsProblem ground.now.variables (record { axioms = ground.now.clauses; used = part.axioms.now; own = part.variables.now }) }
     requires searched { (sheet : Sheet) × IsSearched sheet part.cells.now ground.now.sizes (entries_on (map number_of part.cells.now) book.now.entries) (record { axioms = ground.now.clauses; used = part.axioms.now; own = part.variables.now }) }
     requires few_learned { tally.old.learned < 2 ^ 120 }
@@ -205,7 +219,8 @@ pub fn worlds(
         → AddsLogs 2 (IsListingLog ground.now.sizes sheet.entries (IsMaximalSet sheet) (record { axioms = ground.now.clauses; used = part.entry.axioms.now; own = part.entry.variables.now })) logs.old.items logs.new.items }
     ensures spends { (most : ℕ) × ((sheet : Sheet) → IsSearched sheet part.entry.cells.now ground.now.sizes (entries_on (map number_of part.entry.cells.now) book.now.entries) (record { axioms = ground.now.clauses; used = part.entry.axioms.now; own = part.entry.variables.now }) → AreFewFor sheet most)
         × SpendsOver (length part.entry.variables.now) tally.old tally.new (marked_in logs.old.items) (marked_in logs.new.items) most }
+    ensures trails { trails.new ≡ trails.old }
 {
     let mut refuted = Refuted::new(alloc);
-    worlds_knowing(alloc, book, ground, part, &mut refuted, logs, tally)
+    worlds_knowing(alloc, book, ground, part, &mut refuted, trails, logs, tally)
 }

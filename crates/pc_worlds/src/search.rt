@@ -11,6 +11,7 @@ ghost use Rattle.pc_solver.specs.Spending.{SpendsOver, marked};
 use pc_components::Part;
 use pc_lits::{ClauseStore, Lit, Tally, Var};
 use pc_log::{Line, Log, StepId};
+use pc_searched::SpareTrails;
 use pc_solver::{Outcome, Solver};
 use std::alloc::{AllocError, Global};
 use std::marker::Model;
@@ -20,9 +21,12 @@ use std::marker::Model;
 pub(crate) struct Search<'g> {
     solver: Solver<'g>,
     log: Log,
+    // How many variables the solver's trail is over.
+    variables: u32,
 }
 
 impl<'g> Model for Search<'g> {
+    ghost use Rattle.std.specs.Prelude.{◌≡◌};
     ghost use Rattle.pc_solver.specs.Solver.{HasLog};
     ghost use Rattle.pc_worlds.specs.inside.Searching.{SearchView};
 
@@ -30,24 +34,28 @@ impl<'g> Model for Search<'g> {
 
     ghost view = { λ s. record { solver = s.solver; log = s.log } };
 
-    ghost invariant = { λ s. HasLog s.solver s.log };
+    ghost invariant = { λ s. HasLog s.solver s.log × (s.solver.variables ≡ s.variables) };
 }
 
 impl<'g> Search<'g> {
-    /// A search over the axioms of a part, with an empty log.
+    /// A search over the axioms of a part, with an empty log, on a spare trail.
     pub(crate) fn new(
         alloc: Global,
         axioms: &'g ClauseStore,
         part: Part<'g>,
-        variables: u32,
+        trails: &mut SpareTrails,
     ) -> Result<Search<'g>, AllocError>
-        requires { IsProblem variables (record { axioms = axioms.now; used = part.axioms.now; own = part.variables.now }) }
-        ensures { IfOk result (IsNewSearch (record { axioms = axioms.now; used = part.entry.axioms.now; own = part.entry.variables.now })) }
+        requires { IsProblem trails.old (record { axioms = axioms.now; used = part.axioms.now; own = part.variables.now }) }
+        ensures new { IfOk result (IsNewSearch (record { axioms = axioms.now; used = part.entry.axioms.now; own = part.entry.variables.now })) }
+        ensures trails { trails.new ≡ trails.old }
     {
-        let solver = Solver::new(alloc, axioms, part.axioms, part.variables, variables)?;
+        let variables = trails.variables();
+        let trail = trails.take()?;
+        let solver = Solver::on(alloc, axioms, part.axioms, part.variables, trail)?;
         Ok(Search {
             solver,
             log: Log::new(alloc),
+            variables,
         })
     }
 
@@ -96,12 +104,20 @@ impl<'g> Search<'g> {
         }
     }
 
-    /// The log alone.
-    pub(crate) fn into_log(self) -> Log
+    /// The log alone. The trail is given back, if it is over as many variables as the others.
+    pub(crate) fn into_log(self, trails: &mut SpareTrails) -> Log
         ensures same { result ≡ self.entry.log }
         ensures log { HasLog self.entry.solver result }
+        ensures trails { trails.new ≡ trails.old }
     {
-        let Search { log, .. } = self;
+        let Search {
+            solver,
+            log,
+            variables,
+        } = self;
+        if variables == trails.variables() {
+            trails.give(solver.into_trail());
+        }
         log
     }
 }

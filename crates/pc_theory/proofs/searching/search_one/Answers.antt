@@ -46,7 +46,7 @@ returns-clause-place c =
     let says = c.search_started-outcome.ensures in
     let moved : IsMoved a.task.book.now a.task.components.now a.spent.now a.place.now more place =
     moved_here c.parts_are_searched.ensures a.task.book.now a.task.ground.now a.task.components.now c.requires.ready a.base.now c.requires.base a.number _ _ _ c.part-part.ensures.cells c.part-part.ensures.axioms c.part-part.ensures.variables
-    c.deref-2.result.now (c.deref-2.ensures.value ∙ c.in_ok-targets.ensures) a.place.now a.solver.now c.requires.place c.requires.started a.spent.now more place c.pop.new.self.items c.reserve.new.self.items now.logs.items c.in-Some.log now.log _
+    c.deref-2.result.now (c.deref-2.ensures.value ∙ c.in_ok-targets.ensures) a.place.now a.solver c.requires.place c.requires.started a.spent.now more place c.pop.new.self.items c.reserve.new.self.items now.logs.items c.in-Some.log now.log _
     c.deref.result.now (c.deref.ensures.value ∙ c.in_ok-entries.ensures.on) c.in-Some.ensures.items c.in_ok-reserve.ensures.items c.in_ok-push.ensures.items refl says.logs says.log says.spends refl refl refl (omega (arith, says.spends.2.placed))
     in
     on_ok_weaker c.search_started-outcome.result (λ _. moved) says.found
@@ -61,7 +61,7 @@ returns-clause-stop c =
     let sum : more + a.place.now.tally.placed ≡ a.spent.now + now.tally.placed = omega (arith, says.spends.2.placed) in
     let moved : IsMoved a.task.book.now a.task.components.now a.spent.now a.place.now more place =
     moved_here c.parts_are_searched.ensures a.task.book.now a.task.ground.now a.task.components.now c.requires.ready a.base.now c.requires.base a.number _ _ _ c.part-part.ensures.cells c.part-part.ensures.axioms c.part-part.ensures.variables
-    c.deref-2.result.now (c.deref-2.ensures.value ∙ c.in_ok-targets.ensures) a.place.now a.solver.now c.requires.place c.requires.started a.spent.now more place c.pop.new.self.items c.reserve.new.self.items now.logs.items c.in-Some.log now.log _
+    c.deref-2.result.now (c.deref-2.ensures.value ∙ c.in_ok-targets.ensures) a.place.now a.solver c.requires.place c.requires.started a.spent.now more place c.pop.new.self.items c.reserve.new.self.items now.logs.items c.in-Some.log now.log _
     c.deref.result.now (c.deref.ensures.value ∙ c.in_ok-entries.ensures.on) c.in-Some.ensures.items c.in_ok-reserve.ensures.items c.in_ok-push.ensures.items refl says.logs says.log says.spends refl refl refl sum
     in
     IfErr-weaker c.search_started-outcome.result (StopSays now.tally) (StopMoves a.task.book.now a.task.components.now a.task.budget a.spent.now a.place.now more place)

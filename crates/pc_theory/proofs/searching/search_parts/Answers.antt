@@ -1,10 +1,10 @@
-use Rattle.std.proofs.Common.{◌≡◌, ◌+◌, ◌<◌, ℕ, List, length, set, sym, ◌∙◌, subst, arith}
+use Rattle.std.proofs.Common.{◌≡◌, ◌+◌, ◌<◌, ℕ, List, length, set, ap, sym, ◌∙◌, subst, arith}
 use Rattle.std.proofs.lemmas.List.{length-set}
 use Rattle.std.proofs.lemmas.Result.{err_from_is_err_and}
 use Rattle.pc_world_list.specs.Worlds.{WorldView}
 use Rattle.pc_theory.specs.Searching.{AreSearched, IsMoved}
 use Rattle.pc_theory.specs.declared.spending.PartSpending.{PartSpending}
-use Rattle.pc_theory.proofs.PartMoved.{none_searched, started_at, stop_places, searched_more, later_started}
+use Rattle.pc_theory.proofs.PartMoved.{none_searched, all_started, started_at, stop_places, searched_more, later_started}
 use Rattle.pc_theory.proofs.searching.search_parts.Goals as goal
 
 pub loop-number-init : goal.loop-number-init
@@ -13,17 +13,17 @@ loop-number-init c =
     record {
       within = c.requires.within;
       many = c.requires.many;
-      solvers = c.requires.started.many;
+      trails = c.requires.trails;
+      solvers = omega (arith, c.requires.started.many);
       searched = none_searched a.task.book.now a.task.components.now c.new-worlds.result.items a.patch.now a.spent.now a.parts.now.items c.new-worlds.ensures.items c.requires.blank c.requires.started.places;
-      later = λ j d e up below. c.requires.started.started j d e below;
+      later = all_started a.task.book.now a.task.components.now a.parts.now.items a.solvers.items c.requires.started.many c.requires.started.started;
     }
 
 pub search_one-requires-clause-started : goal.search_one-requires-clause-started
 search_one-requires-clause-started c =
     let a = c.args in
     let l = c.loop-number in
-    let below : l.number < length l.parts.items = omega (arith, c.loop-number-test.true, c.len-number-end.ensures, l.invariant.many) in
-    started_at a.task.book.now a.task.components.now l.number l.parts.items l.solvers.items c.index_mut.result.now c.index_mut-in-loop-number.result.now l.invariant.later below c.index_mut.ensures.value c.index_mut-in-loop-number.ensures.value
+    started_at a.task.book.now a.task.components.now l.number l.parts.items l.solvers.items c.pop_front.new.self.items c.index_mut.result.now c.in-Some.solver c.in-Some.ensures.items l.invariant.later c.index_mut.ensures.value
 
 pub returns-in_err-found-clause-stop : goal.returns-in_err-found-clause-stop
 returns-in_err-found-clause-stop c =
@@ -47,11 +47,12 @@ loop-number-preserved c =
     record {
       within = c.search_one.ensures.within;
       many = length-set l.parts.items l.number new.place ∙ l.invariant.many;
-      solvers = omega (arith, length-set l.solvers.items l.number new.solver, length-set l.parts.items l.number new.place, l.invariant.solvers);
+      trails = c.search_one.ensures.trails ∙ l.invariant.trails;
+      solvers = omega (arith, ap length c.in-Some.ensures.items, length-set l.parts.items l.number new.place, l.invariant.solvers);
       searched = subst (λ (ws : List (List WorldView)). AreSearched a.task.book.now a.task.components.now (l.number + 1) ws new.patch new.spent (set l.parts.items l.number new.place)) (sym c.in_ok-push.ensures.items)
           (searched_more a.task.book.now a.task.components.now l.number l.spent new.spent l.worlds.items l.patch new.patch l.parts.items before new.place l.invariant.searched below moved number c.in_ok-found.ensures.found
           c.in_ok-found.found c.in_ok-found.ensures.worlds);
-      later = later_started a.task.book.now a.task.components.now l.number l.parts.items l.solvers.items new.place new.solver l.invariant.later;
+      later = later_started a.task.book.now a.task.components.now l.number l.parts.items l.solvers.items c.pop_front.new.self.items new.place c.in-Some.solver c.in-Some.ensures.items l.invariant.later;
     }
 
 pub returns-clause-searched : goal.returns-clause-searched

@@ -1,5 +1,5 @@
-use Rattle.std.proofs.Common.{◌≡◌, ◌<◌, ◌≤◌, ℕ, length, get_or}
-use Rattle.pc_solver.specs.Solver.{SolverView}
+use Rattle.std.proofs.Common.{◌≡◌, ◌+◌, ◌<◌, ◌≤◌, ℕ, length, get_or}
+use Rattle.pc_solver.specs.Solver.{SuspendedView}
 use Rattle.pc_theory.specs.Searching.{AreSearched}
 use Rattle.pc_theory.specs.Starting.{IsStarted}
 use Rattle.pc_theory.specs.declared.spending.PartSpending.{PartSpending}
@@ -9,7 +9,8 @@ abbrev pub invariant-loop-number : goal.invariant-loop-number
 invariant-loop-number l = record {
   within : l.spent ≤ l.task.budget;
   many : length l.parts.items ≡ length l.task.components.now.cells;
-  solvers : length l.solvers.items ≡ length l.parts.items;
+  trails : l.trails ≡ l.task.ground.now.variables;
+  solvers : l.number + length l.solvers.items ≡ length l.parts.items;
   searched : AreSearched l.task.book.now l.task.components.now l.number l.worlds.items l.patch l.spent l.parts.items;
-  later : (j : ℕ) (d : PartSpending) (e : SolverView) → l.number ≤ j → j < length l.parts.items → IsStarted l.task.book.now l.task.components.now (get_or l.parts.items j d) (get_or l.solvers.items j e);
+  later : (k : ℕ) (d : PartSpending) (e : SuspendedView) → k < length l.solvers.items → IsStarted l.task.book.now l.task.components.now (get_or l.parts.items (l.number + k) d) (get_or l.solvers.items k e);
 }

@@ -4,10 +4,10 @@ use Rattle.pc_solver.specs.Solver.{HasLog}
 use Rattle.pc_theory.proofs.Started.{first_asked, first_given, first_empty, first_called}
 use Rattle.pc_theory.proofs.starting.call_part.Goals as goal
 
-pub new-requires : goal.new-requires
-new-requires c =
+pub on-requires : goal.on-requires
+on-requires c =
     first_asked c.parts_are_searched.ensures c.args.task.book.now c.args.task.ground.now c.args.task.components.now c.requires.ready c.args.number _ _ _ c.part-part.ensures.cells c.part-part.ensures.axioms c.part-part.ensures.variables
-    c.variables.result c.store.result.now c.variables.ensures c.store.ensures
+    c.in_ok-trail.trail.variables c.store.result.now (c.in_ok-trail.ensures.variables ∙ c.requires.trails) c.store.ensures
 
 pub solve-requires-clause-log : goal.solve-requires-clause-log
 solve-requires-clause-log c = subst (HasLog c.in_ok-solver.solver) (sym c.new-log.ensures) c.in_ok-solver.ensures.log

@@ -7,12 +7,12 @@ use Rattle.pc_parts.specs.Laws.{AgreeAt}
 use Rattle.pc_sheet.specs.Entailment.{AreWithin}
 use Rattle.pc_sheet.specs.declared.ids.ValueId.{ValueId}
 use Rattle.pc_solver.specs.Answers.{value_in}
-use Rattle.pc_solver.specs.Solver.{SolverView}
+use Rattle.pc_solver.specs.Solver.{SuspendedView}
 use Rattle.pc_theory.specs.Calling.{EndSays}
 use Rattle.pc_theory.specs.Starting.{ArePlaces, AreStarted}
 use Rattle.pc_theory.specs.declared.spending.PartSpending.{PartSpending}
 use Rattle.pc_theory.specs.declared.starting.End.{End}
-use Rattle.pc_theory.proofs.Started.{first_pairs, started_next, places_more, refused_halts}
+use Rattle.pc_theory.proofs.Started.{first_pairs, aside_started, started_next, places_more, refused_halts}
 use Rattle.pc_theory.proofs.starting.start_part.Goals as goal
 
 pub read_values-requires-clause-sizes : goal.read_values-requires-clause-sizes
@@ -46,11 +46,12 @@ returns-in_ok-push-in-Met-2-clause-started c =
     in
     let next =
     started_next c.parts_are_searched.ensures a.task.book.now a.task.ground.now a.task.components.now c.requires.ready a.spent.now a.number a.base.now base a.parts.now.items a.solvers.now.items cells _ _
-    c.part-part.ensures.cells c.part-part.ensures.axioms c.part-part.ensures.variables c.requires.started c.requires.many place solver called.numbered called.started
+    c.part-part.ensures.cells c.part-part.ensures.axioms c.part-part.ensures.variables c.requires.started c.requires.many place solver c.suspend-solver.result.0 called.numbered called.started
+    (aside_started a.task.book.now a.task.components.now place solver c.suspend-solver.result.0 c.suspend-solver.ensures.problem c.suspend-solver.ensures.blocks c.suspend-solver.ensures.log called.started)
     (subst (λ (e : End). EndSays solver place e) c.in-Met.is called.says) assigns reads c.read_values.ensures.elsewhere
     in
     subst (λ (ps : List PartSpending). AreStarted a.task.book.now a.task.components.now (a.spent.now + place.tally.placed) base ps c.push-in-Met-2.new.self.items) (sym c.in_ok-push-in-Met.ensures.items)
-    (subst (λ (ss : List SolverView). AreStarted a.task.book.now a.task.components.now (a.spent.now + place.tally.placed) base (a.parts.now.items ++ place ∷ []) ss) (sym c.in_ok-push-in-Met-2.ensures.items) next)
+    (subst (λ (ss : List SuspendedView). AreStarted a.task.book.now a.task.components.now (a.spent.now + place.tally.placed) base (a.parts.now.items ++ place ∷ []) ss) (sym c.in_ok-push-in-Met-2.ensures.items) next)
 
 pub returns-in_ok-push-in-Spent-clause-halt : goal.returns-in_ok-push-in-Spent-clause-halt
 returns-in_ok-push-in-Spent-clause-halt c =
