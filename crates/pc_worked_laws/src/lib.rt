@@ -1,0 +1,6 @@
+//! Worked examples of definitions, each the contract of a function that does nothing.
+#![tactic(auto)]
+
+mod worked;
+
+pub use worked::{largest_sets_are_worked, newest_decides};
