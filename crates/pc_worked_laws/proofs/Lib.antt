@@ -1,3 +1,4 @@
 pub mod Computing
 pub mod NewestHolds
 pub mod LargestSetsHold
+pub mod PartSheetsHold

@@ -1,2 +1,3 @@
 pub mod Newest
 pub mod LargestSets
+pub mod PartSheets

@@ -3,4 +3,4 @@
 
 mod worked;
 
-pub use worked::{largest_sets_are_worked, newest_decides};
+pub use worked::{largest_sets_are_worked, newest_decides, part_sheets_are_worked};
