@@ -7,7 +7,7 @@ use Rattle.std.proofs.lemmas.List.Elements.{All-nil, All-cons, All-contains}
 use Rattle.std.proofs.lemmas.List.Kept.{AllPairs-cons}
 use Rattle.pc_sheet.specs.Sheet.{Sheet}
 use Rattle.pc_sheet.specs.Entailment.{cell_sizes, AreWithin, HasTarget, IsConsistent, Entails, IsSublist, HaveDistinctCells, IsSupport, IsLess, IsLeastSupport}
-use Rattle.pc_sheet.specs.MaximalSets.{ListsExactly, IsMaximalSet, IsMinimalInconsistent}
+use Rattle.pc_sheet.specs.MaximalSets.{ListsExactly, IsContained, IsMaximalSet}
 use Rattle.pc_sheet.specs.declared.ids.CellId.{CellId}
 use Rattle.pc_sheet.specs.declared.ids.ValueId.{ValueId}
 use Rattle.pc_sheet.specs.declared.ids.Entry.{Entry}
@@ -73,13 +73,26 @@ list_decides (x ∷ xs) (y ∷ ys) =
 pub other_list : (xs ys : List Entry) → is_list xs ys ≡ false → xs ≢ ys
 other_list xs ys fails is = false≢true (sym fails ∙ (list_decides xs ys).1 is)
 
+abbrev pub are_among : List Entry → List Entry → Bool
+are_among t [] = true
+are_among t (e ∷ es) = is_among t e && are_among t es
+
+among_all : (t s : List Entry) → Decides (are_among t s) (All (Contains t) s)
+among_all t s = Decides-by_and (is_among t) (Contains t) (are_among t) (λ e. among_decides t e) refl (λ _ _. refl) s
+
+pub contained : (s t : List Entry) → are_among t s ≡ true → IsContained s t
+contained s t is e c = All-contains (Contains t) s e ((among_all t s).0 is) c
+
+pub not_contained : (s t : List Entry) → are_among t s ≡ false → ¬ IsContained s t
+not_contained s t fails h = false≢true (sym fails ∙ (among_all t s).1 (all_from (Contains t) s h))
+
 -- ---- lists of lists
 
-abbrev is_listed : List (List Entry) → List Entry → Bool
+abbrev pub is_listed : List (List Entry) → List Entry → Bool
 is_listed [] s = false
 is_listed (x ∷ xs) s = is_list x s || is_listed xs s
 
-listed_decides : (xs : List (List Entry)) (s : List Entry) → Decides (is_listed xs s) (Contains xs s)
+pub listed_decides : (xs : List (List Entry)) (s : List Entry) → Decides (is_listed xs s) (Contains xs s)
 listed_decides [] s = (λ e. absurd (false≢true e), λ c. absurd (contains_none_list s c))
   where
     contains_none_list : (s : List Entry) → ¬ Contains [] s

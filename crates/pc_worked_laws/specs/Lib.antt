@@ -1,3 +1,5 @@
 pub mod Newest
 pub mod LargestSets
 pub mod PartSheets
+pub mod Worlds
+pub mod Transcripts

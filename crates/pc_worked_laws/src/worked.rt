@@ -2,6 +2,8 @@
 ghost use Rattle.pc_worked_laws.specs.Newest.{NewestDecides};
 ghost use Rattle.pc_worked_laws.specs.LargestSets.{NothingIsKept, PairsHaveFourSets};
 ghost use Rattle.pc_worked_laws.specs.PartSheets.{WorkedPartSheets};
+ghost use Rattle.pc_worked_laws.specs.Worlds.{WorkedWorlds, WorkedWithout};
+ghost use Rattle.pc_worked_laws.specs.Transcripts.{WorkedTranscripts, WorkedAnswers};
 
 /// The newest entry on which two supports differ decides which one is less.
 pub fn newest_decides()
@@ -17,4 +19,16 @@ pub fn largest_sets_are_worked()
 /// The sheets of the parts of small sheets.
 pub fn part_sheets_are_worked()
     ensures { WorkedPartSheets }
+{}
+
+/// The worlds of small sheets, and what is left of them without an entry.
+pub fn worlds_are_worked()
+    ensures exact { WorkedWorlds }
+    ensures without { WorkedWithout }
+{}
+
+/// Which lists of two command lines with their answers are legal, and which runs they are.
+pub fn transcripts_are_worked()
+    ensures legal { WorkedTranscripts }
+    ensures answered { WorkedAnswers }
 {}
