@@ -1,19 +1,18 @@
 -- Consistency and maximal sets of small sheets, by computing.
-use Rattle.std.proofs.Common.{◌≡◌, ◌≢◌, ℕ, ◌<◌, ◌⊎◌, ◌↔◌, inl, inr, Bool, true, false, not, ◌&&◌, ◌||◌, ◌==◌, arith, List, [], ◌∷◌, Option, None, Some, slice_get, Contains, All, AllPairs, ap, refl, sym, ◌∙◌, subst}
+use Rattle.std.proofs.Common.{◌≡◌, ◌≢◌, ℕ, ◌⊎◌, inl, inr, Bool, true, false, not, ◌&&◌, ◌||◌, ◌==◌, arith, List, [], ◌∷◌, Option, None, Some, Contains, All, AllPairs, ap, refl, sym, ◌∙◌, subst}
 use Rattle.std.specs.Bool.{Decides}
 use Rattle.std.proofs.lemmas.Bool.{false≢true}
 use Rattle.std.proofs.lemmas.Bool.Decides.{Decides-eqb, Decides-like, Decides-not, Decides-and, Decides-or, Decides-by_and}
 use Rattle.std.proofs.lemmas.List.Elements.{All-nil, All-cons, All-contains}
 use Rattle.std.proofs.lemmas.List.Kept.{AllPairs-cons}
 use Rattle.pc_sheet.specs.Sheet.{Sheet}
-use Rattle.pc_sheet.specs.Entailment.{cell_sizes, AreWithin, HasTarget, IsConsistent, Entails, IsSublist, HaveDistinctCells, IsSupport, IsLess, IsLeastSupport}
+use Rattle.pc_sheet.specs.Entailment.{cell_sizes, AreWithin, HasTarget, IsConsistent, IsSublist, HaveDistinctCells, IsSupport, IsLess, IsLeastSupport}
 use Rattle.pc_sheet.specs.MaximalSets.{ListsExactly, IsContained, IsMaximalSet}
 use Rattle.pc_sheet.specs.declared.ids.CellId.{CellId}
 use Rattle.pc_sheet.specs.declared.ids.ValueId.{ValueId}
 use Rattle.pc_sheet.specs.declared.ids.Entry.{Entry}
 use Rattle.pc_sheet.specs.declared.ids.Target.{Target}
 use Rattle.pc_laws.specs.Laws.{IsExcluded}
-use Rattle.pc_laws.proofs.Assignments.{Supports}
 use Rattle.pc_laws.proofs.Contained.{contains_first, contains_later, contains_cases, contains_none, sub_none}
 use Rattle.pc_laws.proofs.Elements.{all_from}
 use Rattle.pc_laws.proofs.Evaluating.{supports, supports_decides}

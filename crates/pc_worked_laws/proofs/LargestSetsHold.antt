@@ -1,7 +1,7 @@
 -- The maximal sets of small sheets, computed.
-use Rattle.std.proofs.Common.{◌≡◌, ◌⊎◌, inl, inr, List, [], ◌∷◌, refl, sym, ap, ◌∙◌, subst, None, Some}
+use Rattle.std.proofs.Common.{◌≡◌, ◌⊎◌, inl, inr, List, [], ◌∷◌, refl, sym, ap, ◌∙◌, subst, Some}
 use Rattle.std.proofs.lemmas.List.Elements.{All-head}
-use Rattle.pc_sheet.specs.Entailment.{IsConsistent, IsSublist, IsConflict, opposite_of}
+use Rattle.pc_sheet.specs.Entailment.{IsConsistent, IsSublist, opposite_of}
 use Rattle.pc_sheet.specs.declared.ids.Entry.{Entry}
 use Rattle.pc_laws.specs.Examples.{IsShown, red, green, entry, never_red, two_pairs}
 use Rattle.pc_laws.proofs.Finding.{computed}

@@ -5,3 +5,4 @@ pub mod PartSheetsHold
 pub mod WorldsHold
 pub mod WithoutHolds
 pub mod TranscriptsHold
+pub mod RowsHold

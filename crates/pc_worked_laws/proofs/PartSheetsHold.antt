@@ -1,18 +1,17 @@
 -- The sheets of the parts of small sheets, computed.
-use Rattle.std.proofs.Common.{◌≡◌, ℕ, zero, suc, ◌<◌, false, List, [], ◌∷◌, ◌++◌, arith, ap, refl, sym, ◌∙◌, subst, None, Some, reverse, All, AllPairs, nat_abs, codes}
+use Rattle.std.proofs.Common.{◌≡◌, ℕ, zero, suc, ◌<◌, List, [], ◌∷◌, ◌++◌, arith, ap, refl, sym, ◌∙◌, Some, reverse, All, AllPairs, nat_abs, codes}
 use Rattle.std.proofs.lemmas.List.Elements.{All-head}
-use Rattle.pc_sheet.specs.Sheet.{Sheet, NamedStatement}
+use Rattle.pc_sheet.specs.Sheet.{NamedStatement}
 use Rattle.pc_sheet.specs.Truth.{Holds}
 use Rattle.pc_sheet.specs.declared.ids.ValueId.{ValueId}
 use Rattle.pc_sheet.specs.Entailment.{IsLeastSupport}
 use Rattle.pc_sheet.specs.MaximalSets.{AreRulesConsistent}
-use Rattle.pc_sheet.specs.declared.ids.Entry.{Entry}
 use Rattle.pc_laws.specs.Examples.{IsShown, red, green, entry, target, two_pairs}
 use Rattle.pc_laws.proofs.Finding.{computed}
 use Rattle.pc_parts.specs.Components.{parts_of}
 use Rattle.pc_parts.specs.Pieces.{Piece}
 use Rattle.pc_parts.specs.Parts.{Part, part_without_cells, AreParts, IsBefore}
-use Rattle.pc_worked_laws.specs.PartSheets.{WorkedPartSheets, first_pair, second_pair, false_sheet, false_piece, free_cell, one_is_two}
+use Rattle.pc_worked_laws.specs.PartSheets.{WorkedPartSheets, first_pair, second_pair, false_sheet, free_cell, one_is_two}
 use Rattle.pc_worked_laws.proofs.Computing.{is_consistent, lists}
 
 in_second : IsLeastSupport second_pair (entry 3 green ∷ []) (target 2 green)

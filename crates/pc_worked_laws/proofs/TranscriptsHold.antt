@@ -1,5 +1,5 @@
 -- Legal and illegal transcripts of two lines.
-use Rattle.std.proofs.Common.{◌≡◌, ◌≢◌, ℕ, zero, suc, ◌+◌, ◌⊎◌, ◌≤◌, inl, inr, Bool, true, false, not, ◌&&◌, ◌==◌, List, [], ◌∷◌, ◌++◌, length, drop, codes, map, All, arith, ap, refl, sym, ◌∙◌, subst}
+use Rattle.std.proofs.Common.{◌≡◌, ◌≢◌, ℕ, zero, suc, ◌⊎◌, inl, inr, Bool, true, not, ◌&&◌, ◌==◌, List, [], ◌∷◌, ◌++◌, length, drop, codes, arith, ap, refl, sym, ◌∙◌, subst}
 use Rattle.std.specs.declared.option.Option.TheVariants.{Some}
 use Rattle.std.specs.Bool.{Decides}
 use Rattle.std.proofs.lemmas.Bool.Decides.{Decides-eqb, Decides-not, Decides-by_and}
@@ -7,8 +7,6 @@ use Rattle.std.proofs.lemmas.List.{append-nil}
 use Rattle.std.proofs.lemmas.List.Elements.{All-nil, All-cons}
 use Rattle.pc_lines.specs.Lines.{HasNoEnd, IsWholeLine, IsOpenLine, lines_of}
 use Rattle.pc_lines.specs.Lines as a_line
-use Rattle.pc_run.specs.declared.TheConstants.{LINE_LIMIT}
-use Rattle.pc_run.specs.declared.refusal.Refusal.{Refusal}
 use Rattle.pc_run.specs.declared.refusal.Refusal.TheVariants.{NoRule}
 use Rattle.pc_run.specs.declared.status.Status.{Status}
 use Rattle.pc_run.specs.declared.status.Status.TheVariants.{Done, SomeRefused}

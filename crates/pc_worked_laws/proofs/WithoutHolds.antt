@@ -1,8 +1,7 @@
 -- What is left of worlds without an entry.
-use Rattle.std.proofs.Common.{◌≡◌, ◌≢◌, ℕ, zero, suc, ◌<◌, ◌+◌, ◌≤◌, inl, inr, false, List, [], ◌∷◌, map, length, slice_get, arith, ap, refl}
+use Rattle.std.proofs.Common.{◌≡◌, ◌≢◌, ℕ, zero, suc, ◌<◌, ◌+◌, inl, inr, false, List, [], ◌∷◌, map, length, slice_get, arith, ap, refl}
 use Rattle.pc_sheet.specs.MaximalSets.{IsContained}
 use Rattle.pc_sheet.specs.declared.ids.ValueId.{ValueId}
-use Rattle.pc_sheet.specs.declared.ids.Entry.{Entry}
 use Rattle.pc_laws.specs.Examples.{red, green, entry}
 use Rattle.pc_world_list.specs.Worlds.{WorldView, set_at, IsCoveredBy, world_without, IsWithout}
 use Rattle.pc_world_list.proofs.Once.{one_without}

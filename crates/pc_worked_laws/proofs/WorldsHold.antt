@@ -1,5 +1,5 @@
 -- Small sheets with their worlds.
-use Rattle.std.proofs.Common.{◌≡◌, false, true, List, [], ◌∷◌, Option, None, Some, map, ℕ, arith, ap, refl, sym, ◌∙◌, Contains}
+use Rattle.std.proofs.Common.{◌≡◌, false, true, List, [], ◌∷◌, Option, None, Some, map, ℕ, arith, ap, refl, sym, ◌∙◌}
 use Rattle.std.proofs.lemmas.Bool.{false≢true}
 use Rattle.std.proofs.lemmas.List.Elements.{All-nil, All-cons, All-head}
 use Rattle.pc_sheet.specs.Sheet.{Sheet, NamedStatement}

@@ -3,3 +3,4 @@ pub mod LargestSets
 pub mod PartSheets
 pub mod Worlds
 pub mod Transcripts
+pub mod Rows

@@ -1,5 +1,5 @@
 -- Legal and illegal transcripts of two lines, over a state that is a number: `count` adds one, and `show` tells whether it is 0.
-use Rattle.std.specs.Prelude.{◌≡◌, ◌⊎◌, ℕ, zero, suc, ◌+◌, List, [], ◌∷◌, ◌++◌, codes}
+use Rattle.std.specs.Prelude.{◌≡◌, ℕ, zero, suc, ◌+◌, List, [], ◌∷◌, ◌++◌, codes}
 use Rattle.std.specs.declared.option.Option.TheVariants.{Some}
 use Rattle.pc_run.specs.declared.refusal.Refusal.TheVariants.{NoRule}
 use Rattle.pc_run.specs.declared.status.Status.TheVariants.{Done, SomeRefused}

@@ -4,6 +4,7 @@ ghost use Rattle.pc_worked_laws.specs.LargestSets.{NothingIsKept, PairsHaveFourS
 ghost use Rattle.pc_worked_laws.specs.PartSheets.{WorkedPartSheets};
 ghost use Rattle.pc_worked_laws.specs.Worlds.{WorkedWorlds, WorkedWithout};
 ghost use Rattle.pc_worked_laws.specs.Transcripts.{WorkedTranscripts, WorkedAnswers};
+ghost use Rattle.pc_worked_laws.specs.Rows.{WorkedRows};
 
 /// The newest entry on which two supports differ decides which one is less.
 pub fn newest_decides()
@@ -31,4 +32,9 @@ pub fn worlds_are_worked()
 pub fn transcripts_are_worked()
     ensures legal { WorkedTranscripts }
     ensures answered { WorkedAnswers }
+{}
+
+/// The rows of targets, what changes make of them, and which targets are still to be searched.
+pub fn rows_are_worked()
+    ensures { WorkedRows }
 {}
