@@ -11,6 +11,7 @@ abbrev pub told : ℕ → List ℕ
 told zero = ended (codes "none")
 told (suc n) = ended (codes "some")
 
+-- how a line may be answered in a state, and which state it leaves
 abbrev pub Counts : ℕ → List ℕ → Answer → ℕ → Type 0
 Counts old line silent new = (line ≡ []) × (new ≡ old)
 Counts old line accepted new = (line ≡ codes "count") × (new ≡ old + 1)
