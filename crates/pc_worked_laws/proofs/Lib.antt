@@ -6,3 +6,4 @@ pub mod WorldsHold
 pub mod WithoutHolds
 pub mod TranscriptsHold
 pub mod RowsHold
+pub mod SpendingsHold

@@ -4,3 +4,4 @@ pub mod PartSheets
 pub mod Worlds
 pub mod Transcripts
 pub mod Rows
+pub mod Spendings

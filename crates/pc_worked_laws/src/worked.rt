@@ -5,6 +5,7 @@ ghost use Rattle.pc_worked_laws.specs.PartSheets.{WorkedPartSheets};
 ghost use Rattle.pc_worked_laws.specs.Worlds.{WorkedWorlds, WorkedWithout};
 ghost use Rattle.pc_worked_laws.specs.Transcripts.{WorkedTranscripts, WorkedAnswers};
 ghost use Rattle.pc_worked_laws.specs.Rows.{WorkedRows};
+ghost use Rattle.pc_worked_laws.specs.Spendings.{WorkedSpendings};
 
 /// The newest entry on which two supports differ decides which one is less.
 pub fn newest_decides()
@@ -37,4 +38,9 @@ pub fn transcripts_are_worked()
 /// The rows of targets, what changes make of them, and which targets are still to be searched.
 pub fn rows_are_worked()
     ensures { WorkedRows }
+{}
+
+/// Spendings that no search of small sheets may tell.
+pub fn spendings_are_worked()
+    ensures { WorkedSpendings }
 {}

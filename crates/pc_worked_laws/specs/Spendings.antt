@@ -1,0 +1,44 @@
+-- Unlawful spendings of small sheets. A spending is of a type of the code, so its parts are said by equations.
+use Rattle.std.specs.Prelude.{◌≡◌, ℕ, [], ◌∷◌, Some, None}
+use Rattle.pc_lits.specs.declared.tally.Tally.{Tally}
+use Rattle.pc_laws.specs.Examples.{equal_cells, two_pairs}
+use Rattle.pc_theory.specs.Spendings.{IsLawful}
+use Rattle.pc_theory.specs.declared.spending.PartSpending.{PartSpending}
+use Rattle.pc_theory.specs.declared.spending.Spending.{Spending}
+
+-- the counts of a tally
+pub record Has (t : Tally) (placed learned calls : ℕ) : Type 0 where
+  pub placed_is : t.placed ≡ placed
+  pub learned_is : t.learned ≡ learned
+  pub calls_is : t.calls ≡ calls
+
+-- so much on the part of that number, with no log
+pub record IsBare (p : PartSpending) (part placed calls : ℕ) : Type 0 where
+  pub number : p.part ≡ part
+  pub counts : Has p.tally placed 0 calls
+  pub no_logs : p.logs.items ≡ []
+
+-- a spending on one part alone, with that limit
+pub record IsOfOnePart (s : Spending) (limit part placed calls : ℕ) : Type 0 where
+  pub only : PartSpending
+  pub parts : s.parts.items ≡ only ∷ []
+  pub spent : IsBare only part placed calls
+  pub counts : Has s.tally placed 0 calls
+  pub limit_is : s.tally.limit ≡ limit
+
+-- The cells a and b are equal, which is one part.
+pub record WorkedSpendings : Type 0 where
+  -- the limit isn't reached
+  pub four_of_five : (s : Spending) → IsOfOnePart s 5 0 4 1 → ¬ IsLawful equal_cells None 5 s
+  -- another limit
+  pub of_another_limit : (s : Spending) → IsOfOnePart s 4 0 4 1 → ¬ IsLawful equal_cells None 5 s
+  -- there is no second part
+  pub no_such_part : (s : Spending) → IsOfOnePart s 5 1 5 1 → ¬ IsLawful equal_cells None 5 s
+  -- two sets, eight targets and two entries allow 2 * 9 * 4 + 2 calls, and no more
+  pub too_many_calls : (s : Spending) → IsOfOnePart s 5 0 5 75 → ¬ IsLawful equal_cells None 5 s
+  -- of two pairs, each a part, an edit of the last cell touches the second
+  pub of_another_cell : (s : Spending) → IsOfOnePart s 5 0 5 1 → ¬ IsLawful two_pairs.sheet (Some (record { 0 = 3 })) 5 s
+  -- a clause that was learned stands in no log
+  pub learned_in_no_log : (s : Spending) (p : PartSpending) → s.parts.items ≡ p ∷ [] → p.logs.items ≡ [] → p.tally.learned ≡ 1 → ¬ IsLawful equal_cells None 5 s
+  -- no part stands twice
+  pub twice : (s : Spending) (p q : PartSpending) → s.parts.items ≡ p ∷ q ∷ [] → IsBare p 0 2 1 → IsBare q 0 3 1 → ¬ IsLawful equal_cells None 5 s
