@@ -173,11 +173,12 @@ fn width_of(tree: &FormulaTree) -> usize {
 // The width of a formula in which a piece stands 99,999 times.
 fn width(alloc: Global, start: &str, piece: &str, end: &str) -> Result<usize, AllocError> {
     let pieces = piece.repeat(alloc, 99_999)?;
-    let line = format!(in alloc; "{start}{pieces}{end}")?;
-    let Some(found) = tokens_of(alloc, line.as_str()) else {
+    let text = format!(in alloc; "{start}{pieces}{end}")?;
+    let line = text.as_str();
+    let Some(found) = tokens_of(alloc, line) else {
         return Ok(0);
     };
-    let mut words = Words::new(line.as_str(), found.as_slice());
+    let mut words = Words::new(line, found.as_slice());
     match read_formula(alloc, &mut words) {
         Ok(tree) => Ok(width_of(&tree)),
         Err(_) => Ok(0),
