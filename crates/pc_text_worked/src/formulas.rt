@@ -170,19 +170,23 @@ fn width_of(tree: &FormulaTree) -> usize {
     }
 }
 
-// The width of a formula in which a piece stands 99,999 times.
-fn width(alloc: Global, start: &str, piece: &str, end: &str) -> Result<usize, AllocError> {
-    let pieces = piece.repeat(alloc, 99_999)?;
-    let text = format!(in alloc; "{start}{pieces}{end}")?;
-    let line = text.as_str();
+// The width of the formula that the line is, and 0 where it is none.
+fn width_in(alloc: Global, line: &str) -> usize {
     let Some(found) = tokens_of(alloc, line) else {
-        return Ok(0);
+        return 0;
     };
     let mut words = Words::new(line, found.as_slice());
     match read_formula(alloc, &mut words) {
-        Ok(tree) => Ok(width_of(&tree)),
-        Err(_) => Ok(0),
+        Ok(tree) => width_of(&tree),
+        Err(_) => 0,
     }
+}
+
+// The width of a formula in which a piece stands 99,999 times.
+fn width(alloc: Global, start: &str, piece: &str, end: &str) -> Result<usize, AllocError> {
+    let pieces = piece.repeat(alloc, 99_999)?;
+    let line = format!(in alloc; "{start}{pieces}{end}")?;
+    Ok(width_in(alloc, line.as_str()))
 }
 
 // How many of the line's words nest.
