@@ -1,0 +1,2 @@
+pub mod StayOpen
+pub mod LoadAfresh
