@@ -21,9 +21,9 @@ use Rattle.pc_propagate.specs.TrailView.{TrailView}
 use Rattle.pc_propagate.proofs.TrailLemmas.{count_by-push}
 use Rattle.pc_solver.specs.declared.outcome.Outcome.{Outcome}
 use Rattle.pc_solver.specs.declared.outcome.Outcome.TheVariants.{Sat, Unsat, Spent, Memory}
-use Rattle.pc_solver.specs.Clauses.{ClausesView, IsKnown, IsOverOwn}
+use Rattle.pc_solver.specs.Clauses.{ClausesView, IsKnown, IsOverOwn, KeepsProblem}
 use Rattle.pc_solver.specs.InLog.{IsLogOf}
-use Rattle.pc_solver.specs.inside.Search.{IsSearch, Advances}
+use Rattle.pc_solver.specs.inside.Search.{SearchView, IsSearch, IsUnderWay, KnowsAll, KeepsLogs, AssumesFirst, Advances}
 use Rattle.pc_solver.specs.Answers.{value_in}
 use Rattle.pc_solver.specs.inside.Ends.{EndSays, extra, unmarked}
 use Rattle.pc_solver.specs.Solver.{AnswerSays, Spends, seen_as, IsProblem, SuspendedView, suspended_as}
@@ -51,6 +51,17 @@ decided_level entries k e at none =
     is_true None h = refl
     is_true (Some x) h = absurd (cc)
 
+-- ---- the trail is ready
+
+pub prepared : (s n : SearchView) (assumed : List Lit) (log : List LogLine) → KeepsProblem s.clauses n.clauses → KeepsLogs s.clauses n.clauses → KnowsAll n.clauses → AssumesFirst assumed n.trail.entries → IsOverOwn s.clauses.own assumed → IsLogOf s.clauses log
+    → IsUnderWay n assumed log
+prepared s n assumed log problem logs all first over logged = record {
+  all = all;
+  logged = logs log logged;
+  over_own = subst (λ (own : List Var). IsOverOwn own assumed) (sym problem.own) over;
+  first = first;
+}
+
 -- ---- what a call spends
 
 few_placed : (after before v rose old new : ℕ) → after + old ≤ before + v * rose + new → new ≤ v → after ≤ before + v * (rose + 1)
@@ -64,9 +75,9 @@ unmarked_few (Unsat id) = omega arith
 unmarked_few Spent = omega arith
 unmarked_few Memory = omega arith
 
-pub spent : (c d : ClausesView) (t u : TrailView) (first before after : Tally) (log grown : List LogLine) (o : Outcome) → Advances c d t u before after log grown (extra o) (unmarked o) → AreEntries u.variables u.entries
-    → before.calls ≡ first.calls + 1 → before.placed ≡ first.placed → before.learned ≡ first.learned → before.limit ≡ first.limit → Spends (length c.own) first after log grown
-spent c d t u first before after log grown o h are calls placed learned limit = record {
+pub spent : (s n : SearchView) (first before after : Tally) (log grown : List LogLine) (o : Outcome) → Advances s n before after log grown (extra o) (unmarked o) → IsSearch n.clauses n.trail → AreEntries n.trail.variables n.trail.entries
+    → before.calls ≡ first.calls + 1 → before.placed ≡ first.placed → before.learned ≡ first.learned → before.limit ≡ first.limit → Spends (length s.clauses.own) first after log grown
+spent s n first before after log grown o h is are calls placed learned limit = record {
   calls = h.works.calls ∙ calls;
   limit = h.works.limit ∙ limit;
   rose = h.works.rose;
@@ -75,9 +86,9 @@ spent c d t u first before after log grown o h are calls placed learned limit = 
   one = unmarked_few o;
   grows = h.works.grows;
   placed = omega (arith, h.works.placed, placed);
-  bounded = few_placed after.placed first.placed (length c.own) h.works.rose (length t.entries) (length u.entries)
-      (subst (λ n. after.placed + length t.entries ≤ n + length c.own * h.works.rose + length u.entries) placed h.works.bounded)
-      (omega (arith, fits_own d.own u.entries are.different h.search.own, ap length h.problem.own));
+  bounded = few_placed after.placed first.placed (length s.clauses.own) h.works.rose (length s.trail.entries) (length n.trail.entries)
+      (subst (λ k. after.placed + length s.trail.entries ≤ k + length s.clauses.own * h.works.rose + length n.trail.entries) placed h.works.bounded)
+      (omega (arith, fits_own n.clauses.own n.trail.entries are.different is.own, ap length h.problem.own));
   spare = omega (arith, h.works.spare, placed);
 }
 
@@ -98,13 +109,13 @@ spent_nothing own first before log calls placed learned limit = record {
 
 -- ---- what the answer says
 
-pub answered : DerivationsAreSound → (c d : ClausesView) (t u : TrailView) (p q : Tally) (log grown : List LogLine) (assumed : List Lit) (m n : ℕ) (o : Outcome) → Advances c d t u p q log grown m n → AreEntries u.variables u.entries → EndSays d u.entries assumed grown q o
-    → AnswerSays (seen_as u.variables d (literals u.entries)) assumed grown q o
-answered law c d t u p q log grown assumed m n Sat h are says = found_meets d u.variables u.entries assumed h.search.over_own are.different says.0 says.1
-answered law c d t u p q log grown assumed m n (Unsat id) h are says =
-    (says.1.0, rw says.1.1 says.2, none_meets law d grown id says.0 assumed h.logged says.1 says.2)
-answered law c d t u p q log grown assumed m n Spent h are says = says
-answered law c d t u p q log grown assumed m n Memory h are says = tt
+pub answered : DerivationsAreSound → (s n : SearchView) (p q : Tally) (log grown : List LogLine) (assumed : List Lit) (k m : ℕ) (o : Outcome) → Advances s n p q log grown k m → IsSearch n.clauses n.trail → AreEntries n.trail.variables n.trail.entries
+    → EndSays n assumed grown q o → AnswerSays (seen_as n.trail.variables n.clauses (literals n.trail.entries)) assumed grown q o
+answered law s n p q log grown assumed k m Sat h is are says = found_meets n.clauses n.trail.variables n.trail.entries assumed is.over_own are.different says.0 says.1
+answered law s n p q log grown assumed k m (Unsat id) h is are says =
+    (says.1.0, rw says.1.1 says.2, none_meets law n.clauses grown id says.0 assumed h.logged says.1 says.2)
+answered law s n p q log grown assumed k m Spent h is are says = says
+answered law s n p q log grown assumed k m Memory h is are says = tt
 
 -- ---- values
 

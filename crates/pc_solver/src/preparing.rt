@@ -1,17 +1,15 @@
 //! Before a search: the levels that it may keep of the one before, and the clauses of which the trail isn't told yet.
 
-ghost use Rattle.std.specs.Prelude.{◌≡◌, ◌<◌, ◌≤◌, ℕ, List, Contains, IsNone, OnOk, Some, length, slice_get};
+ghost use Rattle.std.specs.Prelude.{◌≡◌, ◌<◌, ◌≤◌, ℕ, List, Contains, OnOk, length};
 ghost use Rattle.pc_lits.specs.declared.literal.Lit.{Lit};
-ghost use Rattle.pc_log.specs.Lines.{LogLine};
-ghost use Rattle.pc_propagate.specs.declared.trail.Entry.{Entry};
-ghost use Rattle.pc_propagate.specs.Levels.{level_at, IsBackTo};
+ghost use Rattle.pc_propagate.specs.Levels.{IsBackTo};
 ghost use Rattle.pc_propagate.specs.Over.{IsOver};
-ghost use Rattle.pc_solver.specs.Clauses.{IsOverOwn, KeepsProblem};
-ghost use Rattle.pc_solver.specs.InLog.{IsLogOf};
+ghost use Rattle.pc_solver.specs.Clauses.{KeepsProblem};
 ghost use Rattle.pc_solver.specs.inside.Search.{IsSearch, KnowsAll, AssumesFirst, AreAssumed, HasNoDecision, KeepsLogs};
 
 use crate::clauses::Clauses;
 use crate::decisions::put_back;
+use crate::search::Search;
 use pc_lits::{Lit, Var};
 use pc_preferences::Preferences;
 use pc_propagate::Trail;
@@ -79,28 +77,28 @@ fn attach_rest(clauses: &mut Clauses<'_>, trail: &mut Trail) -> Result<(), Alloc
     Ok(())
 }
 
-/// Makes the trail ready for a search under these assumptions. Where the trail was told of each clause, the levels of
-/// the search before stay whose decisions are assumptions still.
-pub(crate) fn prepare(
-    clauses: &mut Clauses<'_>,
-    trail: &mut Trail,
-    preferences: &mut Preferences,
-    assumed: &[Lit],
-) -> Result<(), AllocError>
-    requires search { IsSearch clauses.old trail.old }
-    ensures search { IsSearch clauses.new trail.new }
-    ensures problem { KeepsProblem clauses.old clauses.new }
-    ensures logs { KeepsLogs clauses.old clauses.new }
-    ensures all { OnOk result (KnowsAll clauses.new) }
-    ensures first { AssumesFirst assumed.now trail.new.entries }
-    ensures variables { trail.new.variables ≡ trail.old.variables }
-{
-    quiet_is_kept();
-    if clauses.known() == clauses.more().len() {
-        keep_levels(trail, clauses.own(), preferences, assumed);
-        return Ok(());
+impl<'g> Search<'g> {
+    /// Makes the trail ready for a search under these assumptions. Where the trail was told of each clause, the levels of
+    /// the search before stay whose decisions are assumptions still.
+    pub(crate) fn prepare(&mut self, assumed: &[Lit]) -> Result<(), AllocError>
+        ensures problem { KeepsProblem self.old.clauses self.new.clauses }
+        ensures logs { KeepsLogs self.old.clauses self.new.clauses }
+        ensures all { OnOk result (KnowsAll self.new.clauses) }
+        ensures first { AssumesFirst assumed.now self.new.trail.entries }
+        ensures variables { self.new.trail.variables ≡ self.old.trail.variables }
+    {
+        quiet_is_kept();
+        if self.clauses.known() == self.clauses.more().len() {
+            keep_levels(
+                &mut self.trail,
+                self.clauses.own(),
+                &mut self.preferences,
+                assumed,
+            );
+            return Ok(());
+        }
+        put_back(&self.trail, self.clauses.own(), &mut self.preferences, 0);
+        self.trail.back_to(0);
+        attach_rest(&mut self.clauses, &mut self.trail)
     }
-    put_back(trail, clauses.own(), preferences, 0);
-    trail.back_to(0);
-    attach_rest(clauses, trail)
 }

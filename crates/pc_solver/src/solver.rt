@@ -1,20 +1,19 @@
 //! The solver.
 
-ghost use Rattle.std.specs.Prelude.{◌≡◌, ◌<◌, ◌^◌, ℕ, List, [], ◌∷◌, ◌++◌, All, Contains, IfOk, OnOk, OnErr, length, slice_index_or};
+ghost use Rattle.std.specs.Prelude.{◌≡◌, ◌<◌, ◌^◌, ℕ, List, [], ◌∷◌, ◌++◌, All, Contains, IfOk, OnOk, OnErr, length};
 ghost use Rattle.pc_lits.specs.declared.literal.Lit.{Lit};
 ghost use Rattle.pc_log.specs.Lines.{LogLine};
 ghost use Rattle.pc_propagate.specs.declared.clauses.ClauseRef.{ClauseRef};
 ghost use Rattle.pc_propagate.specs.declared.clauses.ClauseRef.TheVariants.{Axiom};
 ghost use Rattle.pc_propagate.specs.Attached.{IsBlank};
-ghost use Rattle.pc_propagate.specs.Over.{AreInRange, IsOver};
+ghost use Rattle.pc_propagate.specs.Over.{IsOver};
 ghost use Rattle.pc_solver.specs.Answers.{value_in};
 ghost use Rattle.pc_solver.specs.New.{ContainNone};
 ghost use Rattle.pc_solver.specs.Solver.{SolverView, IsProblem, AreOwn, HasLog, SuspendedHasLog, AnswerSays, Spends};
 
 use crate::clauses::Clauses;
 use crate::outcome::Outcome;
-use crate::preparing::prepare;
-use crate::search::search_to_an_end;
+use crate::search::Search;
 use pc_lits::{ClauseStore, Lit, Tally, Var};
 use pc_log::Log;
 use pc_log::laws::derivations_are_sound;
@@ -26,22 +25,16 @@ use std::marker::Model;
 /// A search over borrowed axioms, blocks of its own, and what it has learned from them.
 #[derive(Drop)]
 pub struct Solver<'g> {
-    alloc: Global,
-    clauses: Clauses<'g>,
-    trail: Trail,
-    preferences: Preferences,
+    search: Search<'g>,
 }
 
 impl<'g> Model for Solver<'g> {
     ghost use Rattle.pc_propagate.specs.Entries.{literals};
-    ghost use Rattle.pc_solver.specs.inside.Search.{IsSearch};
     ghost use Rattle.pc_solver.specs.Solver.{SolverView, seen_as};
 
     ghost Value = { SolverView };
 
-    ghost view = { λ s. seen_as s.trail.variables s.clauses (literals s.trail.entries) };
-
-    ghost invariant = { λ s. IsSearch s.clauses s.trail };
+    ghost view = { λ s. seen_as s.search.trail.variables s.search.clauses (literals s.search.trail.entries) };
 }
 
 impl<'g> Solver<'g> {
@@ -87,12 +80,13 @@ impl<'g> Solver<'g> {
         attach_used(axioms, used, own, &mut trail)?;
         let mut preferences = Preferences::new(alloc, own)?;
         raise_used(axioms, used, own, &mut preferences);
-        Ok(Solver {
+        let search = Search {
             alloc,
             clauses,
             trail,
             preferences,
-        })
+        };
+        Ok(Solver { search })
     }
 
     /// Adds a clause of the solver's own. Without memory the solver stays as it is.
@@ -105,7 +99,7 @@ impl<'g> Solver<'g> {
         ensures trues { self.new.trues ≡ self.old.trues }
         ensures log { (log : List LogLine) → HasLog self.old log → HasLog self.new log }
     {
-        self.clauses.add_block(block)
+        self.search.add_block(block)
     }
 
     /// Searches for values that meet every used axiom, block and assumption. Assumptions are decided first, in their order,
@@ -129,24 +123,11 @@ impl<'g> Solver<'g> {
         derivations_are_sound();
         tally.calls += 1;
         let _limit = tally.limit;
-        if let Err(_) = prepare(
-            &mut self.clauses,
-            &mut self.trail,
-            &mut self.preferences,
-            assumed,
-        ) {
+        if let Err(_) = self.search.prepare(assumed) {
             return Outcome::Memory;
         }
-        let outcome = search_to_an_end(
-            self.alloc,
-            &mut self.clauses,
-            &mut self.trail,
-            &mut self.preferences,
-            assumed,
-            log,
-            tally,
-        );
-        let _ = self.trail.len();
+        let outcome = self.search.run(assumed, log, tally);
+        self.search.recall();
         outcome
     }
 
@@ -155,11 +136,7 @@ impl<'g> Solver<'g> {
         requires { Contains self.now.problem.own v }
         ensures { result ≡ value_in self.now.trues v }
     {
-        let _ = self.trail.len();
-        match self.trail.value(v) {
-            Some(value) => value,
-            None => false,
-        }
+        self.search.value(v)
     }
 
     /// Takes the solver's trail away, for another part, until the solver is resumed. What it has learned stays.
@@ -169,12 +146,13 @@ impl<'g> Solver<'g> {
         ensures log { (log : List LogLine) → HasLog self.entry log → SuspendedHasLog result.0 log }
         ensures variables { result.1.variables ≡ self.entry.variables }
     {
-        let Solver {
+        let Solver { search } = self;
+        let Search {
             alloc,
             clauses,
             trail,
             preferences,
-        } = self;
+        } = search;
         let suspended = Suspended {
             alloc,
             clauses,
@@ -187,12 +165,13 @@ impl<'g> Solver<'g> {
     pub fn into_trail(self) -> Trail
         ensures { result.variables ≡ self.entry.variables }
     {
-        let Solver {
+        let Solver { search } = self;
+        let Search {
             alloc: _,
             clauses: _,
             trail,
             preferences: _,
-        } = self;
+        } = search;
         trail
     }
 }
@@ -239,12 +218,13 @@ impl<'g> Suspended<'g> {
         clauses.forget_trail();
         attach_used(clauses.axioms(), clauses.used(), clauses.own(), &mut trail)?;
         preferences.put_all_back();
-        Ok(Solver {
+        let search = Search {
             alloc,
             clauses,
             trail,
             preferences,
-        })
+        };
+        Ok(Solver { search })
     }
 }
 

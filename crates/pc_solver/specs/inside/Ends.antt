@@ -11,7 +11,6 @@ use Rattle.pc_propagate.specs.declared.trail.Entry.{Entry}
 use Rattle.pc_propagate.specs.declared.clauses.ClauseRef.{ClauseRef}
 use Rattle.pc_propagate.specs.declared.clauses.ClauseRef.TheVariants.{More}
 use Rattle.pc_propagate.specs.Quiet.{IsQuiet}
-use Rattle.pc_propagate.specs.TrailView.{TrailView}
 use Rattle.pc_lits.specs.Literals.{negated}
 use Rattle.pc_lits.specs.Steps.{IsLastOpen}
 use Rattle.pc_solver.specs.declared.learning.Learnt.{Learnt}
@@ -25,23 +24,23 @@ use Rattle.pc_solver.specs.declared.outcome.Outcome.{Outcome}
 use Rattle.pc_solver.specs.declared.outcome.Outcome.TheVariants.{Sat, Unsat, Spent, Memory}
 use Rattle.pc_solver.specs.Clauses.{ClausesView, IsGiven}
 use Rattle.pc_solver.specs.InLog.{Stands}
-use Rattle.pc_solver.specs.inside.Search.{AreTrue}
+use Rattle.pc_solver.specs.inside.Search.{SearchView, AreTrue, Advances, IsUnderWay}
 
 -- each used axiom and each block has a literal that is true by the entries
 abbrev pub AreMet : ClausesView → List Entry → Type 0
 AreMet c entries = (r : ClauseRef) → IsGiven c r → (m : Lit) × Contains (clause_at c.axioms c.more r) m × Contains (literals entries) m
 
 -- what a search that ends says of its clauses, entries and log
-abbrev pub EndSays : ClausesView → List Entry → List Lit → List LogLine → Tally → Outcome → Type 0
-EndSays c entries assumed log tally Sat = AreMet c entries × AreTrue entries assumed
-EndSays c entries assumed log tally (Unsat id) = (clause : List Lit) × Stands c.axioms log id clause × IsOverNegated assumed clause
-EndSays c entries assumed log tally Spent = tally.placed ≡ tally.limit
-EndSays c entries assumed log tally Memory = Unit {0}
+abbrev pub EndSays : SearchView → List Lit → List LogLine → Tally → Outcome → Type 0
+EndSays s assumed log tally Sat = AreMet s.clauses s.trail.entries × AreTrue s.trail.entries assumed
+EndSays s assumed log tally (Unsat id) = (clause : List Lit) × Stands s.clauses.axioms log id clause × IsOverNegated assumed clause
+EndSays s assumed log tally Spent = tally.placed ≡ tally.limit
+EndSays s assumed log tally Memory = Unit {0}
 
 -- one turn ends the search, or places a literal
-abbrev pub TurnSays : ClausesView → List Entry → List Lit → List LogLine → Tally → Tally → Option Outcome → Type 0
-TurnSays c entries assumed log before after None = before.placed < after.placed
-TurnSays c entries assumed log before after (Some outcome) = EndSays c entries assumed log after outcome
+abbrev pub TurnSays : SearchView → List Lit → List LogLine → Tally → Tally → Option Outcome → Type 0
+TurnSays s assumed log before after None = before.placed < after.placed
+TurnSays s assumed log before after (Some outcome) = EndSays s assumed log after outcome
 
 -- one clause more may have been learned than literals were placed, where the search ended before a literal was placed
 abbrev pub extra : Outcome → ℕ
@@ -61,6 +60,12 @@ turn_extra (Some outcome) = extra outcome
 abbrev pub turn_unmarked : Option Outcome → ℕ
 turn_unmarked None = 0
 turn_unmarked (Some outcome) = unmarked outcome
+
+-- What a turn leaves that isn't out of memory.
+pub record Turns (old new : SearchView) (assumed : List Lit) (before after : Tally) (log grown : List LogLine) (ended : Option Outcome) : Type 0 where
+  pub advances : Advances old new before after log grown (turn_extra ended) (turn_unmarked ended)
+  pub under_way : IsUnderWay new assumed grown
+  pub says : TurnSays new assumed grown before after ended
 
 -- what is to be decided next
 abbrev pub DecisionSays : List Var → List Entry → List Lit → Next → Type 0
@@ -82,12 +87,16 @@ IsUnsat (Some (Unsat id)) P = P id
 IsUnsat (Some Spent) P = ⊥
 IsUnsat (Some Memory) P = ⊥
 
+-- the search ended with a line whose clause is within the negated assumptions
+abbrev pub Refutes : SearchView → List Lit → List LogLine → Option Outcome → Type 0
+Refutes s assumed log ended = IsUnsat ended (λ id. (clause : List Lit) × Stands s.clauses.axioms log id clause × IsOverNegated assumed clause)
+
 -- After a clause was learned: its literal has no value and is the last one that isn't false, or the trail is quiet.
-abbrev pub LearntSays : ClausesView → TrailView → Learnt → Type 0
-LearntSays c trail (Asserting l n) =
-    Contains trail.attached (More n) × IsLastOpen negated (falses trail.entries) (clause_at c.axioms c.more (More n)) l
-    × (¬ HasValue trail.entries l.variable) × Contains c.own l.variable
-LearntSays c trail Restarted = IsQuiet c.axioms c.more trail
+abbrev pub LearntSays : SearchView → Learnt → Type 0
+LearntSays s (Asserting l n) =
+    Contains s.trail.attached (More n) × IsLastOpen negated (falses s.trail.entries) (clause_at s.clauses.axioms s.clauses.more (More n)) l
+    × (¬ HasValue s.trail.entries l.variable) × Contains s.clauses.own l.variable
+LearntSays s Restarted = IsQuiet s.clauses.axioms s.clauses.more s.trail
 
 -- how the search ends, if it does, with a literal that was to be placed
 abbrev pub ended_by : Placed → Option Outcome

@@ -4,8 +4,8 @@ use Rattle.pc_solver.proofs.HasLogLemmas.{has_log}
 use Rattle.pc_solver.proofs.SolverLemmas.{empty_log, no_lines, new_search}
 use Rattle.pc_solver.proofs.solver.Solver.on.Goals as goal
 
-pub invariant_of-result : goal.invariant_of-result
-invariant_of-result c =
+pub invariant_of-search : goal.invariant_of-search
+invariant_of-search c =
     new_search c.args.axioms.now c.args.used.now c.args.own.now c.args.trail.variables c.in_ok-clauses.clauses c.attach_used.new.trail (ap (λ (w : ClausesView). w.axioms) c.in_ok-clauses.ensures) (ap (λ (w : ClausesView). w.used) c.in_ok-clauses.ensures)
     (ap (λ (w : ClausesView). w.own) c.in_ok-clauses.ensures) (ap (λ (w : ClausesView). w.known) c.in_ok-clauses.ensures)
     (λ k d below. absurd (omega (arith, below, ap (λ (w : ClausesView). length w.more) c.in_ok-clauses.ensures))) (c.in_ok-attach_used.ensures.variables ∙ c.clear.ensures.variables) c.in_ok-attach_used.ensures.entries

@@ -9,8 +9,8 @@ use Rattle.pc_solver.proofs.solver.Suspended.resume.Goals as goal
 pub attach_used-requires-clause-over : goal.attach_used-requires-clause-over
 attach_used-requires-clause-over c = λ more. c.clear.ensures.over c.axioms.result.now more
 
-pub invariant_of-result : goal.invariant_of-result
-invariant_of-result c =
+pub invariant_of-search : goal.invariant_of-search
+invariant_of-search c =
     resumed_search c.args.self c.self.inside.clauses c.forget_trail.new.self c.attach_used.new.trail c.axioms.result.now c.used.result.now c.own.result.now c.args.trail.variables c.self.view_is c.forget_trail.ensures c.axioms.ensures.is c.used.ensures
     c.own.ensures c.requires c.self.invariant (c.in_ok-attach_used.ensures.variables ∙ c.clear.ensures.variables) c.in_ok-attach_used.ensures.entries c.in_ok-attach_used.ensures.over c.in_ok-attach_used.ensures.attached
     c.in_ok-attach_used.ensures.known

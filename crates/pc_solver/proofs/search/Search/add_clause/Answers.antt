@@ -1,0 +1,81 @@
+use Rattle.std.proofs.Common.{◌∙◌, sym, refl, subst, arith, List, All}
+use Rattle.pc_lits.specs.declared.literal.Lit.{Lit}
+use Rattle.pc_lits.specs.Literals.{negated}
+use Rattle.pc_lits.specs.Steps.{IsTautology}
+use Rattle.pc_propagate.specs.declared.clauses.ClauseRef.{ClauseRef}
+use Rattle.pc_propagate.specs.Propagation.{IsConflict}
+use Rattle.pc_propagate.specs.Refs.{IsRef}
+use Rattle.pc_solver.proofs.TurnLemmas.{conflict_same}
+use Rattle.pc_solver.specs.Clauses.{IsKnown, IsOverOwn}
+use Rattle.pc_solver.specs.InLog.{ContainsNoKnown}
+use Rattle.pc_propagate.specs.Entries.{AreEntries}
+use Rattle.pc_solver.specs.inside.Search.{SearchView}
+use Rattle.pc_solver.proofs.ClauseLemmas.{IsSearch-same}
+use Rattle.pc_solver.proofs.LearnLemmas.{level_seen, learn_nothing, clause_own, known_hints, ref_hints, none_contained, learns_none, learns_then, has_learned, good_lines}
+use Rattle.pc_solver.proofs.search.Search.add_clause.Goals as goal
+
+pub analyze-requires-clause-level : goal.analyze-requires-clause-level
+analyze-requires-clause-level c = rw (c.axioms.ensures.is, c.more.ensures) (level_seen c.args.self.now c.args.conflict c.self.inside.clauses c.self.inside.trail c.self.view_is c.requires.level)
+
+pub analyze-requires-clause-conflict : goal.analyze-requires-clause-conflict
+analyze-requires-clause-conflict c =
+    conflict_same c.self.inside.trail.entries c.args.conflict _ _ _ _ c.axioms.ensures.is c.more.ensures (subst (λ (s : SearchView). IsConflict s.clauses.axioms s.clauses.more s.trail.entries c.args.conflict) (sym c.self.view_is) c.requires.conflict)
+
+pub returns-in_err-learned-clause-learns : goal.returns-in_err-learned-clause-learns
+returns-in_err-learned-clause-learns c = learn_nothing c.args.self.now c.args.tally.now c.args.log.now c.requires.log
+
+pub raise_met-requires : goal.raise_met-requires
+raise_met-requires c =
+    subst (λ (hs : List ClauseRef). All (IsRef c.axioms-2.result.now c.more-2.result.now) hs) (sym c.deref.ensures.value) (ref_hints _ _ c.self.inside.clauses c.self.inside.trail c.in_ok-learned.learned.hints.items c.axioms-2.ensures.is c.more-2.ensures c.self.invariant c.in_ok-learned.ensures.learned.are_attached)
+
+pub lines_of-requires-clause-references : goal.lines_of-requires-clause-references
+lines_of-requires-clause-references c =
+    subst (λ (hs : List ClauseRef). All (IsKnown c.self.inside.clauses) hs) (sym c.deref-2.ensures.value) (known_hints c.self.inside.clauses c.self.inside.trail c.in_ok-learned.learned.hints.items c.self.invariant c.in_ok-learned.ensures.learned.are_attached)
+
+pub invariant_of-self : goal.invariant_of-self
+invariant_of-self c = IsSearch-same c.self.inside.clauses c.lines_of.new.self c.self.inside.trail c.in_err-lines.ensures.same c.self.invariant
+
+pub returns-in_err-lines-clause-learns : goal.returns-in_err-lines-clause-learns
+returns-in_err-lines-clause-learns c =
+    learns_none c.args.self.now c.self.inside.clauses c.lines_of.new.self c.self.inside.trail c.self.view_is c.args.tally.now c.args.log.now c.lines_of.new.log c.in_err-lines.ensures.same c.in_err-lines.ensures.log c.in_err-lines.ensures.grows
+
+pub add_learned-requires-clause-over_own : goal.add_learned-requires-clause-over_own
+add_learned-requires-clause-over_own c =
+    subst (IsOverOwn c.lines_of.new.self.own) (sym c.deref-3.ensures.value) (rw c.in_ok-lines.ensures.same.own (clause_own c.self.inside.clauses.own c.self.inside.trail.entries c.in_ok-learned.learned.clause.items c.self.invariant.own c.in_ok-learned.ensures.learned.is_false))
+
+pub add_learned-requires-clause-new : goal.add_learned-requires-clause-new
+add_learned-requires-clause-new c =
+    let level = level_seen c.args.self.now c.args.conflict c.self.inside.clauses c.self.inside.trail c.self.view_is c.requires.level in
+    subst (ContainsNoKnown c.lines_of.new.self) (sym c.deref-3.ensures.value) (none_contained c.learned_clauses_are_new.ensures _ _ c.self.inside.clauses c.lines_of.new.self c.self.inside.trail c.in_ok-learned.learned.clause.items c.in_ok-learned.learned.hints.items level.0 c.in_ok-learned.learned.level c.axioms.ensures.is c.more.ensures (subst (λ (s : SearchView). AreEntries s.trail.variables s.trail.entries) (sym c.self.view_is) c.recall.ensures.entries) c.self.invariant c.in_ok-learned.ensures.learned (c.in_ok-learned.ensures.asserting level.0 (rw (c.axioms.ensures.is, c.more.ensures) level.1)) c.in_ok-lines.ensures.same).1
+
+pub add_learned-requires-clause-no_tautology : goal.add_learned-requires-clause-no_tautology
+add_learned-requires-clause-no_tautology c =
+    let level = level_seen c.args.self.now c.args.conflict c.self.inside.clauses c.self.inside.trail c.self.view_is c.requires.level in
+    subst (λ (cl : List Lit). ¬ IsTautology negated cl) (sym c.deref-3.ensures.value) (none_contained c.learned_clauses_are_new.ensures _ _ c.self.inside.clauses c.lines_of.new.self c.self.inside.trail c.in_ok-learned.learned.clause.items c.in_ok-learned.learned.hints.items level.0 c.in_ok-learned.learned.level c.axioms.ensures.is c.more.ensures (subst (λ (s : SearchView). AreEntries s.trail.variables s.trail.entries) (sym c.self.view_is) c.recall.ensures.entries) c.self.invariant c.in_ok-learned.ensures.learned (c.in_ok-learned.ensures.asserting level.0 (rw (c.axioms.ensures.is, c.more.ensures) level.1)) c.in_ok-lines.ensures.same).0
+
+pub add_learned-requires-clause-good : goal.add_learned-requires-clause-good
+add_learned-requires-clause-good c =
+    good_lines c.self.inside.clauses c.lines_of.new.self _ _ c.lines_of.new.log c.in_ok-learned.learned.clause.items c.deref-3.result.now c.in_ok-learned.learned.hints.items c.deref-2.result.now c.in_ok-lines.lines.items c.deref-4.result.now c.axioms.ensures.is c.more.ensures c.in_ok-lines.ensures.same
+    c.deref-3.ensures.value c.deref-2.ensures.value c.deref-4.ensures.value c.in_ok-lines.ensures.are c.in_ok-learned.ensures.learned.good
+
+pub invariant_of-self-in_err-add_learned : goal.invariant_of-self-in_err-add_learned
+invariant_of-self-in_err-add_learned c = c.in_err-add_learned.ensures.search c.self.inside.trail (IsSearch-same c.self.inside.clauses c.lines_of.new.self c.self.inside.trail c.in_ok-lines.ensures.same c.self.invariant)
+
+pub returns-in_err-add_learned-clause-learns : goal.returns-in_err-add_learned-clause-learns
+returns-in_err-add_learned-clause-learns c =
+    learns_then c.args.self.now c.self.inside.clauses c.lines_of.new.self c.add_learned.new.self c.self.inside.trail c.self.view_is c.args.tally.now c.args.tally.now c.args.log.now c.lines_of.new.log c.add_learned.new.log 0 (omega arith) c.in_ok-lines.ensures.same c.in_ok-lines.ensures.grows c.in_err-add_learned.ensures.problem c.in_err-add_learned.ensures.no_block
+    c.in_err-add_learned.ensures.log c.in_err-add_learned.ensures.err (omega arith) refl refl refl
+
+pub invariant_of-self-2 : goal.invariant_of-self-2
+invariant_of-self-2 c = c.in_ok-add_learned.ensures.search c.self.inside.trail (IsSearch-same c.self.inside.clauses c.lines_of.new.self c.self.inside.trail c.in_ok-lines.ensures.same c.self.invariant)
+
+pub returns-clause-learns : goal.returns-clause-learns
+returns-clause-learns c =
+    learns_then c.args.self.now c.self.inside.clauses c.lines_of.new.self c.add_learned.new.self c.self.inside.trail c.self.view_is c.args.tally.now _ c.args.log.now c.lines_of.new.log c.add_learned.new.log 1 (omega arith) c.in_ok-lines.ensures.same c.in_ok-lines.ensures.grows c.in_ok-add_learned.ensures.problem c.in_ok-add_learned.ensures.no_block
+    c.in_ok-add_learned.ensures.log c.in_ok-add_learned.ensures.grows refl refl refl refl
+
+pub returns-clause-learned : goal.returns-clause-learned
+returns-clause-learned c =
+    let level = level_seen c.args.self.now c.args.conflict c.self.inside.clauses c.self.inside.trail c.self.view_is c.requires.level in
+    has_learned _ _ c.self.inside.clauses c.add_learned.new.self c.self.inside.trail c.in_ok-learned.learned.clause.items c.in_ok-learned.learned.hints.items level.0 c.in_ok-learned.learned.level c.axioms.ensures.is (c.in_ok-add_learned.ensures.problem.axioms ∙ c.in_ok-lines.ensures.same.axioms)
+    c.in_ok-add_learned.ensures.next (c.in_ok-add_learned.ensures.is ∙ c.deref-3.ensures.value) c.in_ok-add_learned.ensures.stands c.in_ok-learned.ensures.learned (c.in_ok-learned.ensures.asserting level.0 (rw (c.axioms.ensures.is, c.more.ensures) level.1))

@@ -1,0 +1,38 @@
+use Rattle.std.proofs.Common.{sym, subst, Contains, All}
+use Rattle.pc_lits.specs.Literals.{negated}
+use Rattle.pc_lits.specs.Steps.{IsGoodStep}
+use Rattle.pc_propagate.specs.declared.clauses.ClauseRef.{ClauseRef}
+use Rattle.pc_propagate.specs.Entries.{falses}
+use Rattle.pc_propagate.specs.Refs.{clauses_at}
+use Rattle.pc_analyze.specs.Learning.{AreDecisionsAmong}
+use Rattle.pc_solver.specs.inside.Search.{SearchView}
+use Rattle.pc_solver.proofs.EndLemmas.{decisions_assumed}
+use Rattle.pc_solver.proofs.SearchLemmas.{on_err}
+use Rattle.pc_solver.proofs.TurnLemmas.{good_same, refutes, negated_over, logs_none}
+use Rattle.pc_solver.proofs.search.Search.refute_assumption.Goals as goal
+
+pub final_clause-requires-clause-failed : goal.final_clause-requires-clause-failed
+final_clause-requires-clause-failed c = subst (λ (s : SearchView). Contains (falses s.trail.entries) c.args.failed) (sym c.self.view_is) c.requires.failed.1
+
+pub refute-requires-clause-references : goal.refute-requires-clause-references
+refute-requires-clause-references c = subst (λ (s : SearchView). All (λ (r : ClauseRef). Contains s.trail.attached r) c.in_ok-last.last.hints.items) c.self.view_is c.in_ok-last.ensures.refs
+
+pub refute-requires-clause-good : goal.refute-requires-clause-good
+refute-requires-clause-good c =
+    subst (λ (s : SearchView). IsGoodStep negated c.in_ok-last.last.clause.items (clauses_at s.clauses.axioms s.clauses.more c.in_ok-last.last.hints.items)) c.self.view_is
+    (good_same _ _ _ _ c.in_ok-last.last.hints.items c.in_ok-last.last.clause.items c.axioms.ensures.is c.more.ensures c.in_ok-last.ensures.good)
+
+pub refute-requires-clause-over_own : goal.refute-requires-clause-over_own
+refute-requires-clause-over_own c =
+    let among = decisions_assumed c.args.assumed.now c.args.self.now.trail.entries c.args.failed c.recall.ensures.entries.different c.requires.under_way.first c.requires.failed.0 c.requires.failed.1 in
+    negated_over c.args.self.now.clauses.own c.args.assumed.now c.in_ok-last.last.clause.items c.requires.under_way.over_own
+    (c.in_ok-last.ensures.only c.args.assumed.now c.requires.failed.0 (subst (λ (s : SearchView). AreDecisionsAmong s.trail.entries c.args.assumed.now) (sym c.self.view_is) among))
+
+pub returns-clause-refutes : goal.returns-clause-refutes
+returns-clause-refutes c =
+    let among = decisions_assumed c.args.assumed.now c.args.self.now.trail.entries c.args.failed c.recall.ensures.entries.different c.requires.under_way.first c.requires.failed.0 c.requires.failed.1 in
+    refutes c.refute.new.self c.args.assumed.now c.refute.new.log c.in_ok-last.last.clause.items c.refute.result
+    (c.in_ok-last.ensures.only c.args.assumed.now c.requires.failed.0 (subst (λ (s : SearchView). AreDecisionsAmong s.trail.entries c.args.assumed.now) (sym c.self.view_is) among)) c.refute.ensures.unsat
+
+pub returns-in_err-last-clause-err : goal.returns-in_err-last-clause-err
+returns-in_err-last-clause-err c = on_err c.from_residual.result (logs_none c.args.self.now c.args.log.now c.requires.under_way.logged)
