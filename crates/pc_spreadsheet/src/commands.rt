@@ -2,7 +2,7 @@
 ghost use Rattle.std.specs.Prelude.{◌≤◌, length};
 ghost use Rattle.pc_syntax.specs.Command.{asks};
 ghost use Rattle.pc_syntax.specs.Sized.{IsNestedReading, IsSizedReading};
-ghost use Rattle.pc_syntax.specs.Tree.{asked_of, asks_budget, asks_clear, asks_enter, asks_why, cell_of, value_of};
+ghost use Rattle.pc_syntax.specs.Tree.{asked_of, asks_budget, asks_why, cell_of, value_of};
 ghost use Rattle.pc_run.specs.Answer.{Answer, CanBeTold, IsAnswer};
 ghost use Rattle.pc_spreadsheet.specs.Allowed.{Allows, Notes};
 ghost use Rattle.pc_spreadsheet.specs.Commands.{Explains, Obeys, ShowsJson, state_of};

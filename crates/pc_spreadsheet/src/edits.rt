@@ -1,5 +1,5 @@
 //! The edits of a sheet by command lines.
-ghost use Rattle.std.specs.Prelude.{◌≡◌, ◌≤◌, ◌<◌, ℕ, List, None, Some, IfSome, IfNone, length, map};
+ghost use Rattle.std.specs.Prelude.{◌≤◌, ◌<◌, ℕ, None, Some, IfSome, IfNone, map};
 ghost use Rattle.pc_formula.specs.Nesting as written;
 ghost use Rattle.pc_formula.specs.Sized.{IsSized};
 ghost use Rattle.pc_formula.specs.Word.{most_nesting};

@@ -1,5 +1,5 @@
 //! The numbers that sum a spreadsheet up.
-ghost use Rattle.std.specs.Prelude.{◌≡◌, ◌≤◌, ◌<◌, ◌∷◌, [], List, MatchBool, length};
+ghost use Rattle.std.specs.Prelude.{◌≤◌, ◌<◌, ◌∷◌, [], List, MatchBool, length};
 ghost use Rattle.pc_sheet.specs.Entailment.{cell_sizes, IsImplied, IsLeastSupport};
 ghost use Rattle.pc_sheet.specs.Truth.{size_of};
 ghost use Rattle.pc_sheet.specs.WellFormed.{IsEntryOf};
