@@ -1,5 +1,6 @@
 pub mod Places
 pub mod Asked
+pub mod Inquiries
 pub mod Narrowing
 pub mod Parts
 pub mod Sets
