@@ -1,6 +1,6 @@
 //! One question to a solver, whose answer is read as an assignment, or names the entries that it rests on.
 
-ghost use Rattle.std.specs.Prelude.{◌≡◌, ◌<◌, ◌^◌, ℕ, List, [], All, Contains, IfOk, IfErr, IfSome, IfNone, IsTrue, OnOk, true, false, length, map};
+ghost use Rattle.std.specs.Prelude.{◌≡◌, ◌<◌, ◌^◌, List, [], All, Contains, IfOk, IfErr, IfSome, IfNone, IsTrue, OnOk, true, false, length, map};
 ghost use Rattle.pc_sheet.specs.Entailment.{AreWithin};
 ghost use Rattle.pc_sheet.specs.declared.ids.ValueId.{ValueId};
 ghost use Rattle.pc_sheet.specs.declared.ids.Entry.{Entry};
@@ -25,7 +25,7 @@ use pc_log::StepId;
 use pc_log::laws::derivations_are_sound;
 use pc_logic::{Assignment, CellId, Entry, ValueId};
 use pc_solver::{Outcome, Stop};
-use std::alloc::{AllocError, Global};
+use std::alloc::AllocError;
 
 // The first value of the cell whose pair is true.
 fn first_true(task: Task<'_>, search: &Search<'_>, cell: CellId) -> Option<ValueId>
@@ -105,7 +105,6 @@ fn add_denied(core: &mut Vec<Entry>, entry: Entry, denied: bool) -> Result<(), A
 
 // Those entries of a set whose literals the line's clause denies: what it rests on.
 fn core_of(
-    alloc: Global,
     task: Task<'_>,
     search: &Search<'_>,
     set: &[Entry],
@@ -115,7 +114,7 @@ fn core_of(
     requires set { All (λ e. e.value.0 < size_at task.ground.now.sizes e.cell) set.now }
     ensures { IfOk result (λ core. (e : Entry) → Contains set.now e → Contains (clause_on search.now.solver.problem.axioms search.now.log line) (negated (entry_literal task.entry.ground.now.sizes e)) → Contains core.items e) }
 {
-    let mut core = Vec::new(alloc);
+    let mut core = Vec::new(task.alloc);
     for entry in set {
         let denied = search.denies(line, lit_of(task.ground, *entry));
         add_denied(&mut core, *entry, denied)?;
@@ -126,7 +125,6 @@ fn core_of(
 /// Whether some allowed assignment has the whole set. If so it is read as the assignment, which otherwise stays, and the part
 /// of the set that is refuted is kept. The solver has no blocks.
 pub(crate) fn ask_for(
-    alloc: Global,
     task: Task<'_>,
     search: &mut Search<'_>,
     set: &[Entry],
@@ -150,14 +148,14 @@ pub(crate) fn ask_for(
     ensures works { SpendsOver (length search.old.solver.problem.own) tally.old tally.new (marked search.old.log) (marked search.new.log) 1 }
 {
     derivations_are_sound();
-    let assumed = all_lits(alloc, task.ground, set)?;
+    let assumed = all_lits(task.alloc, task.ground, set)?;
     match search.solve(&assumed, tally) {
         Outcome::Sat => {
             read_values(task, search, shown);
             Ok(true)
         }
         Outcome::Unsat(line) => {
-            let core = core_of(alloc, task, search, set, line)?;
+            let core = core_of(task, search, set, line)?;
             refuted.keep(&core)?;
             Ok(false)
         }

@@ -22,7 +22,6 @@ use std::alloc::{AllocError, Global};
 
 // Adds an entry to those that the assignment has, if some allowed assignment has them all.
 fn try_entry(
-    alloc: Global,
     task: Task<'_>,
     search: &mut Search<'_>,
     entry: Entry,
@@ -51,18 +50,17 @@ fn try_entry(
     if has_entry(shown, entry) {
         return Ok(());
     }
-    let set = with_more(alloc, task.entries, shown, entry)?;
+    let set = with_more(task.alloc, task.entries, shown, entry)?;
     if refuted.forbids(entry, &set) {
         return Ok(());
     }
-    ask_for(alloc, task, search, &set, refuted, shown, tally)?;
+    ask_for(task, search, &set, refuted, shown, tally)?;
     Ok(())
 }
 
 // Adds entry after entry to those that the assignment has, until no allowed assignment has more of them. The solver has
 // no blocks.
 fn grow(
-    alloc: Global,
     task: Task<'_>,
     search: &mut Search<'_>,
     refuted: &mut Refuted,
@@ -88,7 +86,7 @@ fn grow(
     ensures works { SpendsOver (length search.old.solver.problem.own) tally.old tally.new (marked search.old.log) (marked search.new.log) (length task.entry.entries.now) }
 {
     for entry in task.entries {
-        try_entry(alloc, task, search, *entry, refuted, shown, tally)?;
+        try_entry(task, search, *entry, refuted, shown, tally)?;
     }
     Ok(())
 }
@@ -138,7 +136,6 @@ fn most_allowed(
 
 // Takes at once all of the entries that no known set forbids, if some allowed assignment has them all.
 fn try_most(
-    alloc: Global,
     task: Task<'_>,
     search: &mut Search<'_>,
     refuted: &mut Refuted,
@@ -161,18 +158,17 @@ fn try_most(
     ensures blocks { search.new.solver.blocks ≡ search.old.solver.blocks }
     ensures works { SpendsOver (length search.old.solver.problem.own) tally.old tally.new (marked search.old.log) (marked search.new.log) 1 }
 {
-    let set = most_allowed(alloc, task.entries, refuted, shown)?;
+    let set = most_allowed(task.alloc, task.entries, refuted, shown)?;
     if has_all(shown, &set) {
         return Ok(());
     }
-    ask_for(alloc, task, search, &set, refuted, shown, tally)?;
+    ask_for(task, search, &set, refuted, shown, tally)?;
     Ok(())
 }
 
 /// Adds entries to those that the assignment has, until no allowed assignment has more of them: at first all at once that may
 /// be added by what is known, and then one after the other.
 pub(crate) fn grow_whole(
-    alloc: Global,
     task: Task<'_>,
     search: &mut Search<'_>,
     refuted: &mut Refuted,
@@ -197,6 +193,6 @@ pub(crate) fn grow_whole(
     ensures blocks { search.new.solver.blocks ≡ search.old.solver.blocks }
     ensures works { SpendsOver (length search.old.solver.problem.own) tally.old tally.new (marked search.old.log) (marked search.new.log) (1 + length task.entry.entries.now) }
 {
-    try_most(alloc, task, search, refuted, shown, tally)?;
-    grow(alloc, task, search, refuted, shown, tally)
+    try_most(task, search, refuted, shown, tally)?;
+    grow(task, search, refuted, shown, tally)
 }

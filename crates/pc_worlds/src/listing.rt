@@ -1,6 +1,6 @@
 //! Listing the worlds one after the other.
 
-ghost use Rattle.std.specs.Prelude.{◌≡◌, ℕ, ◌+◌, ◌*◌, ◌<◌, ◌≤◌, ◌^◌, [], IfErr, IfOk, OnOk, length};
+ghost use Rattle.std.specs.Prelude.{◌≡◌, ℕ, ◌+◌, ◌<◌, ◌≤◌, ◌^◌, [], IfErr, IfOk, OnOk, length};
 ghost use Rattle.pc_sheet.specs.Entailment.{AreWithin, HaveDistinctCells};
 ghost use Rattle.pc_worlds.specs.Allowed.{Allow};
 ghost use Rattle.pc_solver.specs.Solver.{clauses_used};
@@ -20,11 +20,20 @@ use pc_lits::Tally;
 use pc_logic::Assignment;
 use pc_solver::Stop;
 use pc_world_list::Worlds;
-use std::alloc::{AllocError, Global};
+use std::alloc::AllocError;
+
+/// The worlds that were found, and the two searches that find more: the finder has a block for each of them, and the grower
+/// has none. The assignment is the one that was read last.
+#[derive(Drop)]
+pub(crate) struct Listing<'g> {
+    pub(crate) finder: Search<'g>,
+    pub(crate) grower: Search<'g>,
+    pub(crate) shown: Assignment,
+    pub(crate) found: Worlds,
+}
 
 // Adds the world of an assignment that can't have more entries, and its block.
 fn keep(
-    alloc: Global,
     task: Task<'_>,
     finder: &mut Search<'_>,
     shown: &Assignment,
@@ -42,90 +51,84 @@ fn keep(
     ensures same { (finder.new.solver.problem ≡ finder.old.solver.problem) }
     ensures log { finder.new.log ≡ finder.old.log }
 {
-    let set = set_of(alloc, task.entries, shown)?;
-    let block = clause_beside(alloc, task.ground, task.entries, shown)?;
+    let set = set_of(task.alloc, task.entries, shown)?;
+    let block = clause_beside(task.alloc, task.ground, task.entries, shown)?;
     finder.add_block(&block)?;
     found.push(&set, shown)?;
     Ok(())
 }
 
-// Adds a world whose set isn't among those found, with its block, and says whether there was one.
-fn next_world(
-    alloc: Global,
-    task: Task<'_>,
-    finder: &mut Search<'_>,
-    grower: &mut Search<'_>,
-    refuted: &mut Refuted,
-    shown: &mut Assignment,
-    found: &mut Worlds,
-    tally: &mut Tally,
-) -> Result<bool, Stop>
-    requires ready { IsReady task.ground.now.sizes task.cells.now task.entries.now finder.old.solver }
-    requires together { (grower.old.solver.problem ≡ finder.old.solver.problem) }
-    requires no_blocks { grower.old.solver.blocks ≡ [] }
-    requires distinct { HaveDistinctCells task.entries.now }
-    requires within { AreWithin task.ground.now.sizes shown.old }
-    requires listing { IsListing (record { sizes = task.ground.now.sizes; cells = task.cells.now; entries = task.entries.now; clauses = clauses_used finder.old.solver.problem }) found.old finder.old.solver.blocks }
-    requires refuted { AreRefuted task.ground.now.sizes task.cells.now (clauses_used finder.old.solver.problem) refuted.old }
-    requires few_entries { length task.entries.now ≤ 4096 }
-    requires few_learned { tally.old.learned + tally.old.limit < 2 ^ 123 }
-    requires few_calls { tally.old.calls < 2 ^ 123 }
-    ensures within { AreWithin task.entry.ground.now.sizes shown.new }
-    ensures says { IfOk result (NextSays (record { sizes = task.entry.ground.now.sizes; cells = task.entry.cells.now; entries = task.entry.entries.now; clauses = clauses_used finder.old.solver.problem }) found.old found.new finder.new.solver) }
-    ensures blocks { AreOfFullWorlds (record { sizes = task.entry.ground.now.sizes; cells = task.entry.cells.now; entries = task.entry.entries.now; clauses = clauses_used finder.old.solver.problem }) finder.new.solver.blocks }
-    ensures no_blocks { grower.new.solver.blocks ≡ [] }
-    ensures finder { (finder.new.solver.problem ≡ finder.old.solver.problem) }
-    ensures grower { (grower.new.solver.problem ≡ grower.old.solver.problem) }
-    ensures refuted { AreRefuted task.entry.ground.now.sizes task.entry.cells.now (clauses_used finder.old.solver.problem) refuted.new }
-    ensures cause { IfErr result (StopSays tally.new) }
-    ensures works { (most : ℕ) × IsTurn (record { sizes = task.entry.ground.now.sizes; cells = task.entry.cells.now; entries = task.entry.entries.now; clauses = clauses_used finder.old.solver.problem }) (length found.old) most
-        × SpendsOver (length finder.old.solver.problem.own) tally.old tally.new (marked finder.old.log + marked grower.old.log) (marked finder.new.log + marked grower.new.log) most }
-{
-    if !ask(task, finder, &[], shown, tally)? {
-        return Ok(false);
+impl Listing<'_> {
+    /// Adds a world whose set isn't among those found, with its block, and says whether there was one.
+    fn next_world(
+        &mut self,
+        task: Task<'_>,
+        refuted: &mut Refuted,
+        tally: &mut Tally,
+    ) -> Result<bool, Stop>
+        requires ready { IsReady task.ground.now.sizes task.cells.now task.entries.now self.old.finder.solver }
+        requires together { (self.old.grower.solver.problem ≡ self.old.finder.solver.problem) }
+        requires no_blocks { self.old.grower.solver.blocks ≡ [] }
+        requires distinct { HaveDistinctCells task.entries.now }
+        requires within { AreWithin task.ground.now.sizes self.old.shown }
+        requires listing { IsListing (record { sizes = task.ground.now.sizes; cells = task.cells.now; entries = task.entries.now; clauses = clauses_used self.old.finder.solver.problem }) self.old.found self.old.finder.solver.blocks }
+        requires refuted { AreRefuted task.ground.now.sizes task.cells.now (clauses_used self.old.finder.solver.problem) refuted.old }
+        requires few_entries { length task.entries.now ≤ 4096 }
+        requires few_learned { tally.old.learned + tally.old.limit < 2 ^ 123 }
+        requires few_calls { tally.old.calls < 2 ^ 123 }
+        ensures within { AreWithin task.entry.ground.now.sizes self.new.shown }
+        ensures says { IfOk result (NextSays (record { sizes = task.entry.ground.now.sizes; cells = task.entry.cells.now; entries = task.entry.entries.now; clauses = clauses_used self.old.finder.solver.problem }) self.old.found self.new.found self.new.finder.solver) }
+        ensures blocks { AreOfFullWorlds (record { sizes = task.entry.ground.now.sizes; cells = task.entry.cells.now; entries = task.entry.entries.now; clauses = clauses_used self.old.finder.solver.problem }) self.new.finder.solver.blocks }
+        ensures no_blocks { self.new.grower.solver.blocks ≡ [] }
+        ensures finder { (self.new.finder.solver.problem ≡ self.old.finder.solver.problem) }
+        ensures grower { (self.new.grower.solver.problem ≡ self.old.grower.solver.problem) }
+        ensures refuted { AreRefuted task.entry.ground.now.sizes task.entry.cells.now (clauses_used self.old.finder.solver.problem) refuted.new }
+        ensures cause { IfErr result (StopSays tally.new) }
+        ensures works { (most : ℕ) × IsTurn (record { sizes = task.entry.ground.now.sizes; cells = task.entry.cells.now; entries = task.entry.entries.now; clauses = clauses_used self.old.finder.solver.problem }) (length self.old.found) most
+            × SpendsOver (length self.old.finder.solver.problem.own) tally.old tally.new (marked self.old.finder.log + marked self.old.grower.log) (marked self.new.finder.log + marked self.new.grower.log) most }
+    {
+        if !ask(task, &mut self.finder, &[], &mut self.shown, tally)? {
+            return Ok(false);
+        }
+        grow_whole(task, &mut self.grower, refuted, &mut self.shown, tally)?;
+        keep(task, &mut self.finder, &self.shown, &mut self.found)?;
+        Ok(true)
     }
-    grow_whole(alloc, task, grower, refuted, shown, tally)?;
-    keep(alloc, task, finder, shown, found)?;
-    Ok(true)
-}
 
-/// Lists worlds until there is no other.
-pub(crate) fn list(
-    alloc: Global,
-    task: Task<'_>,
-    finder: &mut Search<'_>,
-    grower: &mut Search<'_>,
-    refuted: &mut Refuted,
-    shown: &mut Assignment,
-    found: &mut Worlds,
-    tally: &mut Tally,
-) -> Result<(), Stop>
-    requires ready { IsReady task.ground.now.sizes task.cells.now task.entries.now finder.old.solver }
-    requires together { (grower.old.solver.problem ≡ finder.old.solver.problem) }
-    requires no_blocks { grower.old.solver.blocks ≡ [] }
-    requires new { finder.old.solver.blocks ≡ [] }
-    requires none { found.old ≡ [] }
-    requires distinct { HaveDistinctCells task.entries.now }
-    requires within { AreWithin task.ground.now.sizes shown.old }
-    requires refuted { AreRefuted task.ground.now.sizes task.cells.now (clauses_used finder.old.solver.problem) refuted.old }
-    requires few_entries { length task.entries.now ≤ 4096 }
-    requires few_learned { tally.old.learned + tally.old.limit < 2 ^ 121 }
-    requires few_calls { tally.old.calls < 2 ^ 121 }
-    ensures listing { OnOk result (IsListing (record { sizes = task.entry.ground.now.sizes; cells = task.entry.cells.now; entries = task.entry.entries.now; clauses = clauses_used finder.old.solver.problem }) found.new finder.new.solver.blocks) }
-    ensures all { OnOk result (NoneMeets finder.new.solver []) }
-    ensures blocks { AreOfFullWorlds (record { sizes = task.entry.ground.now.sizes; cells = task.entry.cells.now; entries = task.entry.entries.now; clauses = clauses_used finder.old.solver.problem }) finder.new.solver.blocks }
-    ensures no_blocks { grower.new.solver.blocks ≡ [] }
-    ensures finder { (finder.new.solver.problem ≡ finder.old.solver.problem) }
-    ensures grower { (grower.new.solver.problem ≡ grower.old.solver.problem) }
-    ensures refuted { AreRefuted task.entry.ground.now.sizes task.entry.cells.now (clauses_used finder.old.solver.problem) refuted.new }
-    ensures cause { IfErr result (StopSays tally.new) }
-    ensures works { (most : ℕ) × AreFewCalls (record { sizes = task.entry.ground.now.sizes; cells = task.entry.cells.now; entries = task.entry.entries.now; clauses = clauses_used finder.old.solver.problem }) most
-        × SpendsOver (length finder.old.solver.problem.own) tally.old tally.new (marked finder.old.log + marked grower.old.log) (marked finder.new.log + marked grower.new.log) most }
-{
-    'turns: loop {
-        let _ = found.len();
-        if !next_world(alloc, task, finder, grower, refuted, shown, found, tally)? {
-            return Ok(());
+    /// Lists worlds until there is no other.
+    pub(crate) fn list(
+        &mut self,
+        task: Task<'_>,
+        refuted: &mut Refuted,
+        tally: &mut Tally,
+    ) -> Result<(), Stop>
+        requires ready { IsReady task.ground.now.sizes task.cells.now task.entries.now self.old.finder.solver }
+        requires together { (self.old.grower.solver.problem ≡ self.old.finder.solver.problem) }
+        requires no_blocks { self.old.grower.solver.blocks ≡ [] }
+        requires new { self.old.finder.solver.blocks ≡ [] }
+        requires none { self.old.found ≡ [] }
+        requires distinct { HaveDistinctCells task.entries.now }
+        requires within { AreWithin task.ground.now.sizes self.old.shown }
+        requires refuted { AreRefuted task.ground.now.sizes task.cells.now (clauses_used self.old.finder.solver.problem) refuted.old }
+        requires few_entries { length task.entries.now ≤ 4096 }
+        requires few_learned { tally.old.learned + tally.old.limit < 2 ^ 121 }
+        requires few_calls { tally.old.calls < 2 ^ 121 }
+        ensures listing { OnOk result (IsListing (record { sizes = task.entry.ground.now.sizes; cells = task.entry.cells.now; entries = task.entry.entries.now; clauses = clauses_used self.old.finder.solver.problem }) self.new.found self.new.finder.solver.blocks) }
+        ensures all { OnOk result (NoneMeets self.new.finder.solver []) }
+        ensures blocks { AreOfFullWorlds (record { sizes = task.entry.ground.now.sizes; cells = task.entry.cells.now; entries = task.entry.entries.now; clauses = clauses_used self.old.finder.solver.problem }) self.new.finder.solver.blocks }
+        ensures no_blocks { self.new.grower.solver.blocks ≡ [] }
+        ensures finder { (self.new.finder.solver.problem ≡ self.old.finder.solver.problem) }
+        ensures grower { (self.new.grower.solver.problem ≡ self.old.grower.solver.problem) }
+        ensures refuted { AreRefuted task.entry.ground.now.sizes task.entry.cells.now (clauses_used self.old.finder.solver.problem) refuted.new }
+        ensures cause { IfErr result (StopSays tally.new) }
+        ensures works { (most : ℕ) × AreFewCalls (record { sizes = task.entry.ground.now.sizes; cells = task.entry.cells.now; entries = task.entry.entries.now; clauses = clauses_used self.old.finder.solver.problem }) most
+            × SpendsOver (length self.old.finder.solver.problem.own) tally.old tally.new (marked self.old.finder.log + marked self.old.grower.log) (marked self.new.finder.log + marked self.new.grower.log) most }
+    {
+        'turns: loop {
+            let _ = self.found.len();
+            if !self.next_world(task, refuted, tally)? {
+                return Ok(());
+            }
         }
     }
 }

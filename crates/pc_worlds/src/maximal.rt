@@ -15,10 +15,10 @@ ghost use Rattle.pc_worlds.specs.Parts.{AddsLogs, AreFewFor, IsListingLog, marke
 ghost use Rattle.pc_worlds.specs.Refuted.{AreRefuted};
 ghost use Rattle.pc_worlds.specs.inside.Searching.{IsNewSearch, IsReady};
 ghost use Rattle.pc_parts.specs.PartSheets.{entries_on};
-ghost use Rattle.pc_solver.specs.Spending.{SpendsOver, marked, StopSays};
+ghost use Rattle.pc_solver.specs.Spending.{SpendsOver, StopSays};
 
 use crate::entries::entries_on;
-use crate::listing::list;
+use crate::listing::Listing;
 use crate::refuted::Refuted;
 use crate::search::Search;
 use crate::task::Task;
@@ -47,52 +47,44 @@ fn first_values(alloc: Global, book: &Book) -> Result<Assignment, AllocError>
 
 // Lists the worlds, and hands over the logs of both searches and their trails, whatever comes of it.
 fn list_with_logs(
-    alloc: Global,
     task: Task<'_>,
-    finder: Search<'_>,
-    grower: Search<'_>,
+    listing: Listing<'_>,
     refuted: &mut Refuted,
-    shown: Assignment,
     trails: &mut SpareTrails,
     logs: &mut Vec<Log>,
     tally: &mut Tally,
 ) -> Result<Worlds, Stop>
-    requires ready { IsReady task.ground.now.sizes task.cells.now task.entries.now finder.solver }
-    requires together { (grower.solver.problem ≡ finder.solver.problem) }
-    requires no_blocks { grower.solver.blocks ≡ [] }
-    requires new { finder.solver.blocks ≡ [] }
-    requires finding { finder.log ≡ [] }
-    requires growing { grower.log ≡ [] }
+    requires ready { IsReady task.ground.now.sizes task.cells.now task.entries.now listing.finder.solver }
+    requires together { (listing.grower.solver.problem ≡ listing.finder.solver.problem) }
+    requires no_blocks { listing.grower.solver.blocks ≡ [] }
+    requires new { listing.finder.solver.blocks ≡ [] }
+    requires finding { listing.finder.log ≡ [] }
+    requires growing { listing.grower.log ≡ [] }
+    requires none { listing.found ≡ [] }
     requires distinct { HaveDistinctCells task.entries.now }
-    requires within { AreWithin task.ground.now.sizes shown }
-    requires refuted { AreRefuted task.ground.now.sizes task.cells.now (clauses_used finder.solver.problem) refuted.old }
+    requires within { AreWithin task.ground.now.sizes listing.shown }
+    requires refuted { AreRefuted task.ground.now.sizes task.cells.now (clauses_used listing.finder.solver.problem) refuted.old }
     requires few_entries { length task.entries.now ≤ 4096 }
     requires few_learned { tally.old.learned + tally.old.limit < 2 ^ 121 }
     requires few_calls { tally.old.calls < 2 ^ 121 }
-    ensures exact { (sheet : Sheet) → IsOfSheet (record { sizes = task.entry.ground.now.sizes; cells = task.entry.cells.now; entries = task.entry.entries.now; clauses = clauses_used finder.entry.solver.problem }) sheet → IfOk result (AreExact sheet) }
-    ensures refuted { AreRefuted task.entry.ground.now.sizes task.entry.cells.now (clauses_used finder.entry.solver.problem) refuted.new }
+    ensures exact { (sheet : Sheet) → IsOfSheet (record { sizes = task.entry.ground.now.sizes; cells = task.entry.cells.now; entries = task.entry.entries.now; clauses = clauses_used listing.entry.finder.solver.problem }) sheet → IfOk result (AreExact sheet) }
+    ensures refuted { AreRefuted task.entry.ground.now.sizes task.entry.cells.now (clauses_used listing.entry.finder.solver.problem) refuted.new }
     ensures cause { IfErr result (StopSays tally.new) }
-    ensures logs { AddsLogs 2 (IsListingLog task.entry.ground.now.sizes task.entry.entries.now (IsFullSet (record { sizes = task.entry.ground.now.sizes; cells = task.entry.cells.now; entries = task.entry.entries.now; clauses = clauses_used finder.entry.solver.problem }))
-        finder.entry.solver.problem) logs.old.items logs.new.items }
-    ensures works { (most : ℕ) × AreFewCalls (record { sizes = task.entry.ground.now.sizes; cells = task.entry.cells.now; entries = task.entry.entries.now; clauses = clauses_used finder.entry.solver.problem }) most
-        × SpendsOver (length finder.entry.solver.problem.own) tally.old tally.new (marked_in logs.old.items) (marked_in logs.new.items) most }
+    ensures logs { AddsLogs 2 (IsListingLog task.entry.ground.now.sizes task.entry.entries.now (IsFullSet (record { sizes = task.entry.ground.now.sizes; cells = task.entry.cells.now; entries = task.entry.entries.now; clauses = clauses_used listing.entry.finder.solver.problem }))
+        listing.entry.finder.solver.problem) logs.old.items logs.new.items }
+    ensures works { (most : ℕ) × AreFewCalls (record { sizes = task.entry.ground.now.sizes; cells = task.entry.cells.now; entries = task.entry.entries.now; clauses = clauses_used listing.entry.finder.solver.problem }) most
+        × SpendsOver (length listing.entry.finder.solver.problem.own) tally.old tally.new (marked_in logs.old.items) (marked_in logs.new.items) most }
     ensures trails { trails.new ≡ trails.old }
 {
     logs.reserve(2)?;
-    let mut finder = finder;
-    let mut grower = grower;
-    let mut shown = shown;
-    let mut found = Worlds::new(alloc);
-    let outcome = list(
-        alloc,
-        task,
-        &mut finder,
-        &mut grower,
-        refuted,
-        &mut shown,
-        &mut found,
-        tally,
-    );
+    let mut listing = listing;
+    let outcome = listing.list(task, refuted, tally);
+    let Listing {
+        finder,
+        grower,
+        shown: _shown,
+        found,
+    } = listing;
     logs.push(finder.into_log(trails)).unwrap();
     logs.push(grower.into_log(trails)).unwrap();
     match outcome {
@@ -104,9 +96,7 @@ fn list_with_logs(
 // What a listing begins with.
 struct Beginning<'g> {
     entries: Vec<Entry>,
-    shown: Assignment,
-    finder: Search<'g>,
-    grower: Search<'g>,
+    listing: Listing<'g>,
 }
 
 fn new_search<'g>(
@@ -132,9 +122,10 @@ fn begin<'g>(
     requires { IsProblem trails.old (record { axioms = ground.now.clauses; used = part.axioms.now; own = part.variables.now }) }
     ensures entries { IfOk result (λ s. s.entries.items ≡ entries_on (map number_of part.entry.cells.now) book.now.entries) }
     ensures few { IfOk result (λ s. length s.entries.items ≤ 4096) }
-    ensures shown { IfOk result (λ s. AreWithin (cell_sizes book.now.universe) s.shown) }
-    ensures finder { IfOk result (λ s. IsNewSearch (record { axioms = ground.now.clauses; used = part.entry.axioms.now; own = part.entry.variables.now }) s.finder) }
-    ensures grower { IfOk result (λ s. IsNewSearch (record { axioms = ground.now.clauses; used = part.entry.axioms.now; own = part.entry.variables.now }) s.grower) }
+    ensures shown { IfOk result (λ s. AreWithin (cell_sizes book.now.universe) s.listing.shown) }
+    ensures finder { IfOk result (λ s. IsNewSearch (record { axioms = ground.now.clauses; used = part.entry.axioms.now; own = part.entry.variables.now }) s.listing.finder) }
+    ensures grower { IfOk result (λ s. IsNewSearch (record { axioms = ground.now.clauses; used = part.entry.axioms.now; own = part.entry.variables.now }) s.listing.grower) }
+    ensures found { IfOk result (λ s. s.listing.found ≡ []) }
     ensures trails { trails.new ≡ trails.old }
 {
     let entries = entries_on(alloc, book, part.cells)?;
@@ -143,9 +134,12 @@ fn begin<'g>(
     let grower = new_search(alloc, ground, part, trails)?;
     Ok(Beginning {
         entries,
-        shown,
-        finder,
-        grower,
+        listing: Listing {
+            finder,
+            grower,
+            shown,
+            found: Worlds::new(alloc),
+        },
     })
 }
 
@@ -179,21 +173,15 @@ pub fn worlds_knowing(
     ensures trails { trails.new ≡ trails.old }
 {
     let _limit = tally.limit;
-    let Beginning {
-        entries,
-        shown,
-        finder,
-        grower,
-    } = begin(alloc, book, ground, part, trails)?;
+    let Beginning { entries, listing } = begin(alloc, book, ground, part, trails)?;
     let task = Task {
+        alloc,
         book,
         ground,
         cells: part.cells,
         entries: &entries,
     };
-    list_with_logs(
-        alloc, task, finder, grower, refuted, shown, trails, logs, tally,
-    )
+    list_with_logs(task, listing, refuted, trails, logs, tally)
 }
 
 /// The maximal consistent sets of the entries on a part's cells, each once, each with an assignment that has it and makes

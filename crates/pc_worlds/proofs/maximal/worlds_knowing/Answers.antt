@@ -21,14 +21,14 @@ list_with_logs-requires-clause-ready c =
     let entries : List Entry = c.deref.result.now in
     let is : entries ≡ on = c.deref.ensures.value ∙ c.in_ok-entries.ensures.entries in
     let problem : Problem = record { axioms = c.args.ground.now.clauses; used = c.args.part.axioms.now; own = c.args.part.variables.now } in
-    subst (λ es. IsReady c.args.ground.now.sizes cells es b.finder.solver) (sym is)
-    (ready_here c.requires.searched.0 cells c.args.ground.now.sizes on problem c.requires.searched.1 b.finder c.in_ok-entries.ensures.finder)
+    subst (λ es. IsReady c.args.ground.now.sizes cells es b.listing.finder.solver) (sym is)
+    (ready_here c.requires.searched.0 cells c.args.ground.now.sizes on problem c.requires.searched.1 b.listing.finder c.in_ok-entries.ensures.finder)
 
 pub list_with_logs-requires-clause-together : goal.list_with_logs-requires-clause-together
 list_with_logs-requires-clause-together c =
     let b = c.in_ok-entries.field-0 in
     let problem : Problem = record { axioms = c.args.ground.now.clauses; used = c.args.part.axioms.now; own = c.args.part.variables.now } in
-    same_new problem b.finder b.grower c.in_ok-entries.ensures.finder c.in_ok-entries.ensures.grower
+    same_new problem b.listing.finder b.listing.grower c.in_ok-entries.ensures.finder c.in_ok-entries.ensures.grower
 
 pub list_with_logs-requires-clause-distinct : goal.list_with_logs-requires-clause-distinct
 list_with_logs-requires-clause-distinct c = subst HaveDistinctCells (sym (c.deref.ensures.value ∙ c.in_ok-entries.ensures.entries)) c.requires.searched.1.distinct
@@ -44,8 +44,8 @@ returns-clause-exact c sheet h =
     let entries : List Entry = c.deref.result.now in
     let is : entries ≡ on = c.deref.ensures.value ∙ c.in_ok-entries.ensures.entries in
     let problem : Problem = record { axioms = c.args.ground.now.clauses; used = c.args.part.axioms.now; own = c.args.part.variables.now } in
-    let t : Matter = record { sizes = c.args.ground.now.sizes; cells = cells; entries = entries; clauses = clauses_used b.finder.solver.problem } in
-    let of = of_sheet sheet cells c.args.ground.now.sizes on problem h t refl refl is (new_used problem b.finder c.in_ok-entries.ensures.finder) in
+    let t : Matter = record { sizes = c.args.ground.now.sizes; cells = cells; entries = entries; clauses = clauses_used b.listing.finder.solver.problem } in
+    let of = of_sheet sheet cells c.args.ground.now.sizes on problem h t refl refl is (new_used problem b.listing.finder c.in_ok-entries.ensures.finder) in
     c.list_with_logs.ensures.exact sheet of
 
 pub returns-clause-logs : goal.returns-clause-logs
@@ -56,10 +56,10 @@ returns-clause-logs c sheet h =
     let entries : List Entry = c.deref.result.now in
     let is : entries ≡ on = c.deref.ensures.value ∙ c.in_ok-entries.ensures.entries in
     let problem : Problem = record { axioms = c.args.ground.now.clauses; used = c.args.part.axioms.now; own = c.args.part.variables.now } in
-    let t : Matter = record { sizes = c.args.ground.now.sizes; cells = cells; entries = entries; clauses = clauses_used b.finder.solver.problem } in
-    let of = of_sheet sheet cells c.args.ground.now.sizes on problem h t refl refl is (new_used problem b.finder c.in_ok-entries.ensures.finder) in
+    let t : Matter = record { sizes = c.args.ground.now.sizes; cells = cells; entries = entries; clauses = clauses_used b.listing.finder.solver.problem } in
+    let of = of_sheet sheet cells c.args.ground.now.sizes on problem h t refl refl is (new_used problem b.listing.finder c.in_ok-entries.ensures.finder) in
     let distinct : HaveDistinctCells entries = subst HaveDistinctCells (sym is) h.distinct in
-    logs_of t sheet of distinct b.finder.solver.problem problem c.args.logs.now.items c.list_with_logs.new.logs.items c.in_ok-entries.ensures.finder.problem_is c.list_with_logs.ensures.logs
+    logs_of t sheet of distinct b.listing.finder.solver.problem problem c.args.logs.now.items c.list_with_logs.new.logs.items c.in_ok-entries.ensures.finder.problem_is c.list_with_logs.ensures.logs
 
 pub returns-clause-spends : goal.returns-clause-spends
 returns-clause-spends c =
@@ -69,10 +69,10 @@ returns-clause-spends c =
     let entries : List Entry = c.deref.result.now in
     let is : entries ≡ on = c.deref.ensures.value ∙ c.in_ok-entries.ensures.entries in
     let problem : Problem = record { axioms = c.args.ground.now.clauses; used = c.args.part.axioms.now; own = c.args.part.variables.now } in
-    let t : Matter = record { sizes = c.args.ground.now.sizes; cells = cells; entries = entries; clauses = clauses_used b.finder.solver.problem } in
+    let t : Matter = record { sizes = c.args.ground.now.sizes; cells = cells; entries = entries; clauses = clauses_used b.listing.finder.solver.problem } in
     let works = c.list_with_logs.ensures.works in (
       works.0,
-      λ sheet h. few_for t sheet works.0 (of_sheet sheet cells c.args.ground.now.sizes on problem h t refl refl is (new_used problem b.finder c.in_ok-entries.ensures.finder)) works.1,
+      λ sheet h. few_for t sheet works.0 (of_sheet sheet cells c.args.ground.now.sizes on problem h t refl refl is (new_used problem b.listing.finder c.in_ok-entries.ensures.finder)) works.1,
       subst (λ (p : Problem). SpendsOver (length p.own) c.args.tally.now c.list_with_logs.new.tally (marked_in c.args.logs.now.items) (marked_in c.list_with_logs.new.logs.items) works.0) c.in_ok-entries.ensures.finder.problem_is works.2,
     )
 
@@ -83,10 +83,10 @@ pub list_with_logs-requires-clause-refuted : goal.list_with_logs-requires-clause
 list_with_logs-requires-clause-refuted c =
     let b = c.in_ok-entries.field-0 in
     let problem : Problem = record { axioms = c.args.ground.now.clauses; used = c.args.part.axioms.now; own = c.args.part.variables.now } in
-    subst (λ cs. AreRefuted c.args.ground.now.sizes c.args.part.cells.now cs c.args.refuted.now) (sym (new_used problem b.finder c.in_ok-entries.ensures.finder)) c.requires.refuted
+    subst (λ cs. AreRefuted c.args.ground.now.sizes c.args.part.cells.now cs c.args.refuted.now) (sym (new_used problem b.listing.finder c.in_ok-entries.ensures.finder)) c.requires.refuted
 
 pub returns-clause-refuted : goal.returns-clause-refuted
 returns-clause-refuted c =
     let b = c.in_ok-entries.field-0 in
     let problem : Problem = record { axioms = c.args.ground.now.clauses; used = c.args.part.axioms.now; own = c.args.part.variables.now } in
-    subst (λ cs. AreRefuted c.args.ground.now.sizes c.args.part.cells.now cs c.list_with_logs.new.refuted) (new_used problem b.finder c.in_ok-entries.ensures.finder) c.list_with_logs.ensures.refuted
+    subst (λ cs. AreRefuted c.args.ground.now.sizes c.args.part.cells.now cs c.list_with_logs.new.refuted) (new_used problem b.listing.finder c.in_ok-entries.ensures.finder) c.list_with_logs.ensures.refuted
