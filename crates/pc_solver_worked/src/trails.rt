@@ -3,40 +3,13 @@ ghost use Rattle.std.specs.Prelude.{◌≡◌};
 ghost use Rattle.std.specs.Bool.{OnTrue};
 ghost use Rattle.pc_propagate.specs.Over.{AreInRange};
 
-use pc_lits::{ClauseStore, Lit, Tally, Var};
+use crate::literals::{literal, store_of};
+use pc_lits::{ClauseStore, Lit, Tally};
 use pc_propagate::laws::clauses_may_be_added;
 use pc_propagate::{ClauseRef, Placed, Step, Trail};
 use std::alloc::{AllocError, Global};
 use std::marker::Model;
 use std::test::Fail;
-
-// The literal of one of the names a, b and c, or its negation.
-fn literal(name: &str) -> Lit {
-    let variable = if name.ends_with('a') {
-        Var(0)
-    } else if name.ends_with('b') {
-        Var(1)
-    } else {
-        Var(2)
-    };
-    Lit {
-        variable,
-        sign: !name.starts_with('-'),
-    }
-}
-
-// The clauses, parted by commas, each with its literals parted by spaces.
-fn store_of(alloc: Global, clauses: &str) -> Result<ClauseStore, AllocError> {
-    let mut store = ClauseStore::new(alloc);
-    for clause in clauses.split(", ") {
-        let mut lits = Vec::new(alloc);
-        for name in clause.split(' ') {
-            lits.push(literal(name))?;
-        }
-        store.push(&lits)?;
-    }
-    Ok(store)
-}
 
 fn are_in_range(clause: &[Lit]) -> bool
     ensures { OnTrue result (AreInRange 3 clause.now) }

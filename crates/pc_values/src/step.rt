@@ -62,31 +62,3 @@ fn refutes<H: Hints>(hints: &H, values: &mut Values) -> bool
     }
     false
 }
-
-#[cfg(test)]
-mod tests {
-    use super::*;
-    use crate::hints::HintsAt;
-    use pc_lits::{ClauseStore, Var};
-    use std::test::Fail;
-
-    #[test]
-    fn tells_good_steps_from_others(rt: HostRuntime) -> Result<(), Fail> {
-        let p = Lit::positive(Var(0));
-        let q = Lit::positive(Var(1));
-        let mut store = ClauseStore::new(rt.alloc());
-        store.push(&[p.negated(), q, q])?;
-        store.push(&[q.negated()])?;
-        let mut values = Values::new(rt.alloc(), 2)?;
-        // The store's clauses refute `p`, one of them alone doesn't.
-        assert!(rt; is_good_step(&[p.negated()], &store, &mut values));
-        assert!(rt; !is_good_step(&[q], &store, &mut values));
-        let second = HintsAt {
-            store: &store,
-            places: &[1],
-        };
-        assert!(rt; is_good_step(&[q.negated()], &second, &mut values));
-        assert!(rt; !is_good_step(&[], &second, &mut values));
-        Ok(())
-    }
-}
