@@ -2,7 +2,5 @@
 #![tactic(auto)]
 
 mod gathering;
-#[cfg(test)]
-mod tests;
 
 pub use gathering::Gathering;

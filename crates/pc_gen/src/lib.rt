@@ -6,6 +6,3 @@ mod text;
 
 pub use law::lines_are_worked;
 pub use text::generated;
-
-#[cfg(test)]
-mod tests;

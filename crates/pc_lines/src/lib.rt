@@ -5,8 +5,6 @@
 #![tactic(auto)]
 
 mod reader;
-#[cfg(test)]
-mod tests;
 
 pub use reader::{LineReader, Taken};
 

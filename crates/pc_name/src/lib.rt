@@ -6,6 +6,3 @@ mod sign;
 
 pub use name::{Name, continues_name, is_name, is_reserved, starts_name};
 pub use sign::{Op, Sign};
-
-#[cfg(test)]
-mod tests;

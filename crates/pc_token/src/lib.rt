@@ -10,6 +10,3 @@ mod token;
 pub use law::one_reading;
 pub use line::{is_blank_line, is_comment, is_one_name};
 pub use token::{Kind, Token, TokenFault, tokens};
-
-#[cfg(test)]
-mod tests;
