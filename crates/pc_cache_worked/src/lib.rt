@@ -1,5 +1,9 @@
-//! Many rows in one cache, on a sheet from its text.
+//! Names, proofs and many rows of one cache: tests of the crates of reasons.
 #![tactic(auto)]
 
+#[cfg(test)]
+mod names;
+#[cfg(test)]
+mod proofs;
 #[cfg(test)]
 mod tests;
