@@ -2,6 +2,10 @@
 #![tactic(auto)]
 
 #[cfg(test)]
+mod grounding;
+#[cfg(test)]
 mod parts_tests;
 #[cfg(test)]
-mod tests;
+mod sheets;
+#[cfg(test)]
+mod trying;
