@@ -22,6 +22,3 @@ pub use law::{
 pub use objects::json;
 pub use supports::Supports;
 pub use table::grid;
-
-#[cfg(test)]
-mod tests;

@@ -445,6 +445,14 @@ wände  -     grün
 [{\"cell\":\"wände\",\"conflict\":null,\"entry\":null,\"implied\":[{\"because\":[],\"value\":\"grün\"}]}]
 ===
 sheet 1
+begin
+show
+grid
+json
+--- Done
+[]
+===
+sheet 1
 sort n = -2 .. 1
 cell a(n) : n
 enter a( -1 ) = - 2
