@@ -619,7 +619,7 @@ fn commands_at_fault(rt: HostRuntime) -> Result<(), Fail> {
 }
 
 // Pigeons that don't fit, under a budget that is spent before that shows; a sheet that is loaded within so many
-// propagations, and an edit of it that isn't, until the budget is raised.
+// propagations, and edits of it that aren't, until the budget is raised; a rule that is too large for any.
 const BUDGETS: &str = "\
 replay --budget 50
 sheet 1
@@ -666,6 +666,45 @@ b : -
   = red because a = red
 c : -
   = red because a = red
+===
+replay
+sheet 1
+sort color = red green
+cell a : color
+cell b : color
+cell c : color
+rule ab : a = b
+rule bc : b = c
+begin
+enter a = red
+budget 1
+rule ca : c = a
+drop ab
+clear a
+show
+--- SomeRefused
+ok
+ok
+refused 14 spent placed=1 learned=0 calls=1
+refused 14 spent placed=1 learned=0 calls=1
+refused 14 spent placed=1 learned=0 calls=1
+a : red
+  = red because a = red
+b : -
+  = red because a = red
+c : -
+  = red because a = red
+===
+replay
+sheet 1
+sort n = 1 .. 200
+cell a : n
+begin
+rule big : forall x:n . forall y:n . forall z:n . a = x
+show
+--- SomeRefused
+refused 12 too-large
+a : -
 ";
 
 // Whether a run with the words of the first line over the further ones ends as the block says.
