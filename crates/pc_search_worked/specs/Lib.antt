@@ -1,0 +1,3 @@
+pub mod Whole
+pub mod Solving
+pub mod Codes
