@@ -8,9 +8,9 @@ use pc_solver::Outcome;
 use std::alloc::{AllocError, Global};
 use std::test::Fail;
 
-// Sheets, and behind dashes what one solver after another is asked. Assumed is, by the numbers of a cell and a value, that the
-// cell has the value, or with a `!` that it hasn't. Behind it stands what the cells have then, or how many literals the clause has
-// that says that they can have nothing, and how many of these are negated assumptions.
+// Sheets, and behind dashes what the sheet's solver is asked, row by row. Assumed is, by the numbers of a cell and a value, that
+// the cell has the value, or with a `!` that it hasn't. Behind it stands what the cells have then, or how many literals the clause
+// has by which this can't be, and how many of these are negated assumptions.
 const SOLVED: &str = "\
 sheet 1
 sort color = red green

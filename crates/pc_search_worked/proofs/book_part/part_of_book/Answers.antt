@@ -1,4 +1,4 @@
-use Rattle.std.proofs.Common.{◌≡◌, List, length, ap, ◌∙◌}
+use Rattle.std.proofs.Common.{List, length, ap, ◌∙◌}
 use Rattle.std.specs.List.{range_with_len}
 use Rattle.pc_lits.specs.declared.literal.Lit.{Lit}
 use Rattle.pc_ground.specs.GroundView.{Grounded}
