@@ -1,6 +1,7 @@
 //! The slots of a book's targets, and which targets are still to be searched.
 ghost use Rattle.std.specs.Prelude.{◌≡◌, ◌<◌, ◌≤◌, ◌++◌, IfOk, OnOk, filter, map};
 ghost use Rattle.std.specs.List.{list_any};
+ghost use Rattle.pc_sheet.specs.Limits.{most_values};
 ghost use Rattle.pc_cache.specs.inside.Kept.{slot_is_missing, slot_rests_on, slot_target};
 ghost use Rattle.pc_cache.specs.Rows.{is_among, is_same_entry};
 ghost use Rattle.pc_cache.specs.inside.Slots.{cell_slots, empty_slot};
@@ -11,7 +12,7 @@ use std::alloc::{AllocError, Global};
 
 /// Adds the empty slots of a cell with so many values.
 pub(crate) fn add_slots(cell: CellId, count: usize, slots: &mut Vec<Slot>) -> Result<(), AllocError>
-    requires { count ≤ 256 }
+    requires { count ≤ most_values }
     ensures { OnOk result (slots.new.items ≡ slots.old.items ++ cell_slots cell.0 count) }
 {
     for value in 0..count {
@@ -23,7 +24,7 @@ pub(crate) fn add_slots(cell: CellId, count: usize, slots: &mut Vec<Slot>) -> Re
 
 // The empty slot of a cell, a value and whether it holds.
 fn empty(cell: CellId, value: usize, holds: bool) -> Slot
-    requires { value < 256 }
+    requires { value < most_values }
     ensures { result ≡ empty_slot cell.0 value holds }
 {
     Slot {

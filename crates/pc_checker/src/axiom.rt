@@ -1,6 +1,7 @@
 //! The clauses of axioms.
 
 ghost use Rattle.std.specs.Prelude.{◌≡◌, ◌≤◌, ◌<◌, ◌∷◌, [], IfOk, OnOk, length, map};
+ghost use Rattle.pc_sheet.specs.Limits.{most_values};
 ghost use Rattle.pc_accept.specs.Axioms.{child_of, each_below, negated_entry};
 ghost use Rattle.pc_accept.specs.Literals.{pair, node, positive};
 ghost use Rattle.pc_checker.specs.Drafts.{AreWritten};
@@ -16,7 +17,7 @@ pub(crate) fn write_values(
     count: usize,
     draft: &mut ClauseDraft,
 ) -> Result<(), AllocError>
-    requires { count ≤ 256 }
+    requires { count ≤ most_values }
     ensures { OnOk result (AreWritten draft.old draft.new (each_below count (λ v. positive (pair cell (record { 0 = v }))))) }
 {
     for value in 0..count {

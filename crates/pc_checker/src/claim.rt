@@ -1,6 +1,7 @@
 //! The tests of a claim on a target: its used entries and its assignment.
 
 ghost use Rattle.std.specs.Prelude.{◌≡◌, ◌<◌, ◌≤◌, All, Contains, List, length, map};
+ghost use Rattle.pc_sheet.specs.Limits.{most_rules};
 ghost use Rattle.pc_sheet.specs.declared.ids.Entry.{Entry as TheEntry};
 ghost use Rattle.pc_cert.specs.ReadFor.{IsReadFor};
 ghost use Rattle.pc_checker.specs.Entered.{AreByCell, AreEnteredValues};
@@ -105,7 +106,7 @@ fn first_not_held(values: &[ValueId], uses: &[Said]) -> Option<u32>
 
 // The first rule that the assignment makes false.
 fn first_broken(book: &Book, values: &Assignment) -> Option<u32>
-    requires { length book.now.rules ≤ 1024 }
+    requires { length book.now.rules ≤ most_rules }
     ensures { IsRuleBroken book.now values.now result }
 {
     let count = book.rules().len();

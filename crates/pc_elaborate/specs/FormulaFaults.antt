@@ -4,6 +4,7 @@ use Rattle.pc_name.specs.declared.sign.Op.{Op}
 use Rattle.pc_name.specs.declared.sign.Sign.{Sign}
 use Rattle.pc_formula.specs.Tree as tree
 use Rattle.pc_formula.specs.Tree.{for_all, exists, iff, implies, or, and, not, compare, in_table, no_part, integer, named, no_item, one_item, items_of, name_value, integer_value}
+use Rattle.pc_sheet.specs.Limits.{most_depth}
 use Rattle.pc_sheet.specs.Sheet as plain
 use Rattle.pc_sheet.specs.Sheet.{Universe}
 use Rattle.pc_sheet.specs.Truth.{values_at}
@@ -194,7 +195,7 @@ HasSort u n Fails e = (s : SortId) × IsSortNamed u n s × Fails s e
 -- the tests of a quantifier before its body
 abbrev pub IsQuantifierFault : Universe → Variables → List ℕ → List ℕ → (SortId → SortFault → Type 0) → SortFault → Type 0
 IsQuantifierFault u vs n sort Body =
-    test (length vs < 16) (Limit Depth)
+    test (length vs < most_depth) (Limit Depth)
     (test (¬ (IsDeclared u n ⊎ IsBound vs n)) DuplicateName
     (part (IsSomeSort u sort) (IsSortNameFault u sort) (HasSort u sort Body)))
 

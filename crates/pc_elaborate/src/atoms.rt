@@ -15,10 +15,8 @@ use crate::scope::Variable;
 use crate::sides::{find_side, may_compare};
 use pc_formula::{ItemTree, SideTree};
 use pc_logic::{Book, Formula, Name, Op, SortId, TableId};
+use pc_sheet::MOST_READS;
 use std::alloc::Global;
-
-/// The most cell applications in one atom.
-const MOST_READS: usize = 16;
 
 /// What a comparison stands for.
 pub(crate) fn comparison(

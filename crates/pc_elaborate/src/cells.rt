@@ -1,6 +1,7 @@
 //! What written values and cells stand for in a book.
 ghost use Rattle.std.specs.Prelude.{◌≡◌, ◌≤◌, ◌<◌, IfOk, All, length, map};
 ghost use Rattle.pc_formula.specs.Tree.{cell_of, value_of, name_value, integer_value};
+ghost use Rattle.pc_sheet.specs.Limits.{most_arguments};
 ghost use Rattle.pc_sheet.specs.Entailment.{cell_sizes, AreWithin};
 ghost use Rattle.pc_sheet.specs.Truth.{size_of};
 ghost use Rattle.pc_sheet.specs.WellFormed.{IsDeclaredSort, IsEntryOf};
@@ -81,7 +82,7 @@ pub fn find_values(
 pub(crate) fn argument_sorts(book: &Book, family: FamilyId) -> &[SortId]
     requires { family.0 < length book.now.universe.families }
     ensures takes { TakesArguments book.now.universe family result.now }
-    ensures few { length result.now ≤ 4 }
+    ensures few { length result.now ≤ most_arguments }
     ensures declared { All (IsDeclaredSort book.now.universe) result.now }
 {
     well_formed(book);

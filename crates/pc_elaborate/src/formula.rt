@@ -19,10 +19,8 @@ use crate::names::{find_sort, well_formed};
 use crate::scope::{Variable, variable_named, with_variable};
 use pc_formula::FormulaTree;
 use pc_logic::{Book, Formula, Name, SortId};
+use pc_sheet::MOST_DEPTH;
 use std::alloc::Global;
-
-/// The most quantifiers around one place.
-const MOST_QUANTIFIERS: usize = 16;
 
 /// The sort of a quantifier's variable, which is a new one.
 fn variable_sort(
@@ -34,7 +32,7 @@ fn variable_sort(
     requires { IsScope book.now.universe (variables_of variables.now) }
     ensures { IsVariableTold book.now.universe (variables_of variables.now) name.now sort.now result }
 {
-    if variables.len() == MOST_QUANTIFIERS {
+    if variables.len() == MOST_DEPTH {
         return Err(SortFault::Limit(Which::Depth));
     }
     match book.look_up(name.as_str()) {

@@ -1,18 +1,20 @@
 //! How many cell applications are written in an atom.
 ghost use Rattle.std.specs.Prelude.{◌≡◌, ◌+◌, ◌≤◌, map, min};
+ghost use Rattle.pc_sheet.specs.Limits.{most_reads};
 ghost use Rattle.pc_sheet.specs.Views.{item_of, items_of, sum_of};
 ghost use Rattle.pc_sheet.specs.WellSorted.{reads_in, reads_in_items, reads_in_sum};
 
 use pc_logic::{Side, Term};
+use pc_sheet::MOST_READS;
 
 /// One more than an atom may have. Counts go no further.
-const TOO_MANY: usize = 17;
+const TOO_MANY: usize = MOST_READS + 1;
 
 /// The sum of two counts.
 fn counted(some: usize, more: usize) -> usize
-    requires some { some ≤ 17 }
-    requires more { more ≤ 17 }
-    ensures { result ≡ min (some + more) 17 }
+    requires some { some ≤ most_reads + 1 }
+    requires more { more ≤ most_reads + 1 }
+    ensures { result ≡ min (some + more) (most_reads + 1) }
 {
     (some + more).min(TOO_MANY)
 }
@@ -20,7 +22,7 @@ fn counted(some: usize, more: usize) -> usize
 /// The applications in a term.
 #[cycle(reads)]
 fn reads_in_term(term: &Term) -> usize
-    ensures { result ≡ min (reads_in (item_of term.now)) 17 }
+    ensures { result ≡ min (reads_in (item_of term.now)) (most_reads + 1) }
 {
     match term {
         Term::Variable(_) => 0,
@@ -33,7 +35,7 @@ fn reads_in_term(term: &Term) -> usize
 /// The applications in arguments.
 #[cycle(reads)]
 pub(crate) fn reads_in_terms(terms: &[Term]) -> usize
-    ensures { result ≡ min (reads_in_items (items_of (map item_of terms.now))) 17 }
+    ensures { result ≡ min (reads_in_items (items_of (map item_of terms.now))) (most_reads + 1) }
 {
     let mut reads = 0;
     for term in terms {
@@ -44,7 +46,7 @@ pub(crate) fn reads_in_terms(terms: &[Term]) -> usize
 
 /// The applications in a side.
 pub(crate) fn reads_in_side(side: &Side) -> usize
-    ensures { result ≡ min (reads_in_sum (sum_of side.now)) 17 }
+    ensures { result ≡ min (reads_in_sum (sum_of side.now)) (most_reads + 1) }
 {
     let mut reads = reads_in_term(&side.first);
     for (_, term) in &side.rest {

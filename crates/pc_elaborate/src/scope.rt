@@ -1,5 +1,6 @@
 //! The variables around a place.
 ghost use Rattle.std.specs.Prelude.{◌≡◌, ◌≤◌, ◌∷◌, ◌++◌, [], IfOk, IfSome, IfNone, Some, length, map, slice_get};
+ghost use Rattle.pc_sheet.specs.Limits.{most_depth};
 ghost use Rattle.pc_elaborate.specs.FormulaFaults.{IsBound};
 ghost use Rattle.pc_elaborate.specs.Told.{variable_of, variables_of};
 
@@ -15,7 +16,7 @@ pub(crate) struct Variable<'a> {
 
 /// The place and sort of the variable of that name, if there is one.
 pub(crate) fn variable_named(variables: &[Variable], name: &Name) -> Option<(u8, SortId)>
-    requires { length variables.now ≤ 16 }
+    requires { length variables.now ≤ most_depth }
     ensures some { IfSome result (λ found. slice_get (variables_of variables.now) found.0 ≡ Some (name.now, found.1)) }
     ensures none { IfNone result (¬ IsBound (variables_of variables.now) name.now) }
 {

@@ -14,6 +14,7 @@ use crate::names::well_formed;
 use crate::scope::Variable;
 use pc_formula::{ItemTree, SideTree};
 use pc_logic::{Book, Name, Op, Side, Sign, SortId, Term};
+use pc_sheet::LARGEST_NUMBER;
 use std::alloc::Global;
 
 /// What is compared: whole numbers, or values of a listed sort.
@@ -70,7 +71,7 @@ pub(crate) fn may_compare(left: Kind, op: Op, right: Kind) -> bool
 fn number_item(n: i64) -> Result<(Term, Kind), SortFault>
     ensures { (u : Universe) (vs : Variables) (several : Bool) → IsSideItemTold u vs several (integer n) result }
 {
-    if n < -1_000_000 || 1_000_000 < n {
+    if n < -LARGEST_NUMBER || LARGEST_NUMBER < n {
         return Err(SortFault::Limit(Which::Number));
     }
     Ok((Term::Number(n as i32), Kind::Integer))

@@ -1,5 +1,6 @@
 -- What the code keeps of its declarations: bounds, and counts of cells that are right.
 use Rattle.std.specs.Prelude.{◌≡◌, ◌≤◌, ◌+◌, ℕ, List, [], ◌∷◌, All, length}
+use Rattle.pc_sheet.specs.Limits.{most_arguments, most_cells, most_depth, most_values}
 use Rattle.pc_sheet.specs.Sheet.{Universe, Family}
 use Rattle.pc_sheet.specs.Truth.{count_of, cells_in, depth_of}
 use Rattle.pc_sheet.specs.Views.{statement_of}
@@ -19,12 +20,12 @@ AreCounted u n (d ∷ ds) total = (d.first ≡ n) × (d.cells ≡ cells_in u (fa
 
 -- within the limits, with right counts
 pub record IsSound (s : Scheme) : Type 0 where
-  pub arities : All (λ f. length f.sorts.items ≤ 4) s.families.items
-  pub sizes : All (λ t. count_of (values_of t.values) ≤ 256) s.sorts.items
+  pub arities : All (λ f. length f.sorts.items ≤ most_arguments) s.families.items
+  pub sizes : All (λ t. count_of (values_of t.values) ≤ most_values) s.sorts.items
   pub counted : AreCounted (universe_of s) 0 s.families.items s.cells
-  pub few_cells : s.cells ≤ 4096
-  pub rows : All (λ t. All (λ r. length r ≤ 4) t.rows) s.tables.items
+  pub few_cells : s.cells ≤ most_cells
+  pub rows : All (λ t. All (λ r. length r ≤ most_arguments) t.rows) s.tables.items
 
--- no rule has more than 16 quantifiers around one place
+-- no rule has too many quantifiers around one place
 abbrev pub AreShallow : List Rule → Type 0
-AreShallow rules = All (λ r. depth_of (statement_of r.formula) ≤ 16) rules
+AreShallow rules = All (λ r. depth_of (statement_of r.formula) ≤ most_depth) rules

@@ -1,6 +1,7 @@
 //! Books, seen as a universe, rules and entries.
 ghost use Rattle.std.specs.Prelude.{◌≡◌, ◌↔◌, ◌<◌, ◌≤◌, All, Bool, Contains, IsNone, IfSome, Some, IsTrue, IfErr, IfOk, OnErr, OnOk, length, map, slice_get};
 ghost use Rattle.std.specs.Option.{SomeIff};
+ghost use Rattle.pc_sheet.specs.Limits.{most_cells, most_values};
 ghost use Rattle.pc_sheet.specs.Cells.{IsApplication};
 ghost use Rattle.pc_sheet.specs.Truth.{cell_number};
 ghost use Rattle.pc_sheet.specs.Entailment.{cell_sizes, Fits, HaveDistinctCells, RuleHolds};
@@ -95,7 +96,7 @@ impl Book {
     /// How many cells there are.
     pub fn cells(&self) -> usize
         ensures exact { result ≡ length (cell_sizes self.now.universe) }
-        ensures few { result ≤ 4096 }
+        ensures few { result ≤ most_cells }
     {
         self.scheme.cells
     }
@@ -104,7 +105,7 @@ impl Book {
     pub fn values_of(&self, cell: CellId) -> usize
         requires { cell.0 < length (cell_sizes self.now.universe) }
         ensures exact { slice_get (cell_sizes self.now.universe) cell.0 ≡ Some result }
-        ensures few { result ≤ 256 }
+        ensures few { result ≤ most_values }
     {
         scheme::values_of_cell(&self.scheme, usize::from(cell.0))
     }

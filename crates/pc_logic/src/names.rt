@@ -3,6 +3,7 @@ ghost use Rattle.std.specs.Prelude.{◌≡◌, ◌++◌, ◌∷◌, ◌≤◌, �
 ghost use Rattle.std.specs.List.{IsDistinct};
 ghost use Rattle.std.specs.Map.{lookup, keys_of};
 ghost use Rattle.std.specs.Str.{bytes_eq};
+ghost use Rattle.pc_sheet.specs.Limits.{most_values};
 ghost use Rattle.pc_logic.specs.Named.{sort_keys};
 ghost use Rattle.pc_logic.specs.NameTable.{named_texts};
 ghost use Rattle.pc_logic.specs.declared.names.Named.{Named};
@@ -94,7 +95,7 @@ pub(crate) fn keys_of_list(
     name: &Name,
     values: &[Name],
 ) -> Result<Vec<(String, Named)>, AllocError>
-    requires { length values.now ≤ 256 }
+    requires { length values.now ≤ most_values }
     ensures { IfOk result (λ keys. named_texts keys.items ≡ sort_keys sort name.now values.now) }
 {
     let mut keys = key_of(alloc, name, Named::Sort(sort))?;

@@ -1,5 +1,6 @@
 //! The truth of an atom at a path, by reads of some cells, with no memory of its own.
 ghost use Rattle.std.specs.Prelude.{◌≡◌, ◌+◌, ◌≤◌, ◌∷◌, ◌++◌, [], None, Some, cond, length, map, nat_lt, slice_get};
+ghost use Rattle.pc_sheet.specs.Limits.{most_depth};
 ghost use Rattle.pc_sheet.specs.Nodes.{node_from, part_at, root_of};
 ghost use Rattle.pc_sheet.specs.Readings.{after, atom_reading};
 ghost use Rattle.pc_sheet.specs.Truth.{depth_of, greatest_depth, size_of};
@@ -39,7 +40,7 @@ fn truth_from(
     steps: &[u32],
 ) -> Option<bool>
     requires sound { IsSound scheme.now }
-    requires depth { length scope.now + depth_of (statement_of formula.now) ≤ 16 }
+    requires depth { length scope.now + depth_of (statement_of formula.now) ≤ most_depth }
     ensures { result ≡ outcome_at (universe_of scheme.now) reads.now (node_from (universe_of scheme.now) (Some (scope.now, statement_of formula.now)) steps.now) }
 {
     let Some((step, rest)) = steps.split_first() else {
@@ -84,7 +85,7 @@ fn truth_from_part(
     steps: &[u32],
 ) -> Option<bool>
     requires sound { IsSound scheme.now }
-    requires depth { length scope.now + greatest_depth (statements_of (map statement_of parts.now)) ≤ 16 }
+    requires depth { length scope.now + greatest_depth (statements_of (map statement_of parts.now)) ≤ most_depth }
     ensures { result ≡ outcome_at (universe_of scheme.now) reads.now (node_from (universe_of scheme.now) (part_at scope.now (statements_of (map statement_of parts.now)) k) steps.now) }
 {
     if k >= parts.len() {
@@ -105,7 +106,7 @@ fn truth_under(
     steps: &[u32],
 ) -> Option<bool>
     requires sound { IsSound scheme.now }
-    requires depth { length scope.now + depth_of (statement_of body.now) + 1 ≤ 16 }
+    requires depth { length scope.now + depth_of (statement_of body.now) + 1 ≤ most_depth }
     ensures { result ≡ outcome_at (universe_of scheme.now) reads.now (node_from (universe_of scheme.now) (cond (nat_lt k (size_of (universe_of scheme.now) sort)) (Some (scope.now ++ (sort, record { 0 = k }) ∷ [], statement_of body.now)) None) steps.now) }
 {
     if k < size_of(scheme, sort) {

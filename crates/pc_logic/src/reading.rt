@@ -1,5 +1,6 @@
 //! Atoms under reads of some cells, with no memory of their own.
 ghost use Rattle.std.specs.Prelude.{◌≡◌, ◌*◌, ◌+◌, ◌^◌, ◌≤◌, ◌<◌, ◌∷◌, ◌++◌, [], ℕ, List, Bool, All, IfOk, IfErr, IfSome, Some, length, map, min, slice_get, take};
+ghost use Rattle.pc_sheet.specs.Limits.{most_arguments, most_reads};
 ghost use Rattle.pc_sheet.specs.Reads.{value_in};
 ghost use Rattle.pc_sheet.specs.Readings.{Reading, known, read, read_all, read_rest, read_sum, is_row, read_comparison, read_row, atom_reading, after, StopsAt};
 ghost use Rattle.pc_sheet.specs.Truth.{size_of, number_of, rank_from};
@@ -15,7 +16,9 @@ ghost use Rattle.pc_logic.specs.Sound.{IsSound};
 use crate::addends::Addends;
 use crate::scheme::{Scheme, argument_sorts, first_cell, result_sort, size_of};
 use crate::truth::{added, compares, number_of, place_of, settled, variable_at};
-use pc_sheet::{Entry, Formula, Meaning, Op, Side, Sign, SortId, TableId, Term, ValueId};
+use pc_sheet::{
+    Entry, Formula, MOST_ARGUMENTS, Meaning, Op, Side, Sign, SortId, TableId, Term, ValueId,
+};
 
 /// The value that the reads have for the cell.
 fn value_in(reads: &[Entry], cell: usize) -> Option<ValueId>
@@ -39,7 +42,7 @@ fn number_of_place(place: ValueId) -> usize
 /// The place of a tuple among all of these sorts, the first part slowest.
 fn rank_at(scheme: &Scheme, sorts: &[SortId], places: &[ValueId]) -> usize
     requires sound { IsSound scheme.now }
-    requires arity { length sorts.now ≤ 4 }
+    requires arity { length sorts.now ≤ most_arguments }
     ensures exact { result ≡ rank_from 0 (map (size_of (universe_of scheme.now)) sorts.now) places.now }
     ensures small { result < 2 ^ 48 }
 {
@@ -102,7 +105,7 @@ fn read_terms(
         match read_term(scheme, reads, scope, term) {
             Err(cell) => return Err(cell),
             Ok(m) => {
-                if i < 4 {
+                if i < MOST_ARGUMENTS {
                     places[i] = place_of(m);
                 }
             }
@@ -153,7 +156,7 @@ fn read_places(
 ) -> Result<Meaning, usize>
     requires sound { IsSound scheme.now }
     requires within { All (λ p. p < length items.now) places.now }
-    requires few { length places.now ≤ 16 }
+    requires few { length places.now ≤ most_reads }
     requires start { IsWithin (2 ^ 33 * 4294967297) start }
     ensures known { IfOk result (λ m. (next : TheMeaning → Reading) → after reads.now (read_rest (universe_of scheme.now) scope.now (Whole start) (at_places (map added_of items.now) places.now) next) ≡ after reads.now (next m)) }
     ensures stopped { IfErr result (λ c. (next : TheMeaning → Reading) → StopsAt c (after reads.now (read_rest (universe_of scheme.now) scope.now (Whole start) (at_places (map added_of items.now) places.now) next))) }
@@ -247,7 +250,7 @@ fn read_row(
     match read_terms(scheme, reads, scope, args) {
         Err(cell) => Err(cell),
         Ok(places) => {
-            if args.len() > 4 {
+            if args.len() > MOST_ARGUMENTS {
                 return Ok(false);
             }
             Ok(has_row(scheme, table, &places[..args.len()]))

@@ -1,6 +1,7 @@
 //! The declarations that a book keeps, with counts of cells beside the families.
 ghost use Rattle.std.specs.Prelude.{◌≡◌, ◌+◌, ◌^◌, ◌<◌, ◌≤◌, IfSome, IsSomeAnd, Some, length, map, slice_get, slice_index_or, take, sum_by};
 ghost use Rattle.std.specs.Option.{SomeIff};
+ghost use Rattle.pc_sheet.specs.Limits.{most_arguments, most_cells, most_families, most_values};
 ghost use Rattle.pc_sheet.specs.Cells.{IsApplication, cells};
 ghost use Rattle.pc_sheet.specs.Entailment.{AreWithin, cell_sizes};
 ghost use Rattle.pc_sheet.specs.Truth.{size_of, argument_sorts, result_sort_of, cell_number, cells_in, product, rank_from};
@@ -56,7 +57,7 @@ pub(crate) struct Scheme {
 pub(crate) fn size_of(scheme: &Scheme, sort: SortId) -> usize
     requires { IsSound scheme.now }
     ensures exact { result ≡ size_of (universe_of scheme.now) sort }
-    ensures small { result ≤ 256 }
+    ensures small { result ≤ most_values }
 {
     match scheme.sorts.get(usize::from(sort.0)) {
         None => 0,
@@ -69,7 +70,7 @@ pub(crate) fn size_of(scheme: &Scheme, sort: SortId) -> usize
 
 pub(crate) fn argument_sorts(scheme: &Scheme, family: FamilyId) -> &[SortId]
     requires { IsSound scheme.now }
-    ensures small { length result.now ≤ 4 }
+    ensures small { length result.now ≤ most_arguments }
     ensures exact { result.now ≡ argument_sorts (slice_get (universe_of scheme.now).families family.0) }
 {
     match scheme.families.get(usize::from(family.0)) {
@@ -91,7 +92,7 @@ pub(crate) fn result_sort(scheme: &Scheme, family: FamilyId) -> SortId
 pub(crate) fn first_cell(scheme: &Scheme, family: FamilyId) -> usize
     requires { IsSound scheme.now }
     ensures exact { result ≡ sum_by (cells_in (universe_of scheme.now)) (take family.0 (universe_of scheme.now).families) }
-    ensures small { result ≤ 4096 }
+    ensures small { result ≤ most_cells }
 {
     match scheme.families.get(usize::from(family.0)) {
         None => scheme.cells,
@@ -125,7 +126,7 @@ pub(crate) fn values_of_cell(scheme: &Scheme, cell: usize) -> usize
     requires sound { IsSound scheme.now }
     requires cell { cell < scheme.now.cells }
     ensures exact { slice_get (cell_sizes (universe_of scheme.now)) cell ≡ Some result }
-    ensures small { result ≤ 256 }
+    ensures small { result ≤ most_values }
 {
     let family = family_at(scheme, cell);
     size_of(scheme, scheme.families[family].result_sort)
@@ -135,8 +136,8 @@ pub(crate) fn values_of_cell(scheme: &Scheme, cell: usize) -> usize
 pub(crate) fn size_at(scheme: &Scheme, cell: usize) -> usize
     requires { IsSound scheme.now }
     ensures exact { result ≡ slice_index_or (cell_sizes (universe_of scheme.now)) cell 0 }
-    ensures small { result ≤ 256 }
-    ensures within { 0 < result → cell < 4096 }
+    ensures small { result ≤ most_values }
+    ensures within { 0 < result → cell < most_cells }
 {
     if cell < scheme.cells {
         values_of_cell(scheme, cell)
@@ -148,7 +149,7 @@ pub(crate) fn size_at(scheme: &Scheme, cell: usize) -> usize
 /// How many tuples of arguments of these sorts there are.
 pub(crate) fn count_tuples(scheme: &Scheme, sorts: &[SortId]) -> usize
     requires sound { IsSound scheme.now }
-    requires arity { length sorts.now ≤ 4 }
+    requires arity { length sorts.now ≤ most_arguments }
     ensures exact { result ≡ product (map (size_of (universe_of scheme.now)) sorts.now) }
     ensures small { result ≤ 2 ^ 32 }
 {
@@ -162,7 +163,7 @@ pub(crate) fn count_tuples(scheme: &Scheme, sorts: &[SortId]) -> usize
 /// The place of a tuple among all tuples of values of these sorts, the first part slowest, if it is one of them.
 pub(crate) fn rank_of(scheme: &Scheme, sorts: &[SortId], args: &[ValueId]) -> Option<usize>
     requires sound { IsSound scheme.now }
-    requires arity { length sorts.now ≤ 4 }
+    requires arity { length sorts.now ≤ most_arguments }
     ensures exact { SomeIff result (AreWithin (map (size_of (universe_of scheme.now)) sorts.now) args.now) (rank_from 0 (map (size_of (universe_of scheme.now)) sorts.now) args.now) }
 {
     if args.len() != sorts.len() {
@@ -198,7 +199,7 @@ pub(crate) fn cell_at(scheme: &Scheme, family: FamilyId, args: &[ValueId]) -> Op
 /// A part of the tuple at a place among all tuples of values of these sorts.
 pub(crate) fn part_at(scheme: &Scheme, sorts: &[SortId], place: usize, i: usize) -> ValueId
     requires sound { IsSound scheme.now }
-    requires arity { length sorts.now ≤ 4 }
+    requires arity { length sorts.now ≤ most_arguments }
     requires place { place < product (map (size_of (universe_of scheme.now)) sorts.now) }
     requires part { i < length sorts.now }
     ensures { slice_get (tuple_at (map (size_of (universe_of scheme.now)) sorts.now) place) i ≡ Some result }
@@ -228,7 +229,7 @@ pub(crate) fn argument_of(scheme: &Scheme, cell: usize, i: usize) -> ValueId
 pub(crate) fn family_of_cell(scheme: &Scheme, cell: usize) -> FamilyId
     requires sound { IsSound scheme.now }
     requires cell { cell < scheme.now.cells }
-    requires few { length scheme.now.families.items ≤ 256 }
+    requires few { length scheme.now.families.items ≤ most_families }
     ensures { IsSomeAnd (slice_get (cells (universe_of scheme.now)) cell) (λ c. result ≡ c.family) }
 {
     cells_are_numbered_in_order();

@@ -1,5 +1,6 @@
 //! The truth of a formula under values of the cells, with no memory of its own.
 ghost use Rattle.std.specs.Prelude.{◌≡◌, ◌+◌, ◌*◌, ◌^◌, ◌<◌, ◌≤◌, ◌↔◌, [], ◌∷◌, ◌++◌, All, Contains, IfOk, IsSomeAnd, IsTrue, OnOk, replicate, length, map, slice_get, take, sum_by};
+ghost use Rattle.pc_sheet.specs.Limits.{most_arguments, most_depth};
 ghost use Rattle.pc_sheet.specs.Truth.{size_of, rows_of, argument_sorts, result_sort_of, cells_in, cell_number, rank_from, meaning_of_variable, value_or_first, meaning, places, place_of, settled, added, number_of, sum_meaning, Compares, Holds, AllHold, SomeHolds, depth_of, greatest_depth};
 ghost use Rattle.pc_sheet.specs.Views.{rule_of, item_of, items_of, sum_of, statement_of, statements_of};
 ghost use Rattle.pc_logic.specs.RowView.{row_of};
@@ -8,7 +9,9 @@ ghost use Rattle.pc_sheet.specs.WellSorted.{IsWithin};
 ghost use Rattle.pc_logic.specs.Sound.{IsSound, AreShallow};
 
 use crate::scheme::{Scheme, SortValues, argument_sorts, first_cell, result_sort, size_of};
-use pc_sheet::{Formula, Meaning, Op, Rule, Side, Sign, SortId, TableId, Term, ValueId};
+use pc_sheet::{
+    Formula, MOST_DEPTH, Meaning, Op, Rule, Side, Sign, SortId, TableId, Term, ValueId,
+};
 
 /// Numbers of items are small, so that their sums fit.
 pub(crate) fn added(x: i128, sign: Sign, y: i128, items: u64) -> i128
@@ -104,7 +107,7 @@ fn rank(
     args: &[Term],
 ) -> usize
     requires small { IsSound scheme.now }
-    requires arity { length sorts.now ≤ 4 }
+    requires arity { length sorts.now ≤ most_arguments }
     ensures exact { result ≡ rank_from 0 (map (size_of (universe_of scheme.now)) sorts.now) (places (universe_of scheme.now) values.now scope.now (items_of (map item_of args.now))) }
     ensures small { result < 2 ^ 48 }
 {
@@ -222,11 +225,11 @@ pub fn extended(
     scope: &[(SortId, ValueId)],
     sort: SortId,
     value: ValueId,
-) -> [(SortId, ValueId); 16]
-    requires { length scope.now < 16 }
+) -> [(SortId, ValueId); MOST_DEPTH]
+    requires { length scope.now < most_depth }
     ensures { take (length scope.now + 1) result ≡ scope.now ++ (sort, value) ∷ [] }
 {
-    let mut inner = [(SortId(0), ValueId(0)); 16];
+    let mut inner = [(SortId(0), ValueId(0)); MOST_DEPTH];
     inner[..scope.len()].copy_from_slice(scope);
     inner[scope.len()] = (sort, value);
     inner
@@ -240,7 +243,7 @@ fn holds(
     formula: &Formula,
 ) -> bool
     requires small { IsSound scheme.now }
-    requires depth { length scope.now + depth_of (statement_of formula.now) ≤ 16 }
+    requires depth { length scope.now + depth_of (statement_of formula.now) ≤ most_depth }
     ensures { IsTrue result ↔ Holds (universe_of scheme.now) values.now scope.now (statement_of formula.now) }
 {
     match formula {
@@ -288,7 +291,7 @@ fn holds_at(
     body: &Formula,
 ) -> bool
     requires small { IsSound scheme.now }
-    requires depth { length scope.now + depth_of (statement_of body.now) + 1 ≤ 16 }
+    requires depth { length scope.now + depth_of (statement_of body.now) + 1 ≤ most_depth }
     ensures { IsTrue result ↔ Holds (universe_of scheme.now) values.now (scope.now ++ (sort, value) ∷ []) (statement_of body.now) }
 {
     let inner = extended(scope, sort, value);
@@ -303,7 +306,7 @@ fn all_hold(
     parts: &[Formula],
 ) -> bool
     requires small { IsSound scheme.now }
-    requires depth { length scope.now + greatest_depth (statements_of (map statement_of parts.now)) ≤ 16 }
+    requires depth { length scope.now + greatest_depth (statements_of (map statement_of parts.now)) ≤ most_depth }
     ensures { IsTrue result ↔ AllHold (universe_of scheme.now) values.now scope.now (statements_of (map statement_of parts.now)) }
 {
     for part in parts {
@@ -322,7 +325,7 @@ fn some_holds(
     parts: &[Formula],
 ) -> bool
     requires small { IsSound scheme.now }
-    requires depth { length scope.now + greatest_depth (statements_of (map statement_of parts.now)) ≤ 16 }
+    requires depth { length scope.now + greatest_depth (statements_of (map statement_of parts.now)) ≤ most_depth }
     ensures { IsTrue result ↔ SomeHolds (universe_of scheme.now) values.now scope.now (statements_of (map statement_of parts.now)) }
 {
     for part in parts {

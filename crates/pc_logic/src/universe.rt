@@ -1,6 +1,7 @@
 //! Reading what a book declares.
 ghost use Rattle.std.specs.Prelude.{◌≡◌, ◌↔◌, ◌<◌, ◌≤◌, Some, IsNone, IsSomeAnd, length, slice_get, slice_index_or};
 ghost use Rattle.std.specs.Option.{option_copied};
+ghost use Rattle.pc_sheet.specs.Limits.{most_cells, most_values};
 ghost use Rattle.pc_sheet.specs.Cells.{cells};
 ghost use Rattle.pc_sheet.specs.Entailment.{cell_sizes};
 ghost use Rattle.pc_sheet.specs.Truth.{size_of, values_at};
@@ -30,7 +31,7 @@ impl Book {
     pub fn size_of(&self, sort: SortId) -> usize
         requires { sort.0 < length self.now.universe.sorts }
         ensures exact { result ≡ size_of self.now.universe sort }
-        ensures few { result ≤ 256 }
+        ensures few { result ≤ most_values }
     {
         scheme::size_of(&self.scheme, sort)
     }
@@ -38,8 +39,8 @@ impl Book {
     /// How many values the cell of that number may have, and none where there is no such cell.
     pub fn size_of_cell(&self, cell: usize) -> usize
         ensures exact { result ≡ slice_index_or (cell_sizes self.now.universe) cell 0 }
-        ensures small { result ≤ 256 }
-        ensures within { 0 < result → cell < 4096 }
+        ensures small { result ≤ most_values }
+        ensures within { 0 < result → cell < most_cells }
     {
         scheme::size_at(&self.scheme, cell)
     }

@@ -1,5 +1,6 @@
 //! The weight of a book, with no memory of its own: a sum that ends as soon as it is past the cut.
 ghost use Rattle.std.specs.Prelude.{◌≡◌, ◌*◌, ◌+◌, ◌-◌, ◌≤◌, ◌<◌, ◌∷◌, ◌++◌, [], length, map, sum_by, slice_index_or, take};
+ghost use Rattle.pc_sheet.specs.Limits.{most_depth, most_reads, most_weight};
 ghost use Rattle.pc_sheet.specs.Cells.{values_below};
 ghost use Rattle.pc_sheet.specs.Entailment.{cell_sizes};
 ghost use Rattle.pc_sheet.specs.Readings.{after, leaves_from, leaves_of, read_of};
@@ -16,17 +17,17 @@ ghost use Rattle.pc_logic.specs.Sound.{IsSound, AreShallow};
 use crate::atom_reader::AtomReader;
 use crate::scheme::{Scheme, size_at, size_of, values_of_cell};
 use crate::truth::extended;
-use pc_sheet::{CellId, Entry, Formula, Rule, SortId, ValueId};
+use pc_sheet::{CellId, Entry, Formula, MOST_READS, MOST_WEIGHT, Rule, SortId, ValueId};
 
 /// What is told of each greater weight.
-const MOST: u64 = 4_000_001;
+const MOST: u64 = MOST_WEIGHT + 1;
 
 /// A sum, as far as it is told.
 fn more(total: u64, weight: u64) -> u64
-    requires total { total ≤ 4000001 }
+    requires total { total ≤ most_weight + 1 }
     requires weight { weight ≤ 2000000000 }
     ensures exact { result ≡ cut (total + weight) }
-    ensures most { result ≤ 4000001 }
+    ensures most { result ≤ most_weight + 1 }
 {
     (total + weight).min(MOST)
 }
@@ -41,8 +42,8 @@ fn children_weight(children: usize) -> u64
 }
 
 /// The reads with one more, in the first places of a larger array.
-pub fn with_read(reads: &[Entry], cell: usize, value: usize) -> [Entry; 16]
-    requires room { length reads.now < 16 }
+pub fn with_read(reads: &[Entry], cell: usize, value: usize) -> [Entry; MOST_READS]
+    requires room { length reads.now < most_reads }
     requires cell { cell < 65536 }
     requires value { value < 65536 }
     ensures { take (length reads.now + 1) result ≡ reads.now ++ read_of cell (record { 0 = value }) ∷ [] }
@@ -50,7 +51,7 @@ pub fn with_read(reads: &[Entry], cell: usize, value: usize) -> [Entry; 16]
     let mut longer = [Entry {
         cell: CellId(0),
         value: ValueId(0),
-    }; 16];
+    }; MOST_READS];
     longer[..reads.len()].copy_from_slice(reads);
     longer[reads.len()] = Entry {
         cell: CellId(cell as u16),
@@ -62,11 +63,11 @@ pub fn with_read(reads: &[Entry], cell: usize, value: usize) -> [Entry; 16]
 /// Adds the weights of the leaves that begin with these reads.
 fn add_leaves(scheme: &Scheme, reader: &AtomReader<'_>, reads: &[Entry], start: u64) -> u64
     requires sound { IsSound scheme.now }
-    requires start { start ≤ 4000001 }
-    requires few { length reads.now ≤ 16 }
-    requires left { AsksAtMost (after reads.now (reading_of reader.now)) (16 - length reads.now) }
+    requires start { start ≤ most_weight + 1 }
+    requires few { length reads.now ≤ most_reads }
+    requires left { AsksAtMost (after reads.now (reading_of reader.now)) (most_reads - length reads.now) }
     ensures exact { result ≡ cut (start + sum_by leaf_weight (leaves_from (cell_sizes (universe_of scheme.now)) (reading_of reader.now) reads.now)) }
-    ensures most { result ≤ 4000001 }
+    ensures most { result ≤ most_weight + 1 }
 {
     if start == MOST {
         return MOST;
@@ -88,9 +89,9 @@ fn add_leaves(scheme: &Scheme, reader: &AtomReader<'_>, reads: &[Entry], start: 
 fn add_atom(scheme: &Scheme, scope: &[(SortId, ValueId)], atom: &Formula, start: u64) -> u64
     requires sound { IsSound scheme.now }
     requires bounded { IsBounded (statement_of atom.now) }
-    requires start { start ≤ 4000001 }
+    requires start { start ≤ most_weight + 1 }
     ensures exact { result ≡ cut (start + sum_by leaf_weight (leaves_of (universe_of scheme.now) scope.now (statement_of atom.now))) }
-    ensures most { result ≤ 4000001 }
+    ensures most { result ≤ most_weight + 1 }
 {
     let reader = AtomReader::over(scheme, scope, atom);
     add_leaves(scheme, &reader, &[], start)
@@ -100,11 +101,11 @@ fn add_atom(scheme: &Scheme, scope: &[(SortId, ValueId)], atom: &Formula, start:
 #[cycle(weigh)]
 fn add_node(scheme: &Scheme, scope: &[(SortId, ValueId)], formula: &Formula, start: u64) -> u64
     requires sound { IsSound scheme.now }
-    requires depth { length scope.now + depth_of (statement_of formula.now) ≤ 16 }
+    requires depth { length scope.now + depth_of (statement_of formula.now) ≤ most_depth }
     requires bounded { IsBounded (statement_of formula.now) }
-    requires start { start ≤ 4000001 }
+    requires start { start ≤ most_weight + 1 }
     ensures exact { result ≡ cut (start + node_weight (universe_of scheme.now) scope.now (statement_of formula.now)) }
-    ensures most { result ≤ 4000001 }
+    ensures most { result ≤ most_weight + 1 }
 {
     if start == MOST {
         return MOST;
@@ -138,11 +139,11 @@ fn add_node(scheme: &Scheme, scope: &[(SortId, ValueId)], formula: &Formula, sta
 #[cycle(weigh)]
 fn add_parts(scheme: &Scheme, scope: &[(SortId, ValueId)], parts: &[Formula], start: u64) -> u64
     requires sound { IsSound scheme.now }
-    requires depth { length scope.now + greatest_depth (statements_of (map statement_of parts.now)) ≤ 16 }
+    requires depth { length scope.now + greatest_depth (statements_of (map statement_of parts.now)) ≤ most_depth }
     requires bounded { AreBounded (statements_of (map statement_of parts.now)) }
-    requires start { start ≤ 4000001 }
+    requires start { start ≤ most_weight + 1 }
     ensures exact { result ≡ cut (start + parts_weight (universe_of scheme.now) scope.now (statements_of (map statement_of parts.now))) }
-    ensures most { result ≤ 4000001 }
+    ensures most { result ≤ most_weight + 1 }
 {
     let mut total = start;
     for part in parts {
@@ -161,11 +162,11 @@ fn add_values(
     start: u64,
 ) -> u64
     requires sound { IsSound scheme.now }
-    requires depth { length scope.now + depth_of (statement_of body.now) + 1 ≤ 16 }
+    requires depth { length scope.now + depth_of (statement_of body.now) + 1 ≤ most_depth }
     requires bounded { IsBounded (statement_of body.now) }
-    requires start { start ≤ 4000001 }
+    requires start { start ≤ most_weight + 1 }
     ensures exact { result ≡ cut (start + (3 * size_of (universe_of scheme.now) sort + 1 + sum_by (λ v. node_weight (universe_of scheme.now) (scope.now ++ (sort, v) ∷ []) (statement_of body.now)) (values_below (size_of (universe_of scheme.now) sort)))) }
-    ensures most { result ≤ 4000001 }
+    ensures most { result ≤ most_weight + 1 }
 {
     let size = size_of(scheme, sort);
     let mut total = more(start, children_weight(size));
@@ -186,11 +187,11 @@ fn add_value(
     start: u64,
 ) -> u64
     requires sound { IsSound scheme.now }
-    requires depth { length scope.now + depth_of (statement_of body.now) + 1 ≤ 16 }
+    requires depth { length scope.now + depth_of (statement_of body.now) + 1 ≤ most_depth }
     requires bounded { IsBounded (statement_of body.now) }
-    requires start { start ≤ 4000001 }
+    requires start { start ≤ most_weight + 1 }
     ensures exact { result ≡ cut (start + node_weight (universe_of scheme.now) (scope.now ++ (sort, value) ∷ []) (statement_of body.now)) }
-    ensures most { result ≤ 4000001 }
+    ensures most { result ≤ most_weight + 1 }
 {
     let inner = extended(scope, sort, value);
     add_node(scheme, &inner[..scope.len() + 1], body, start)
@@ -200,7 +201,7 @@ fn add_value(
 fn weigh_cells(scheme: &Scheme) -> u64
     requires { IsSound scheme.now }
     ensures exact { result ≡ cut (sum_by cell_weight (cell_sizes (universe_of scheme.now))) }
-    ensures most { result ≤ 4000001 }
+    ensures most { result ≤ most_weight + 1 }
 {
     let mut total = 0;
     for cell in 0..scheme.cells {
@@ -215,9 +216,9 @@ fn add_rules(scheme: &Scheme, rules: &[Rule], start: u64) -> u64
     requires sound { IsSound scheme.now }
     requires depths { AreShallow rules.now }
     requires bounded { AreAllBounded rules.now }
-    requires start { start ≤ 4000001 }
+    requires start { start ≤ most_weight + 1 }
     ensures exact { result ≡ cut (start + sum_by (rule_weight (universe_of scheme.now)) (map rule_of rules.now)) }
-    ensures most { result ≤ 4000001 }
+    ensures most { result ≤ most_weight + 1 }
 {
     let mut total = start;
     for rule in rules {

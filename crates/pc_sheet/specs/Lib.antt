@@ -1,4 +1,5 @@
 pub mod Codes
+pub mod Limits
 pub mod Nodes
 pub mod Sheet
 pub mod Views

@@ -2,6 +2,7 @@
 use Rattle.std.specs.Prelude.{◌≡◌, ℕ, ◌+◌, ◌<◌, ◌≤◌, ℤ, pos, neg_ℤ, ◌≤ℤ◌, ◌⊎◌, List, [], ◌∷◌, ◌++◌, map, length, sum_by, slice_get, IsSomeAnd, All, Contains}
 use Rattle.std.specs.List.{flat_map}
 use Rattle.pc_name.specs.Names.{IsName}
+use Rattle.pc_sheet.specs.Limits.{largest_number, most_reads, most_depth}
 use Rattle.pc_sheet.specs.Sheet.{Values, listed, range, Sort, Table, Family, Universe, Item, Items, no_items, item, variable, constant, number, cell, Sum, Statement, Statements, no_statements, statement, compare, in_table, negation, all_of, some_of, implies, iff, for_all, exists}
 use Rattle.pc_sheet.specs.Truth.{values_at, size_of}
 use Rattle.pc_sheet.specs.declared.ids.SortId.{SortId}
@@ -52,7 +53,7 @@ IsWithin n z = (neg_ℤ (pos n) ≤ℤ z) × (z ≤ℤ pos n)
 
 -- what a number of a sheet may be
 abbrev pub IsSmallNumber : ℤ → Type 0
-IsSmallNumber z = IsWithin 1000000 z
+IsSmallNumber z = IsWithin largest_number z
 
 -- a variable is of its quantifier's sort, a written value of its own, an application of its family's result sort
 abbrev mutual
@@ -120,17 +121,17 @@ AreComparable u vs left op right =
 
 -- ---- statements
 
--- at most sixteen cell applications are written in one atom
+-- not too many cell applications are written in one atom
 abbrev pub ReadsFew : ℕ → Type 0
-ReadsFew reads = reads ≤ 16
+ReadsFew reads = reads ≤ most_reads
 
--- a variable of a declared sort with a name of its own; at most sixteen quantifiers stand around one place
+-- a variable of a declared sort with a name of its own; not too many quantifiers stand around one place
 pub record IsNewVariable (u : Universe) (vs : Variables) (name : List ℕ) (s : SortId) : Type 0 where
   pub named : IsName name
   pub undeclared : ¬ Contains (declared_names u) name
   pub unbound : ¬ Contains (map variable_name vs) name
   pub sort : s.0 < length u.sorts
-  pub depth : length vs < 16
+  pub depth : length vs < most_depth
 
 abbrev pub parts_in : Statements → ℕ
 parts_in no_statements = 0

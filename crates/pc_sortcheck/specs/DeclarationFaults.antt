@@ -2,6 +2,7 @@
 use Rattle.std.specs.Prelude.{◌≡◌, ◌⊎◌, ℕ, ◌<◌, ◌≤◌, ◌≤ℤ◌, List, [], ◌∷◌, map, length, sum_by, Contains, slice_get, IsSomeAnd}
 use Rattle.pc_syntax.specs.Tree as tree
 use Rattle.pc_syntax.specs.Tree.{list_sort, range_sort, table, row, cell, rule, enter}
+use Rattle.pc_sheet.specs.Limits.{most_arguments, most_cells, most_families, most_rows, most_rules, most_sorts, most_tables, most_values}
 use Rattle.pc_sheet.specs.Sheet.{Sheet, Universe, range, empty_sheet}
 use Rattle.pc_sheet.specs.Truth.{count_of, cells_in}
 use Rattle.pc_sheet.specs.WellFormed.{AreDifferent, rows_in, rule_name}
@@ -37,7 +38,7 @@ AreSomeSorts u ns = (ss : List SortId) × AreSortsNamed u ns ss
 
 -- the row stands already, or there is room for one more
 abbrev pub HasRoomForRow : Universe → TableId → List ValueId → Type 0
-HasRoomForRow u t vs = IsSomeAnd (slice_get u.tables t.0) (λ table. Contains table.rows vs) ⊎ (sum_by rows_in u.tables < 20000)
+HasRoomForRow u t vs = IsSomeAnd (slice_get u.tables t.0) (λ table. Contains table.rows vs) ⊎ (sum_by rows_in u.tables < most_rows)
 
 -- the faults of a row, the table and the sorts of its arguments being known
 abbrev pub IsRowFault : Universe → List tree.Value → TableId → List SortId → SortFault → Type 0
@@ -48,35 +49,35 @@ IsRowFault u values t ss =
 
 -- the family's cells stand beside those of the families before it
 abbrev pub HasRoomForCells : Sheet → List ℕ → List SortId → SortId → Type 0
-HasRoomForCells old n ss r = sum_by (cells_in (with_family old (family_from n ss r)).universe) (with_family old (family_from n ss r)).universe.families ≤ 4096
+HasRoomForCells old n ss r = sum_by (cells_in (with_family old (family_from n ss r)).universe) (with_family old (family_from n ss r)).universe.families ≤ most_cells
 
 -- a rule's tests before that of its name
 abbrev pub IsRuleFault : Sheet → tree.Formula → (SortFault → Type 0) → SortFault → Type 0
 IsRuleFault old f rest =
-    part (IsSortedFormula old.universe [] f) (IsFormulaFault old.universe [] f) (test (length old.rules < 1024) (Limit Rules) rest)
+    part (IsSortedFormula old.universe [] f) (IsFormulaFault old.universe [] f) (test (length old.rules < most_rules) (Limit Rules) rest)
 
 abbrev pub IsDeclarationFault : Sheet → tree.Declared → SortFault → Type 0
 IsDeclarationFault old (list_sort n values) =
     test (IsNew old.universe n) DuplicateName
-    (test (length old.universe.sorts < 256) (Limit Sorts)
+    (test (length old.universe.sorts < most_sorts) (Limit Sorts)
     (test (1 ≤ length values) EmptySort
-    (test (length values ≤ 256) (Limit Values) (test (AreNewValues old.universe n values) DuplicateName no_test))))
+    (test (length values ≤ most_values) (Limit Values) (test (AreNewValues old.universe n values) DuplicateName no_test))))
 IsDeclarationFault old (range_sort n low high) =
     test (IsNew old.universe n) DuplicateName
-    (test (length old.universe.sorts < 256) (Limit Sorts)
+    (test (length old.universe.sorts < most_sorts) (Limit Sorts)
     (test (IsSmallNumber low × IsSmallNumber high) (Limit Number)
-    (test (low ≤ℤ high) EmptySort (test (count_of (range low high) ≤ 256) (Limit Values) no_test))))
+    (test (low ≤ℤ high) EmptySort (test (count_of (range low high) ≤ most_values) (Limit Values) no_test))))
 IsDeclarationFault old (table n sorts) =
     test (IsNew old.universe n) DuplicateName
-    (test (length old.universe.tables < 256) (Limit Tables)
-    (test ((1 ≤ length sorts) × (length sorts ≤ 4)) (Limit Arity) (AreSortNamesFault old.universe sorts)))
+    (test (length old.universe.tables < most_tables) (Limit Tables)
+    (test ((1 ≤ length sorts) × (length sorts ≤ most_arguments)) (Limit Arity) (AreSortNamesFault old.universe sorts)))
 IsDeclarationFault old (row n values) =
     part (IsSomeTable old.universe n) (IsNameFault old.universe n (IsSomeTable old.universe n))
     (λ e. (t : TableId) × (ss : List SortId) × IsTableOf old.universe n t ss × IsRowFault old.universe values t ss e)
 IsDeclarationFault old (cell n sorts result) =
     test (IsNew old.universe n) DuplicateName
-    (test (length old.universe.families < 256) (Limit Families)
-    (test (length sorts ≤ 4) (Limit Arity)
+    (test (length old.universe.families < most_families) (Limit Families)
+    (test (length sorts ≤ most_arguments) (Limit Arity)
     (part (AreSomeSorts old.universe sorts) (AreSortNamesFault old.universe sorts)
     (part (IsSomeSort old.universe result) (IsSortNameFault old.universe result)
     (λ e. (ss : List SortId) × (r : SortId) × AreSortsNamed old.universe sorts ss × IsSortNamed old.universe result r

@@ -4,6 +4,7 @@ use Rattle.pc_formula.specs.Nesting.{nesting_of}
 use Rattle.pc_formula.specs.Sized.{IsSized}
 use Rattle.pc_formula.specs.Word.{most_nesting}
 use Rattle.pc_syntax.specs.Tree as tree
+use Rattle.pc_sheet.specs.Limits.{most_arguments, most_families, most_sorts, most_tables, most_values}
 use Rattle.pc_sheet.specs.Sheet.{Sheet, Universe, range}
 use Rattle.pc_sheet.specs.Truth.{count_of}
 use Rattle.pc_sheet.specs.WellSorted.{IsSmallNumber}
@@ -17,35 +18,35 @@ use Rattle.pc_elaborate.specs.FormulaFaults.{AreValuesFault}
 use Rattle.pc_elaborate.specs.Tests.{test}
 use Rattle.pc_sortcheck.specs.DeclarationFaults.{IsNew, AreNewValues}
 
--- from one to 256 values, with names that are new and different; at most 256 sorts
+-- at least one value, and not too many, with names that are new and different; room for another sort
 pub record ListFits (old : Sheet) (n : List ℕ) (values : List (List ℕ)) : Type 0 where
   pub fresh : IsNew old.universe n
-  pub sorts : length old.universe.sorts < 256
+  pub sorts : length old.universe.sorts < most_sorts
   pub some : 1 ≤ length values
-  pub limit : length values ≤ 256
+  pub limit : length values ≤ most_values
   pub names : AreNewValues old.universe n values
 
--- from one to 256 whole numbers between small bounds; at most 256 sorts
+-- at least one whole number, and not too many, between small bounds; room for another sort
 pub record RangeFits (old : Sheet) (n : List ℕ) (low high : ℤ) : Type 0 where
   pub fresh : IsNew old.universe n
-  pub sorts : length old.universe.sorts < 256
+  pub sorts : length old.universe.sorts < most_sorts
   pub low_bound : IsSmallNumber low
   pub high_bound : IsSmallNumber high
   pub some : low ≤ℤ high
-  pub limit : count_of (range low high) ≤ 256
+  pub limit : count_of (range low high) ≤ most_values
 
--- from one to four arguments; at most 256 tables
+-- at least one argument, and not too many; room for another table
 pub record TableFits (old : Sheet) (n : List ℕ) (sorts : List (List ℕ)) : Type 0 where
   pub fresh : IsNew old.universe n
-  pub tables : length old.universe.tables < 256
+  pub tables : length old.universe.tables < most_tables
   pub some : 1 ≤ length sorts
-  pub limit : length sorts ≤ 4
+  pub limit : length sorts ≤ most_arguments
 
--- at most four arguments; at most 256 families
+-- not too many arguments; room for another family
 pub record FamilyFits (old : Sheet) (n : List ℕ) (sorts : List (List ℕ)) : Type 0 where
   pub fresh : IsNew old.universe n
-  pub families : length old.universe.families < 256
-  pub limit : length sorts ≤ 4
+  pub families : length old.universe.families < most_families
+  pub limit : length sorts ≤ most_arguments
 
 -- ---- what is named
 

@@ -1,5 +1,6 @@
 //! Lines that declare a family or enter a value.
 ghost use Rattle.std.specs.Prelude.{◌≡◌, ◌↔◌, ◌+◌, ◌≤◌, ◌^◌, ℕ, List, [], All, IsTrue, MatchResult, length, map};
+ghost use Rattle.pc_sheet.specs.Limits.{most_arguments, most_cells, most_values};
 ghost use Rattle.pc_sheet.specs.Truth.{product, size_of};
 ghost use Rattle.pc_sheet.specs.Entailment.{cell_sizes};
 ghost use Rattle.pc_sheet.specs.WellFormed.{IsDeclaredSort};
@@ -14,6 +15,7 @@ use crate::names::{is_name, is_new, keeps_form};
 use crate::tables::find_sorts;
 use pc_elaborate::{SortFault, Which, find_cell, find_sort, find_value};
 use pc_logic::{Book, Entry, Name, SortId};
+use pc_sheet::{MOST_ARGUMENTS, MOST_CELLS, MOST_FAMILIES};
 use pc_syntax::{CellTree, ValueTree};
 use std::alloc::Global;
 
@@ -24,10 +26,10 @@ fn test_family(book: &Book, name: &Name, sorts: &[Name]) -> Result<(), SortFault
     if !is_new(book, name) {
         return Err(SortFault::DuplicateName);
     }
-    if book.families() >= 256 {
+    if book.families() >= MOST_FAMILIES {
         return Err(SortFault::Limit(Which::Families));
     }
-    if sorts.len() > 4 {
+    if sorts.len() > MOST_ARGUMENTS {
         return Err(SortFault::Limit(Which::Arity));
     }
     Ok(())
@@ -37,7 +39,7 @@ fn test_family(book: &Book, name: &Name, sorts: &[Name]) -> Result<(), SortFault
 fn size_of_sort(book: &Book, sort: SortId) -> usize
     requires { IsDeclaredSort book.now.universe sort }
     ensures exact { result ≡ size_of book.now.universe sort }
-    ensures few { result ≤ 256 }
+    ensures few { result ≤ most_values }
 {
     keeps_form(book);
     book.size_of(sort)
@@ -45,7 +47,7 @@ fn size_of_sort(book: &Book, sort: SortId) -> usize
 
 /// How many tuples of arguments of these sorts there are.
 fn count_tuples(book: &Book, sorts: &[SortId]) -> usize
-    requires arity { length sorts.now ≤ 4 }
+    requires arity { length sorts.now ≤ most_arguments }
     requires declared { All (IsDeclaredSort book.now.universe) sorts.now }
     ensures exact { result ≡ product (map (size_of book.now.universe) sorts.now) }
     ensures small { result ≤ 2 ^ 32 }
@@ -59,11 +61,11 @@ fn count_tuples(book: &Book, sorts: &[SortId]) -> usize
 
 /// Whether the cells of a family with these arguments fit behind those that stand.
 fn has_room_for_cells(book: &Book, sorts: &[SortId]) -> bool
-    requires arity { length sorts.now ≤ 4 }
+    requires arity { length sorts.now ≤ most_arguments }
     requires declared { All (IsDeclaredSort book.now.universe) sorts.now }
-    ensures { IsTrue result ↔ (length (cell_sizes book.now.universe) + product (map (size_of book.now.universe) sorts.now) ≤ 4096) }
+    ensures { IsTrue result ↔ (length (cell_sizes book.now.universe) + product (map (size_of book.now.universe) sorts.now) ≤ most_cells) }
 {
-    book.cells() + count_tuples(book, sorts) <= 4096
+    book.cells() + count_tuples(book, sorts) <= MOST_CELLS
 }
 
 pub(crate) fn declare_cell(

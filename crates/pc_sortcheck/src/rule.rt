@@ -18,6 +18,7 @@ ghost use Rattle.pc_sortcheck.specs.Declaring.{Declares};
 use crate::names::{is_name, is_rule_name, keeps_form};
 use pc_elaborate::{SortFault, Which, check_formula};
 use pc_logic::{Book, Rule};
+use pc_sheet::MOST_RULES;
 use pc_syntax::RuleTree;
 use std::alloc::Global;
 
@@ -33,7 +34,7 @@ pub fn check_rule(alloc: Global, book: &Book, tree: &RuleTree) -> Result<Rule, S
     ensures fault { (e : SortFault) → IsRuleFault book.now (formula_of tree.now.formula) no_test e → TellsFault result e }
 {
     let formula = check_formula(alloc, book, &tree.formula)?;
-    if book.rules().len() >= 1024 {
+    if book.rules().len() >= MOST_RULES {
         return Err(SortFault::Limit(Which::Rules));
     }
     let name = tree.name.clone()?;

@@ -1,5 +1,6 @@
 //! Lines that declare a sort.
 ghost use Rattle.std.specs.Prelude.{◌≡◌, ◌↔◌, ◌<◌, [], IsTrue, MatchResult, length};
+ghost use Rattle.pc_sheet.specs.Limits.{most_sorts};
 ghost use Rattle.pc_sheet.specs.WellSorted.{IsSmallNumber};
 ghost use Rattle.pc_syntax.specs.Tree as tree;
 ghost use Rattle.pc_elaborate.specs.Told.{IsFaultOf};
@@ -10,13 +11,14 @@ ghost use Rattle.pc_sortcheck.specs.Fits.{ListFits, RangeFits};
 use crate::names::{are_names, are_new_values, copy_names, is_name, is_new, keeps_form};
 use pc_elaborate::{SortFault, Which};
 use pc_logic::{Book, Name};
+use pc_sheet::{LARGEST_NUMBER, MOST_SORTS, MOST_VALUES};
 use std::alloc::Global;
 
 /// Whether there is room for one more sort.
 fn has_room_for_sort(book: &Book) -> bool
-    ensures { IsTrue result ↔ (length book.now.universe.sorts < 256) }
+    ensures { IsTrue result ↔ (length book.now.universe.sorts < most_sorts) }
 {
-    book.sorts() < 256
+    book.sorts() < MOST_SORTS
 }
 
 /// The tests of a listed sort, in their order.
@@ -32,7 +34,7 @@ fn test_list(book: &Book, name: &Name, values: &[Name]) -> Result<(), SortFault>
     if values.is_empty() {
         return Err(SortFault::EmptySort);
     }
-    if values.len() > 256 {
+    if values.len() > MOST_VALUES {
         return Err(SortFault::Limit(Which::Values));
     }
     if !are_new_values(book, name, values) {
@@ -64,7 +66,7 @@ pub(crate) fn declare_list(
 fn is_small_number(number: i64) -> bool
     ensures { IsTrue result ↔ IsSmallNumber number }
 {
-    -1000000 <= number && number <= 1000000
+    -LARGEST_NUMBER <= number && number <= LARGEST_NUMBER
 }
 
 /// The number, which a bound of a range may be.

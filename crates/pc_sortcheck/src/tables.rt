@@ -11,6 +11,7 @@ ghost use Rattle.pc_sortcheck.specs.Fits.{AreNoRowOf, AreRowOf, TableFits};
 use crate::names::{is_name, is_new, keeps_form};
 use pc_elaborate::{SortFault, Which, find_sort, find_table, find_values};
 use pc_logic::{Book, Name, SortId, TableId, ValueId};
+use pc_sheet::{MOST_ARGUMENTS, MOST_ROWS, MOST_TABLES};
 use pc_syntax::ValueTree;
 use std::alloc::Global;
 
@@ -36,13 +37,13 @@ fn test_table(book: &Book, name: &Name, sorts: &[Name]) -> Result<(), SortFault>
     if !is_new(book, name) {
         return Err(SortFault::DuplicateName);
     }
-    if book.tables() >= 256 {
+    if book.tables() >= MOST_TABLES {
         return Err(SortFault::Limit(Which::Tables));
     }
     if sorts.is_empty() {
         return Err(SortFault::Limit(Which::Arity));
     }
-    if sorts.len() > 4 {
+    if sorts.len() > MOST_ARGUMENTS {
         return Err(SortFault::Limit(Which::Arity));
     }
     Ok(())
@@ -96,7 +97,7 @@ fn has_room_for_row(book: &Book, table: TableId, row: &[ValueId]) -> bool
     requires { table.0 < length book.now.universe.tables }
     ensures { IsTrue result ↔ HasRoomForRow book.now.universe table row.now }
 {
-    count_rows(book) < 20000 || stands(book, table, row)
+    count_rows(book) < MOST_ROWS || stands(book, table, row)
 }
 
 /// The sorts of a table's arguments.

@@ -4,6 +4,7 @@ use Rattle.std.specs.declared.option.Option.TheVariants.{None}
 use Rattle.pc_syntax.specs.Tree.{enter, Asked, asks_enter, asks_clear, asks_rule, asks_drop, asks_budget, asks_show, asks_grid, asks_json, asks_why, asks_dump, Cell, Value, Formula}
 use Rattle.pc_syntax.specs.Fault.{not_utf8, too_deep, syntax}
 use Rattle.pc_syntax.specs.Command.{IsCommandReading, no_command, asks, at_fault}
+use Rattle.pc_sheet.specs.Limits.{most_rules, most_weight}
 use Rattle.pc_sheet.specs.Sheet.{Sheet, NamedStatement, with_rule}
 use Rattle.pc_sheet.specs.MaximalSets.{AreRulesConsistent}
 use Rattle.pc_sheet.specs.Weight.{weight}
@@ -35,7 +36,7 @@ pub record State : Type 0 where
 
 -- within the limit of weight
 abbrev pub IsLight : Sheet → Type 0
-IsLight sheet = weight sheet ≤ 4000000
+IsLight sheet = weight sheet ≤ most_weight
 
 -- ---- sheets
 
@@ -50,7 +51,7 @@ pub record Starts (limit : ℕ) (text : List ℕ) (state : State) : Type 0 where
 pub record IsTooLarge (text : List ℕ) : Type 0 where
   pub sheet : Sheet
   pub reads : ReadsAs text sheet
-  pub heavy : 4000000 < weight sheet
+  pub heavy : most_weight < weight sheet
 
 -- the text is this sheet, which isn't too large, and no assignment makes every rule true
 pub record IsContradictory (text : List ℕ) (sheet : Sheet) : Type 0 where
@@ -104,7 +105,7 @@ pub record IsRuleOf (sheet : Sheet) (n : List ℕ) (f : Formula) (r : NamedState
   pub name : r.name ≡ n
   pub states : IsStatement sheet.universe [] f r.states
   pub formed : IsWellFormedRule sheet.universe r
-  pub room : length sheet.rules < 1024
+  pub room : length sheet.rules < most_rules
 
 -- ... and no rule has its name yet
 abbrev pub IsNewRule : Sheet → List ℕ → Formula → NamedStatement → Type 0
@@ -161,7 +162,7 @@ pub data IsRefusalOf (sheet : Sheet) : Asked → Refusal → Type 0 where
   without_entry : {c : Cell} (k : CellId) → IsCellNamed sheet.universe c k → ¬ HasEntryOf sheet k → IsRefusalOf sheet (asks_clear c) NoEntry
   of_old_name : {n : List ℕ} {f : Formula} (r : NamedStatement) → IsRuleOf sheet n f r → ¬ IsNewName sheet.rules n → IsRefusalOf sheet (asks_rule n f) DuplicateRule
   of_no_rule : {n : List ℕ} → IsNewName sheet.rules n → IsRefusalOf sheet (asks_drop n) NoRule
-  too_large : {n : List ℕ} {f : Formula} (r : NamedStatement) → IsNewRule sheet n f r → 4000000 < weight (with_rule sheet r) → IsRefusalOf sheet (asks_rule n f) TooLarge
+  too_large : {n : List ℕ} {f : Formula} (r : NamedStatement) → IsNewRule sheet n f r → most_weight < weight (with_rule sheet r) → IsRefusalOf sheet (asks_rule n f) TooLarge
 
 -- The command asks to add this rule, with which the sheet isn't too large and no assignment makes every rule true.
 pub data MakesContradiction (sheet : Sheet) : Asked → NamedStatement → Type 0 where

@@ -2,6 +2,7 @@
 use Rattle.std.specs.Prelude.{◌≡◌, ℕ, ◌<◌, List, [], ◌∷◌, ◌++◌, Result, Ok, Err}
 use Rattle.std.specs.declared.option.Option.{Option}
 use Rattle.std.specs.declared.option.Option.TheVariants.{Some, None}
+use Rattle.pc_sheet.specs.Limits.{most_weight}
 use Rattle.pc_sheet.specs.Sheet.{Sheet}
 use Rattle.pc_sheet.specs.MaximalSets.{AreRulesConsistent}
 use Rattle.pc_sheet.specs.Weight.{weight}
@@ -28,7 +29,7 @@ pub data NotesLoad (book : Sheet) (spending : Spending) (old new : Notes) : Load
 
 -- within the budget, the book is refused so, with what shows that this is right
 pub data IsRefusedBook (budget : ℕ) (book : Sheet) (why : SheetRefusal) (proof : Option Sheet) (old new : Notes) : Type 0 where
-  too_large : 4000000 < weight book → why ≡ of_whole TooLarge → proof ≡ None → new ≡ old → IsRefusedBook budget book why proof old new
+  too_large : most_weight < weight book → why ≡ of_whole TooLarge → proof ≡ None → new ≡ old → IsRefusedBook budget book why proof old new
   contradictory : IsLight book → ¬ AreRulesConsistent book → why ≡ of_whole Inconsistent → proof ≡ Some book → new ≡ old → IsRefusedBook budget book why proof old new
   spent : (counts : Counts) → IsLight book → IsSpent budget book None counts old new → why ≡ of_whole (Spent counts) → proof ≡ None → IsRefusedBook budget book why proof old new
 

@@ -1,5 +1,6 @@
 //! The numbers that sum a spreadsheet up.
 ghost use Rattle.std.specs.Prelude.{◌≤◌, ◌<◌, ◌∷◌, [], List, MatchBool, length};
+ghost use Rattle.pc_sheet.specs.Limits.{most_values};
 ghost use Rattle.pc_sheet.specs.Entailment.{cell_sizes, IsImplied, IsLeastSupport};
 ghost use Rattle.pc_sheet.specs.Truth.{size_of};
 ghost use Rattle.pc_sheet.specs.WellFormed.{IsEntryOf};
@@ -80,7 +81,7 @@ fn implied(session: &Session, cell: CellId, value: ValueId) -> usize
 fn implied_values(session: &Session, cell: CellId) -> usize
     requires { cell.0 < length (cell_sizes session.now.sheet.universe) }
     ensures exact { IsCount (IsImplied session.now.sheet) (values_of session.now.sheet.universe cell) result }
-    ensures few { result ≤ 256 }
+    ensures few { result ≤ most_values }
 {
     let mut count = 0;
     for value in 0..session.book().values_of(cell) {

@@ -2,6 +2,7 @@
 
 ghost use Rattle.std.specs.Prelude.{◌≡◌, ◌==◌, ◌≤◌, IfOk, length, map};
 ghost use Rattle.std.specs.List.{list_any};
+ghost use Rattle.pc_sheet.specs.Limits.{most_cells};
 ghost use Rattle.pc_sheet.specs.declared.ids.CellId.{CellId};
 ghost use Rattle.pc_components.specs.View.{number_of};
 ghost use Rattle.pc_parts.specs.PartSheets.{is_on, entries_on};
@@ -37,7 +38,7 @@ fn chosen_on(alloc: Global, entries: &[Entry], cells: &[CellId]) -> Result<Vec<E
 /// The entries of the book that are on these cells, oldest first.
 pub fn entries_on(alloc: Global, book: &Book, cells: &[CellId]) -> Result<Vec<Entry>, AllocError>
     ensures on { IfOk result (λ on. on.items ≡ entries_on (map number_of cells.now) book.now.entries) }
-    ensures few { IfOk result (λ on. length on.items ≤ 4096) }
+    ensures few { IfOk result (λ on. length on.items ≤ most_cells) }
 {
     let _cells = book.cells();
     chosen_on(alloc, book.entries(), cells)

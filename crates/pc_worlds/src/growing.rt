@@ -1,6 +1,7 @@
 //! Growing a set of entries until no more can be added.
 
 ghost use Rattle.std.specs.Prelude.{◌≡◌, ◌+◌, ◌*◌, ◌<◌, ◌≤◌, ◌^◌, ◌⊎◌, [], Contains, IfErr, IfOk, OnOk, length};
+ghost use Rattle.pc_sheet.specs.Limits.{most_cells};
 ghost use Rattle.pc_sheet.specs.Entailment.{AreWithin, HasEntry};
 ghost use Rattle.pc_sheet.specs.declared.ids.Entry.{Entry};
 ghost use Rattle.pc_worlds.specs.Allowed.{Allow};
@@ -71,7 +72,7 @@ fn grow(
     requires no_blocks { search.old.solver.blocks ≡ [] }
     requires within { AreWithin task.ground.now.sizes shown.old }
     requires allowed { Allow task.ground.now.sizes task.cells.now (clauses_used search.old.solver.problem) shown.old }
-    requires few_entries { length task.entries.now ≤ 4096 }
+    requires few_entries { length task.entries.now ≤ most_cells }
     requires refuted { AreRefuted task.ground.now.sizes task.cells.now (clauses_used search.old.solver.problem) refuted.old }
     requires few_learned { tally.old.learned + tally.old.limit < 2 ^ 125 }
     requires few_calls { tally.old.calls < 2 ^ 125 }
@@ -179,7 +180,7 @@ pub(crate) fn grow_whole(
     requires no_blocks { search.old.solver.blocks ≡ [] }
     requires within { AreWithin task.ground.now.sizes shown.old }
     requires allowed { Allow task.ground.now.sizes task.cells.now (clauses_used search.old.solver.problem) shown.old }
-    requires few_entries { length task.entries.now ≤ 4096 }
+    requires few_entries { length task.entries.now ≤ most_cells }
     requires refuted { AreRefuted task.ground.now.sizes task.cells.now (clauses_used search.old.solver.problem) refuted.old }
     requires few_learned { tally.old.learned + 2 * tally.old.limit + 1 < 2 ^ 125 }
     requires few_calls { tally.old.calls + 1 < 2 ^ 125 }

@@ -1,6 +1,7 @@
 //! Listing the worlds one after the other.
 
 ghost use Rattle.std.specs.Prelude.{◌≡◌, ℕ, ◌+◌, ◌<◌, ◌≤◌, ◌^◌, [], IfErr, IfOk, OnOk, length};
+ghost use Rattle.pc_sheet.specs.Limits.{most_cells};
 ghost use Rattle.pc_sheet.specs.Entailment.{AreWithin, HaveDistinctCells};
 ghost use Rattle.pc_worlds.specs.Allowed.{Allow};
 ghost use Rattle.pc_solver.specs.Solver.{clauses_used};
@@ -73,7 +74,7 @@ impl Listing<'_> {
         requires within { AreWithin task.ground.now.sizes self.old.shown }
         requires listing { IsListing (record { sizes = task.ground.now.sizes; cells = task.cells.now; entries = task.entries.now; clauses = clauses_used self.old.finder.solver.problem }) self.old.found self.old.finder.solver.blocks }
         requires refuted { AreRefuted task.ground.now.sizes task.cells.now (clauses_used self.old.finder.solver.problem) refuted.old }
-        requires few_entries { length task.entries.now ≤ 4096 }
+        requires few_entries { length task.entries.now ≤ most_cells }
         requires few_learned { tally.old.learned + tally.old.limit < 2 ^ 123 }
         requires few_calls { tally.old.calls < 2 ^ 123 }
         ensures within { AreWithin task.entry.ground.now.sizes self.new.shown }
@@ -110,7 +111,7 @@ impl Listing<'_> {
         requires distinct { HaveDistinctCells task.entries.now }
         requires within { AreWithin task.ground.now.sizes self.old.shown }
         requires refuted { AreRefuted task.ground.now.sizes task.cells.now (clauses_used self.old.finder.solver.problem) refuted.old }
-        requires few_entries { length task.entries.now ≤ 4096 }
+        requires few_entries { length task.entries.now ≤ most_cells }
         requires few_learned { tally.old.learned + tally.old.limit < 2 ^ 121 }
         requires few_calls { tally.old.calls < 2 ^ 121 }
         ensures listing { OnOk result (IsListing (record { sizes = task.entry.ground.now.sizes; cells = task.entry.cells.now; entries = task.entry.entries.now; clauses = clauses_used self.old.finder.solver.problem }) self.new.found self.new.finder.solver.blocks) }

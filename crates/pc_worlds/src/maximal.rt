@@ -1,6 +1,7 @@
 //! The worlds of a part.
 
 ghost use Rattle.std.specs.Prelude.{◌≡◌, ℕ, ◌+◌, ◌<◌, ◌≤◌, ◌^◌, [], IfErr, IfOk, length, map};
+ghost use Rattle.pc_sheet.specs.Limits.{most_cells};
 ghost use Rattle.pc_sheet.specs.Sheet.{Sheet};
 ghost use Rattle.pc_sheet.specs.Entailment.{AreWithin, HaveDistinctCells, cell_sizes};
 ghost use Rattle.pc_sheet.specs.MaximalSets.{IsMaximalSet};
@@ -64,7 +65,7 @@ fn list_with_logs(
     requires distinct { HaveDistinctCells task.entries.now }
     requires within { AreWithin task.ground.now.sizes listing.shown }
     requires refuted { AreRefuted task.ground.now.sizes task.cells.now (clauses_used listing.finder.solver.problem) refuted.old }
-    requires few_entries { length task.entries.now ≤ 4096 }
+    requires few_entries { length task.entries.now ≤ most_cells }
     requires few_learned { tally.old.learned + tally.old.limit < 2 ^ 121 }
     requires few_calls { tally.old.calls < 2 ^ 121 }
     ensures exact { (sheet : Sheet) → IsOfSheet (record { sizes = task.entry.ground.now.sizes; cells = task.entry.cells.now; entries = task.entry.entries.now; clauses = clauses_used listing.entry.finder.solver.problem }) sheet → IfOk result (AreExact sheet) }
@@ -121,7 +122,7 @@ fn begin<'g>(
 ) -> Result<Beginning<'g>, AllocError>
     requires { IsProblem trails.old (record { axioms = ground.now.clauses; used = part.axioms.now; own = part.variables.now }) }
     ensures entries { IfOk result (λ s. s.entries.items ≡ entries_on (map number_of part.entry.cells.now) book.now.entries) }
-    ensures few { IfOk result (λ s. length s.entries.items ≤ 4096) }
+    ensures few { IfOk result (λ s. length s.entries.items ≤ most_cells) }
     ensures shown { IfOk result (λ s. AreWithin (cell_sizes book.now.universe) s.listing.shown) }
     ensures finder { IfOk result (λ s. IsNewSearch (record { axioms = ground.now.clauses; used = part.entry.axioms.now; own = part.entry.variables.now }) s.listing.finder) }
     ensures grower { IfOk result (λ s. IsNewSearch (record { axioms = ground.now.clauses; used = part.entry.axioms.now; own = part.entry.variables.now }) s.listing.grower) }

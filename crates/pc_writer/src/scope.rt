@@ -1,5 +1,6 @@
 // The variables of the quantifiers that stand around a place.
 ghost use Rattle.std.specs.Prelude.{◌≡◌, ◌+◌, ◌<◌, ◌++◌, ◌∷◌, [], length, take};
+ghost use Rattle.pc_sheet.specs.Limits.{most_depth};
 ghost use Rattle.pc_writer.specs.Scope.{variables_of};
 
 use pc_sheet::{Name, SortId};
@@ -17,7 +18,7 @@ pub(crate) fn extended<'a>(
     name: &'a Name,
     sort: SortId,
 ) -> [Variable<'a>; 16]
-    requires { length variables.now < 16 }
+    requires { length variables.now < most_depth }
     ensures { variables_of (take (length variables.now + 1) result) ≡ variables_of variables.now ++ (name.now, sort) ∷ [] }
 {
     let none = Variable {

@@ -3,7 +3,7 @@ use Rattle.pc_sheet.specs.Truth.{cell_number, place_of}
 use Rattle.pc_logic.specs.SchemeView.{universe_of}
 use Rattle.pc_logic.proofs.FollowLemmas.{cell_asks, cell_stops, cell_known, cell_is, args_stop, args_more, args_read, kept_within, kept_past, cell_args_stop}
 use Rattle.pc_logic.proofs.reading.+read.Goals as goal
-use Rattle.pc_logic.proofs.reading.+read.Goals.{read_terms-then-i-lt4, read_terms-else-i-lt4}
+use Rattle.pc_logic.proofs.reading.+read.Goals.{read_terms-then-i-lt-MOST_ARGUMENTS, read_terms-else-i-lt-MOST_ARGUMENTS}
 
 pub read_term-returns-in-Err-clause-stopped : goal.read_term-returns-in-Err-clause-stopped
 read_term-returns-in-Err-clause-stopped t c =
@@ -37,15 +37,15 @@ read_terms-returns-in-Err-clause-stopped t c =
 
 pub read_terms-loop-i-preserved : goal.read_terms-loop-i-preserved
 read_terms-loop-i-preserved t c =
-    args_more (universe_of c.args.scheme.now) c.args.scope.now c.args.reads.now c.args.terms.now c.loop-i.places c.if-i-lt4.places c.loop-i.i c.index-terms-i.result c.in-Ok.m c.loop-i.invariant c.loop-i-test.true c.index-terms-i.is c.in-Ok.ensures.known
-    (λ long. elim c.if-i-lt4.branch [
-      | read_terms-then-i-lt4 w ↦ ap length w.places-is ∙ length-set c.loop-i.places c.loop-i.i w.place_of.result ∙ long
-      | read_terms-else-i-lt4 w ↦ ap length w.places-is ∙ long
+    args_more (universe_of c.args.scheme.now) c.args.scope.now c.args.reads.now c.args.terms.now c.loop-i.places c.if-i-lt-MOST_ARGUMENTS.places c.loop-i.i c.index-terms-i.result c.in-Ok.m c.loop-i.invariant c.loop-i-test.true c.index-terms-i.is c.in-Ok.ensures.known
+    (λ long. elim c.if-i-lt-MOST_ARGUMENTS.branch [
+      | read_terms-then-i-lt-MOST_ARGUMENTS w ↦ ap length w.places-is ∙ length-set c.loop-i.places c.loop-i.i w.place_of.result ∙ long
+      | read_terms-else-i-lt-MOST_ARGUMENTS w ↦ ap length w.places-is ∙ long
     ])
-    (λ vs long count kept. elim c.if-i-lt4.branch [
-      | read_terms-then-i-lt4 w ↦ (let put : c.if-i-lt4.places ≡ set c.loop-i.places c.loop-i.i (place_of c.in-Ok.m) = w.places-is ∙ ap (set c.loop-i.places c.loop-i.i) w.place_of.ensures in
-          ap (take (min (c.loop-i.i + 1) 4)) put ∙ kept_within c.loop-i.places vs c.loop-i.i (place_of c.in-Ok.m) long w.if-i-lt4.true count kept)
-      | read_terms-else-i-lt4 w ↦ ap (take (min (c.loop-i.i + 1) 4)) w.places-is ∙ kept_past c.loop-i.places vs c.loop-i.i (place_of c.in-Ok.m) w.if-i-lt4.false count kept
+    (λ vs long count kept. elim c.if-i-lt-MOST_ARGUMENTS.branch [
+      | read_terms-then-i-lt-MOST_ARGUMENTS w ↦ (let put : c.if-i-lt-MOST_ARGUMENTS.places ≡ set c.loop-i.places c.loop-i.i (place_of c.in-Ok.m) = w.places-is ∙ ap (set c.loop-i.places c.loop-i.i) w.place_of.ensures in
+          ap (take (min (c.loop-i.i + 1) 4)) put ∙ kept_within c.loop-i.places vs c.loop-i.i (place_of c.in-Ok.m) long w.if-i-lt-MOST_ARGUMENTS.true count kept)
+      | read_terms-else-i-lt-MOST_ARGUMENTS w ↦ ap (take (min (c.loop-i.i + 1) 4)) w.places-is ∙ kept_past c.loop-i.places vs c.loop-i.i (place_of c.in-Ok.m) w.if-i-lt-MOST_ARGUMENTS.false count kept
     ])
 
 pub read_terms-returns-clause-known : goal.read_terms-returns-clause-known
