@@ -1,4 +1,3 @@
-pub mod PlaceLemmas
 pub mod LevelLemmas
 pub mod MarkLemmas
 pub mod LoopLemmas

@@ -13,11 +13,11 @@ use Rattle.pc_propagate.specs.Entries.{falses, Differ}
 use Rattle.pc_propagate.specs.Levels.{level_at, IsPlaceOf}
 use Rattle.pc_propagate.specs.Over.{AreJustified}
 use Rattle.pc_propagate.specs.Refs.{clause_at}
-use Rattle.pc_analyze.specs.Levels.{IsFalseAt}
+use Rattle.pc_propagate.specs.Watched.{IsFalseAt}
 use Rattle.pc_analyze.specs.inside.Marking.{IsMarked, MarksClause, marks_from, AreNegations}
 use Rattle.pc_analyze.specs.FirstPoint.{StandsInReason, IsWay, Leads, IsOfFirstPoint}
 use Rattle.pc_analyze.specs.inside.Refuted.{AreMet, ArePassed}
-use Rattle.pc_analyze.proofs.PlaceLemmas.{false_at_contains, false_at_from, false_at_before, contains_false_at, place_is, not_both, false_at_unique}
+use Rattle.pc_propagate.proofs.PlaceLemmas.{false_at_contains, false_at_from, false_at_before, contains_false_at, place_is, not_both, false_at_unique}
 use Rattle.pc_analyze.proofs.LevelLemmas.{level_at-le, level_at-below}
 use Rattle.pc_analyze.proofs.MarkLemmas.{some_mark, unmarked, only_mark, mark_old, marked_within, unmarked_at_first}
 use Rattle.pc_analyze.proofs.StepLemmas.{HasReason, reason_says, no_entry}

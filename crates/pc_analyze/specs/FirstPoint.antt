@@ -5,7 +5,7 @@ use Rattle.pc_propagate.specs.declared.trail.Entry.{Entry}
 use Rattle.pc_propagate.specs.declared.clauses.ClauseRef.{ClauseRef}
 use Rattle.pc_propagate.specs.Levels.{level_at}
 use Rattle.pc_propagate.specs.Refs.{clause_at}
-use Rattle.pc_analyze.specs.Levels.{IsFalseAt}
+use Rattle.pc_propagate.specs.Watched.{IsFalseAt}
 
 -- the literal that the entry at this place made false stands in the clause
 abbrev pub StandsIn : List Entry → List Lit → ℕ → Type 0

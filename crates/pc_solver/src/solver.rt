@@ -122,7 +122,8 @@ impl<'g> Solver<'g> {
     {
         derivations_are_sound();
         tally.calls += 1;
-        let _limit = tally.limit;
+        // A clause is learned for at most each literal that is placed, so the count of learned clauses has room.
+        prove!(tally.limit <= u64::MAX);
         if let Err(_) = self.search.prepare(assumed) {
             return Outcome::Memory;
         }

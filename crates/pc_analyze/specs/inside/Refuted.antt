@@ -4,7 +4,7 @@ use Rattle.pc_lits.specs.declared.literal.Lit.{Lit}
 use Rattle.pc_lits.specs.Steps.{AreFalse, IsLastOpen}
 use Rattle.pc_propagate.specs.declared.trail.Entry.{Entry}
 use Rattle.pc_propagate.specs.Entries.{falses}
-use Rattle.pc_analyze.specs.Levels.{IsFalseAt}
+use Rattle.pc_propagate.specs.Watched.{IsFalseAt}
 use Rattle.pc_analyze.specs.inside.Marking.{IsMarked}
 use Rattle.pc_analyze.specs.Learning.{IsInOne}
 use Rattle.pc_lits.specs.Literals.{negated}
