@@ -1,6 +1,7 @@
 //! The parts of a book, with the axioms and the variables of each.
 #![tactic(auto)]
 
+mod binder;
 mod components;
 mod labels;
 mod laws;

@@ -2,7 +2,7 @@ use Rattle.std.proofs.Common.{subst, sym}
 use Rattle.pc_logic.specs.Asking.{AsksAtMost}
 use Rattle.pc_logic.specs.AtomView.{reading_of}
 use Rattle.pc_logic.proofs.WeightLemmas.{after_none}
-use Rattle.pc_ground.proofs.naming.name_atom.Goals as goal
+use Rattle.pc_ground.proofs.grounding.Grounding.name_atom.Goals as goal
 
 pub name_leaves-requires-clause-left : goal.name_leaves-requires-clause-left
 name_leaves-requires-clause-left c =
