@@ -4,7 +4,7 @@ use Rattle.std.proofs.lemmas.List.Elements.{All-nil}
 use Rattle.pc_lits.specs.declared.literal.Var.{Var}
 use Rattle.pc_solver.specs.Solver.{clauses_used}
 use Rattle.pc_solver.specs.Spending.{Basis}
-use Rattle.pc_support.specs.Asked.{IsSeen}
+use Rattle.pc_support.specs.Seen.{IsSeen}
 use Rattle.pc_support.specs.Seen.{SeenView, AreSeen}
 
 pub none_seen : (s : Basis) (seen : SeenView) (own : List Var) → seen.watched ≡ own → seen.rows ≡ [] → s.problem.own ≡ own → AreSeen s seen

@@ -1,5 +1,6 @@
 -- Why a load or an edit is refused.
 use Rattle.std.specs.Prelude.{◌≡◌, ℕ, ◌<◌, ◌≤◌, None, Some}
+use Rattle.pc_sheet.specs.Limits.{most_weight}
 use Rattle.pc_sheet.specs.Sheet.{Sheet}
 use Rattle.pc_sheet.specs.Weight.{weight}
 use Rattle.pc_sheet.specs.MaximalSets.{AreRulesConsistent}
@@ -14,9 +15,9 @@ use Rattle.pc_session.specs.declared.refused.EditRefused.TheVariants as edit
 
 -- of the sheet that is loaded, within that budget
 abbrev pub IsLoadCause : Sheet → ℕ → LoadRefused → Type 0
-IsLoadCause sheet budget load.TooLarge = 4000000 < weight sheet
-IsLoadCause sheet budget (load.Inconsistent refutation) = (weight sheet ≤ 4000000) × (refutation ≡ sheet) × (¬ AreRulesConsistent sheet)
-IsLoadCause sheet budget (load.Spent spending) = (weight sheet ≤ 4000000) × IsLawful sheet None budget spending
+IsLoadCause sheet budget load.TooLarge = most_weight < weight sheet
+IsLoadCause sheet budget (load.Inconsistent refutation) = (weight sheet ≤ most_weight) × (refutation ≡ sheet) × (¬ AreRulesConsistent sheet)
+IsLoadCause sheet budget (load.Spent spending) = (weight sheet ≤ most_weight) × IsLawful sheet None budget spending
 IsLoadCause sheet budget load.Memory = Unit {0}
 
 -- of an edit of a cell's entry that would make this sheet; no other answer comes

@@ -1,5 +1,6 @@
 -- Rules by their names, and why a rule isn't added or dropped.
 use Rattle.std.specs.Prelude.{◌≡◌, ◌≢◌, ℕ, ◌<◌, ◌≤◌, List, All, None, length, slice_index_or}
+use Rattle.pc_sheet.specs.Limits.{most_weight}
 use Rattle.pc_sheet.specs.Sheet.{Sheet, NamedStatement, with_rule}
 use Rattle.pc_sheet.specs.Weight.{weight}
 use Rattle.pc_sheet.specs.MaximalSets.{AreRulesConsistent}
@@ -25,9 +26,9 @@ abbrev pub IsRuleCause : Sheet → ℕ → EditRefused → Type 0
 IsRuleCause sheet budget edit.NoEntry = ⊥
 IsRuleCause sheet budget edit.DuplicateRule = ⊥
 IsRuleCause sheet budget edit.NoRule = ⊥
-IsRuleCause sheet budget edit.TooLarge = 4000000 < weight sheet
-IsRuleCause sheet budget (edit.Inconsistent refutation) = (weight sheet ≤ 4000000) × (refutation ≡ sheet) × (¬ AreRulesConsistent sheet)
-IsRuleCause sheet budget (edit.Spent spending) = (weight sheet ≤ 4000000) × IsLawful sheet None budget spending
+IsRuleCause sheet budget edit.TooLarge = most_weight < weight sheet
+IsRuleCause sheet budget (edit.Inconsistent refutation) = (weight sheet ≤ most_weight) × (refutation ≡ sheet) × (¬ AreRulesConsistent sheet)
+IsRuleCause sheet budget (edit.Spent spending) = (weight sheet ≤ most_weight) × IsLawful sheet None budget spending
 IsRuleCause sheet budget edit.Memory = Unit {0}
 
 -- of a rule that would be added
@@ -35,10 +36,10 @@ abbrev pub IsAddCause : Sheet → NamedStatement → ℕ → EditRefused → Typ
 IsAddCause sheet rule budget edit.NoEntry = ⊥
 IsAddCause sheet rule budget edit.DuplicateRule = ¬ IsNewName sheet.rules rule.name
 IsAddCause sheet rule budget edit.NoRule = ⊥
-IsAddCause sheet rule budget edit.TooLarge = IsNewName sheet.rules rule.name × (4000000 < weight (with_rule sheet rule))
+IsAddCause sheet rule budget edit.TooLarge = IsNewName sheet.rules rule.name × (most_weight < weight (with_rule sheet rule))
 IsAddCause sheet rule budget (edit.Inconsistent refutation) =
-    IsNewName sheet.rules rule.name × (weight (with_rule sheet rule) ≤ 4000000) × (refutation ≡ with_rule sheet rule) × (¬ AreRulesConsistent (with_rule sheet rule))
-IsAddCause sheet rule budget (edit.Spent spending) = IsNewName sheet.rules rule.name × (weight (with_rule sheet rule) ≤ 4000000) × IsLawful (with_rule sheet rule) None budget spending
+    IsNewName sheet.rules rule.name × (weight (with_rule sheet rule) ≤ most_weight) × (refutation ≡ with_rule sheet rule) × (¬ AreRulesConsistent (with_rule sheet rule))
+IsAddCause sheet rule budget (edit.Spent spending) = IsNewName sheet.rules rule.name × (weight (with_rule sheet rule) ≤ most_weight) × IsLawful (with_rule sheet rule) None budget spending
 IsAddCause sheet rule budget edit.Memory = Unit {0}
 
 -- of dropping the rule of that name: none stands, or its removal spends too much

@@ -7,7 +7,6 @@ ghost use Rattle.pc_session.specs.Answers.{IsUnused};
 ghost use Rattle.pc_session.specs.Arena.{compacted};
 ghost use Rattle.pc_session.specs.Causes.{IsClearCause};
 ghost use Rattle.pc_session.specs.inside.Edits.{IsMade};
-ghost use Rattle.pc_session.specs.inside.Sessions.{IsSession};
 ghost use Rattle.pc_session.specs.inside.States.{IsEdited, IsSame, IsState};
 
 use crate::compaction::compact_if_due;
@@ -16,12 +15,11 @@ use crate::refused::{EditRefused, refused_by};
 use crate::stale::{is_used, stale_targets};
 use crate::state::State;
 use crate::tallies::blank_place;
-use pc_cache::{Cache, Patch};
+use pc_cache::Patch;
 use pc_edits::{clearing_edits, edited_reasons_are_right, other_parts_stay};
-use pc_logic::Book;
 use pc_sheet::Entry;
-use pc_theory::{Theory, alone, find_reasons};
-use pc_world_list::{Worlds, without};
+use pc_theory::{PartTargets, alone};
+use pc_world_list::without;
 use std::alloc::Global;
 
 /// Whether some reason rests on an entry of the book. It takes no memory: only the targets of the entry's part are looked at,
@@ -38,37 +36,35 @@ pub(crate) fn rests_on(state: &State, entry: Entry) -> bool
     let theory = &state.theory;
     let part = theory.part_of(book, entry.cell);
     let cells = theory.cells(book, part);
-    is_used(book, cells, &state.cache, theory.ground().names(), entry)
+    is_used(state, cells, entry)
 }
 
 // Makes the edit: the part's worlds follow without a search, and the targets whose support has the entry are searched again.
-fn make_edit(
-    alloc: Global,
-    book: &Book,
-    theory: &Theory,
-    worlds: &[Worlds],
-    cache: &Cache,
-    budget: u64,
-    entry: Entry,
-) -> Result<Edit, EditRefused>
-    requires formed { IsWellFormed book.now }
-    requires session { IsSession book.now theory.now worlds.now cache.now.rows }
-    requires entry { Contains book.now.entries entry }
-    ensures edit { IfOk result (IsMade book.now cache.now.rows entry.cell [] budget) }
-    ensures refused { IfErr result (IsClearCause book.now entry.cell budget) }
+fn make_edit(alloc: Global, state: &State, budget: u64, entry: Entry) -> Result<Edit, EditRefused>
+    requires state { IsState state.now }
+    requires formed { IsWellFormed state.now.book }
+    requires entry { Contains state.now.book.entries entry }
+    ensures edit { IfOk result (IsMade state.now.book state.now.cache.rows entry.cell [] budget) }
+    ensures refused { IfErr result (IsClearCause state.now.book entry.cell budget) }
 {
     clearing_edits();
+    let book = &state.book;
+    let theory = &state.theory;
     let edited = book.without_entry(alloc, entry.cell)?;
     let part = theory.part_of(book, entry.cell);
     let cells = theory.cells(book, part);
-    let names = theory.ground().names();
-    let targets = stale_targets(alloc, book, cells, cache, names, Some(entry), false)?;
-    let left = without(&worlds[part], entry)?;
+    let targets = stale_targets(alloc, state, cells, Some(entry), false)?;
+    let left = without(&state.worlds[part], entry)?;
     let mut place = blank_place(alloc, part, budget);
     let mut patch = Patch::new(alloc);
-    let outcome = find_reasons(
-        alloc, &edited, theory, part, &left, &targets, &mut place, &mut patch,
-    );
+    let asked = PartTargets {
+        alloc,
+        book: &edited,
+        theory,
+        part,
+        targets: &targets,
+    };
+    let outcome = asked.find_reasons(&left, &mut place, &mut patch);
     let spending = alone(alloc, place)?;
     match outcome {
         Ok(()) => Ok(Edit {
@@ -101,15 +97,7 @@ pub(crate) fn clear_used(
 {
     clearing_edits();
     compact_if_due(&mut state.cache)?;
-    let edit = make_edit(
-        alloc,
-        &state.book,
-        &state.theory,
-        &state.worlds,
-        &state.cache,
-        budget,
-        entry,
-    )?;
+    let edit = make_edit(alloc, state, budget, entry)?;
     put_in_place(state, edit)?;
     Ok(())
 }

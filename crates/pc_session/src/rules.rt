@@ -1,8 +1,9 @@
 //! Adding and dropping rules: everything is made anew, aside.
 ghost use Rattle.std.specs.Prelude.{◌≡◌, ◌<◌, ℕ, Err, IfErr, IfNone, IfOk, IfSome, OnErr, OnOk, length, map};
+ghost use Rattle.pc_sheet.specs.Limits.{most_rules};
 ghost use Rattle.pc_sheet.specs.Sheet.{with_rule};
 ghost use Rattle.pc_sheet.specs.Views.{rule_of};
-ghost use Rattle.pc_sheet.specs.WellFormed.{IsWellFormed, IsWellFormedRule};
+ghost use Rattle.pc_sheet.specs.WellFormed.{IsWellFormedRule};
 ghost use Rattle.pc_session.specs.Rules.{IsAddCause, IsDropCause, IsNewName, IsRuleAt, IsRuleCause};
 ghost use Rattle.pc_session.specs.inside.Loaded.{IsDroppedTo, IsLoaded};
 ghost use Rattle.pc_session.specs.inside.States.{IsSame, IsState};
@@ -48,7 +49,7 @@ fn replace(alloc: Global, state: &mut State, budget: u64, book: Book) -> Result<
 // The book with the rule, whose name is new.
 fn with_new_rule(alloc: Global, book: &Book, rule: Rule) -> Result<Book, EditRefused>
     requires rule { IsWellFormedRule book.now.universe (rule_of rule) }
-    requires few { length book.now.rules < 1024 }
+    requires few { length book.now.rules < most_rules }
     ensures book { IfOk result (λ b. b ≡ with_rule book.now (rule_of rule)) }
     ensures new { IfOk result (λ _. IsNewName book.now.rules rule.name) }
     ensures duplicate { ¬ IsNewName book.now.rules rule.name → result ≡ Err DuplicateRule }
@@ -71,7 +72,7 @@ pub(crate) fn add_rule(
 ) -> Result<(), EditRefused>
     requires state { IsState state.old }
     requires rule { IsWellFormedRule state.old.book.universe (rule_of rule) }
-    requires few { length state.old.book.rules < 1024 }
+    requires few { length state.old.book.rules < most_rules }
     ensures loaded { OnOk result (IsLoaded (with_rule state.old.book (rule_of rule)) budget state.new) }
     ensures duplicate { ¬ IsNewName state.old.book.rules rule.name → result ≡ Err DuplicateRule }
     ensures refused { IfErr result (IsAddCause state.old.book (rule_of rule) budget) }

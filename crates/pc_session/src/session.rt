@@ -1,11 +1,12 @@
 //! Sessions.
-ghost use Rattle.std.specs.Prelude.{◌≡◌, ◌↔◌, ◌≤◌, ◌<◌, [], Contains, Err, IfErr, IfOk, IfSome, IsTrue, None, Ok, OnErr, OnOk, Some, length, option_map};
+ghost use Rattle.std.specs.Prelude.{◌≡◌, ◌↔◌, ◌≤◌, ◌<◌, [], Contains, Err, IfErr, IfOk, IsTrue, None, Ok, OnErr, OnOk, Some, length, option_map};
 ghost use Rattle.pc_components.specs.View.{AreComponentsOf};
 ghost use Rattle.pc_cache.specs.Rows.{row_of};
 ghost use Rattle.pc_edits.specs.Edits.{Lacks};
 ghost use Rattle.pc_logic.specs.Edits.{entered, without_entry};
 ghost use Rattle.pc_reason.specs.Reasons.{IsReasonFor, IsTargetOf, justification_of};
 ghost use Rattle.pc_search.specs.Parts.{IsBase};
+ghost use Rattle.pc_sheet.specs.Limits.{most_rules, most_weight};
 ghost use Rattle.pc_sheet.specs.MaximalSets.{AreRulesConsistent};
 ghost use Rattle.pc_sheet.specs.Sheet.{with_rule};
 ghost use Rattle.pc_sheet.specs.Views.{rule_of};
@@ -68,7 +69,7 @@ impl Session {
         requires at_most { budget ≤ 1000000000000 }
         ensures sheet { IfOk result (λ s. s.sheet ≡ book) }
         ensures budget { IfOk result (λ s. s.budget ≡ budget) }
-        ensures light { IfOk result (λ _. weight book ≤ 4000000) }
+        ensures light { IfOk result (λ _. weight book ≤ most_weight) }
         ensures consistent { IfOk result (λ _. AreRulesConsistent book) }
         ensures spends { IfOk result (λ s. IsTallyOf book None budget s.tally) }
         ensures steps { IfOk result (λ s. Steps [] s.rows s.tally) }
@@ -177,11 +178,11 @@ impl Session {
     /// Adds a rule as the last one. Everything is made anew, as by a load.
     pub fn add_rule(&mut self, rule: Rule) -> Result<(), EditRefused>
         requires rule { IsWellFormedRule self.old.sheet.universe (rule_of rule) }
-        requires few { length self.old.sheet.rules < 1024 }
+        requires few { length self.old.sheet.rules < most_rules }
         ensures duplicate { ¬ IsNewName self.old.sheet.rules rule.name → result ≡ Err DuplicateRule }
         ensures sheet { OnOk result (self.new.sheet ≡ with_rule self.old.sheet (rule_of rule)) }
         ensures budget { self.new.budget ≡ self.old.budget }
-        ensures light { OnOk result (weight self.new.sheet ≤ 4000000) }
+        ensures light { OnOk result (weight self.new.sheet ≤ most_weight) }
         ensures consistent { OnOk result (AreRulesConsistent self.new.sheet) }
         ensures refused { IfErr result (IsAddCause self.old.sheet (rule_of rule) self.old.budget) }
         ensures unchanged { OnErr result (IsUnchanged self.old self.new) }

@@ -1,13 +1,14 @@
 //! Which targets an edit searches again.
 ghost use Rattle.std.specs.Prelude.{◌≡◌, ◌<◌, ◌≤◌, All, Contains, IfOk, IsTrue, Some, false, filter, length, true};
 ghost use Rattle.pc_cache.specs.Rows.{is_among, is_same_entry, row_of};
+ghost use Rattle.pc_sheet.specs.Limits.{most_values};
 ghost use Rattle.pc_sheet.specs.Entailment.{cell_sizes};
 ghost use Rattle.pc_sheet.specs.declared.ids.Target.{Target};
 ghost use Rattle.pc_session.specs.inside.Stale.{is_stale, stale_on};
 ghost use Rattle.pc_theory.specs.Targets.{target, targets_of_cell, targets_on};
 
+use crate::state::State;
 use pc_cache::Cache;
-use pc_logic::Book;
 use pc_names::Names;
 use pc_sheet::{CellId, Entry, Target, ValueId};
 use pc_theory::targets_on;
@@ -72,23 +73,22 @@ fn stale_among(
 /// The targets on these cells that are to be searched again where an entry is removed, if one is, and where one is added.
 pub(crate) fn stale_targets(
     alloc: Global,
-    book: &Book,
+    state: &State,
     cells: &[CellId],
-    cache: &Cache,
-    names: &Names,
     removed: Option<Entry>,
     added: bool,
 ) -> Result<Vec<Target>, AllocError>
-    requires { All (λ c. c.0 < length (cell_sizes book.now.universe)) cells.now }
-    ensures { IfOk result (λ ts. ts.items ≡ stale_on cache.now.rows removed added (cell_sizes book.now.universe) cells.now) }
+    requires { All (λ c. c.0 < length (cell_sizes state.now.book.universe)) cells.now }
+    ensures { IfOk result (λ ts. ts.items ≡ stale_on state.now.cache.rows removed added (cell_sizes state.now.book.universe) cells.now) }
 {
-    let all = targets_on(alloc, book, cells)?;
-    stale_among(alloc, &all, cache, names, removed, added)
+    let all = targets_on(alloc, &state.book, cells)?;
+    let names = state.theory.ground().names();
+    stale_among(alloc, &all, &state.cache, names, removed, added)
 }
 
 // That the cell has a value, or that it hasn't.
 fn target(cell: CellId, value: usize, holds: bool) -> Target
-    requires { value < 256 }
+    requires { value < most_values }
     ensures { result ≡ target cell value holds }
 {
     Target {
@@ -100,7 +100,7 @@ fn target(cell: CellId, value: usize, holds: bool) -> Target
 
 // Whether the reason of some target on the cell rests on the entry.
 fn is_used_on(cache: &Cache, names: &Names, cell: CellId, count: usize, entry: Entry) -> bool
-    requires { count ≤ 256 }
+    requires { count ≤ most_values }
     ensures some { IsTrue result → (t : Target) × Contains (targets_of_cell cell count) t × (is_stale (Some entry) false (row_of cache.now.rows t) ≡ true) }
     ensures none { (t : Target) → Contains (targets_of_cell cell count) t → is_stale (Some entry) false (row_of cache.now.rows t) ≡ true → IsTrue result }
 {
@@ -116,19 +116,20 @@ fn is_used_on(cache: &Cache, names: &Names, cell: CellId, count: usize, entry: E
 }
 
 /// Whether the reason of some target on these cells rests on the entry. It takes no memory.
-pub(crate) fn is_used(
-    book: &Book,
-    cells: &[CellId],
-    cache: &Cache,
-    names: &Names,
-    entry: Entry,
-) -> bool
-    requires { All (λ c. c.0 < length (cell_sizes book.now.universe)) cells.now }
-    ensures some { IsTrue result → (t : Target) × Contains (targets_on (cell_sizes book.now.universe) cells.now) t × (is_stale (Some entry) false (row_of cache.now.rows t) ≡ true) }
-    ensures none { (t : Target) → Contains (targets_on (cell_sizes book.now.universe) cells.now) t → is_stale (Some entry) false (row_of cache.now.rows t) ≡ true → IsTrue result }
+pub(crate) fn is_used(state: &State, cells: &[CellId], entry: Entry) -> bool
+    requires { All (λ c. c.0 < length (cell_sizes state.now.book.universe)) cells.now }
+    ensures some { IsTrue result → (t : Target) × Contains (targets_on (cell_sizes state.now.book.universe) cells.now) t × (is_stale (Some entry) false (row_of state.now.cache.rows t) ≡ true) }
+    ensures none { (t : Target) → Contains (targets_on (cell_sizes state.now.book.universe) cells.now) t → is_stale (Some entry) false (row_of state.now.cache.rows t) ≡ true → IsTrue result }
 {
+    let names = state.theory.ground().names();
     for cell in cells {
-        if is_used_on(cache, names, *cell, book.values_of(*cell), entry) {
+        if is_used_on(
+            &state.cache,
+            names,
+            *cell,
+            state.book.values_of(*cell),
+            entry,
+        ) {
             return true;
         }
     }

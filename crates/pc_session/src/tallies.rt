@@ -1,5 +1,6 @@
 //! Blank tallies.
 ghost use Rattle.std.specs.Prelude.{◌≡◌, ◌≤◌};
+ghost use Rattle.pc_sheet.specs.Limits.{most_cells};
 ghost use Rattle.pc_session.specs.Views.{counts_of, none_spent};
 ghost use Rattle.pc_theory.specs.Edits.{IsBlankOn};
 
@@ -21,7 +22,7 @@ pub(crate) fn blank_tally(limit: u64) -> Tally
 
 /// Nothing is spent on the part of this number.
 pub(crate) fn blank_place(alloc: Global, part: usize, limit: u64) -> PartSpending
-    requires { part ≤ 4096 }
+    requires { part ≤ most_cells }
     ensures blank { IsBlankOn part result }
     ensures limit { result.tally.limit ≡ limit }
 {

@@ -1,6 +1,7 @@
 -- What is found of a whole sheet, and why nothing is.
 use Rattle.std.specs.Prelude.{◌≡◌, ℕ, ◌+◌, ◌<◌, ◌≤◌, List, None, Some, Contains}
 use Rattle.std.specs.List.{AllZip}
+use Rattle.pc_sheet.specs.Limits.{most_weight}
 use Rattle.pc_sheet.specs.Sheet.{Sheet}
 use Rattle.pc_sheet.specs.Weight.{weight}
 use Rattle.pc_sheet.specs.MaximalSets.{AreRulesConsistent}
@@ -41,9 +42,9 @@ pub record AreFound (sheet : Sheet) (budget : ℕ) (theory : TheoryView) (worlds
 
 -- each with its cause; but for the first, the sheet isn't too large
 abbrev pub IsCause : Sheet → ℕ → Fault → Type 0
-IsCause sheet budget fault.TooLarge = 4000000 < weight sheet
-IsCause sheet budget (fault.Inconsistent d) = (weight sheet ≤ 4000000) × Refutes sheet d.names d.log d.span × (¬ AreRulesConsistent sheet)
-IsCause sheet budget (fault.Spent s) = (weight sheet ≤ 4000000) × IsLawful sheet None budget s
+IsCause sheet budget fault.TooLarge = most_weight < weight sheet
+IsCause sheet budget (fault.Inconsistent d) = (weight sheet ≤ most_weight) × Refutes sheet d.names d.log d.span × (¬ AreRulesConsistent sheet)
+IsCause sheet budget (fault.Spent s) = (weight sheet ≤ most_weight) × IsLawful sheet None budget s
 IsCause sheet budget fault.Memory = Unit {0}
 
 -- of a sheet that isn't too large

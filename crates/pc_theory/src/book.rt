@@ -1,5 +1,6 @@
 //! A whole book: its theory, the worlds of its parts, and the reasons of all targets.
 ghost use Rattle.std.specs.Prelude.{◌≡◌, ◌≤◌, [], IfErr, IfOk, length};
+ghost use Rattle.pc_sheet.specs.Limits.{most_weight};
 ghost use Rattle.pc_sheet.specs.Weight.{weight};
 ghost use Rattle.pc_theory.specs.Tasks.{IsReady};
 ghost use Rattle.pc_theory.specs.Books.{AreFound, IsCause, IsFoundIn, IsPartCause};
@@ -8,13 +9,13 @@ use crate::searching::search_parts;
 use crate::spending::Spending;
 use crate::starting::start_parts;
 use crate::stop::Halt;
-use crate::task::Task;
+use crate::task::{Fitted, Task};
 use crate::theory::Theory;
 use crate::totals::total;
 use pc_accept::certificates_are_sound;
 use pc_cache::Patch;
-use pc_components::{Components, find_components};
-use pc_ground::{Ground, GroundFault, ground_book};
+use pc_components::find_components;
+use pc_ground::{GroundFault, ground_book};
 use pc_justify::names_are_of_their_sheet;
 use pc_log::{Log, Span};
 use pc_logic::{Assignment, Book};
@@ -91,7 +92,7 @@ impl From<AllocError> for PartFault {
 
 // Searches a book's parts: first whether each part's rules are consistent, and then each part's worlds and reasons. The trails
 // serve one part after the other.
-fn search_task(alloc: Global, task: Task<'_>, patch: &mut Patch) -> Result<Searched, PartFault>
+fn search_task(task: Task<'_>, patch: &mut Patch) -> Result<Searched, PartFault>
     requires ready { IsReady task.book.now task.ground.now task.components.now }
     requires few { length task.components.now.cells ≤ 4097 }
     requires blank { patch.old ≡ [] }
@@ -100,26 +101,17 @@ fn search_task(alloc: Global, task: Task<'_>, patch: &mut Patch) -> Result<Searc
 {
     divisions_divide();
     let mut spent = 0;
-    let mut parts = Vec::new(alloc);
-    let mut solvers = Vec::new(alloc);
-    let mut trails = SpareTrails::new(alloc, task.ground.variables());
-    let base = match start_parts(
-        alloc,
-        task,
-        &mut spent,
-        &mut trails,
-        &mut parts,
-        &mut solvers,
-    ) {
+    let mut parts = Vec::new(task.alloc);
+    let mut solvers = Vec::new(task.alloc);
+    let mut trails = SpareTrails::new(task.alloc, task.ground.variables());
+    let base = match start_parts(task, &mut spent, &mut trails, &mut parts, &mut solvers) {
         Ok(base) => base,
         Err(Halt::Inconsistent(log, span)) => return Err(PartFault::Inconsistent(log, span)),
         Err(Halt::Spent) => return Err(PartFault::Spent(total(parts, spent, task.budget)?)),
         Err(Halt::Memory) => return Err(PartFault::Memory),
     };
     match search_parts(
-        alloc,
-        task,
-        &base,
+        Fitted { task, base: &base },
         &mut spent,
         &mut parts,
         VecDeque::from_vec(solvers),
@@ -147,7 +139,7 @@ pub fn search_book(
 ) -> Result<Found, Fault>
     requires blank { patch.old ≡ [] }
     ensures found { IfOk result (λ f. AreFound book.now budget f.theory f.worlds.items patch.new f.spending) }
-    ensures light { IfOk result (λ _. weight book.now ≤ 4000000) }
+    ensures light { IfOk result (λ _. weight book.now ≤ most_weight) }
     ensures fault { IfErr result (IsCause book.now budget) }
 {
     parts_are_a_division();
@@ -163,12 +155,13 @@ pub fn search_book(
     };
     let components = find_components(alloc, book, &ground)?;
     let task = Task {
+        alloc,
         book,
         ground: &ground,
         components: &components,
         budget,
     };
-    match search_task(alloc, task, patch) {
+    match search_task(task, patch) {
         Ok(
             Searched {
                 base,

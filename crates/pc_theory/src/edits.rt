@@ -13,6 +13,7 @@ use crate::spending::PartSpending;
 use crate::theory::Theory;
 use pc_cache::Patch;
 use pc_logic::Book;
+use pc_search::PartTask;
 use pc_searched::SpareTrails;
 use pc_searched::laws::parts_are_searched;
 use pc_sheet::Target;
@@ -21,86 +22,92 @@ use pc_world_list::Worlds;
 use pc_worlds::entries_on;
 use std::alloc::Global;
 
-/// Lists the worlds of the part, and finds for each of the targets, which are on its cells, its least support, or that
-/// there is none. What is spent goes to the place, which is blank.
-pub fn search_part(
-    alloc: Global,
-    book: &Book,
-    theory: &Theory,
-    part: usize,
-    targets: &[Target],
-    place: &mut PartSpending,
-    patch: &mut Patch,
-) -> Result<Worlds, Stop>
-    requires theory { IsTheory (rules_alone book.now) theory.now }
-    requires asked { AreAsked (cell_sizes book.now.universe) theory.now.components part targets.now }
-    requires blank { IsBlankOn part place.old }
-    ensures worlds { (p : Part) → IsPartNumbered (rules_alone book.now) part p → IfOk result (AreWorldsOf book.now p) }
-    ensures found { OnOk result (Finds book.now (place.new.tally.learned + place.new.tally.calls) targets.now patch.old patch.new) }
-    ensures spends { IsSpentAlone book.now theory.now.components part place.new }
-    ensures limit { place.new.tally.limit ≡ place.old.tally.limit }
-    ensures stop { IfErr result (StopSays place.new.tally) }
-{
-    parts_are_searched();
-    let _all = book.entries();
-    let _cells = book.cells();
-    let own = theory.components.part(part);
-    let entries = entries_on(alloc, book, own.cells)?;
-    place.logs.reserve(2)?;
-    let mut trails = SpareTrails::new(alloc, theory.ground.variables());
-    pc_search::search_part(
-        alloc,
-        book,
-        &theory.ground,
-        own,
-        &theory.base,
-        &entries,
-        targets,
-        &mut trails,
-        &mut place.logs,
-        &mut place.tally,
-        patch,
-    )
+/// Targets on the cells of one part of a book whose rules are known.
+#[derive(Clone, Copy)]
+pub struct PartTargets<'a> {
+    pub alloc: Global,
+    pub book: &'a Book,
+    /// What is known of the book's rules.
+    pub theory: &'a Theory,
+    /// The part's number.
+    pub part: usize,
+    pub targets: &'a [Target],
 }
 
-/// Finds for each of the targets, which are on the part's cells, its least support, or that there is none. The worlds are
-/// the part's. What is spent goes to the place, which is blank.
-pub fn find_reasons(
-    alloc: Global,
-    book: &Book,
-    theory: &Theory,
-    part: usize,
-    worlds: &Worlds,
-    targets: &[Target],
-    place: &mut PartSpending,
-    patch: &mut Patch,
-) -> Result<(), Stop>
-    requires theory { IsTheory (rules_alone book.now) theory.now }
-    requires asked { AreAsked (cell_sizes book.now.universe) theory.now.components part targets.now }
-    requires worlds { (p : Part) → IsPartNumbered (rules_alone book.now) part p → AreWorldsOf book.now p worlds.now }
-    requires blank { IsBlankOn part place.old }
-    ensures found { OnOk result (Finds book.now (place.new.tally.learned + place.new.tally.calls) targets.now patch.old patch.new) }
-    ensures spends { IsSpentAlone book.now theory.now.components part place.new }
-    ensures limit { place.new.tally.limit ≡ place.old.tally.limit }
-    ensures stop { IfErr result (StopSays place.new.tally) }
-{
-    parts_are_searched();
-    let _all = book.entries();
-    let _cells = book.cells();
-    let own = theory.components.part(part);
-    let entries = entries_on(alloc, book, own.cells)?;
-    let mut trails = SpareTrails::new(alloc, theory.ground.variables());
-    pc_search::find_reasons(
-        alloc,
-        book,
-        &theory.ground,
-        own,
-        &entries,
-        worlds,
-        targets,
-        &mut trails,
-        &mut place.logs,
-        &mut place.tally,
-        patch,
-    )
+impl PartTargets<'_> {
+    /// Lists the worlds of the part, and finds for each of the targets its least support, or that there is none. What is spent
+    /// goes to the place, which is blank.
+    pub fn search_part(self, place: &mut PartSpending, patch: &mut Patch) -> Result<Worlds, Stop>
+        requires theory { IsTheory (rules_alone self.book.now) self.theory.now }
+        requires asked { AreAsked (cell_sizes self.book.now.universe) self.theory.now.components self.part self.targets.now }
+        requires blank { IsBlankOn self.part place.old }
+        ensures worlds { (p : Part) → IsPartNumbered (rules_alone self.entry.book.now) self.entry.part p → IfOk result (AreWorldsOf self.entry.book.now p) }
+        ensures found { OnOk result (Finds self.entry.book.now (place.new.tally.learned + place.new.tally.calls) self.entry.targets.now patch.old patch.new) }
+        ensures spends { IsSpentAlone self.entry.book.now self.entry.theory.now.components self.entry.part place.new }
+        ensures limit { place.new.tally.limit ≡ place.old.tally.limit }
+        ensures stop { IfErr result (StopSays place.new.tally) }
+    {
+        parts_are_searched();
+        let book = self.book;
+        let theory = self.theory;
+        let _all = book.entries();
+        let _cells = book.cells();
+        let own = theory.components.part(self.part);
+        let entries = entries_on(self.alloc, book, own.cells)?;
+        place.logs.reserve(2)?;
+        let mut trails = SpareTrails::new(self.alloc, theory.ground.variables());
+        let task = PartTask {
+            alloc: self.alloc,
+            book,
+            ground: &theory.ground,
+            part: own,
+            base: &theory.base,
+            entries: &entries,
+            targets: self.targets,
+        };
+        task.search(&mut trails, &mut place.logs, &mut place.tally, patch)
+    }
+
+    /// Finds for each of the targets its least support, or that there is none. The worlds are the part's. What is spent goes to
+    /// the place, which is blank.
+    pub fn find_reasons(
+        self,
+        worlds: &Worlds,
+        place: &mut PartSpending,
+        patch: &mut Patch,
+    ) -> Result<(), Stop>
+        requires theory { IsTheory (rules_alone self.book.now) self.theory.now }
+        requires asked { AreAsked (cell_sizes self.book.now.universe) self.theory.now.components self.part self.targets.now }
+        requires worlds { (p : Part) → IsPartNumbered (rules_alone self.book.now) self.part p → AreWorldsOf self.book.now p worlds.now }
+        requires blank { IsBlankOn self.part place.old }
+        ensures found { OnOk result (Finds self.entry.book.now (place.new.tally.learned + place.new.tally.calls) self.entry.targets.now patch.old patch.new) }
+        ensures spends { IsSpentAlone self.entry.book.now self.entry.theory.now.components self.entry.part place.new }
+        ensures limit { place.new.tally.limit ≡ place.old.tally.limit }
+        ensures stop { IfErr result (StopSays place.new.tally) }
+    {
+        parts_are_searched();
+        let book = self.book;
+        let theory = self.theory;
+        let _all = book.entries();
+        let _cells = book.cells();
+        let own = theory.components.part(self.part);
+        let entries = entries_on(self.alloc, book, own.cells)?;
+        let mut trails = SpareTrails::new(self.alloc, theory.ground.variables());
+        let task = PartTask {
+            alloc: self.alloc,
+            book,
+            ground: &theory.ground,
+            part: own,
+            base: &theory.base,
+            entries: &entries,
+            targets: self.targets,
+        };
+        task.find_reasons(
+            worlds,
+            &mut trails,
+            &mut place.logs,
+            &mut place.tally,
+            patch,
+        )
+    }
 }

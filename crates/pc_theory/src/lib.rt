@@ -18,7 +18,7 @@ mod theory;
 mod totals;
 
 pub use book::{Disproof, Fault, Found, search_book};
-pub use edits::{find_reasons, search_part};
+pub use edits::PartTargets;
 pub use spending::{PartSpending, Spending};
 pub use targets::targets_on;
 pub use theory::Theory;

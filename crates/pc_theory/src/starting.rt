@@ -1,5 +1,6 @@
 //! The first call of each part, which tells whether its rules are consistent.
 ghost use Rattle.std.specs.Prelude.{◌≡◌, ◌+◌, ◌<◌, ◌≤◌, ◌∷◌, [], IfErr, IfOk, OnOk, length};
+ghost use Rattle.pc_sheet.specs.Limits.{most_cells};
 ghost use Rattle.pc_ground.specs.Naming.{names_of};
 ghost use Rattle.pc_reason.specs.Refutations.{Refutes};
 ghost use Rattle.pc_theory.specs.Tasks.{IsReady};
@@ -27,7 +28,7 @@ struct Derivation {
 }
 
 // Keeps what derives the empty clause.
-fn refuted(alloc: Global, task: Task<'_>, log: &Log, last: StepId) -> Result<Derivation, AllocError>
+fn refuted(task: Task<'_>, log: &Log, last: StepId) -> Result<Derivation, AllocError>
     requires ready { IsReady task.book.now task.ground.now task.components.now }
     requires empty { IsEmptyAt task.book.now log.now last }
     ensures { IfOk result (λ r. Refutes task.entry.book.now (names_of task.entry.book.now) r.log r.span) }
@@ -38,8 +39,8 @@ fn refuted(alloc: Global, task: Task<'_>, log: &Log, last: StepId) -> Result<Der
     if log.len() >= 1_000_000_000_000_000_000 {
         return Err(AllocError);
     }
-    let mut kept = Log::new(alloc);
-    let span = trim(alloc, log, last, &mut kept)?;
+    let mut kept = Log::new(task.alloc);
+    let span = trim(task.alloc, log, last, &mut kept)?;
     Ok(Derivation { log: kept, span })
 }
 
@@ -62,7 +63,6 @@ struct Called<'g> {
 
 // Makes the first call of a part.
 fn call_part<'g>(
-    alloc: Global,
     task: Task<'g>,
     number: usize,
     limit: u64,
@@ -71,7 +71,7 @@ fn call_part<'g>(
     requires ready { IsReady task.book.now task.ground.now task.components.now }
     requires trails { trails.old ≡ task.ground.now.variables }
     requires number { number < length task.components.now.cells }
-    requires few { number ≤ 4096 }
+    requires few { number ≤ most_cells }
     ensures called { IfOk result (λ c. IsCalled task.entry.book.now task.entry.components.now number limit c.solver c.place c.end) }
     ensures variables { IfOk result (λ c. c.solver.variables ≡ trails.old) }
     ensures refused { IfErr result (IsRefused task.entry.book.now) }
@@ -82,13 +82,13 @@ fn call_part<'g>(
     let part = task.components.part(number);
     let trail = trails.take()?;
     let mut solver = Solver::on(
-        alloc,
+        task.alloc,
         task.ground.store(),
         part.axioms,
         part.variables,
         trail,
     )?;
-    let mut log = Log::new(alloc);
+    let mut log = Log::new(task.alloc);
     let mut tally = Tally {
         placed: 0,
         learned: 0,
@@ -97,15 +97,15 @@ fn call_part<'g>(
     };
     match solver.solve(&[], &mut log, &mut tally) {
         Outcome::Unsat(last) => {
-            let derivation = refuted(alloc, task, &log, last)?;
+            let derivation = refuted(task, &log, last)?;
             Err(Halt::Inconsistent(derivation.log, derivation.span))
         }
         Outcome::Sat => {
-            let called = keep(alloc, number, solver, log, tally, End::Met)?;
+            let called = keep(task.alloc, number, solver, log, tally, End::Met)?;
             Ok(called)
         }
         Outcome::Spent => {
-            let called = keep(alloc, number, solver, log, tally, End::Spent)?;
+            let called = keep(task.alloc, number, solver, log, tally, End::Spent)?;
             Ok(called)
         }
         Outcome::Memory => Err(Halt::Memory),
@@ -121,7 +121,7 @@ fn keep<'g>(
     tally: Tally,
     end: End,
 ) -> Result<Called<'g>, AllocError>
-    requires few { number ≤ 4096 }
+    requires few { number ≤ most_cells }
     ensures solver { IfOk result (λ c. c.solver ≡ solver.entry) }
     ensures number { IfOk result (λ c. c.place.part ≡ number) }
     ensures tally { IfOk result (λ c. c.place.tally ≡ tally) }
@@ -141,11 +141,9 @@ fn keep<'g>(
     })
 }
 
-// Makes the first call of a part, and reads the values of its cells. The solver is kept without its trail.
+// Makes the first call of the next part, and reads the values of its cells. The solver is kept without its trail.
 fn start_part<'g>(
-    alloc: Global,
     task: Task<'g>,
-    number: usize,
     spent: &mut u64,
     base: &mut Assignment,
     trails: &mut SpareTrails,
@@ -154,20 +152,20 @@ fn start_part<'g>(
 ) -> Result<(), Halt>
     requires ready { IsReady task.book.now task.ground.now task.components.now }
     requires trails { trails.old ≡ task.ground.now.variables }
-    requires number { number < length task.components.now.cells }
-    requires few { number ≤ 4096 }
-    requires many { length parts.old.items ≡ number }
+    requires number { length parts.old.items < length task.components.now.cells }
+    requires few { length parts.old.items ≤ most_cells }
     requires within { spent.old ≤ task.budget }
     requires started { AreStarted task.book.now task.components.now spent.old base.old parts.old.items solvers.old.items }
-    ensures many { OnOk result (length parts.new.items ≡ number + 1) }
+    ensures many { OnOk result (length parts.new.items ≡ length parts.old.items + 1) }
     ensures within { spent.new ≤ task.entry.budget }
     ensures started { OnOk result (AreStarted task.entry.book.now task.entry.components.now spent.new base.new parts.new.items solvers.new.items) }
     ensures halt { IfErr result (HaltSays task.entry.book.now task.entry.components.now task.entry.budget spent.new parts.new.items) }
     ensures trails { trails.new ≡ trails.old }
 {
     parts_are_searched();
+    let number = parts.len();
     let part = task.components.part(number);
-    let called = call_part(alloc, task, number, task.budget - *spent, trails)?;
+    let called = call_part(task, number, task.budget - *spent, trails)?;
     *spent += called.place.tally.placed;
     match called.end {
         End::Spent => {
@@ -188,7 +186,6 @@ fn start_part<'g>(
 /// Makes the first call of each part, all on one trail. The base is at first the first value of each cell, and then fits the
 /// book.
 pub(crate) fn start_parts<'g>(
-    alloc: Global,
     task: Task<'g>,
     spent: &mut u64,
     trails: &mut SpareTrails,
@@ -207,11 +204,9 @@ pub(crate) fn start_parts<'g>(
     ensures halt { IfErr result (HaltSays task.entry.book.now task.entry.components.now task.entry.budget spent.new parts.new.items) }
     ensures trails { trails.new ≡ trails.old }
 {
-    let mut base = first_values(alloc, task.book)?;
-    for number in 0..task.components.len() {
-        start_part(
-            alloc, task, number, spent, &mut base, trails, parts, solvers,
-        )?;
+    let mut base = first_values(task.alloc, task.book)?;
+    for _number in 0..task.components.len() {
+        start_part(task, spent, &mut base, trails, parts, solvers)?;
     }
     Ok(base)
 }

@@ -2,7 +2,6 @@
 ghost use Rattle.std.specs.Prelude.{◌≡◌};
 
 use pc_log::{Log, Span};
-use pc_names::Names;
 use pc_solver::Stop;
 use std::alloc::{AllocError, AllocFailed};
 

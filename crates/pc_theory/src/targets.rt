@@ -1,5 +1,6 @@
 //! The targets on some cells.
 ghost use Rattle.std.specs.Prelude.{◌≡◌, ◌<◌, ◌≤◌, ◌++◌, All, IfOk, OnOk, length};
+ghost use Rattle.pc_sheet.specs.Limits.{most_values};
 ghost use Rattle.pc_sheet.specs.Entailment.{cell_sizes};
 ghost use Rattle.pc_theory.specs.Targets.{target, targets_of_cell, targets_on};
 
@@ -9,7 +10,7 @@ use std::alloc::{AllocError, Global};
 
 // That the cell has a value, or that it hasn't.
 fn target(cell: CellId, value: usize, holds: bool) -> Target
-    requires { value < 256 }
+    requires { value < most_values }
     ensures { result ≡ target cell value holds }
 {
     Target {
@@ -21,7 +22,7 @@ fn target(cell: CellId, value: usize, holds: bool) -> Target
 
 // Adds the targets of a cell with so many values.
 fn add_targets(cell: CellId, count: usize, targets: &mut Vec<Target>) -> Result<(), AllocError>
-    requires { count ≤ 256 }
+    requires { count ≤ most_values }
     ensures { OnOk result (targets.new.items ≡ targets.old.items ++ targets_of_cell cell count) }
 {
     for value in 0..count {

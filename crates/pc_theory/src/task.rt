@@ -1,13 +1,22 @@
 //! A book with its clauses and parts.
 use pc_components::Components;
 use pc_ground::Ground;
-use pc_logic::Book;
+use pc_logic::{Assignment, Book};
+use std::alloc::Global;
 
 /// A book with its clauses and parts, and how many literals may be placed for all of them.
 #[derive(Clone, Copy)]
 pub(crate) struct Task<'g> {
+    pub(crate) alloc: Global,
     pub(crate) book: &'g Book,
     pub(crate) ground: &'g Ground,
     pub(crate) components: &'g Components,
     pub(crate) budget: u64,
+}
+
+/// The same with an assignment that fits the book.
+#[derive(Clone, Copy)]
+pub(crate) struct Fitted<'g> {
+    pub(crate) task: Task<'g>,
+    pub(crate) base: &'g Assignment,
 }

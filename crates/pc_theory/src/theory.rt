@@ -2,6 +2,7 @@
 ghost use Rattle.std.specs.Prelude.{◌≡◌, ◌<◌, ◌≤◌, All, Contains, length, map, Some, slice_get};
 ghost use Rattle.pc_components.specs.View.{number_of};
 ghost use Rattle.pc_parts.specs.Parts.{Part};
+ghost use Rattle.pc_sheet.specs.Limits.{most_cells};
 ghost use Rattle.pc_sheet.specs.Entailment.{cell_sizes};
 ghost use Rattle.pc_theory.specs.Theories.{rules_alone, IsPartNumbered, IsTheory};
 
@@ -54,7 +55,7 @@ impl Theory {
         requires theory { IsTheory (rules_alone book.now) self.now }
         requires cell { cell.0 < length (cell_sizes book.now.universe) }
         ensures within { result < length self.now.components.cells }
-        ensures few { result ≤ 4096 }
+        ensures few { result ≤ most_cells }
         ensures has { (p : Part) × IsPartNumbered (rules_alone book.now) result p × Contains p.cells cell.0 }
     {
         let _cells = book.cells();

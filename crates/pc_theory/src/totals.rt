@@ -1,5 +1,5 @@
 //! What was spent on several parts together.
-ghost use Rattle.std.specs.Prelude.{◌≡◌, ◌∷◌, ◌≤◌, [], IfOk, Option, sum_by};
+ghost use Rattle.std.specs.Prelude.{◌≡◌, ◌≤◌, IfOk, Option, sum_by};
 ghost use Rattle.pc_components.specs.View.{Kept, AreComponentsOf};
 ghost use Rattle.pc_sheet.specs.Sheet.{Sheet};
 ghost use Rattle.pc_sheet.specs.declared.ids.CellId.{CellId};

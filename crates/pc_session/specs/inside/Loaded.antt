@@ -1,5 +1,6 @@
 -- What holds when a sheet has been loaded.
 use Rattle.std.specs.Prelude.{◌≡◌, ℕ, ◌≤◌, [], List, None}
+use Rattle.pc_sheet.specs.Limits.{most_weight}
 use Rattle.pc_sheet.specs.Sheet.{Sheet}
 use Rattle.pc_sheet.specs.MaximalSets.{AreRulesConsistent}
 use Rattle.pc_sheet.specs.Weight.{weight}
@@ -14,7 +15,7 @@ use Rattle.pc_session.specs.declared.state.State.{State}
 pub record IsLoaded (sheet : Sheet) (limit : ℕ) (s : State) : Type 0 where
   pub book : s.book ≡ sheet
   pub state : IsState s
-  pub light : weight sheet ≤ 4000000
+  pub light : weight sheet ≤ most_weight
   pub consistent : AreRulesConsistent sheet
   pub spends : IsTallyOf sheet None limit (counts_of s.tally)
   pub steps : Steps [] s.cache.rows (counts_of s.tally)

@@ -1,6 +1,7 @@
 -- What holds of a session.
 use Rattle.std.specs.Prelude.{◌↔◌, ◌≤◌, List, Contains}
 use Rattle.std.specs.List.{AllZip}
+use Rattle.pc_sheet.specs.Limits.{most_weight}
 use Rattle.pc_sheet.specs.Sheet.{Sheet}
 use Rattle.pc_sheet.specs.Weight.{weight}
 use Rattle.pc_sheet.specs.declared.ids.Target.{Target}
@@ -22,7 +23,7 @@ ArePlaced sheet changes = (r : TargetRow) → Contains changes r → IsTargetOf 
 
 -- The theory is that of the sheet's rules, each part has its worlds, and each target has a place for a row, which is right.
 pub record IsSession (sheet : Sheet) (theory : TheoryView) (worlds : List (List WorldView)) (rows : List TargetRow) : Type 0 where
-  pub light : weight sheet ≤ 4000000
+  pub light : weight sheet ≤ most_weight
   pub known : IsTheory (rules_alone sheet) theory
   pub worlds_of : AllZip (AreWorldsOf sheet) (parts_of (rules_alone sheet)) worlds
   pub places : HavePlaces sheet rows

@@ -8,11 +8,10 @@ use Rattle.pc_session.proofs.ClearedEntries.{formed_cleared}
 use Rattle.pc_session.proofs.Viewing.{on_err, same_compacted, same_failed}
 use Rattle.pc_session.proofs.clearing.clear_used.Goals as goal
 
-pub make_edit-requires-clause-session : goal.make_edit-requires-clause-session
-make_edit-requires-clause-session c =
+pub make_edit-requires-clause-state : goal.make_edit-requires-clause-state
+make_edit-requires-clause-state c =
     let s = c.args.state.now in
-    subst (λ ws. IsSession s.book s.theory ws c.compact_if_due.new.cache.rows) (sym c.deref.ensures.value)
-    (subst (IsSession s.book s.theory s.worlds.items) (sym c.in_ok-compact_if_due.ensures.rows) c.requires.state)
+    subst (IsSession s.book s.theory s.worlds.items) (sym c.in_ok-compact_if_due.ensures.rows) c.requires.state
 
 pub put_in_place-requires-clause-state : goal.put_in_place-requires-clause-state
 put_in_place-requires-clause-state c =

@@ -1,7 +1,6 @@
 use Rattle.std.proofs.Common.{List, ◌∷◌, [], inr, arith, refl, sym, ◌∙◌, subst}
 use Rattle.pc_sheet.specs.WellFormed.{IsWellFormed}
-use Rattle.pc_edits.specs.Reasons.{IsReasoning}
-use Rattle.pc_cache.specs.Rows.{TargetRow, row_of}
+use Rattle.pc_cache.specs.Rows.{TargetRow}
 use Rattle.pc_session.specs.inside.Done.{IsDone}
 use Rattle.pc_session.specs.inside.Sessions.{IsSession}
 use Rattle.pc_session.specs.inside.States.{IsSame}
@@ -9,10 +8,10 @@ use Rattle.pc_session.proofs.ClearedEntries.{formed_entered}
 use Rattle.pc_session.proofs.Viewing.{on_err, same_compacted, same_failed}
 use Rattle.pc_session.proofs.entering.enter_another.Goals as goal
 
-pub make_edit-requires-clause-reasons : goal.make_edit-requires-clause-reasons
-make_edit-requires-clause-reasons c =
+pub make_edit-requires-clause-state : goal.make_edit-requires-clause-state
+make_edit-requires-clause-state c =
     let s = c.args.state.now in
-    subst (λ (rows : List TargetRow). IsReasoning s.book (row_of rows)) (sym c.in_ok-compact_if_due.ensures.rows) c.requires.state.reasons
+    subst (IsSession s.book s.theory s.worlds.items) (sym c.in_ok-compact_if_due.ensures.rows) c.requires.state
 
 pub put_in_place-requires-clause-state : goal.put_in_place-requires-clause-state
 put_in_place-requires-clause-state c =

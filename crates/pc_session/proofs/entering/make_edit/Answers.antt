@@ -15,26 +15,26 @@ always is = absurd (cc)
 pub search_part-outcome-requires-clause-theory : goal.search_part-outcome-requires-clause-theory
 search_part-outcome-requires-clause-theory c =
     let a = c.args in
-    known_new a.book.now c.in_ok-edited.edited a.theory.now a.entry.cell (a.entry ∷ []) (c.in_ok-edited.ensures ∙ c.entering_edits.ensures a.book.now a.entry c.requires.another) c.requires.known
+    known_new a.state.now.book c.in_ok-edited.edited a.state.now.theory a.entry.cell (a.entry ∷ []) (c.in_ok-edited.ensures ∙ c.entering_edits.ensures a.state.now.book a.entry c.requires.another) c.requires.state.known
 
 pub search_part-outcome-requires-clause-asked : goal.search_part-outcome-requires-clause-asked
 search_part-outcome-requires-clause-asked c =
     let a = c.args in
     let ts = c.deref.result.now in
-    asked a.book.now a.theory.now a.cache.now.rows c.requires.formed c.requires.known c.requires.reasons a.entry.cell a.old true (a.entry ∷ []) c.requires.old always c.part_of-part.result c.cells-cells.result.now c.cells-cells.ensures.at
-    ts (c.deref.ensures.value ∙ c.in_ok-targets.ensures) c.in_ok-edited.edited (c.in_ok-edited.ensures ∙ c.entering_edits.ensures a.book.now a.entry c.requires.another)
+    asked a.state.now.book a.state.now.theory a.state.now.cache.rows c.requires.formed c.requires.state.known c.requires.state.reasons a.entry.cell a.old true (a.entry ∷ []) c.requires.old always c.part_of-part.result c.cells-cells.result.now c.cells-cells.ensures.at
+    ts (c.deref.ensures.value ∙ c.in_ok-targets.ensures) c.in_ok-edited.edited (c.in_ok-edited.ensures ∙ c.entering_edits.ensures a.state.now.book a.entry c.requires.another)
 
 pub returns-in-Ok-clause-edit : goal.returns-in-Ok-clause-edit
 returns-in-Ok-clause-edit c =
     let a = c.args in
     let p = c.part_of-part.ensures.has in
     let ts = c.deref.result.now in
-    made a.book.now c.in_ok-edited.edited a.theory.now a.entry.cell (a.entry ∷ []) (c.in_ok-edited.ensures ∙ c.entering_edits.ensures a.book.now a.entry c.requires.another) c.requires.known c.part_of-part.result p.0 p.1 p.2 c.search_part-outcome.new.place c.in_ok-spending.spending a.budget c.in_ok-spending.ensures.spends c.search_part-outcome.ensures.spends
+    made a.state.now.book c.in_ok-edited.edited a.state.now.theory a.entry.cell (a.entry ∷ []) (c.in_ok-edited.ensures ∙ c.entering_edits.ensures a.state.now.book a.entry c.requires.another) c.requires.state.known c.part_of-part.result p.0 p.1 p.2 c.search_part-outcome.new.place c.in_ok-spending.spending a.budget c.in_ok-spending.ensures.spends c.search_part-outcome.ensures.spends
     c.in_ok-spending.ensures.tally (c.search_part-outcome.ensures.limit ∙ c.blank_place-place.ensures.limit)
-    a.cache.now.rows c.cells-cells.result.now (c.cells-cells.ensures.are p.0 p.1) ts
-    (stale a.book.now a.theory.now a.cache.now.rows c.requires.formed c.requires.known c.requires.reasons a.entry.cell a.old true (a.entry ∷ []) c.requires.old always c.part_of-part.result c.cells-cells.result.now c.cells-cells.ensures.at
+    a.state.now.cache.rows c.cells-cells.result.now (c.cells-cells.ensures.are p.0 p.1) ts
+    (stale a.state.now.book a.state.now.theory a.state.now.cache.rows c.requires.formed c.requires.state.known c.requires.state.reasons a.entry.cell a.old true (a.entry ∷ []) c.requires.old always c.part_of-part.result c.cells-cells.result.now c.cells-cells.ensures.at
     ts (c.deref.ensures.value ∙ c.in_ok-targets.ensures))
-    (apart a.book.now a.theory.now a.cache.now.rows c.requires.formed c.requires.known c.requires.reasons a.entry.cell a.old true (a.entry ∷ []) c.requires.old always c.part_of-part.result c.cells-cells.result.now c.cells-cells.ensures.at
+    (apart a.state.now.book a.state.now.theory a.state.now.cache.rows c.requires.formed c.requires.state.known c.requires.state.reasons a.entry.cell a.old true (a.entry ∷ []) c.requires.old always c.part_of-part.result c.cells-cells.result.now c.cells-cells.ensures.at
     ts (c.deref.ensures.value ∙ c.in_ok-targets.ensures))
     c.in-Ok.worlds (λ r at. IfOk-at_ok (AreWorldsOf c.in_ok-edited.edited r) c.in-Ok.is (c.search_part-outcome.ensures.worlds r at)) c.new-patch.result c.search_part-outcome.new.patch c.new-patch.ensures
     (IfOk-at_ok (λ _. Finds c.in_ok-edited.edited (c.search_part-outcome.new.place.tally.learned + c.search_part-outcome.new.place.tally.calls) ts c.new-patch.result c.search_part-outcome.new.patch) c.in-Ok.is c.search_part-outcome.ensures.found)
@@ -43,9 +43,9 @@ pub returns-in-Err-clause-refused : goal.returns-in-Err-clause-refused
 returns-in-Err-clause-refused c =
     let a = c.args in
     let p = c.part_of-part.ensures.has in
-    entry_refused (entered a.book.now a.entry) a.entry.cell a.budget c.in-Err.stop c.search_part-outcome.new.place.tally c.in_ok-spending.spending c.refused_by.result c.refused_by.ensures (IfErr-at_err (StopSays c.search_part-outcome.new.place.tally) c.in-Err.is c.search_part-outcome.ensures.stop)
+    entry_refused (entered a.state.now.book a.entry) a.entry.cell a.budget c.in-Err.stop c.search_part-outcome.new.place.tally c.in_ok-spending.spending c.refused_by.result c.refused_by.ensures (IfErr-at_err (StopSays c.search_part-outcome.new.place.tally) c.in-Err.is c.search_part-outcome.ensures.stop)
     (λ reached. subst (λ b. IsLawful b (Some a.entry.cell) a.budget c.in_ok-spending.spending) c.in_ok-edited.ensures
-    (lawful a.book.now c.in_ok-edited.edited a.theory.now a.entry.cell (a.entry ∷ []) (c.in_ok-edited.ensures ∙ c.entering_edits.ensures a.book.now a.entry c.requires.another) c.requires.known c.part_of-part.result p.0 p.1 p.2 c.search_part-outcome.new.place c.in_ok-spending.spending a.budget c.in_ok-spending.ensures.spends c.search_part-outcome.ensures.spends
+    (lawful a.state.now.book c.in_ok-edited.edited a.state.now.theory a.entry.cell (a.entry ∷ []) (c.in_ok-edited.ensures ∙ c.entering_edits.ensures a.state.now.book a.entry c.requires.another) c.requires.state.known c.part_of-part.result p.0 p.1 p.2 c.search_part-outcome.new.place c.in_ok-spending.spending a.budget c.in_ok-spending.ensures.spends c.search_part-outcome.ensures.spends
     c.in_ok-spending.ensures.tally (c.search_part-outcome.ensures.limit ∙ c.blank_place-place.ensures.limit) reached))
 
 pub returns-in_err-spending-clause-refused : goal.returns-in_err-spending-clause-refused

@@ -10,12 +10,12 @@ pub returns-then-is_used_on-clause-some : goal.returns-then-is_used_on-clause-so
 returns-then-is_used_on-clause-some c =
     λ _.
     let found = c.is_used_on.ensures.some c.if-is_used_on.true in
-    (found.0, there_on (cell_sizes c.args.book.now.universe) c.args.cells.now c.loop-cell.cell-index c.values_of.result (record { 0 = 0 }) found.0 c.loop-cell-test.true c.values_of.ensures.exact found.1, found.2)
+    (found.0, there_on (cell_sizes c.args.state.now.book.universe) c.args.cells.now c.loop-cell.cell-index c.values_of.result (record { 0 = 0 }) found.0 c.loop-cell-test.true c.values_of.ensures.exact found.1, found.2)
 
 pub loop-cell-preserved : goal.loop-cell-preserved
 loop-cell-preserved c =
-    let test : Target → Bool = λ t. is_stale (Some c.args.entry) false (row_of c.args.cache.now.rows t) in
-    none_on (cell_sizes c.args.book.now.universe) c.args.cells.now c.loop-cell.cell-index c.values_of.result (record { 0 = 0 }) test c.loop-cell-test.true c.values_of.ensures.exact c.loop-cell.invariant
+    let test : Target → Bool = λ t. is_stale (Some c.args.entry) false (row_of c.args.state.now.cache.rows t) in
+    none_on (cell_sizes c.args.state.now.book.universe) c.args.cells.now c.loop-cell.cell-index c.values_of.result (record { 0 = 0 }) test c.loop-cell-test.true c.values_of.ensures.exact c.loop-cell.invariant
     (λ t there uses. not_used c.is_used_on.result (c.is_used_on.ensures.none t there uses) c.if-is_used_on.false)
   where
     not_used : (b : Bool) → b ≡ true → b ≡ false → ⊥

@@ -7,4 +7,4 @@ use Rattle.pc_session.specs.inside.Stale.{is_stale}
 use Rattle.pc_session.proofs.stale.is_used.Given as goal
 
 abbrev pub invariant-loop-cell : goal.invariant-loop-cell
-invariant-loop-cell l = (t : Target) → Contains (targets_on (cell_sizes l.book.universe) (take l.cell-index l.cells)) t → is_stale (Some l.entry) false (row_of l.cache.rows t) ≡ true → ⊥
+invariant-loop-cell l = (t : Target) → Contains (targets_on (cell_sizes l.state.book.universe) (take l.cell-index l.cells)) t → is_stale (Some l.entry) false (row_of l.state.cache.rows t) ≡ true → ⊥

@@ -1,4 +1,4 @@
-use Rattle.std.proofs.Common.{◌≡◌, ◌+◌, ◌-◌, ◌≤◌, ℕ, length, refl, ◌∙◌, arith}
+use Rattle.std.proofs.Common.{◌≡◌, ◌+◌, ◌-◌, ◌≤◌, ℕ, length, ap, refl, ◌∙◌, arith}
 use Rattle.std.proofs.lemmas.Result.{on_ok_weaker, IfErr-weaker}
 use Rattle.pc_sheet.specs.Entailment.{cell_sizes}
 use Rattle.pc_solver.specs.Spending.{StopSays}
@@ -10,31 +10,34 @@ use Rattle.pc_theory.proofs.Started.{first_problem}
 use Rattle.pc_theory.proofs.searching.search_one.Goals as goal
 
 pub targets_on-requires : goal.targets_on-requires
-targets_on-requires c = cells_below c.args.task.book.now c.args.task.components.now c.requires.ready.components c.args.number _ c.part-part.ensures.cells
+targets_on-requires c = cells_below c.args.fitted.task.book.now c.args.fitted.task.components.now c.requires.ready.components c.args.place.now.part _ c.part-part.ensures.cells
 
-pub search_started-outcome-requires-clause-problem : goal.search_started-outcome-requires-clause-problem
-search_started-outcome-requires-clause-problem c =
+pub search_started-outcome-requires-clause-listable : goal.search_started-outcome-requires-clause-listable
+search_started-outcome-requires-clause-listable c =
     let a = c.args in
-    first_problem c.parts_are_searched.ensures a.task.book.now a.task.ground.now a.task.components.now c.requires.ready a.number _ _ _ c.part-part.ensures.cells c.part-part.ensures.axioms c.part-part.ensures.variables
-
-pub search_started-outcome-requires-clause-searched : goal.search_started-outcome-requires-clause-searched
-search_started-outcome-requires-clause-searched c =
-    let a = c.args in
-    searched_asked c.parts_are_searched.ensures a.task.book.now a.task.ground.now a.task.components.now c.requires.ready a.base.now c.requires.base a.number _ _ _ c.part-part.ensures.cells c.part-part.ensures.axioms c.part-part.ensures.variables
-    c.deref-2.result.now (c.deref-2.ensures.value ∙ c.in_ok-targets.ensures) c.deref.result.now (c.deref.ensures.value ∙ c.in_ok-entries.ensures.on)
-
-pub search_started-outcome-requires-clause-few_targets : goal.search_started-outcome-requires-clause-few_targets
-search_started-outcome-requires-clause-few_targets c =
-    let a = c.args in
-    let few : length (cell_sizes a.task.book.now.universe) ≤ 4096 = omega (arith, c.cells-cells.ensures.exact, c.cells-cells.ensures.few) in
-    few_asked c.parts_are_searched.ensures a.task.book.now a.task.ground.now a.task.components.now c.requires.ready a.base.now c.requires.base a.number _ _ _ c.part-part.ensures.cells c.part-part.ensures.axioms c.part-part.ensures.variables
-    c.deref-2.result.now (c.deref-2.ensures.value ∙ c.in_ok-targets.ensures) few
+    let t = a.fitted.task in
+    let few : length (cell_sizes t.book.now.universe) ≤ 4096 = omega (arith, c.cells-cells.ensures.exact, c.cells-cells.ensures.few) in
+    let entries = c.deref.ensures.value ∙ c.in_ok-entries.ensures.on in
+    let targets = c.deref-2.ensures.value ∙ c.in_ok-targets.ensures in
+    record {
+      searchable = record {
+        ground = c.requires.ready.ground_is;
+        problem = first_problem c.parts_are_searched.ensures t.book.now t.ground.now t.components.now c.requires.ready a.place.now.part _ _ _ c.part-part.ensures.cells c.part-part.ensures.axioms c.part-part.ensures.variables;
+        few_targets = few_asked c.parts_are_searched.ensures t.book.now t.ground.now t.components.now c.requires.ready a.fitted.base.now c.requires.base a.place.now.part _ _ _ c.part-part.ensures.cells c.part-part.ensures.axioms c.part-part.ensures.variables
+            c.deref-2.result.now targets few;
+        few_entries = omega (arith, ap length c.deref.ensures.value, c.in_ok-entries.ensures.few);
+      };
+      base = c.requires.base;
+      entries = entries;
+      searched = searched_asked c.parts_are_searched.ensures t.book.now t.ground.now t.components.now c.requires.ready a.fitted.base.now c.requires.base a.place.now.part _ _ _ c.part-part.ensures.cells c.part-part.ensures.axioms c.part-part.ensures.variables
+          c.deref-2.result.now targets c.deref.result.now entries;
+    }
 
 pub returns-clause-worlds : goal.returns-clause-worlds
 returns-clause-worlds c p numbered =
     let a = c.args in
     c.search_started-outcome.ensures.worlds p
-    (part_here c.parts_are_searched.ensures a.task.book.now a.task.ground.now a.task.components.now c.requires.ready a.base.now c.requires.base a.number _ _ _ c.part-part.ensures.cells c.part-part.ensures.axioms c.part-part.ensures.variables p
+    (part_here c.parts_are_searched.ensures a.fitted.task.book.now a.fitted.task.ground.now a.fitted.task.components.now c.requires.ready a.fitted.base.now c.requires.base a.place.now.part _ _ _ c.part-part.ensures.cells c.part-part.ensures.axioms c.part-part.ensures.variables p
     c.deref.result.now numbered (c.deref.ensures.value ∙ c.in_ok-entries.ensures.on))
 
 pub returns-clause-place : goal.returns-clause-place
@@ -44,9 +47,9 @@ returns-clause-place c =
     let place : PartSpending = record { part = a.place.now.part; tally = now.tally; logs = c.push.new.self } in
     let more : ℕ = a.spent.now + (now.tally.placed - a.place.now.tally.placed) in
     let says = c.search_started-outcome.ensures in
-    let moved : IsMoved a.task.book.now a.task.components.now a.spent.now a.place.now more place =
-    moved_here c.parts_are_searched.ensures a.task.book.now a.task.ground.now a.task.components.now c.requires.ready a.base.now c.requires.base a.number _ _ _ c.part-part.ensures.cells c.part-part.ensures.axioms c.part-part.ensures.variables
-    c.deref-2.result.now (c.deref-2.ensures.value ∙ c.in_ok-targets.ensures) a.place.now a.solver c.requires.place c.requires.started a.spent.now more place c.pop.new.self.items c.reserve.new.self.items now.logs.items c.in-Some.log now.log _
+    let moved : IsMoved a.fitted.task.book.now a.fitted.task.components.now a.spent.now a.place.now more place =
+    moved_here c.parts_are_searched.ensures a.fitted.task.book.now a.fitted.task.ground.now a.fitted.task.components.now c.requires.ready a.fitted.base.now c.requires.base a.place.now.part _ _ _ c.part-part.ensures.cells c.part-part.ensures.axioms c.part-part.ensures.variables
+    c.deref-2.result.now (c.deref-2.ensures.value ∙ c.in_ok-targets.ensures) a.place.now a.solver refl c.requires.started a.spent.now more place c.pop.new.self.items c.reserve.new.self.items now.logs.items c.in-Some.log now.log _
     c.deref.result.now (c.deref.ensures.value ∙ c.in_ok-entries.ensures.on) c.in-Some.ensures.items c.in_ok-reserve.ensures.items c.in_ok-push.ensures.items refl says.logs says.log says.spends refl refl refl (omega (arith, says.spends.2.placed))
     in
     on_ok_weaker c.search_started-outcome.result (λ _. moved) says.found
@@ -59,10 +62,10 @@ returns-clause-stop c =
     let more : ℕ = a.spent.now + (now.tally.placed - a.place.now.tally.placed) in
     let says = c.search_started-outcome.ensures in
     let sum : more + a.place.now.tally.placed ≡ a.spent.now + now.tally.placed = omega (arith, says.spends.2.placed) in
-    let moved : IsMoved a.task.book.now a.task.components.now a.spent.now a.place.now more place =
-    moved_here c.parts_are_searched.ensures a.task.book.now a.task.ground.now a.task.components.now c.requires.ready a.base.now c.requires.base a.number _ _ _ c.part-part.ensures.cells c.part-part.ensures.axioms c.part-part.ensures.variables
-    c.deref-2.result.now (c.deref-2.ensures.value ∙ c.in_ok-targets.ensures) a.place.now a.solver c.requires.place c.requires.started a.spent.now more place c.pop.new.self.items c.reserve.new.self.items now.logs.items c.in-Some.log now.log _
+    let moved : IsMoved a.fitted.task.book.now a.fitted.task.components.now a.spent.now a.place.now more place =
+    moved_here c.parts_are_searched.ensures a.fitted.task.book.now a.fitted.task.ground.now a.fitted.task.components.now c.requires.ready a.fitted.base.now c.requires.base a.place.now.part _ _ _ c.part-part.ensures.cells c.part-part.ensures.axioms c.part-part.ensures.variables
+    c.deref-2.result.now (c.deref-2.ensures.value ∙ c.in_ok-targets.ensures) a.place.now a.solver refl c.requires.started a.spent.now more place c.pop.new.self.items c.reserve.new.self.items now.logs.items c.in-Some.log now.log _
     c.deref.result.now (c.deref.ensures.value ∙ c.in_ok-entries.ensures.on) c.in-Some.ensures.items c.in_ok-reserve.ensures.items c.in_ok-push.ensures.items refl says.logs says.log says.spends refl refl refl sum
     in
-    IfErr-weaker c.search_started-outcome.result (StopSays now.tally) (StopMoves a.task.book.now a.task.components.now a.task.budget a.spent.now a.place.now more place)
-    (λ stop h. stop_moves a.task.book.now a.task.components.now a.task.budget a.spent.now more a.place.now place stop h says.spends.2.limit c.requires.within sum moved) says.stop
+    IfErr-weaker c.search_started-outcome.result (StopSays now.tally) (StopMoves a.fitted.task.book.now a.fitted.task.components.now a.fitted.task.budget a.spent.now a.place.now more place)
+    (λ stop h. stop_moves a.fitted.task.book.now a.fitted.task.components.now a.fitted.task.budget a.spent.now more a.place.now place stop h says.spends.2.limit c.requires.within sum moved) says.stop

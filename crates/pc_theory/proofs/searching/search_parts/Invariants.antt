@@ -7,10 +7,10 @@ use Rattle.pc_theory.proofs.searching.search_parts.Given as goal
 
 abbrev pub invariant-loop-number : goal.invariant-loop-number
 invariant-loop-number l = record {
-  within : l.spent ≤ l.task.budget;
-  many : length l.parts.items ≡ length l.task.components.now.cells;
-  trails : l.trails ≡ l.task.ground.now.variables;
+  within : l.spent ≤ l.fitted.task.budget;
+  many : length l.parts.items ≡ length l.fitted.task.components.now.cells;
+  trails : l.trails ≡ l.fitted.task.ground.now.variables;
   solvers : l.number + length l.solvers.items ≡ length l.parts.items;
-  searched : AreSearched l.task.book.now l.task.components.now l.number l.worlds.items l.patch l.spent l.parts.items;
-  later : (k : ℕ) (d : PartSpending) (e : SuspendedView) → k < length l.solvers.items → IsStarted l.task.book.now l.task.components.now (get_or l.parts.items (l.number + k) d) (get_or l.solvers.items k e);
+  searched : AreSearched l.fitted.task.book.now l.fitted.task.components.now l.number l.worlds.items l.patch l.spent l.parts.items;
+  later : (k : ℕ) (d : PartSpending) (e : SuspendedView) → k < length l.solvers.items → IsStarted l.fitted.task.book.now l.fitted.task.components.now (get_or l.parts.items (l.number + k) d) (get_or l.solvers.items k e);
 }

@@ -22,7 +22,7 @@ pub read_values-requires-clause-pairs : goal.read_values-requires-clause-pairs
 read_values-requires-clause-pairs c =
     let a = c.args in
     let called = c.in_ok-called.ensures.called in
-    first_pairs c.parts_are_searched.ensures a.task.book.now a.task.ground.now a.task.components.now c.requires.ready a.number _ _ _ c.part-part.ensures.cells c.part-part.ensures.axioms c.part-part.ensures.variables
+    first_pairs c.parts_are_searched.ensures a.task.book.now a.task.ground.now a.task.components.now c.requires.ready c.len-number.result _ _ _ c.part-part.ensures.cells c.part-part.ensures.axioms c.part-part.ensures.variables
     c.in_ok-called.called.solver c.in_ok-called.called.place called.numbered called.started
 
 pub read_values-requires-clause-within : goal.read_values-requires-clause-within
@@ -45,8 +45,8 @@ returns-in_ok-push-in-Met-2-clause-started c =
     subst (λ (ns : List ℕ). (v : List ValueId) → AreWithin ns v → HasValues ns (map number_of cells) (value_in solver.trues) v → AgreeAt (Contains (map number_of cells)) v base) same c.read_values.ensures.reads
     in
     let next =
-    started_next c.parts_are_searched.ensures a.task.book.now a.task.ground.now a.task.components.now c.requires.ready a.spent.now a.number a.base.now base a.parts.now.items a.solvers.now.items cells _ _
-    c.part-part.ensures.cells c.part-part.ensures.axioms c.part-part.ensures.variables c.requires.started c.requires.many place solver c.suspend-solver.result.0 called.numbered called.started
+    started_next c.parts_are_searched.ensures a.task.book.now a.task.ground.now a.task.components.now c.requires.ready a.spent.now c.len-number.result a.base.now base a.parts.now.items a.solvers.now.items cells _ _
+    c.part-part.ensures.cells c.part-part.ensures.axioms c.part-part.ensures.variables c.requires.started (omega (arith, c.len-number.ensures, a.parts.now.ok.0)) place solver c.suspend-solver.result.0 called.numbered called.started
     (aside_started a.task.book.now a.task.components.now place solver c.suspend-solver.result.0 c.suspend-solver.ensures.problem c.suspend-solver.ensures.blocks c.suspend-solver.ensures.log called.started)
     (subst (λ (e : End). EndSays solver place e) c.in-Met.is called.says) assigns reads c.read_values.ensures.elsewhere
     in
@@ -62,7 +62,7 @@ returns-in_ok-push-in-Spent-clause-halt c =
     let says : place.tally.placed ≡ place.tally.limit = subst (λ (e : End). EndSays solver place e) c.in-Spent.is called.says in (
       omega (arith, says, called.limit_is, c.requires.within),
       subst (λ (ps : List PartSpending). ArePlaces a.task.book.now a.task.components.now (a.spent.now + place.tally.placed) ps) (sym c.in_ok-push-in-Spent.ensures.items)
-          (places_more a.task.book.now a.task.components.now a.spent.now a.number a.parts.now.items place c.requires.started.places c.requires.many called.numbered called.started.spent),
+          (places_more a.task.book.now a.task.components.now a.spent.now c.len-number.result a.parts.now.items place c.requires.started.places (omega (arith, c.len-number.ensures, a.parts.now.ok.0)) called.numbered called.started.spent),
     )
 
 pub returns-in_err-called-clause-halt : goal.returns-in_err-called-clause-halt

@@ -1,0 +1,55 @@
+use Rattle.std.proofs.Common.{◌≡◌, ◌+◌, ℕ, OnOk, length, ap, refl, sym, ◌∙◌, subst, arith}
+use Rattle.pc_sheet.specs.Entailment.{cell_sizes}
+use Rattle.pc_search.specs.Found.{Finds, work_between}
+use Rattle.pc_theory.specs.Edits.{IsSpentAlone}
+use Rattle.pc_theory.specs.Targets.{AreAsked}
+use Rattle.pc_theory.specs.Theories.{rules_alone, TheoryView, IsTheory}
+use Rattle.pc_theory.specs.declared.spending.PartSpending.{PartSpending}
+use Rattle.pc_theory.proofs.Editing.{ground_is, problem_right, few_targets, asked_of, alone_of_reasons, alone_blank}
+use Rattle.pc_theory.proofs.edits.PartTargets.find_reasons.Goals as goal
+
+pub find_reasons-requires-clause-searchable : goal.find_reasons-requires-clause-searchable
+find_reasons-requires-clause-searchable c =
+    let a = c.args in
+    let known = subst (λ (v : TheoryView). IsTheory (rules_alone a.self.book.now) v) (sym c.theory.view_is) c.requires.theory in
+    let asked = subst (λ (v : TheoryView). AreAsked (cell_sizes a.self.book.now.universe) v.components a.self.part a.self.targets.now) (sym c.theory.view_is) c.requires.asked in
+    record {
+      ground = ground_is c.parts_are_searched.ensures a.self.book.now _ c.entries-all.ensures.well_formed known a.self.part _ _ _ c.part-own.ensures.cells c.part-own.ensures.axioms c.part-own.ensures.variables;
+      problem = problem_right c.parts_are_searched.ensures a.self.book.now _ c.entries-all.ensures.well_formed known a.self.part _ _ _ c.part-own.ensures.cells c.part-own.ensures.axioms c.part-own.ensures.variables;
+      few_targets = few_targets c.parts_are_searched.ensures a.self.book.now _ c.entries-all.ensures.well_formed known a.self.part _ _ _ c.part-own.ensures.cells c.part-own.ensures.axioms c.part-own.ensures.variables a.self.targets.now asked (omega (arith, c.cells-cells.ensures.exact, c.cells-cells.ensures.few));
+      few_entries = omega (arith, ap length c.deref.ensures.value, c.in_ok-entries.ensures.few);
+    }
+
+pub find_reasons-requires-clause-asked : goal.find_reasons-requires-clause-asked
+find_reasons-requires-clause-asked c =
+    let a = c.args in
+    let known = subst (λ (v : TheoryView). IsTheory (rules_alone a.self.book.now) v) (sym c.theory.view_is) c.requires.theory in
+    let asked = subst (λ (v : TheoryView). AreAsked (cell_sizes a.self.book.now.universe) v.components a.self.part a.self.targets.now) (sym c.theory.view_is) c.requires.asked in
+    asked_of c.parts_are_searched.ensures a.self.book.now _ c.entries-all.ensures.well_formed known a.self.part _ _ _ c.part-own.ensures.cells c.part-own.ensures.axioms c.part-own.ensures.variables a.self.targets.now asked _ a.worlds.now (c.deref.ensures.value ∙ c.in_ok-entries.ensures.on) c.requires.worlds
+
+pub returns-clause-spends : goal.returns-clause-spends
+returns-clause-spends c =
+    let a = c.args in
+    let place : PartSpending = record { part = a.place.now.part; tally = c.find_reasons.new.tally; logs = c.find_reasons.new.logs } in
+    let known = subst (λ (v : TheoryView). IsTheory (rules_alone a.self.book.now) v) (sym c.theory.view_is) c.requires.theory in
+    let asked = subst (λ (v : TheoryView). AreAsked (cell_sizes a.self.book.now.universe) v.components a.self.part a.self.targets.now) (sym c.theory.view_is) c.requires.asked in
+    subst (λ (v : TheoryView). IsSpentAlone a.self.book.now v.components a.self.part place) c.theory.view_is
+    (alone_of_reasons c.parts_are_searched.ensures a.self.book.now _ c.entries-all.ensures.well_formed known a.self.part _ _ _ c.part-own.ensures.cells c.part-own.ensures.axioms c.part-own.ensures.variables a.self.targets.now asked a.place.now place c.requires.blank refl _ a.worlds.now (c.deref.ensures.value ∙ c.in_ok-entries.ensures.on) c.requires.worlds c.find_reasons.ensures.logs c.find_reasons.ensures.spends)
+
+pub returns-clause-limit : goal.returns-clause-limit
+returns-clause-limit c = c.find_reasons.ensures.spends.limit
+
+pub returns-in_err-entries-clause-spends : goal.returns-in_err-entries-clause-spends
+returns-in_err-entries-clause-spends c =
+    let a = c.args in
+    let place : PartSpending = a.place.now in
+    let known = subst (λ (v : TheoryView). IsTheory (rules_alone a.self.book.now) v) (sym c.theory.view_is) c.requires.theory in
+    let asked = subst (λ (v : TheoryView). AreAsked (cell_sizes a.self.book.now.universe) v.components a.self.part a.self.targets.now) (sym c.theory.view_is) c.requires.asked in
+    subst (λ (v : TheoryView). IsSpentAlone a.self.book.now v.components a.self.part place) c.theory.view_is
+    (alone_blank c.parts_are_searched.ensures a.self.book.now _ c.entries-all.ensures.well_formed known a.self.part _ _ _ c.part-own.ensures.cells c.part-own.ensures.axioms c.part-own.ensures.variables a.self.targets.now asked a.place.now place c.requires.blank refl refl refl)
+
+pub returns-clause-found : goal.returns-clause-found
+returns-clause-found c =
+    let a = c.args in
+    let all : work_between a.place.now.tally c.find_reasons.new.tally ≡ c.find_reasons.new.tally.learned + c.find_reasons.new.tally.calls = omega (arith, c.requires.blank.none_learned, c.requires.blank.no_calls) in
+    subst (λ (n : ℕ). OnOk c.find_reasons.result (Finds a.self.book.now n a.self.targets.now a.patch.now c.find_reasons.new.patch)) all c.find_reasons.ensures.found
