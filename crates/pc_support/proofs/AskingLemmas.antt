@@ -19,9 +19,10 @@ use Rattle.pc_solver.specs.Answers.{value_in, Meets, MeetsEach}
 use Rattle.pc_analyze.specs.Learning.{IsOverNegated}
 use Rattle.pc_solver.specs.InLog.{clause_on}
 use Rattle.pc_support.specs.declared.known.Core.{Core}
-use Rattle.pc_support.specs.Places.{HasPlace, HasBoth, IsWithin, chosen}
+use Rattle.pc_support.specs.Seen.{HasPlace, IsSeen}
+use Rattle.pc_support.specs.inside.Places.{HasBoth, IsWithin, chosen}
 use Rattle.pc_solver.specs.Spending.{Basis, basis_of}
-use Rattle.pc_support.specs.Asked.{Asked, asked_of, Forces, IsCountered, IsClauseAt, IsDerived, IsSeen, IsKnown, IsCoreOf, AreAllOwn}
+use Rattle.pc_support.specs.inside.Asked.{Asked, asked_of, Forces, IsCountered, IsClauseAt, IsDerived, IsKnown, IsCoreOf, AreAllOwn}
 use Rattle.pc_support.proofs.PlaceLemmas.{first_is, later_is, cons_cases, map_has, chosen_has, chosen_only}
 
 -- ---- truth of literals

@@ -7,8 +7,8 @@ use Rattle.pc_solver.specs.Solver.{SolverView}
 use Rattle.pc_solver.specs.Spending.{Basis, basis_of, GoesOn}
 use Rattle.pc_support.specs.declared.question.Question.{Question}
 use Rattle.pc_support.specs.declared.asking.Inquiry.{Inquiry}
-use Rattle.pc_support.specs.Asked.{AreAllOwn, IsKnown}
-use Rattle.pc_support.specs.Inquiries.{IsRight, IsAskable, Learns}
+use Rattle.pc_support.specs.inside.Asked.{AreAllOwn, IsKnown}
+use Rattle.pc_support.specs.inside.Inquiries.{IsRight, IsAskable, Learns}
 
 pub one_more : {X : Type 0} (xs ys : List X) (x : X) → ys ≡ xs ++ x ∷ [] → length ys ≡ length xs + 1
 one_more xs ys x is = ap length is ∙ length-append xs (x ∷ [])

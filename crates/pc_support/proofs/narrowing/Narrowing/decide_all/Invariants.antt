@@ -1,7 +1,7 @@
 use Rattle.std.proofs.Common.{◌≡◌, ◌≤◌, ◌*◌, ◌-◌, length}
 use Rattle.pc_solver.specs.Spending.{basis_of, GoesOn}
-use Rattle.pc_support.specs.Inquiries.{Learns}
-use Rattle.pc_support.specs.Narrowing.{IsDecidedFrom}
+use Rattle.pc_support.specs.inside.Inquiries.{Learns}
+use Rattle.pc_support.specs.inside.Narrowing.{IsDecidedFrom}
 use Rattle.pc_support.proofs.narrowing.Narrowing.decide_all.Given as goal
 
 abbrev pub invariant-loop-place : goal.invariant-loop-place

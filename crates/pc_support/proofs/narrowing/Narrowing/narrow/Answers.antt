@@ -1,7 +1,7 @@
 use Rattle.std.proofs.Common.{◌≡◌, ◌*◌, length, ap, arith, subst}
 use Rattle.pc_solver.specs.Spending.{basis_of}
 use Rattle.pc_support.specs.declared.question.Question.{Question}
-use Rattle.pc_support.specs.Narrowing.{LacksWitness}
+use Rattle.pc_support.specs.inside.Narrowing.{LacksWitness}
 use Rattle.pc_support.proofs.SpendingLemmas.{goes_further, once_more}
 use Rattle.pc_support.proofs.NarrowingLemmas.{none_at_all, at_none}
 use Rattle.pc_support.proofs.narrowing.Narrowing.narrow.Goals as goal

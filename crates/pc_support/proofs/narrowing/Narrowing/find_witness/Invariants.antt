@@ -1,9 +1,9 @@
 use Rattle.std.proofs.Common.{◌≡◌, ◌<◌, ℕ, Bool, List, Some, slice_get}
-use Rattle.pc_support.specs.Places.{HasBoth, IsWithinFrom}
+use Rattle.pc_support.specs.inside.Places.{HasBoth, IsWithinFrom}
 use Rattle.pc_solver.specs.Spending.{basis_of, GoesOn}
-use Rattle.pc_support.specs.Asked.{asked_of, IsCountered}
-use Rattle.pc_support.specs.Inquiries.{Learns}
-use Rattle.pc_support.proofs.narrowing.Narrowing.ask_each.Given as goal
+use Rattle.pc_support.specs.inside.Asked.{asked_of, IsCountered}
+use Rattle.pc_support.specs.inside.Inquiries.{Learns}
+use Rattle.pc_support.proofs.narrowing.Narrowing.find_witness.Given as goal
 
 abbrev pub invariant-loop-world : goal.invariant-loop-world
 invariant-loop-world l = record {
