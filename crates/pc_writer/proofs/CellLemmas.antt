@@ -15,7 +15,7 @@ use Rattle.pc_sheet.specs.declared.ids.FamilyId.{FamilyId}
 use Rattle.pc_sheet.specs.declared.ids.ValueId.{ValueId}
 use Rattle.pc_sheet.specs.WellFormed.{IsEntryOf}
 use Rattle.pc_sheet.specs.declared.ids.Entry.{Entry}
-use Rattle.pc_writer.specs.Spelling.{joined, no_application, application_of, arguments_text, family_of, name_of, sort_of, value_text, value_texts}
+use Rattle.pc_writer.specs.Spelling.{joined, no_application, application_of, family_of, name_of, separated_arguments, sort_of, value_text, value_texts}
 
 -- ---- arguments
 
@@ -148,9 +148,9 @@ module _ (u : Universe) (e : Entry) (entered : IsEntryOf u e) where
       let Q : SortId → Type 0 = λ t. e.value.0 < size_of u t in
       subst Q (sym same) (subst P (cell_size u e.cell entered_cell) entered)
 
-pub in_parentheses : (u : Universe) (ss : List SortId) (vs : List ValueId) (none : Bool) → none ≡ nat_eq (length ss) 0 → none ≡ false → arguments_text u ss vs ≡ codes "(" ++ (joined (codes ", ") (value_texts u ss vs) ++ codes ")")
-in_parentheses u [] vs none is not = absurd (cc)
-in_parentheses u (s ∷ ss) vs none is not = refl
+pub in_parentheses : (separator : List ℕ) (u : Universe) (ss : List SortId) (vs : List ValueId) (none : Bool) → none ≡ nat_eq (length ss) 0 → none ≡ false → separated_arguments separator u ss vs ≡ codes "(" ++ (joined separator (value_texts u ss vs) ++ codes ")")
+in_parentheses separator u [] vs none is not = absurd (cc)
+in_parentheses separator u (s ∷ ss) vs none is not = refl
 
 pub sort_there : (u : Universe) (s : SortId) (v : ValueId) → v.0 < size_of u s → s.0 < length u.sorts
 sort_there u s v below = declared (slice_get u.sorts s.0) refl below

@@ -47,14 +47,21 @@ abbrev pub name_of : Option Family → List ℕ
 name_of None = []
 name_of (Some f) = f.name
 
--- arguments in parentheses, or nothing where there are none
-abbrev pub arguments_text : Universe → List SortId → List ValueId → List ℕ
-arguments_text u [] vs = []
-arguments_text u (s ∷ ss) vs = codes "(" ++ (joined (codes ", ") (value_texts u (s ∷ ss) vs) ++ codes ")")
+-- arguments in parentheses with the separator between each two, or nothing where there are none
+abbrev pub separated_arguments : List ℕ → Universe → List SortId → List ValueId → List ℕ
+separated_arguments separator u [] vs = []
+separated_arguments separator u (s ∷ ss) vs = codes "(" ++ (joined separator (value_texts u (s ∷ ss) vs) ++ codes ")")
 
 -- a cell by its family's name and its arguments
+abbrev pub separated_cell : List ℕ → Universe → CellId → List ℕ
+separated_cell separator u c = name_of (family_of u c) ++ separated_arguments separator u (argument_sorts (family_of u c)) (application_of u c).arguments
+
+-- as it is read best
+abbrev pub arguments_text : Universe → List SortId → List ValueId → List ℕ
+arguments_text u ss vs = separated_arguments (codes ", ") u ss vs
+
 abbrev pub cell_text : Universe → CellId → List ℕ
-cell_text u c = name_of (family_of u c) ++ arguments_text u (argument_sorts (family_of u c)) (application_of u c).arguments
+cell_text u c = separated_cell (codes ", ") u c
 
 -- ---- entries
 

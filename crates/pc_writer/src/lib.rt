@@ -14,7 +14,7 @@ mod sheet;
 mod term;
 mod value;
 
-pub use cell::{sort_of, write_cell};
+pub use cell::{sort_of, write_cell, write_separated_cell};
 pub use entry::{write_entries, write_entry};
 pub use law::texts_are_worked;
 pub use number::write_integer;

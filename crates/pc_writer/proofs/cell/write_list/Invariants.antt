@@ -1,4 +1,4 @@
-use Rattle.std.proofs.Common.{take, codes, Ok}
+use Rattle.std.proofs.Common.{take, Ok}
 use Rattle.pc_port.specs.declared.source.Failed.{Failed}
 use Rattle.pc_writer.specs.Spelling.{application_of, joined, value_texts}
 use Rattle.pc_writer.specs.Writes.{Writes}
@@ -8,4 +8,4 @@ abbrev pub invariant-loop-i : goal.invariant-loop-i
 invariant-loop-i g l =
     let u = l.book.universe in
     Writes {T = Unit {0}} {E = Failed} g.O.Sink.given g.O.Sink.faults l.initial.out l.out (Ok tt)
-    (joined (codes ", ") (take l.i (value_texts u l.sorts (application_of u l.cell).arguments)))
+    (joined l.separator (take l.i (value_texts u l.sorts (application_of u l.cell).arguments)))
