@@ -1,3 +1,4 @@
 pub mod Whole
+pub mod Searching
 pub mod Solving
 pub mod Codes

@@ -1,7 +1,8 @@
-//! What a solver answers over the clauses of sheets from their texts: tests of grounds and solvers, above the reader of sheets.
+//! Worlds and least supports of sheets from their texts, and what a solver answers over their clauses: tests of the search, above
+//! the reader of sheets.
 //!
-//! `Whole` has a book with its clauses as one part, and `Solving` a solver of it; their invariants are what the solver asks for, so
-//! that their calls ask for nothing.
+//! A book is searched as one part. `Whole` has it with its clauses, `Solving` a solver of it, and `Searching` its worlds and a
+//! solver that is asked for least supports. Their invariants are what the searches ask for, so that their calls ask for nothing.
 #![tactic(auto)]
 
 #[cfg(test)]
@@ -9,8 +10,12 @@ mod book_part;
 #[cfg(test)]
 mod numbers;
 #[cfg(test)]
-mod solving;
+mod searches;
 #[cfg(test)]
-mod tests;
+mod searching;
+#[cfg(test)]
+mod solver_tests;
+#[cfg(test)]
+mod solving;
 #[cfg(test)]
 mod whole;

@@ -1,16 +1,14 @@
 //! A solver over all of a book.
 
-ghost use Rattle.std.specs.Prelude.{◌≡◌, ◌<◌, ◌^◌, [], Contains, IfOk, IsTrue, length};
-ghost use Rattle.pc_ground.specs.Grounded.{grounded};
-ghost use Rattle.pc_searched.specs.Laws.{AreSearchedBy, problem_of};
+ghost use Rattle.std.specs.Prelude.{◌≡◌, Contains, IfOk, IsTrue};
+ghost use Rattle.pc_searched.specs.Laws.{problem_of};
 ghost use Rattle.pc_solver.specs.Solver.{AreOwn, HasLog};
 
-use crate::book_part::BookPart;
+use crate::searches::{blank, solver_of_book};
 use crate::whole::{Whole, has_target};
-use pc_ground::Ground;
-use pc_lits::{Lit, Tally, Var};
+use pc_lits::{Lit, Var};
 use pc_log::{Line, Log, StepId};
-use pc_logic::{Book, Target};
+use pc_logic::Target;
 use pc_solver::{Outcome, Solver};
 use std::alloc::{AllocError, Global};
 use std::marker::Model;
@@ -35,43 +33,6 @@ impl<'a> Model for Solving<'a> {
     ghost view = { λ s. s.whole.now };
 
     ghost invariant = { λ s. IsSolving s.whole.now s.solver s.log };
-}
-
-/// A solver of all of a book.
-fn solver_of_book<'g>(
-    alloc: Global,
-    book: &Book,
-    ground: &'g Ground,
-    all: &'g BookPart,
-) -> Result<Solver<'g>, AllocError>
-    requires ground { ground.now ≡ grounded book.now }
-    requires searched { AreSearchedBy book.now book.now all.now.cells.items all.now.axioms.items all.now.variables.items }
-    requires few { length ground.now.clauses < 2 ^ 32 }
-    ensures problem { IfOk result (λ s. s.problem ≡ problem_of book.now all.now.axioms.items all.now.variables.items) }
-    ensures log { IfOk result (λ s. HasLog s []) }
-{
-    let _book = book;
-    let part = all.part();
-    Solver::new(
-        alloc,
-        ground.store(),
-        part.axioms,
-        part.variables,
-        ground.variables(),
-    )
-}
-
-// Counts from nothing on, under a limit that no test reaches.
-fn blank() -> Tally
-    ensures learned { result.learned ≡ 0 }
-    ensures calls { result.calls ≡ 0 }
-{
-    Tally {
-        placed: 0,
-        learned: 0,
-        calls: 0,
-        limit: 1_000_000_000,
-    }
 }
 
 // Whether the variable is among these.

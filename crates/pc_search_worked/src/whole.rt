@@ -1,6 +1,6 @@
 //! A book as one part.
 
-ghost use Rattle.std.specs.Prelude.{◌≡◌, IfOk, IsTrue};
+ghost use Rattle.std.specs.Prelude.{◌≡◌, Contains, IfOk, IsTrue};
 ghost use Rattle.pc_components.specs.Pairs.{IsValueOf};
 ghost use Rattle.pc_sheet.specs.Entailment.{cell_sizes};
 
@@ -8,7 +8,7 @@ use crate::book_part::{BookPart, part_of_book};
 use pc_ground::{Ground, ground_book};
 use pc_lits::Var;
 use pc_load::load_book;
-use pc_logic::{Book, CellId, Target, ValueId};
+use pc_logic::{Book, CellId, Entry, Target, ValueId};
 use std::alloc::{AllocError, Global};
 use std::marker::Model;
 
@@ -73,24 +73,35 @@ pub fn whole_of(alloc: Global, text: &str) -> Option<Whole> {
 
 /// Whether the target's cell and value are the book's.
 pub(crate) fn has_target(whole: &Whole, target: Target) -> bool
-    ensures { IsTrue result → IsValueOf (cell_sizes whole.now.sheet.universe) target.cell target.value }
+    ensures on { IsTrue result → Contains whole.now.cells target.cell }
+    ensures value { IsTrue result → IsValueOf (cell_sizes whole.now.sheet.universe) target.cell target.value }
 {
-    usize::from(target.cell.0) < whole.book.cells()
+    whole.all.cells.contains(&target.cell)
+        && usize::from(target.cell.0) < whole.book.cells()
         && usize::from(target.value.0) < whole.book.values_of(target.cell)
 }
 
-/// All targets of a book that a cell has a value, cell by cell.
+/// The book where an entry is entered; the same book where the entry isn't one of the book's.
+pub fn enter(alloc: Global, book: &Book, entry: Entry) -> Result<Book, AllocError> {
+    if usize::from(entry.cell.0) < book.cells()
+        && usize::from(entry.value.0) < book.values_of(entry.cell)
+    {
+        book.with_entry(alloc, entry)
+    } else {
+        book.copy(alloc)
+    }
+}
+
+/// All targets of a book, cell by cell: first that it has each of its values, and then that it hasn't.
 pub fn targets_of(alloc: Global, book: &Book) -> Result<Vec<Target>, AllocError> {
     let mut targets = Vec::new(alloc);
     for number in 0..book.cells() {
         let cell = CellId(number as u16);
-        for place in 0..book.values_of(cell) {
-            let value = ValueId(place as u16);
-            targets.push(Target {
-                cell,
-                value,
-                holds: true,
-            })?;
+        for holds in [true, false] {
+            for place in 0..book.values_of(cell) {
+                let value = ValueId(place as u16);
+                targets.push(Target { cell, value, holds })?;
+            }
         }
     }
     Ok(targets)

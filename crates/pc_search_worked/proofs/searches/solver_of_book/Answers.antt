@@ -1,7 +1,7 @@
 use Rattle.std.proofs.Common.{◌≡◌, IfOk, subst}
 use Rattle.pc_solver.specs.Solver.{Problem}
 use Rattle.pc_search_worked.proofs.Premises.{problem_of_store, problem_is}
-use Rattle.pc_search_worked.proofs.solving.solver_of_book.Goals as goal
+use Rattle.pc_search_worked.proofs.searches.solver_of_book.Goals as goal
 
 pub new-requires : goal.new-requires
 new-requires c =

@@ -74,7 +74,7 @@ fn assumed_in(alloc: Global, whole: &Whole, words: &str) -> Result<Vec<Lit>, All
 fn values_text(alloc: Global, whole: &Whole, solving: &Solving<'_>) -> Result<String, AllocError> {
     let mut text = String::from_str(alloc, "Sat")?;
     for target in &targets_of(alloc, whole.book())? {
-        if solving.is_true(*target) {
+        if target.holds && solving.is_true(*target) {
             let pair = format!(in alloc; " {}.{}", target.cell.0, target.value.0)?;
             text.push_str(pair.as_str())?;
         }
