@@ -10,6 +10,8 @@ mod book_part;
 #[cfg(test)]
 mod numbers;
 #[cfg(test)]
+mod search_tests;
+#[cfg(test)]
 mod searches;
 #[cfg(test)]
 mod searching;
