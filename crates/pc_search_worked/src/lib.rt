@@ -20,4 +20,6 @@ mod solver_tests;
 #[cfg(test)]
 mod solving;
 #[cfg(test)]
+mod trying_tests;
+#[cfg(test)]
 mod whole;
