@@ -1,4 +1,4 @@
-use Rattle.std.proofs.Common.{◌≡◌, IfOk, List, ap, sym, subst}
+use Rattle.std.proofs.Common.{◌≡◌, List, ap, sym, subst}
 use Rattle.pc_lits.specs.declared.literal.Var.{Var}
 use Rattle.pc_solver.specs.Solver.{Problem, HasLog}
 use Rattle.pc_solver.specs.Spending.{basis_of}
