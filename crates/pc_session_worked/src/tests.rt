@@ -270,16 +270,22 @@ enter c = red
 begin
 ";
 
-// Makes two edits, of which each undoes the other, and tells whether derivations were dropped.
+// Makes two edits, of which each undoes the other, and tells whether both were done.
 fn take_turn(alloc: Global, session: &mut Session) -> Result<bool, AllocError> {
-    let bytes = session.arena_bytes();
-    edit(alloc, session, "enter a = red")?;
-    edit(alloc, session, "enter a = green")?;
-    Ok(session.arena_bytes() < bytes)
+    let one = edit(alloc, session, "enter a = red")?;
+    let other = edit(alloc, session, "enter a = green")?;
+    Ok(one.as_str() == "searched" && other.as_str() == "searched")
+}
+
+// Whether the reasons are these, line for line, and those of a fresh load.
+fn has_reasons(alloc: Global, session: &Session, reasons: &str) -> Result<bool, AllocError> {
+    let text = reasons_text(alloc, session, "0123")?;
+    let loaded = is_as_loaded(alloc, session)?;
+    Ok(loaded && text.as_str() == reasons)
 }
 
 // Whether the derivations stay within so many bytes for so many turns, although some are dropped, and whether the reasons after that
-// are, line for line, those after the first turn.
+// and after each thousandth edit are, line for line, those after the first turn.
 fn stays_within(
     alloc: Global,
     session: &mut Session,
@@ -287,20 +293,20 @@ fn stays_within(
     bytes: u128,
 ) -> Result<bool, AllocError> {
     take_turn(alloc, session)?;
-    let first = reasons_text(alloc, session, "0123")?;
+    let reasons = reasons_text(alloc, session, "0123")?;
     let mut dropped = false;
-    for _ in 1..turns {
-        if take_turn(alloc, session)? {
-            dropped = true;
-            if reasons_text(alloc, session, "0123")?.as_str() != first.as_str() {
-                return Ok(false);
-            }
+    for turn in 1..turns {
+        let before = session.arena_bytes();
+        if !take_turn(alloc, session)? || session.arena_bytes() > bytes {
+            return Ok(false);
         }
-        if session.arena_bytes() > bytes {
+        let drops = session.arena_bytes() < before;
+        dropped = dropped || drops;
+        if (drops || turn % 500 == 499) && !has_reasons(alloc, session, reasons.as_str())? {
             return Ok(false);
         }
     }
-    Ok(dropped && reasons_text(alloc, session, "0123")?.as_str() == first.as_str())
+    Ok(dropped)
 }
 
 // The same of a session over pairs.
