@@ -11,7 +11,7 @@ use Rattle.pc_accept.specs.Literals.{Symbol}
 use Rattle.pc_cert.specs.Written.{nothing, heading, claims, claims_inconsistent, uses, assigns, derives, ends, SaidLine}
 use Rattle.pc_cert.specs.Order.{LineKind, empty_line, heading_line, target_line, inconsistent_line, use_line, value_line, numbered_line, end_line, kind_of, may_stand, has, is_end, is_claim}
 use Rattle.pc_cert.specs.Text.{AllSay, syntax, claim_in, parts_from, has_end, IsTextReading, fault_at, endless, whole, SayTogether}
-use Rattle.pc_cert.specs.Taken.{AreTaken}
+use Rattle.pc_cert.specs.inside.Taken.{AreTaken}
 use Rattle.pc_cert.specs.Views.{AreDistinct, AppearInOrder, IsCertTold, claim_of, numbered_part_of, places_of, symbol_of, reading_of}
 use Rattle.pc_cert.specs.declared.draft.Draft.{Draft}
 use Rattle.pc_cert.specs.declared.order.Order.{Order}

@@ -14,7 +14,7 @@ use Rattle.pc_cert.specs.Order.{LineKind, empty_line, heading_line, target_line,
 use Rattle.pc_cert.specs.Standing.{order_of}
 use Rattle.pc_cert.specs.Text.{Says, AllSay, IsAtFault, formless, nameless, syntax, unknown_name, IsTextReading, fault_at, faulty}
 use Rattle.pc_cert.specs.Gathered.{Adds}
-use Rattle.pc_cert.specs.Taken.{IsLineFault, IsFormless, IsTaken, AreTaken}
+use Rattle.pc_cert.specs.inside.Taken.{IsLineFault, IsFormless, IsTaken, AreTaken}
 use Rattle.pc_cert.specs.Views.{IsCertTold}
 use Rattle.pc_cert.specs.declared.draft.Draft.{Draft}
 use Rattle.pc_cert.specs.declared.order.Order.{Order}

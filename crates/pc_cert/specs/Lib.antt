@@ -13,4 +13,4 @@ pub mod KeysView
 pub mod Numbered
 pub mod Standing
 pub mod Gathered
-pub mod Taken
+pub mod inside

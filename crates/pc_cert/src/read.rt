@@ -6,7 +6,7 @@ ghost use Rattle.pc_cert.specs.Gathered.{IsGathered};
 ghost use Rattle.pc_cert.specs.Line.{IsLine};
 ghost use Rattle.pc_cert.specs.Order.{kind_of};
 ghost use Rattle.pc_cert.specs.Standing.{order_of};
-ghost use Rattle.pc_cert.specs.Taken.{IsFormless, IsLineFault, IsTaken, AreTaken};
+ghost use Rattle.pc_cert.specs.inside.Taken.{IsFormless, IsLineFault, IsTaken, AreTaken};
 ghost use Rattle.pc_cert.specs.Trees.{line_of};
 ghost use Rattle.pc_cert.specs.Views.{IsCertTold};
 ghost use Rattle.pc_cert.specs.Written.{SaidLine};

@@ -15,7 +15,7 @@ use Rattle.pc_sheet.specs.declared.nodes.NodeKind.TheVariants.{And, Or}
 use Rattle.pc_accept.specs.Literals.{Symbol, node, Literal, positive}
 use Rattle.pc_accept.specs.Axioms.{true_rule, parts, by_reads, how_many, each_below, clauses_of_node, child_of, IsNumbered, negated_entry}
 use Rattle.pc_checker.specs.Drafts.{Grows, Draft, IsWritten, AreWritten}
-use Rattle.pc_checker.specs.Written.{IsAxiomWritten, IsNumberWritten, clauses_of_kind, clauses_of_many}
+use Rattle.pc_checker.specs.inside.Written.{IsAxiomWritten, IsNumberWritten, clauses_of_kind, clauses_of_many}
 use Rattle.pc_checker.proofs.ClaimLemmas.{some_and}
 use Rattle.pc_checker.proofs.DraftLemmas.{nothing_written, one_more_written, more_written}
 

@@ -12,7 +12,7 @@ use Rattle.pc_checker.specs.declared.scratch.Scratch.{Scratch}
 use Rattle.pc_checker.specs.declared.verdict.Verdict.{Verdict}
 use Rattle.pc_checker.specs.declared.verdict.Verdict.TheVariants.{WrongEnd, Accepted}
 use Rattle.pc_checker.specs.Made.{IsPreparedFor, IsMadeFor}
-use Rattle.pc_checker.specs.Parts.{IsClaimVerdict, AreGoodBelow, IsFirstBad, EndsAmong, fault_at}
+use Rattle.pc_checker.specs.inside.Parts.{IsClaimVerdict, AreGoodBelow, IsFirstBad, EndsAmong, fault_at}
 use Rattle.pc_checker.specs.Verdicts.{ClaimStands, IsVerdict}
 use Rattle.pc_checker.proofs.CheckedLines.{no_line, first_at_fault, derivation, ends, fault_verdict}
 

@@ -20,7 +20,7 @@ use Rattle.pc_cert.specs.Views.{AreDistinct}
 use Rattle.pc_cert.specs.ReadFor.{IsNamedIn}
 use Rattle.pc_checker.specs.Made.{IsPrepared}
 use Rattle.pc_cert.specs.ReadFor.{IsPartOver}
-use Rattle.pc_checker.specs.Parts.{places_meant, IsGoodPart, AreGoodBelow, EndsAmong, fault_by}
+use Rattle.pc_checker.specs.inside.Parts.{places_meant, IsGoodPart, AreGoodBelow, EndsAmong, fault_by}
 use Rattle.pc_checker.specs.Verdicts.{Numbered, IsFirstAtFault, ClaimStands, IsVerdict}
 use Rattle.pc_checker.proofs.ListLemmas.{cut_at}
 use Rattle.pc_checker.proofs.HintLemmas.{all_below}

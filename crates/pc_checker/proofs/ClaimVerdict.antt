@@ -12,7 +12,7 @@ use Rattle.pc_cert.specs.declared.cert.Cert.{Cert}
 use Rattle.pc_cert.specs.declared.cert.Said.{Said}
 use Rattle.pc_checker.specs.declared.verdict.Verdict.TheVariants.{UseNotEntered, BadValues, UseNotHeld, RuleBroken}
 use Rattle.pc_cert.specs.ReadFor.{IsReadFor}
-use Rattle.pc_checker.specs.Parts.{IsFirstLine, IsLineOfValues, IsRuleBroken, IsTargetVerdict}
+use Rattle.pc_checker.specs.inside.Parts.{IsFirstLine, IsLineOfValues, IsRuleBroken, IsTargetVerdict}
 use Rattle.pc_checker.specs.Verdicts.{Numbered, IsEntered, AreEntered, AreValues, AreHeld, IsHeld, Stands, values_in}
 use Rattle.pc_checker.proofs.ClaimLemmas.{some_and, values_assign, within_length}
 use Rattle.std.proofs.lemmas.Option.{slice_get_within}

@@ -5,8 +5,8 @@ use Rattle.pc_lits.specs.declared.literal.Lit.{Lit}
 use Rattle.pc_lits.specs.Literals.{negated}
 use Rattle.pc_lits.specs.Steps.{IsGoodStep}
 use Rattle.pc_values.specs.Hints.{clauses_at}
-use Rattle.pc_checker.specs.Numbers.{IsNumberUpTo, places_of}
-use Rattle.pc_checker.specs.Parts.{places_meant, IsStepBy, EndsAmong}
+use Rattle.pc_checker.specs.inside.Numbers.{IsNumberUpTo, places_of}
+use Rattle.pc_checker.specs.inside.Parts.{places_meant, IsStepBy, EndsAmong}
 use Rattle.pc_checker.proofs.HintLemmas.{earlier, same_places}
 
 pub ends : (clauses : List (List Lit)) (allowed last : List Lit) (r : Bool) → 0 < length clauses → slice_get clauses (length clauses - 1) ≡ Some last

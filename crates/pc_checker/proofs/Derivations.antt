@@ -19,7 +19,7 @@ use Rattle.pc_cert.specs.Text.{line_of, lines_from}
 use Rattle.pc_cert.specs.Views.{symbol_at, literal_of}
 use Rattle.pc_cert.specs.Views.{AreDistinct}
 use Rattle.pc_cert.specs.ReadFor.{IsNamedIn}
-use Rattle.pc_checker.specs.Parts.{EndsAmong}
+use Rattle.pc_checker.specs.inside.Parts.{EndsAmong}
 use Rattle.pc_checker.specs.Verdicts.{Numbered}
 
 -- ---- names

@@ -6,8 +6,8 @@ use Rattle.std.proofs.lemmas.List.Elements.{All-weaker, All-map, All-head, All-t
 use Rattle.pc_lits.specs.declared.literal.Lit.{Lit}
 use Rattle.pc_values.specs.Hints.{clauses_at}
 use Rattle.pc_cert.specs.Text.{place_meant}
-use Rattle.pc_checker.specs.Numbers.{IsNumberUpTo, places_of}
-use Rattle.pc_checker.specs.Parts.{places_meant}
+use Rattle.pc_checker.specs.inside.Numbers.{IsNumberUpTo, places_of}
+use Rattle.pc_checker.specs.inside.Parts.{places_meant}
 use Rattle.pc_checker.proofs.ListLemmas.{all_mapped}
 
 -- a number means an earlier place exactly where it is one of those from 1

@@ -13,7 +13,7 @@ use Rattle.pc_cert.specs.declared.cert.CertLine.{CertLine}
 use Rattle.pc_checker.specs.LineClauses.{AreStored, TakeSame, clauses_by}
 use Rattle.pc_checker.specs.Made.{IsPrepared}
 use Rattle.pc_cert.specs.Views.{literal_of}
-use Rattle.pc_checker.specs.Prepared.{IsLinePrepared, IsPlacePrepared, ArePrepared}
+use Rattle.pc_checker.specs.inside.Prepared.{IsLinePrepared, IsPlacePrepared, ArePrepared}
 
 -- clauses that are stored later change nothing
 stays : (stored more : List (List Lit)) (places : List ℕ) → AreStored stored places → clauses_by (stored ++ more) places ≡ clauses_by stored places

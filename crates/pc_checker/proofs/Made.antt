@@ -12,7 +12,7 @@ use Rattle.pc_checker.specs.Entered.{AreEnteredValues}
 use Rattle.pc_checker.specs.Made.{IsPrepared, IsMadeFor}
 use Rattle.pc_cert.specs.ReadFor.{IsReadFor}
 use Rattle.pc_checker.specs.Drafts.{Grows, Draft, AreWritten}
-use Rattle.pc_checker.specs.Prepared.{ArePrepared}
+use Rattle.pc_checker.specs.inside.Prepared.{ArePrepared}
 use Rattle.pc_checker.specs.Verdicts.{values_in, allowed_in}
 use Rattle.pc_checker.proofs.RoomLemmas.{prepared_grown}
 

@@ -21,7 +21,7 @@ use Rattle.pc_cert.specs.ReadFor.{IsNamedIn, IsPartOver}
 use Rattle.pc_checker.specs.Made.{IsPrepared, value_said}
 use Rattle.pc_cert.specs.Keys.{IsNumberedAs}
 use Rattle.pc_checker.specs.Drafts.{Grows}
-use Rattle.pc_checker.specs.Prepared.{IsLinePrepared, ArePrepared}
+use Rattle.pc_checker.specs.inside.Prepared.{IsLinePrepared, ArePrepared}
 use Rattle.pc_checker.proofs.AxiomLemmas.{match_along}
 use Rattle.pc_checker.proofs.DraftLemmas.{grows_on, named_still, names_still}
 

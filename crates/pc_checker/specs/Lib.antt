@@ -2,9 +2,6 @@ pub mod Verdicts
 pub mod Laws
 pub mod Entered
 pub mod Made
-pub mod Parts
-pub mod Numbers
 pub mod Drafts
-pub mod Written
-pub mod Prepared
 pub mod LineClauses
+pub mod inside

@@ -2,7 +2,7 @@
 
 ghost use Rattle.pc_checker.specs.Made.{IsMadeFor};
 ghost use Rattle.std.specs.Prelude.{◌≡◌};
-ghost use Rattle.pc_checker.specs.Parts.{fault_at};
+ghost use Rattle.pc_checker.specs.inside.Parts.{fault_at};
 ghost use Rattle.pc_checker.specs.Verdicts.{IsVerdict};
 ghost use Rattle.pc_cert.specs.Views.{reading_of};
 

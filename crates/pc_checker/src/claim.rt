@@ -5,7 +5,7 @@ ghost use Rattle.pc_sheet.specs.Limits.{most_rules};
 ghost use Rattle.pc_sheet.specs.declared.ids.Entry.{Entry as TheEntry};
 ghost use Rattle.pc_cert.specs.ReadFor.{IsReadFor};
 ghost use Rattle.pc_checker.specs.Entered.{AreByCell, AreEnteredValues};
-ghost use Rattle.pc_checker.specs.Parts.{IsFirstLine, IsLineOfValues, IsRuleBroken, IsClaimVerdict, IsTargetVerdict};
+ghost use Rattle.pc_checker.specs.inside.Parts.{IsFirstLine, IsLineOfValues, IsRuleBroken, IsClaimVerdict, IsTargetVerdict};
 ghost use Rattle.pc_checker.specs.Verdicts.{IsHeld, values_in};
 ghost use Rattle.pc_cert.specs.Views.{reading_of, said_of};
 

@@ -3,7 +3,7 @@
 ghost use Rattle.std.specs.Prelude.{◌≡◌, ◌<◌, ◌↔◌, All, Contains, IsTrue, List, length};
 ghost use Rattle.pc_lits.specs.declared.literal.Lit.{Lit as TheLit};
 ghost use Rattle.pc_values.specs.Values.{IsInRange};
-ghost use Rattle.pc_checker.specs.Parts.{IsStepBy, IsGoodPart, IsFirstBad, EndsAmong, IsAmongOf, AreMarked};
+ghost use Rattle.pc_checker.specs.inside.Parts.{IsStepBy, IsGoodPart, IsFirstBad, EndsAmong, IsAmongOf, AreMarked};
 
 use crate::hints::{HintsByNumber, are_earlier};
 use crate::line_clauses::LineClauses;

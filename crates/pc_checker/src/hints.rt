@@ -2,8 +2,8 @@
 
 ghost use Rattle.std.specs.Prelude.{◌≡◌, ◌<◌, ◌↔◌, ◌-◌, All, IsTrue, length, map};
 ghost use Rattle.pc_values.specs.Hints.{clauses_at};
-ghost use Rattle.pc_checker.specs.Numbers.{IsNumberUpTo, places_of};
-ghost use Rattle.pc_checker.specs.Parts.{places_meant};
+ghost use Rattle.pc_checker.specs.inside.Numbers.{IsNumberUpTo, places_of};
+ghost use Rattle.pc_checker.specs.inside.Parts.{places_meant};
 
 use crate::line_clauses::LineClauses;
 use pc_lits::Lit;

@@ -10,7 +10,7 @@ ghost use Rattle.pc_checker.specs.Made.{IsMadeFor, value_said};
 ghost use Rattle.pc_cert.specs.ReadFor.{IsPartOver, IsReadFor};
 ghost use Rattle.pc_cert.specs.Keys.{IsNumberedAs};
 ghost use Rattle.pc_cert.specs.Views.{AreDistinct};
-ghost use Rattle.pc_checker.specs.Prepared.{ArePrepared, IsLinePrepared, IsPlacePrepared};
+ghost use Rattle.pc_checker.specs.inside.Prepared.{ArePrepared, IsLinePrepared, IsPlacePrepared};
 ghost use Rattle.pc_checker.specs.Verdicts.{allowed_in};
 
 use crate::draft::ClauseDraft;

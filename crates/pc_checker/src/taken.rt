@@ -8,7 +8,7 @@ ghost use Rattle.pc_sheet.specs.Nodes.{kind_at};
 ghost use Rattle.pc_sheet.specs.WellFormed.{IsEntryOf};
 ghost use Rattle.pc_sheet.specs.declared.nodes.NodeKind.{NodeKind};
 ghost use Rattle.pc_cert.specs.ReadFor.{IsOver};
-ghost use Rattle.pc_checker.specs.Written.{IsAxiomWritten};
+ghost use Rattle.pc_checker.specs.inside.Written.{IsAxiomWritten};
 
 use crate::axiom::{write_reads, write_values};
 use crate::draft::ClauseDraft;

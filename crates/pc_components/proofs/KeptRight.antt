@@ -19,14 +19,14 @@ use Rattle.pc_ground.specs.Ground.{GroundAxiom, axioms, clauses, clause_of, lit_
 use Rattle.pc_ground.specs.Variables.{variables, variable_count, number}
 use Rattle.pc_ground.proofs.Numbers.{have_their_places}
 use Rattle.pc_ground.proofs.Symbols.{symbols_are_variables}
-use Rattle.pc_components.specs.ClauseVariables.{variable_of, variables_at, variables_in}
+use Rattle.pc_components.specs.inside.ClauseVariables.{variable_of, variables_at, variables_in}
 use Rattle.pc_components.specs.Laws.{PartsAreInTheirGround}
-use Rattle.pc_components.specs.Numbers.{alone}
-use Rattle.pc_components.specs.Owners.{firsts_by, cell_number_by, owners_by}
+use Rattle.pc_components.specs.inside.Numbers.{alone}
+use Rattle.pc_components.specs.inside.Owners.{firsts_by, cell_number_by, owners_by}
 use Rattle.pc_components.specs.PartAxioms.{IsAxiomOf, AreAxiomsOf, IsUsed, AreVariablesOf}
-use Rattle.pc_components.specs.PartNumbers.{HasNumbers}
-use Rattle.pc_components.specs.Turned.{places_from, turned}
-use Rattle.pc_components.specs.Within.{AreAllBelow}
+use Rattle.pc_components.specs.inside.PartNumbers.{HasNumbers}
+use Rattle.pc_components.specs.inside.Turned.{places_from, turned}
+use Rattle.pc_components.specs.inside.Within.{AreAllBelow}
 use Rattle.pc_components.proofs.TraversalRight.{all_below}
 use Rattle.pc_sheet.specs.Entailment.{cell_sizes}
 use Rattle.pc_components.specs.View.{number_of, variable_number, cells_of_part, IsInPart, AreComponentsOf}

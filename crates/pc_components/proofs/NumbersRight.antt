@@ -12,8 +12,8 @@ use Rattle.pc_parts.proofs.LeafReads.{leaves_read_the_cells}
 use Rattle.pc_parts.proofs.Labels.{label_joined, label_le, joined_label, label_there}
 use Rattle.pc_laws.proofs.Elements.{contains_map, contains_mapped}
 use Rattle.pc_components.specs.Labels.{AreTied, IsTiedBy, AreLabels}
-use Rattle.pc_components.specs.Numbers.{AreOwn, own_firsts}
-use Rattle.pc_components.specs.Owners.{place_in}
+use Rattle.pc_components.specs.inside.Numbers.{AreOwn, own_firsts}
+use Rattle.pc_components.specs.inside.Owners.{place_in}
 
 -- ---- labels
 

@@ -20,8 +20,8 @@ use Rattle.pc_laws.proofs.Elements.{contains_first, contains_later, contains_cas
 use Rattle.pc_parts.proofs.Listed.{in_parts, rules_listed}
 use Rattle.pc_ground.proofs.Lists.{flat_push}
 use Rattle.pc_ground.specs.Ground.{GroundAxiom, numbered_axioms, node_axioms, parts_axioms, rule_axioms, rules_axioms}
-use Rattle.pc_components.specs.PieceCells.{piece_cells}
-use Rattle.pc_components.specs.Owners.{of_one, parts_under, parts_of_children, owners, owners_of_parts, owners_of_rules, Touches, AreOwners, OwnersAreFound}
+use Rattle.pc_components.specs.inside.PieceCells.{piece_cells}
+use Rattle.pc_components.specs.inside.Owners.{of_one, parts_under, parts_of_children, owners, owners_of_parts, owners_of_rules, Touches, AreOwners, OwnersAreFound}
 use Rattle.pc_components.proofs.Inside.{IsInside, inside}
 use Rattle.pc_components.proofs.PartFor.{slice_map}
 use Rattle.pc_components.proofs.PieceCellsListed.{below}

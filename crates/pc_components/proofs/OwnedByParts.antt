@@ -20,7 +20,7 @@ use Rattle.pc_parts.proofs.LeafReads.{leaves_read_the_cells}
 use Rattle.pc_parts.proofs.ReadWithin.{reads_cells}
 use Rattle.pc_ground.specs.Ground.{GroundAxiom, cell_axioms, cells_axioms, node_axioms, root_axiom, rule_axioms, rules_axioms}
 use Rattle.pc_components.specs.PartAxioms.{IsAxiomOf}
-use Rattle.pc_components.specs.Owners.{of_one, Touches, AreOwners, firsts_by, place_in, cell_number_by, number_by, owners_of_cells, owners_of_rules, OwnersAreParts}
+use Rattle.pc_components.specs.inside.Owners.{of_one, Touches, AreOwners, firsts_by, place_in, cell_number_by, number_by, owners_of_cells, owners_of_rules, OwnersAreParts}
 use Rattle.pc_components.proofs.Inside.{IsInside, inside}
 use Rattle.pc_components.proofs.Owned.{zip_append, zip_one, zip_wider, same_some, slice_left, owners_are_found}
 use Rattle.pc_components.proofs.PartFor.{slice_map}

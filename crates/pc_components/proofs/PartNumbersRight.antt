@@ -10,12 +10,12 @@ use Rattle.pc_parts.specs.Components.{label_of, all_relabeled, relabeled, rename
 use Rattle.pc_parts.specs.Leaves.{cells_of}
 use Rattle.pc_parts.specs.Parts.{cell_count, part_without_cells}
 use Rattle.pc_parts.specs.Pieces.{Piece, pieces}
-use Rattle.pc_components.specs.Numbers.{own_firsts, piece_number, last_count}
-use Rattle.pc_components.specs.Owners.{firsts_by, place_in, cell_number_by, number_by, owners_by, owners_of_cells}
-use Rattle.pc_components.specs.PartNumbers.{HasNumbers}
-use Rattle.pc_components.specs.PieceCells.{piece_cells_of_rules}
-use Rattle.pc_components.specs.Walk.{piece_count_of_rules, walk_of_cells, walk_of_rules}
-use Rattle.pc_components.specs.Within.{AreAllBelow}
+use Rattle.pc_components.specs.inside.Numbers.{own_firsts, piece_number, last_count}
+use Rattle.pc_components.specs.inside.Owners.{firsts_by, place_in, cell_number_by, number_by, owners_by, owners_of_cells}
+use Rattle.pc_components.specs.inside.PartNumbers.{HasNumbers}
+use Rattle.pc_components.specs.inside.PieceCells.{piece_cells_of_rules}
+use Rattle.pc_components.specs.inside.Walk.{piece_count_of_rules, walk_of_cells, walk_of_rules}
+use Rattle.pc_components.specs.inside.Within.{AreAllBelow}
 use Rattle.pc_components.proofs.PieceCellsListed.{cells_listed}
 use Rattle.pc_components.proofs.RowsWithin.{rows_within}
 use Rattle.pc_components.proofs.WalkRight.{rules_counted, walked_rules, walked_cells}

@@ -3,8 +3,8 @@ use Rattle.std.proofs.Common.{◌≡◌, ℕ, zero, suc, ◌+◌, ◌<◌, ◌�
 use Rattle.std.proofs.lemmas.List.{map-append, map_push, drop_more}
 use Rattle.pc_lits.specs.declared.literal.Lit.{Lit}
 use Rattle.pc_parts.specs.Components.{are_no_cells}
-use Rattle.pc_components.specs.ClauseVariables.{variable_of, variables_at}
-use Rattle.pc_components.specs.Numbers.{last_count}
+use Rattle.pc_components.specs.inside.ClauseVariables.{variable_of, variables_at}
+use Rattle.pc_components.specs.inside.Numbers.{last_count}
 use Rattle.pc_components.proofs.Placing.{item_first}
 
 pub row_made : {Y : Type 0} (f : List ℕ → Y) (rows : List (List ℕ)) (i : ℕ) (row : List ℕ) (y : Y) (before now end : List Y) → slice_get rows i ≡ Some row → y ≡ f row → before ++ map f (drop i rows) ≡ end → now ≡ before ++ y ∷ []

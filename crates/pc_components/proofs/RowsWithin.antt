@@ -8,7 +8,7 @@ use Rattle.pc_parts.specs.Pieces.{Piece, pieces}
 use Rattle.pc_laws.proofs.Elements.{contains_first, contains_later}
 use Rattle.pc_parts.proofs.LeafReads.{leaves_read_the_cells}
 use Rattle.pc_parts.proofs.ReadWithin.{reads_cells}
-use Rattle.pc_components.specs.Within.{AreBelow, AreAllBelow}
+use Rattle.pc_components.specs.inside.Within.{AreBelow, AreAllBelow}
 
 below : (n : ℕ) (cs : List ℕ) → ((c : ℕ) → Contains cs c → c < n) → AreBelow n cs
 below n [] h = tt

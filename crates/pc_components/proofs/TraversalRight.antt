@@ -10,8 +10,8 @@ use Rattle.pc_parts.specs.Components.{label_of}
 use Rattle.pc_laws.proofs.Elements.{contains_first, contains_later, contains_cases, contains_none}
 use Rattle.pc_components.specs.Labels.{IsTiedBy, AreLabels}
 use Rattle.pc_components.specs.Traversal.{Traversal, is_open, reached, all_reached, marked, row_visited, rows_visited, open_count, HasLabel, IsVisited, IsDone, IsTraversal, Nothing}
-use Rattle.pc_components.specs.Turned.{places_from, turned}
-use Rattle.pc_components.specs.Within.{AreBelow, AreAllBelow}
+use Rattle.pc_components.specs.inside.Turned.{places_from, turned}
+use Rattle.pc_components.specs.inside.Within.{AreBelow, AreAllBelow}
 use Rattle.pc_components.proofs.TurnedMeans.{places_are, are_places}
 use Rattle.pc_components.proofs.Owned.{same_some}
 

@@ -2,16 +2,8 @@ pub mod PartAxioms
 pub mod Used
 pub mod Laws
 pub mod View
-pub mod PieceCells
-pub mod Within
-pub mod Owners
-pub mod Marks
-pub mod Walk
-pub mod Turned
 pub mod Buckets
-pub mod Numbers
-pub mod ClauseVariables
-pub mod PartNumbers
 pub mod Pairs
 pub mod Labels
 pub mod Traversal
+pub mod inside

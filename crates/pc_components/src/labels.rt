@@ -8,8 +8,8 @@
 ghost use Rattle.std.specs.Prelude.{◌≡◌, ◌<◌, ◌+◌, ◌++◌, [], true, false, IfOk, IfNone, OnOk, length, replicate, option_to_list, slice_index_or};
 ghost use Rattle.pc_components.specs.Labels.{AreLabels};
 ghost use Rattle.pc_components.specs.Traversal.{IsTraversal, Nothing, is_open, reached, all_reached, marked, row_visited, rows_visited};
-ghost use Rattle.pc_components.specs.Turned.{turned};
-ghost use Rattle.pc_components.specs.Within.{AreBelow, AreAllBelow};
+ghost use Rattle.pc_components.specs.inside.Turned.{turned};
+ghost use Rattle.pc_components.specs.inside.Within.{AreBelow, AreAllBelow};
 
 use crate::turned::turn;
 use pc_lits::Rows;

@@ -1,5 +1,5 @@
 //! What the axioms of a part say. Each function is a law: its contract holds for every sheet, and it does nothing.
-ghost use Rattle.pc_components.specs.Owners.{OwnersAreFound, OwnersAreParts};
+ghost use Rattle.pc_components.specs.inside.Owners.{OwnersAreFound, OwnersAreParts};
 ghost use Rattle.pc_components.specs.Laws.{AxiomsAreForTheirSheet, ClausesDecide, PartAxiomsAreForTheirParts, PartsAreInTheirGround, PartsAreSolvable, PartsHaveTheirOwnVariables};
 
 /// The axioms of a part stand for the part's sheet on its cells.

@@ -1,7 +1,7 @@
 //! Rows of numbers as rows of what they number.
 ghost use Rattle.std.specs.Prelude.{◌≡◌, ◌<◌, ◌^◌, IfOk, map};
 ghost use Rattle.pc_components.specs.View.{number_of, variable_number};
-ghost use Rattle.pc_components.specs.Within.{AreBelow, AreAllBelow};
+ghost use Rattle.pc_components.specs.inside.Within.{AreBelow, AreAllBelow};
 
 use pc_lits::{Rows, Var};
 use pc_sheet::CellId;

@@ -1,7 +1,7 @@
 //! The numbers of the parts of cells and pieces, from the labels.
 ghost use Rattle.std.specs.Prelude.{◌≡◌, ◌≤◌, ◌==◌, cond, IfOk, length, map, slice_index_or};
-ghost use Rattle.pc_components.specs.Owners.{place_in};
-ghost use Rattle.pc_components.specs.Numbers.{AreOwn, own_firsts, piece_number, last_count, alone};
+ghost use Rattle.pc_components.specs.inside.Owners.{place_in};
+ghost use Rattle.pc_components.specs.inside.Numbers.{AreOwn, own_firsts, piece_number, last_count, alone};
 
 use pc_lits::Rows;
 use std::alloc::{AllocError, Global};

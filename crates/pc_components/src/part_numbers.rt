@@ -3,8 +3,8 @@ ghost use Rattle.std.specs.Prelude.{◌≡◌, IfOk, length, map};
 ghost use Rattle.pc_parts.specs.Components.{all_cells, labels_of, parts_of};
 ghost use Rattle.pc_parts.specs.Leaves.{cells_of};
 ghost use Rattle.pc_parts.specs.Pieces.{pieces};
-ghost use Rattle.pc_components.specs.Owners.{cell_number_by, number_by, owners_by};
-ghost use Rattle.pc_components.specs.PartNumbers.{HasNumbers};
+ghost use Rattle.pc_components.specs.inside.Owners.{cell_number_by, number_by, owners_by};
+ghost use Rattle.pc_components.specs.inside.PartNumbers.{HasNumbers};
 
 use crate::labels::labels_by;
 use crate::numbers::{count_last, number_cells, numbers_of_pieces};

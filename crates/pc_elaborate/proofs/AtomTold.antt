@@ -20,7 +20,7 @@ use Rattle.pc_elaborate.specs.declared.fault.SortFault.TheVariants.{WrongArity, 
 use Rattle.pc_elaborate.specs.declared.fault.Which.TheVariants.{Reads}
 use Rattle.pc_elaborate.specs.declared.sides.Kind.{Kind}
 use Rattle.pc_elaborate.specs.Outcome.{HasUniqueNames}
-use Rattle.pc_elaborate.specs.Scope.{IsScope}
+use Rattle.pc_elaborate.specs.inside.Scope.{IsScope}
 use Rattle.pc_elaborate.specs.Elaboration.{IsTableNamed, IsStatement, is_comparison, is_table_atom}
 use Rattle.pc_elaborate.specs.FormulaFaults.{IsNameFault, IsSomeTable, IsSideFault, IsComparisonFault, IsTableAtomFault, AreArgumentsFault}
 use Rattle.pc_elaborate.specs.Told.{MayCompare, IsSideTold, AreArgumentsTold, IsFormulaTold}

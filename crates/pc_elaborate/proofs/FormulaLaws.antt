@@ -14,7 +14,7 @@ use Rattle.pc_elaborate.specs.declared.fault.SortFault.{SortFault}
 use Rattle.pc_elaborate.specs.declared.fault.SortFault.TheVariants.{DuplicateName, Limit}
 use Rattle.pc_elaborate.specs.declared.fault.Which.TheVariants.{Depth}
 use Rattle.pc_elaborate.specs.Outcome.{HasUniqueNames, HasOneOutcome}
-use Rattle.pc_elaborate.specs.Scope.{IsScope}
+use Rattle.pc_elaborate.specs.inside.Scope.{IsScope}
 use Rattle.pc_elaborate.specs.Elaboration.{IsSortNamed, IsStatement, AreStatements, AreArguments}
 use Rattle.pc_elaborate.specs.FormulaFaults.{IsDeclared, IsBound, IsSomeSort, IsSortNameFault, HasSort, IsSortedFormula, IsQuantifierFault, IsFormulaFault, AreFormulasFault}
 use Rattle.pc_elaborate.proofs.Testing.{IsOne, IsNever, none_one, none_never, test_one_if, test_never, part_one, part_never}

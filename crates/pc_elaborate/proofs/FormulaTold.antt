@@ -22,7 +22,7 @@ use Rattle.pc_elaborate.specs.declared.fault.SortFault.TheVariants.{DuplicateNam
 use Rattle.pc_elaborate.specs.declared.fault.Which.TheVariants.{Depth}
 use Rattle.pc_elaborate.specs.Tests.{no_test}
 use Rattle.pc_elaborate.specs.Outcome.{HasUniqueNames, IsOutcome}
-use Rattle.pc_elaborate.specs.Scope.{IsScope}
+use Rattle.pc_elaborate.specs.inside.Scope.{IsScope}
 use Rattle.pc_elaborate.specs.Elaboration.{IsSortNamed, IsStatement, is_negation, is_conjunction, is_disjunction, is_implication, is_equivalence, is_universal, is_existential, AreStatements, no_statements_left, one_statement}
 use Rattle.pc_elaborate.specs.FormulaFaults.{IsDeclared, IsBound, IsSortNameFault, IsQuantifierFault, IsFormulaFault, AreFormulasFault}
 use Rattle.pc_elaborate.specs.Told.{IsFaultOf, IsFormulaTold, IsBoxedTold, IsVariableTold, IsQuantifiedTold, AreFormulasTold, TellsStatement, TellsFault}

@@ -15,7 +15,7 @@ use Rattle.pc_elaborate.specs.declared.fault.SortFault.{SortFault}
 use Rattle.pc_elaborate.specs.declared.fault.SortFault.TheVariants.{UnknownName, WrongArity, WrongSort}
 use Rattle.pc_elaborate.specs.Tests.{no_test, test}
 use Rattle.pc_elaborate.specs.Outcome.{HasUniqueNames}
-use Rattle.pc_elaborate.specs.Scope.{IsScope}
+use Rattle.pc_elaborate.specs.inside.Scope.{IsScope}
 use Rattle.pc_elaborate.specs.Elaboration.{IsFamilyNamed, TakesArguments, IsItem, IsArgument, AreArguments}
 use Rattle.pc_elaborate.specs.FormulaFaults.{IsDeclared, IsSomeSort, IsSomeTable, IsSomeFamily, IsBound, IsSortedItem, IsSortedArgument, count_items, IsNamedFault, IsArgumentFault, AreArgumentsFault, IsItemFault}
 use Rattle.pc_elaborate.proofs.Testing.{IsOne, IsNever, none_one, none_never, test_one, test_never, part_one, part_never}

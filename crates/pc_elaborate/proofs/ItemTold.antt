@@ -28,7 +28,7 @@ use Rattle.pc_elaborate.specs.declared.fault.SortFault.TheVariants as faults
 use Rattle.pc_elaborate.specs.declared.fault.SortFault.TheVariants.{UnknownName, WrongArity, WrongSort}
 use Rattle.pc_elaborate.specs.Tests.{test}
 use Rattle.pc_elaborate.specs.Outcome.{HasUniqueNames}
-use Rattle.pc_elaborate.specs.Scope.{IsScope}
+use Rattle.pc_elaborate.specs.inside.Scope.{IsScope}
 use Rattle.pc_elaborate.specs.Elaboration.{IsFamilyNamed, TakesArguments, IsValueOf, IsItem, is_variable, is_value, is_application, IsArgument, is_integer, is_item, AreArguments, no_arguments, one_argument}
 use Rattle.pc_elaborate.specs.FormulaFaults.{IsDeclared, IsBound, IsSomeSort, IsSomeTable, IsSomeFamily, IsSortedArgument, count_items, IsItemFault, IsArgumentFault, AreArgumentsFault}
 use Rattle.pc_elaborate.specs.Told.{IsFaultOf, IsItemTold, IsArgumentTold, AreArgumentsTold, IsAppliedTold}

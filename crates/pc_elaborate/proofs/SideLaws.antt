@@ -18,7 +18,7 @@ use Rattle.pc_elaborate.specs.declared.fault.SortFault.TheVariants.{WrongArity, 
 use Rattle.pc_elaborate.specs.declared.fault.Which.TheVariants.{Number, Reads}
 use Rattle.pc_elaborate.specs.Tests.{no_test, test, part}
 use Rattle.pc_elaborate.specs.Outcome.{HasUniqueNames}
-use Rattle.pc_elaborate.specs.Scope.{IsScope}
+use Rattle.pc_elaborate.specs.inside.Scope.{IsScope}
 use Rattle.pc_elaborate.specs.Elaboration.{IsTableNamed, IsItem, IsArgument, AreArguments, AreAdded, IsSum}
 use Rattle.pc_elaborate.specs.FormulaFaults.{IsSomeTable, IsNameFault, IsSortedItem, IsSortedArgument, IsArgumentFault, AreArgumentsFault, IsItemFault, count_items, is_several, IsSideItem, IsSideItemFault, AreAddedFault, IsSideFault, AreAddedItems, IsSide, AreSums, IsComparisonFault, AreSortedArguments, HasTable, GivesArguments, IsTableAtomFault}
 use Rattle.pc_elaborate.proofs.Testing.{IsOne, IsNever, none_one, none_never, test_one, test_never, part_one, part_never}

@@ -24,7 +24,7 @@ use Rattle.pc_elaborate.specs.declared.fault.SortFault.TheVariants.{WrongSort}
 use Rattle.pc_elaborate.specs.declared.sides.Kind.{Kind}
 use Rattle.pc_elaborate.specs.declared.sides.Kind.TheVariants.{Integer, Listed}
 use Rattle.pc_elaborate.specs.Outcome.{HasUniqueNames}
-use Rattle.pc_elaborate.specs.Scope.{IsScope}
+use Rattle.pc_elaborate.specs.inside.Scope.{IsScope}
 use Rattle.pc_elaborate.specs.Elaboration.{IsItem, is_number, AreAdded}
 use Rattle.pc_elaborate.specs.FormulaFaults.{IsItemFault, is_several, IsSideItem, IsSideItemFault, AreAddedFault, AreAddedItems, IsSideFault}
 use Rattle.pc_elaborate.specs.Told.{IsItemTold, IsKindOf, IsItemOfKind, IsSumOfKind, MayStand, MayCompare, IsSideItemTold, AreAddedTold, IsSideTold}

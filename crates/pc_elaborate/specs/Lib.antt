@@ -3,6 +3,6 @@ pub mod Tests
 pub mod FormulaFaults
 pub mod Told
 pub mod Outcome
-pub mod Scope
 pub mod Laws
 pub mod Examples
+pub mod inside

@@ -4,7 +4,7 @@ ghost use Rattle.pc_formula.specs.Sized.{IsSizedSide};
 ghost use Rattle.pc_formula.specs.Tree as tree;
 ghost use Rattle.pc_formula.specs.Tree.{item_of, side_of};
 ghost use Rattle.pc_sheet.specs.WellFormed.{IsDeclaredSort};
-ghost use Rattle.pc_elaborate.specs.Scope.{IsScope};
+ghost use Rattle.pc_elaborate.specs.inside.Scope.{IsScope};
 ghost use Rattle.pc_elaborate.specs.Told.{IsFormulaTold, variables_of};
 
 use crate::fault::{SortFault, Which};

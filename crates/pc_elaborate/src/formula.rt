@@ -9,7 +9,7 @@ ghost use Rattle.pc_sheet.specs.Views.{statement_of};
 ghost use Rattle.pc_sheet.specs.WellSorted.{IsWellSorted};
 ghost use Rattle.pc_elaborate.specs.Elaboration.{IsStatement};
 ghost use Rattle.pc_elaborate.specs.FormulaFaults.{IsFormulaFault};
-ghost use Rattle.pc_elaborate.specs.Scope.{IsScope};
+ghost use Rattle.pc_elaborate.specs.inside.Scope.{IsScope};
 ghost use Rattle.pc_elaborate.specs.Told.{AreFormulasTold, IsBoxedTold, IsFormulaTold, IsQuantifiedTold, IsVariableTold, TellsFault, TellsStatement, variables_of};
 ghost use Rattle.pc_elaborate.specs.declared.fault.SortFault.{SortFault};
 

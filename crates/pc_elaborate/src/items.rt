@@ -1,7 +1,7 @@
 //! What names and applications stand for.
 ghost use Rattle.std.specs.Prelude.{◌≡◌, ◌<◌, length, map};
 ghost use Rattle.pc_formula.specs.Tree.{item_of, items_of, named, no_item};
-ghost use Rattle.pc_elaborate.specs.Scope.{IsScope};
+ghost use Rattle.pc_elaborate.specs.inside.Scope.{IsScope};
 ghost use Rattle.pc_elaborate.specs.Elaboration.{IsFamilyNamed};
 ghost use Rattle.pc_elaborate.specs.Told.{AreArgumentsTold, IsAppliedTold, IsArgumentTold, IsItemTold, variables_of};
 ghost use Rattle.std.specs.Prelude.{All};

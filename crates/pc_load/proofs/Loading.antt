@@ -16,7 +16,7 @@ use Rattle.pc_run.specs.declared.refusal.SheetRefusal.{SheetRefusal}
 use Rattle.pc_run.specs.Answer.{RefusesBy}
 use Rattle.pc_load.specs.Outcome.{HasFault, IsFaultAt, Outcome, reads, fails}
 use Rattle.pc_load.specs.Laws.{TextsHaveOneOutcome}
-use Rattle.pc_load.specs.Loading.{load_fault_of, IsSortFaultTold}
+use Rattle.pc_load.specs.inside.Loading.{load_fault_of, IsSortFaultTold}
 use Rattle.pc_load.proofs.Telling.{fails as of_refusal, is_fault}
 
 -- the fault of a text

@@ -1,4 +1,4 @@
 pub mod Refusals
 pub mod Outcome
 pub mod Laws
-pub mod Loading
+pub mod inside

@@ -1,7 +1,7 @@
 //! How faults of texts, of names and of sorts are told.
 ghost use Rattle.std.specs.Prelude.{◌≡◌, MatchOption};
 ghost use Rattle.pc_load.specs.Refusals.{IsSortRefusal, which_of};
-ghost use Rattle.pc_load.specs.Loading.{IsSortFaultTold, load_fault_of, refused_for};
+ghost use Rattle.pc_load.specs.inside.Loading.{IsSortFaultTold, load_fault_of, refused_for};
 
 use pc_run::{LimitWord, LoadFault, Refusal, SheetRefusal};
 use pc_sortcheck::{SheetSortFault, SortFault, Which};

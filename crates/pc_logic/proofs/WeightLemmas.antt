@@ -15,7 +15,7 @@ use Rattle.pc_sheet.specs.declared.ids.Entry.{Entry}
 use Rattle.pc_sheet.specs.declared.ids.SortId.{SortId}
 use Rattle.pc_sheet.specs.declared.ids.ValueId.{ValueId}
 use Rattle.pc_logic.specs.Asking.{AsksAtMost}
-use Rattle.pc_logic.specs.Bounded.{IsBounded}
+use Rattle.pc_logic.specs.inside.Bounded.{IsBounded}
 use Rattle.pc_logic.specs.Cut.{cut}
 use Rattle.pc_logic.proofs.AskingLemmas.{fewer, comparison_asks, row_asks, leaves_known, leaves_stopped, asks_fewer}
 use Rattle.pc_logic.proofs.NodeLemmas.{parts_count, and_is, or_is}

@@ -15,7 +15,7 @@ ghost use Rattle.pc_sheet.specs.WellSorted.{declared_names, names_of_values};
 ghost use Rattle.pc_sheet.specs.declared.nodes.NodeKind.TheVariants.{Atom};
 ghost use Rattle.pc_logic.specs.Cut.{cut};
 ghost use Rattle.pc_logic.specs.Named.{IsNameOf, sort_keys};
-ghost use Rattle.pc_logic.specs.NameTable.{named_texts};
+ghost use Rattle.pc_logic.specs.inside.NameTable.{named_texts};
 ghost use Rattle.pc_logic.specs.Outcome.{AreTooFewAt, GiveTruthAt};
 ghost use Rattle.pc_logic.specs.SchemeView.{sort_of, table_of, values_of};
 ghost use Rattle.pc_logic.specs.declared.names.Named.{Named};

@@ -3,8 +3,8 @@ ghost use Rattle.std.specs.Prelude.{◌≡◌, ◌∷◌, ◌++◌, [], Some, No
 ghost use Rattle.pc_sheet.specs.Nodes.{kind_of, node_from, part_at, root_of};
 ghost use Rattle.pc_sheet.specs.Truth.{Scope, size_of};
 ghost use Rattle.pc_sheet.specs.Views.{rule_of, statement_of, statements_of};
-ghost use Rattle.pc_logic.specs.Bounded.{IsBounded, AreBounded, AreAllBounded};
-ghost use Rattle.pc_logic.specs.Found.{kind_in};
+ghost use Rattle.pc_logic.specs.inside.Bounded.{IsBounded, AreBounded, AreAllBounded};
+ghost use Rattle.pc_logic.specs.inside.Found.{kind_in};
 ghost use Rattle.pc_logic.specs.SchemeView.{universe_of};
 ghost use Rattle.pc_logic.specs.Sound.{IsSound};
 

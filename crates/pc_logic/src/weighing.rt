@@ -9,7 +9,7 @@ ghost use Rattle.pc_sheet.specs.Views.{rule_of, statement_of, statements_of};
 ghost use Rattle.pc_sheet.specs.Weight.{cell_weight, leaf_weight, node_weight, parts_weight, rule_weight};
 ghost use Rattle.pc_logic.specs.Asking.{AsksAtMost};
 ghost use Rattle.pc_logic.specs.AtomView.{reading_of};
-ghost use Rattle.pc_logic.specs.Bounded.{IsBounded, AreBounded, AreAllBounded};
+ghost use Rattle.pc_logic.specs.inside.Bounded.{IsBounded, AreBounded, AreAllBounded};
 ghost use Rattle.pc_logic.specs.Cut.{cut};
 ghost use Rattle.pc_logic.specs.SchemeView.{universe_of};
 ghost use Rattle.pc_logic.specs.Sound.{IsSound, AreShallow};

@@ -18,7 +18,7 @@ use Rattle.pc_elaborate.specs.Elaboration.{IsSortNamed}
 use Rattle.pc_elaborate.specs.FormulaFaults.{IsSortNameFault}
 use Rattle.pc_sortcheck.specs.Declaring.{Declares, AreSortsNamed}
 use Rattle.pc_sortcheck.specs.DeclarationFaults.{IsDeclarationFault, HasRoomForCells}
-use Rattle.pc_sortcheck.specs.Fits.{FamilyFits}
+use Rattle.pc_sortcheck.specs.inside.Fits.{FamilyFits}
 use Rattle.pc_sortcheck.proofs.FoundSorts.{as_many_sorts, sorts_declared, sort_declared}
 use Rattle.pc_sortcheck.proofs.WithFamily.{with_one_family}
 

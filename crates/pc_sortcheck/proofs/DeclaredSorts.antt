@@ -9,7 +9,7 @@ use Rattle.pc_logic.specs.Edits.{listed_sort, range_sort, with_sort}
 use Rattle.pc_sortcheck.specs.Declaring.{Declares}
 use Rattle.pc_elaborate.specs.declared.fault.SortFault.{SortFault}
 use Rattle.pc_sortcheck.specs.DeclarationFaults.{IsNew, IsDeclarationFault}
-use Rattle.pc_sortcheck.specs.Fits.{ListFits, RangeFits}
+use Rattle.pc_sortcheck.specs.inside.Fits.{ListFits, RangeFits}
 use Rattle.pc_sortcheck.proofs.NewNames.{Names, each_new}
 use Rattle.pc_sortcheck.proofs.WithSort.{SortFits, with_one_sort, sort_needs}
 

@@ -16,7 +16,7 @@ use Rattle.pc_elaborate.specs.Elaboration.{IsTableNamed, AreValuesOf}
 use Rattle.pc_elaborate.proofs.Values.{value_below, as_many_values}
 use Rattle.pc_sortcheck.specs.Declaring.{Declares, AreSortsNamed}
 use Rattle.pc_sortcheck.specs.DeclarationFaults.{IsDeclarationFault, HasRoomForRow}
-use Rattle.pc_sortcheck.specs.Fits.{TableFits, AreRowOf}
+use Rattle.pc_sortcheck.specs.inside.Fits.{TableFits, AreRowOf}
 use Rattle.pc_sortcheck.proofs.FoundSorts.{as_many_sorts, sorts_declared}
 use Rattle.pc_sortcheck.proofs.WithTable.{with_one_table}
 use Rattle.pc_sortcheck.proofs.WithRow.{with_one_row}

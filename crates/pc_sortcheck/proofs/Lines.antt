@@ -12,7 +12,7 @@ use Rattle.pc_elaborate.specs.declared.fault.SortFault.{SortFault}
 use Rattle.pc_elaborate.specs.Told.{IsFaultOf}
 use Rattle.pc_sortcheck.specs.Declaring.{Declares, DeclareAll}
 use Rattle.pc_sortcheck.specs.DeclarationFaults.{IsDeclarationFault, IsFirstFault}
-use Rattle.pc_sortcheck.specs.Fits.{HasWrittenRule}
+use Rattle.pc_sortcheck.specs.inside.Fits.{HasWrittenRule}
 use Rattle.pc_sortcheck.proofs.Faults.{weaker}
 
 abbrev Line : Type 0

@@ -1,4 +1,4 @@
 pub mod Declaring
 pub mod DeclarationFaults
-pub mod Fits
 pub mod Laws
+pub mod inside

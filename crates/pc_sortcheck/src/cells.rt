@@ -9,7 +9,7 @@ ghost use Rattle.pc_syntax.specs.Tree.{cell_of, value_of};
 ghost use Rattle.pc_elaborate.specs.Told.{IsFaultOf};
 ghost use Rattle.pc_sortcheck.specs.DeclarationFaults.{IsDeclarationFault};
 ghost use Rattle.pc_sortcheck.specs.Declaring.{Declares};
-ghost use Rattle.pc_sortcheck.specs.Fits.{FamilyFits};
+ghost use Rattle.pc_sortcheck.specs.inside.Fits.{FamilyFits};
 
 use crate::names::{is_name, is_new, keeps_form};
 use crate::tables::find_sorts;

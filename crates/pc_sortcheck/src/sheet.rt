@@ -8,7 +8,7 @@ ghost use Rattle.pc_elaborate.specs.Told.{IsFaultOf, IsWantOfMemory};
 ghost use Rattle.pc_elaborate.specs.declared.fault.SortFault.{SortFault};
 ghost use Rattle.pc_sortcheck.specs.DeclarationFaults.{IsDeclarationFault, IsSheetFault};
 ghost use Rattle.pc_sortcheck.specs.Declaring.{Declares, IsSheetOf};
-ghost use Rattle.pc_sortcheck.specs.Fits.{HasWrittenRule};
+ghost use Rattle.pc_sortcheck.specs.inside.Fits.{HasWrittenRule};
 
 use crate::cells::{declare_cell, declare_entry};
 use crate::fault::SheetSortFault;

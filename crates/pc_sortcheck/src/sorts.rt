@@ -6,7 +6,7 @@ ghost use Rattle.pc_syntax.specs.Tree as tree;
 ghost use Rattle.pc_elaborate.specs.Told.{IsFaultOf};
 ghost use Rattle.pc_sortcheck.specs.DeclarationFaults.{IsDeclarationFault};
 ghost use Rattle.pc_sortcheck.specs.Declaring.{Declares};
-ghost use Rattle.pc_sortcheck.specs.Fits.{ListFits, RangeFits};
+ghost use Rattle.pc_sortcheck.specs.inside.Fits.{ListFits, RangeFits};
 
 use crate::names::{are_names, are_new_values, copy_names, is_name, is_new, keeps_form};
 use pc_elaborate::{SortFault, Which};

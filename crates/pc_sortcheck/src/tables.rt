@@ -6,7 +6,7 @@ ghost use Rattle.pc_syntax.specs.Tree.{value_of};
 ghost use Rattle.pc_elaborate.specs.Told.{IsFaultOf};
 ghost use Rattle.pc_sortcheck.specs.DeclarationFaults.{AreSortNamesFault, HasRoomForRow, IsDeclarationFault};
 ghost use Rattle.pc_sortcheck.specs.Declaring.{AreSortsNamed, Declares};
-ghost use Rattle.pc_sortcheck.specs.Fits.{AreNoRowOf, AreRowOf, TableFits};
+ghost use Rattle.pc_sortcheck.specs.inside.Fits.{AreNoRowOf, AreRowOf, TableFits};
 
 use crate::names::{is_name, is_new, keeps_form};
 use pc_elaborate::{SortFault, Which, find_sort, find_table, find_values};

@@ -19,7 +19,7 @@ use Rattle.pc_sortcheck.specs.Declaring.{ReadsAs}
 use Rattle.pc_spreadsheet.specs.Judgement.{State, IsLight, Starts, of_whole}
 use Rattle.pc_spreadsheet.specs.Pages.{IsCertificateAgainst}
 use Rattle.pc_spreadsheet.specs.Allowed.{Notes, counts_of, RefusesText, for_fault, for_weight, for_rules, for_search}
-use Rattle.pc_spreadsheet.specs.Loading.{IsNotLoaded, NotesLoad, noted, not_noted, IsRefusedBook, too_large, contradictory, spent, OpensAs}
+use Rattle.pc_spreadsheet.specs.inside.Loading.{IsNotLoaded, NotesLoad, noted, not_noted, IsRefusedBook, too_large, contradictory, spent, OpensAs}
 
 -- the text has the fault
 pub at_fault : (budget : ℕ) (text : List ℕ) (why : SheetRefusal) (notes : Notes) → HasFault text why → IsNotLoaded budget text notes notes (Refused why None)

@@ -2,7 +2,7 @@ pub mod Allowed
 pub mod Commands
 pub mod Judgement
 pub mod Laws
-pub mod Loading
 pub mod Pages
 pub mod State
 pub mod Summary
+pub mod inside

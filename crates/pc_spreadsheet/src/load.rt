@@ -2,7 +2,7 @@
 ghost use Rattle.std.specs.Prelude.{◌≡◌, ◌≤◌, None, length, MatchResult};
 ghost use Rattle.pc_theory.specs.Spendings.{IsLawful};
 ghost use Rattle.pc_spreadsheet.specs.Judgement.{Starts, of_whole};
-ghost use Rattle.pc_spreadsheet.specs.Loading.{IsNotLoaded, NotesLoad, OpensAs};
+ghost use Rattle.pc_spreadsheet.specs.inside.Loading.{IsNotLoaded, NotesLoad, OpensAs};
 ghost use Rattle.pc_run.specs.declared.machine.LoadStop.TheVariants.{Refused};
 
 use crate::spending::counts_of;

@@ -28,10 +28,10 @@ use Rattle.pc_world_list.specs.Worlds.{WorldView}
 use Rattle.pc_solver.specs.Solver.{SuspendedView}
 use Rattle.pc_search.specs.Parts.{AreWorldsOf, IsBase}
 use Rattle.pc_theory.specs.Theories.{rules_alone, IsTheory}
-use Rattle.pc_theory.specs.Tasks.{IsReady}
+use Rattle.pc_theory.specs.inside.Tasks.{IsReady}
 use Rattle.pc_theory.specs.Spendings.{placed_of, learned_of, calls_of, IsSpentOn, IsSpendingOf}
-use Rattle.pc_theory.specs.Starting.{ArePlaces, AreStarted}
-use Rattle.pc_theory.specs.Searching.{AreSearched}
+use Rattle.pc_theory.specs.inside.Starting.{ArePlaces, AreStarted}
+use Rattle.pc_theory.specs.inside.Searching.{AreSearched}
 use Rattle.pc_theory.specs.Books.{IsFoundIn}
 use Rattle.pc_theory.specs.declared.spending.PartSpending.{PartSpending}
 use Rattle.pc_theory.specs.declared.spending.Spending.{Spending}

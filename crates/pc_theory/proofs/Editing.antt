@@ -25,7 +25,7 @@ use Rattle.pc_worlds.specs.Parts.{AddsLogs, marked_in}
 use Rattle.pc_search.proofs.SearchLemmas.{few_with, without_blocks}
 use Rattle.pc_theory.specs.Theories.{rules_alone, TheoryView, IsTheory, IsPartNumbered}
 use Rattle.pc_theory.specs.Targets.{targets_on, AreAsked}
-use Rattle.pc_theory.specs.Tasks.{IsReady, IsPartAt}
+use Rattle.pc_theory.specs.inside.Tasks.{IsReady, IsPartAt}
 use Rattle.pc_theory.specs.Spendings.{IsGoodLog, IsPartSpending}
 use Rattle.pc_theory.specs.Edits.{IsBlankOn, IsSpentAlone}
 use Rattle.pc_theory.specs.declared.spending.PartSpending.{PartSpending}

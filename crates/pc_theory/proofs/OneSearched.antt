@@ -26,10 +26,10 @@ use Rattle.pc_search.specs.Spending.{IsLogOf, AreFewFor}
 use Rattle.pc_worlds.specs.Parts.{AddsLogs, marked_in}
 use Rattle.pc_theory.specs.Theories.{rules_alone, TheoryView, IsTheory, IsPartNumbered}
 use Rattle.pc_theory.specs.Targets.{targets_on, AreAsked}
-use Rattle.pc_theory.specs.Tasks.{IsReady, IsPartAt}
+use Rattle.pc_theory.specs.inside.Tasks.{IsReady, IsPartAt}
 use Rattle.pc_theory.specs.Spendings.{IsPartSpending}
-use Rattle.pc_theory.specs.Starting.{IsStarted}
-use Rattle.pc_theory.specs.Searching.{IsMoved, StopMoves}
+use Rattle.pc_theory.specs.inside.Starting.{IsStarted}
+use Rattle.pc_theory.specs.inside.Searching.{IsMoved, StopMoves}
 use Rattle.pc_theory.specs.declared.spending.PartSpending.{PartSpending}
 use Rattle.pc_theory.proofs.Lists.{same_some, sum_push}
 use Rattle.pc_theory.proofs.OfRules.{consistent_by}

@@ -33,10 +33,10 @@ use Rattle.pc_search.specs.Spending.{IsLogOf, AreFewFor}
 use Rattle.pc_worlds.specs.Parts.{AddsLogs, marked_in}
 use Rattle.pc_theory.specs.Theories.{rules_alone, IsPartNumbered}
 use Rattle.pc_theory.specs.Targets.{targets_on, target_count}
-use Rattle.pc_theory.specs.Tasks.{IsPartAt}
+use Rattle.pc_theory.specs.inside.Tasks.{IsPartAt}
 use Rattle.pc_theory.specs.Spendings.{IsSetOf, AreFewCalls, IsGoodLog, IsPartSpending, placed_of, learned_of, calls_of, IsSpentOn}
-use Rattle.pc_theory.specs.Starting.{ArePlaces, IsStarted}
-use Rattle.pc_theory.specs.Searching.{FindsIn, IsMoved, StopMoves, StopPlaces, work_of, AreSearched}
+use Rattle.pc_theory.specs.inside.Starting.{ArePlaces, IsStarted}
+use Rattle.pc_theory.specs.inside.Searching.{FindsIn, IsMoved, StopMoves, StopPlaces, work_of, AreSearched}
 use Rattle.pc_theory.specs.declared.spending.PartSpending.{PartSpending}
 use Rattle.pc_theory.proofs.Lists.{same_some, none_some, sum_has, get_early, get_last}
 use Rattle.pc_theory.proofs.OnCells.{many_on, target_on, on_target}

@@ -22,7 +22,7 @@ use Rattle.pc_components.specs.View.{Kept, number_of, variable_number, cells_of_
 use Rattle.pc_searched.specs.Laws.{problem_of, AreSearchedBy, PartsAreSearched}
 use Rattle.pc_search.specs.Parts.{IsPartOf}
 use Rattle.pc_theory.specs.Theories.{rules_alone, IsPartNumbered}
-use Rattle.pc_theory.specs.Tasks.{IsReady, IsPartAt}
+use Rattle.pc_theory.specs.inside.Tasks.{IsReady, IsPartAt}
 use Rattle.pc_theory.proofs.Lists.{at_contained, at_within, map_at, at_map, zip_at, few_filtered, in_range, place_of, zip_length}
 use Rattle.pc_theory.proofs.OfRules.{axioms_here, variables_here}
 

@@ -10,7 +10,7 @@ use Rattle.pc_sheet.specs.WellFormed.{IsWellFormed}
 use Rattle.pc_ground.specs.Naming.{names_of}
 use Rattle.pc_justify.specs.Laws.{NamesAreOfTheirSheet, TrimmedLinesRefute}
 use Rattle.pc_reason.specs.Refutations.{Refutes}
-use Rattle.pc_theory.specs.Calling.{IsEmptyAt}
+use Rattle.pc_theory.specs.inside.Calling.{IsEmptyAt}
 
 pub refuted_at : TrimmedLinesRefute → NamesAreOfTheirSheet → (sheet : Sheet) (log kept : List LogLine) (last : StepId) (span : Span) → IsWellFormed sheet → IsEmptyAt sheet log last → length log < 10 ^ 18
     → IsSpanOf kept span → IsTrimmed log last.0 [] (lines_of_span kept span) → Refutes sheet (names_of sheet) kept span

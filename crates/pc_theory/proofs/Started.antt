@@ -39,11 +39,11 @@ use Rattle.pc_search.proofs.EachLemmas.{steps_split}
 use Rattle.pc_theory.specs.declared.stop.Halt.{Halt}
 use Rattle.pc_theory.specs.declared.stop.Halt.TheVariants.{Inconsistent, Spent, Memory}
 use Rattle.pc_theory.specs.Theories.{rules_alone, IsPartNumbered}
-use Rattle.pc_theory.specs.Tasks.{IsReady, IsPartAt}
-use Rattle.pc_theory.specs.Reading.{HasPairs}
+use Rattle.pc_theory.specs.inside.Tasks.{IsReady, IsPartAt}
+use Rattle.pc_theory.specs.inside.Reading.{HasPairs}
 use Rattle.pc_theory.specs.Spendings.{IsGoodLog, IsPartSpending, placed_of, IsSpentOn}
-use Rattle.pc_theory.specs.Starting.{ArePlaces, IsStarted, AreStarted, HaltSays}
-use Rattle.pc_theory.specs.Calling.{IsEmptyAt, EndSays, IsCalled, IsRefused, set_aside}
+use Rattle.pc_theory.specs.inside.Starting.{ArePlaces, IsStarted, AreStarted, HaltSays}
+use Rattle.pc_theory.specs.inside.Calling.{IsEmptyAt, EndSays, IsCalled, IsRefused, set_aside}
 use Rattle.pc_theory.specs.declared.starting.End.{End}
 use Rattle.pc_theory.specs.declared.spending.PartSpending.{PartSpending}
 use Rattle.pc_theory.proofs.Lists.{within_at, at_within, get_early, get_last, sum_push, same_some}

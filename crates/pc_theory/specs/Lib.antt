@@ -3,8 +3,4 @@ pub mod Targets
 pub mod Spendings
 pub mod Edits
 pub mod Books
-pub mod Tasks
-pub mod Reading
-pub mod Starting
-pub mod Calling
-pub mod Searching
+pub mod inside

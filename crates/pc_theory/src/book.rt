@@ -2,7 +2,7 @@
 ghost use Rattle.std.specs.Prelude.{◌≡◌, ◌≤◌, [], IfErr, IfOk, length};
 ghost use Rattle.pc_sheet.specs.Limits.{most_weight};
 ghost use Rattle.pc_sheet.specs.Weight.{weight};
-ghost use Rattle.pc_theory.specs.Tasks.{IsReady};
+ghost use Rattle.pc_theory.specs.inside.Tasks.{IsReady};
 ghost use Rattle.pc_theory.specs.Books.{AreFound, IsCause, IsFoundIn, IsPartCause};
 
 use crate::searching::search_parts;

@@ -8,7 +8,7 @@ ghost use Rattle.pc_components.specs.Used.{HasValues};
 ghost use Rattle.pc_components.specs.View.{number_of};
 ghost use Rattle.pc_parts.specs.Laws.{AgreeAt};
 ghost use Rattle.pc_solver.specs.Answers.{value_in};
-ghost use Rattle.pc_theory.specs.Reading.{HasPairs};
+ghost use Rattle.pc_theory.specs.inside.Reading.{HasPairs};
 
 use pc_ground::Ground;
 use pc_logic::{Assignment, Book};

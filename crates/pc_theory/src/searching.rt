@@ -2,9 +2,9 @@
 ghost use Rattle.std.specs.Prelude.{◌≡◌, ◌<◌, ◌≤◌, [], IfErr, IfOk, OnOk, length};
 ghost use Rattle.pc_search.specs.Parts.{AreWorldsOf, IsBase};
 ghost use Rattle.pc_parts.specs.Parts.{Part};
-ghost use Rattle.pc_theory.specs.Tasks.{IsReady};
-ghost use Rattle.pc_theory.specs.Searching.{AreSearched, FindsIn, IsMoved, StopMoves, StopPlaces};
-ghost use Rattle.pc_theory.specs.Starting.{AreStarted, IsStarted};
+ghost use Rattle.pc_theory.specs.inside.Tasks.{IsReady};
+ghost use Rattle.pc_theory.specs.inside.Searching.{AreSearched, FindsIn, IsMoved, StopMoves, StopPlaces};
+ghost use Rattle.pc_theory.specs.inside.Starting.{AreStarted, IsStarted};
 ghost use Rattle.pc_theory.specs.Theories.{rules_alone, IsPartNumbered};
 
 use crate::spending::PartSpending;

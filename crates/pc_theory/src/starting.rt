@@ -3,9 +3,9 @@ ghost use Rattle.std.specs.Prelude.{◌≡◌, ◌+◌, ◌<◌, ◌≤◌, ◌�
 ghost use Rattle.pc_sheet.specs.Limits.{most_cells};
 ghost use Rattle.pc_ground.specs.Naming.{names_of};
 ghost use Rattle.pc_reason.specs.Refutations.{Refutes};
-ghost use Rattle.pc_theory.specs.Tasks.{IsReady};
-ghost use Rattle.pc_theory.specs.Starting.{AreStarted, HaltSays};
-ghost use Rattle.pc_theory.specs.Calling.{IsCalled, IsEmptyAt, IsRefused};
+ghost use Rattle.pc_theory.specs.inside.Tasks.{IsReady};
+ghost use Rattle.pc_theory.specs.inside.Starting.{AreStarted, HaltSays};
+ghost use Rattle.pc_theory.specs.inside.Calling.{IsCalled, IsEmptyAt, IsRefused};
 
 use crate::reading::{first_values, read_values};
 use crate::spending::PartSpending;

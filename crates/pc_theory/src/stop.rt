@@ -37,7 +37,7 @@ impl<T: Drop> From<AllocFailed<T>> for Halt {
 }
 
 impl From<Stop> for Halt {
-    ghost use Rattle.pc_theory.specs.Starting.{halt_of};
+    ghost use Rattle.pc_theory.specs.inside.Starting.{halt_of};
 
     ghost from_gives = { λ stop halt. halt ≡ halt_of stop };
 

@@ -7,7 +7,7 @@ use Rattle.pc_sheet.specs.Sheet.{Sheet}
 use Rattle.pc_sheet.specs.Entailment.{IsSublist, IsLess, IsLeastSupport, IsImplied, HaveDistinctCells}
 use Rattle.pc_sheet.specs.declared.ids.Entry.{Entry}
 use Rattle.pc_sheet.specs.declared.ids.Target.{Target}
-use Rattle.pc_trying.specs.Trying.{Supports, IsLeastFrom, NoneFrom}
+use Rattle.pc_trying.specs.inside.Trying.{Supports, IsLeastFrom, NoneFrom}
 use Rattle.pc_laws.proofs.Contained.{sub_contained}
 use Rattle.pc_laws.proofs.Order.{less_before_newest, less_by_newest}
 use Rattle.pc_laws.proofs.Least.{sub_without}

@@ -1,7 +1,7 @@
 //! The least support, by deciding the newest entry first, without it before with it.
 ghost use Rattle.std.specs.Prelude.{◌≡◌, ◌↔◌, ◌≤◌, [], ◌∷◌, IfOk, IfSome, IfNone, IsSome, length, take};
 ghost use Rattle.pc_sheet.specs.Entailment.{cell_sizes, IsLeastSupport, IsImplied, IsConflict, opposite_of};
-ghost use Rattle.pc_trying.specs.Trying.{IsLeastFrom, NoneFrom};
+ghost use Rattle.pc_trying.specs.inside.Trying.{IsLeastFrom, NoneFrom};
 
 use crate::search::{first_values, supports};
 use pc_logic::{Assignment, Book, Entry, Target};

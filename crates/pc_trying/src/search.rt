@@ -2,7 +2,7 @@
 ghost use Rattle.std.specs.Prelude.{◌≡◌, ◌+◌, ◌<◌, ◌≤◌, ◌↔◌, ◌∷◌, IsTrue, IfOk, length, take, drop};
 ghost use Rattle.pc_sheet.specs.Entailment.{cell_sizes, HasEntry, HasAll, HasTarget, IsConsistent};
 ghost use Rattle.pc_sheet.specs.MaximalSets.{AreRulesConsistent};
-ghost use Rattle.pc_trying.specs.Trying.{Passes, PassesFrom, Supports, opposite};
+ghost use Rattle.pc_trying.specs.inside.Trying.{Passes, PassesFrom, Supports, opposite};
 
 use pc_logic::{Assignment, Book, CellId, Entry, Target, ValueId, satisfies};
 use std::alloc::{AllocError, Global};

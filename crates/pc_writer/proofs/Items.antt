@@ -7,7 +7,7 @@ use Rattle.pc_sheet.specs.WellSorted.{Variables, IsOfSort, AreOfSorts, IsInteger
 use Rattle.pc_sheet.specs.declared.formula.Term.{Term, Cell, Variable, the_lemmas}
 use Rattle.pc_sheet.specs.declared.ids.FamilyId.{FamilyId}
 use Rattle.pc_writer.specs.declared.scope.Variable as scope
-use Rattle.pc_writer.specs.Scope.{variables_of}
+use Rattle.pc_writer.specs.inside.Scope.{variables_of}
 use Rattle.pc_sheet.specs.declared.ids.SortId.{SortId}
 use Rattle.pc_sheet.specs.declared.ids.TableId.{TableId}
 use Rattle.pc_name.specs.declared.sign.Op.{Op}

@@ -3,6 +3,6 @@ pub mod Separator
 pub mod Writes
 pub mod FormulaText
 pub mod SheetText
-pub mod Scope
 pub mod Writable
 pub mod Examples
+pub mod inside

@@ -5,7 +5,7 @@ ghost use Rattle.pc_sheet.specs.Nesting.{tightness};
 ghost use Rattle.pc_sheet.specs.Views.{added_of, item_of, items_of, statement_of, statements_of, sum_of};
 ghost use Rattle.pc_sheet.specs.WellSorted.{AreWellSorted, IsNewVariable, IsWellSorted};
 ghost use Rattle.pc_writer.specs.FormulaText.{added_text, in_parentheses, item_texts, op_text, part_text, part_texts, quantifier_text, sign_text, statement_text, sum_text, table_at};
-ghost use Rattle.pc_writer.specs.Scope.{variables_of};
+ghost use Rattle.pc_writer.specs.inside.Scope.{variables_of};
 ghost use Rattle.pc_writer.specs.Spelling.{joined};
 ghost use Rattle.pc_writer.specs.Writable.{AreWritable, IsWritablePart, IsWritableSum};
 ghost use Rattle.pc_writer.specs.Writes.{Writes};

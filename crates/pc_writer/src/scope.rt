@@ -1,7 +1,7 @@
 // The variables of the quantifiers that stand around a place.
 ghost use Rattle.std.specs.Prelude.{◌≡◌, ◌+◌, ◌<◌, ◌++◌, ◌∷◌, [], length, take};
 ghost use Rattle.pc_sheet.specs.Limits.{most_depth};
-ghost use Rattle.pc_writer.specs.Scope.{variables_of};
+ghost use Rattle.pc_writer.specs.inside.Scope.{variables_of};
 
 use pc_sheet::{Name, SortId};
 

@@ -1,5 +1,5 @@
 use Rattle.std.proofs.Common.{length}
-use Rattle.pc_cert.specs.Taken.{AreTaken}
+use Rattle.pc_cert.specs.inside.Taken.{AreTaken}
 use Rattle.pc_cert.proofs.read.read_cert.Given as goal
 
 abbrev pub invariant-lines : goal.invariant-lines

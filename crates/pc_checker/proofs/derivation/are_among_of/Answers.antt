@@ -3,7 +3,7 @@ use Rattle.std.proofs.lemmas.Bool.{iff_false}
 use Rattle.std.proofs.lemmas.List.{take_all}
 use Rattle.std.proofs.lemmas.List.Elements.{All-more}
 use Rattle.pc_lits.proofs.LitLemmas.{past_lit}
-use Rattle.pc_checker.specs.Parts.{IsAmongOf}
+use Rattle.pc_checker.specs.inside.Parts.{IsAmongOf}
 use Rattle.pc_checker.proofs.MarkLemmas.{one_is_not}
 use Rattle.pc_checker.proofs.derivation.are_among_of.Goals as goal
 

@@ -1,5 +1,5 @@
 use Rattle.std.proofs.Common.{◌≡◌, length}
-use Rattle.pc_checker.specs.Parts.{AreGoodBelow}
+use Rattle.pc_checker.specs.inside.Parts.{AreGoodBelow}
 use Rattle.pc_checker.proofs.derivation.first_bad.Given as goal
 
 abbrev pub invariant-loop-place : goal.invariant-loop-place

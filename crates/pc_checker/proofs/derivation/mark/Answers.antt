@@ -1,7 +1,7 @@
 use Rattle.std.proofs.Common.{◌+◌, ◌<◌, Bool, Option, None, take, length, get_or, Some, ap, sym, ◌∙◌, subst, arith}
 use Rattle.std.proofs.lemmas.List.{take_all, length-set, length-replicate}
 use Rattle.pc_lits.proofs.LitLemmas.{past_lit}
-use Rattle.pc_checker.specs.Parts.{AreMarked}
+use Rattle.pc_checker.specs.inside.Parts.{AreMarked}
 use Rattle.pc_checker.proofs.MarkLemmas.{same_sign, other_sign, marked_more, marked_past}
 use Rattle.pc_checker.proofs.derivation.mark.Goals.{then-is_positive-sign, else-is_positive-sign}
 use Rattle.pc_checker.proofs.derivation.mark.Goals as goal

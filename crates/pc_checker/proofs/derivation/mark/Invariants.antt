@@ -1,5 +1,5 @@
 use Rattle.std.proofs.Common.{◌≡◌, take, length}
-use Rattle.pc_checker.specs.Parts.{AreMarked}
+use Rattle.pc_checker.specs.inside.Parts.{AreMarked}
 use Rattle.pc_checker.proofs.derivation.mark.Given as goal
 
 abbrev pub invariant-loop-lit : goal.invariant-loop-lit

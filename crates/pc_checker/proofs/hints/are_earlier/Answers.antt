@@ -2,7 +2,7 @@ use Rattle.std.proofs.Common.{All, refl}
 use Rattle.std.proofs.lemmas.Bool.{false≢true, iff_false}
 use Rattle.std.proofs.lemmas.List.{take_all}
 use Rattle.std.proofs.lemmas.List.Elements.{All-more}
-use Rattle.pc_checker.specs.Numbers.{IsNumberUpTo}
+use Rattle.pc_checker.specs.inside.Numbers.{IsNumberUpTo}
 use Rattle.pc_checker.proofs.HintLemmas.{earlier}
 use Rattle.pc_checker.proofs.hints.are_earlier.Goals as goal
 

@@ -1,5 +1,5 @@
 use Rattle.std.proofs.Common.{All, take}
-use Rattle.pc_checker.specs.Numbers.{IsNumberUpTo}
+use Rattle.pc_checker.specs.inside.Numbers.{IsNumberUpTo}
 use Rattle.pc_checker.proofs.hints.are_earlier.Given as goal
 
 abbrev pub invariant-loop-number : goal.invariant-loop-number

@@ -1,5 +1,5 @@
 use Rattle.std.proofs.Common.{◌∙◌, List, Bool, sym, subst}
-use Rattle.pc_checker.specs.Prepared.{IsLinePrepared, ArePrepared}
+use Rattle.pc_checker.specs.inside.Prepared.{IsLinePrepared, ArePrepared}
 use Rattle.pc_checker.proofs.LineClauseLemmas.{place_prepared}
 use Rattle.pc_checker.proofs.RoomLemmas.{line_over, prepared_more}
 use Rattle.pc_checker.proofs.room.prepare_lines.Goals as goal

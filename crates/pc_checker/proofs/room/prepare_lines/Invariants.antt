@@ -1,6 +1,6 @@
 use Rattle.std.proofs.Common.{◌≡◌, length}
 use Rattle.pc_sheet.specs.Entailment.{cell_sizes}
-use Rattle.pc_checker.specs.Prepared.{ArePrepared}
+use Rattle.pc_checker.specs.inside.Prepared.{ArePrepared}
 use Rattle.pc_checker.proofs.room.prepare_lines.Given as goal
 
 abbrev pub invariant-loop-place : goal.invariant-loop-place

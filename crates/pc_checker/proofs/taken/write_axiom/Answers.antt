@@ -3,7 +3,7 @@ use Rattle.std.proofs.lemmas.List.{length-map}
 use Rattle.pc_sheet.specs.Nodes.{kind_at}
 use Rattle.pc_sheet.specs.Views.{rule_of}
 use Rattle.pc_names.specs.Views.{axiom_of}
-use Rattle.pc_checker.specs.Written.{IsAxiomWritten}
+use Rattle.pc_checker.specs.inside.Written.{IsAxiomWritten}
 use Rattle.pc_checker.proofs.AxiomLemmas.{rule_missing, rule_written, node_written, if_ok_then}
 use Rattle.pc_checker.proofs.taken.write_axiom.Goals as goal
 

@@ -1,8 +1,8 @@
 use Rattle.std.proofs.Common.{◌<◌, ◌^◌, ap, arith, length, map, subst, ◌∙◌}
 use Rattle.pc_ground.specs.GroundView.{Grounded}
-use Rattle.pc_components.specs.ClauseVariables.{variables_in}
-use Rattle.pc_components.specs.Numbers.{alone}
-use Rattle.pc_components.specs.Turned.{turned}
+use Rattle.pc_components.specs.inside.ClauseVariables.{variables_in}
+use Rattle.pc_components.specs.inside.Numbers.{alone}
+use Rattle.pc_components.specs.inside.Turned.{turned}
 use Rattle.pc_components.proofs.KeptRight.{all_right, as_many_axioms, as_many_variables, cells_fit, axioms_fit, variables_fit}
 use Rattle.pc_components.proofs.components.find_components.Goals as goal
 

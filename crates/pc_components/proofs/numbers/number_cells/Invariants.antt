@@ -1,8 +1,8 @@
 use Rattle.std.proofs.Common.{◌≡◌, ◌≤◌, length, map, take}
 use Rattle.std.specs.List.{filter, range_with_len}
 use Rattle.pc_parts.specs.Components.{is_labeled}
-use Rattle.pc_components.specs.Numbers.{own_firsts}
-use Rattle.pc_components.specs.Owners.{place_in}
+use Rattle.pc_components.specs.inside.Numbers.{own_firsts}
+use Rattle.pc_components.specs.inside.Owners.{place_in}
 use Rattle.pc_components.proofs.numbers.number_cells.Given as goal
 
 abbrev pub invariant-loop-c : goal.invariant-loop-c

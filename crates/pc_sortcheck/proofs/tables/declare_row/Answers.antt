@@ -1,7 +1,7 @@
 use Rattle.std.proofs.Common.{◌∙◌, map, sym, subst, rules}
 use Rattle.pc_syntax.specs.Tree.{value_of}
 use Rattle.pc_sortcheck.specs.DeclarationFaults.{HasRoomForRow}
-use Rattle.pc_sortcheck.specs.Fits.{AreRowOf}
+use Rattle.pc_sortcheck.specs.inside.Fits.{AreRowOf}
 use Rattle.pc_sortcheck.proofs.DeclaredTables.{named_table, row_formed, row_declared, no_room}
 use Rattle.pc_sortcheck.proofs.tables.declare_row.Goals as goal
 

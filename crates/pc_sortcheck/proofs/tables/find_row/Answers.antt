@@ -1,6 +1,6 @@
 use Rattle.std.proofs.Common.{◌≡◌, ap, arith, map, length, sym, subst, ◌∙◌}
 use Rattle.pc_syntax.specs.Tree.{value_of}
-use Rattle.pc_sortcheck.specs.Fits.{AreRowOf}
+use Rattle.pc_sortcheck.specs.inside.Fits.{AreRowOf}
 use Rattle.pc_sortcheck.proofs.Rows.{all_written}
 use Rattle.pc_sortcheck.proofs.tables.find_row.Goals as goal
 

@@ -1,4 +1,4 @@
-use Rattle.pc_spreadsheet.specs.Loading.{not_noted}
+use Rattle.pc_spreadsheet.specs.inside.Loading.{not_noted}
 use Rattle.pc_spreadsheet.proofs.Loading.{noted_so}
 use Rattle.pc_spreadsheet.proofs.load.note_load.Goals as goal
 

@@ -2,7 +2,7 @@ use Rattle.std.proofs.Common.{◌≡◌, ◌+◌, ◌-◌, ◌≤◌, ℕ, lengt
 use Rattle.std.proofs.lemmas.Result.{on_ok_weaker, IfErr-weaker}
 use Rattle.pc_sheet.specs.Entailment.{cell_sizes}
 use Rattle.pc_solver.specs.Spending.{StopSays}
-use Rattle.pc_theory.specs.Searching.{IsMoved, StopMoves}
+use Rattle.pc_theory.specs.inside.Searching.{IsMoved, StopMoves}
 use Rattle.pc_theory.specs.declared.spending.PartSpending.{PartSpending}
 use Rattle.pc_theory.proofs.OneSearched.{part_here, few_asked, searched_asked, moved_here, stop_moves}
 use Rattle.pc_theory.proofs.Parted.{cells_below}

@@ -2,7 +2,7 @@ use Rattle.std.proofs.Common.{◌≡◌, ◌+◌, ◌<◌, ℕ, List, length, se
 use Rattle.std.proofs.lemmas.List.{length-set}
 use Rattle.std.proofs.lemmas.Result.{err_from_is_err_and}
 use Rattle.pc_world_list.specs.Worlds.{WorldView}
-use Rattle.pc_theory.specs.Searching.{AreSearched, IsMoved}
+use Rattle.pc_theory.specs.inside.Searching.{AreSearched, IsMoved}
 use Rattle.pc_theory.specs.Theories.{rules_alone, IsPartNumbered}
 use Rattle.pc_theory.specs.declared.spending.PartSpending.{PartSpending}
 use Rattle.pc_theory.proofs.PartMoved.{none_searched, all_started, started_at, stop_places, searched_more, later_started}

@@ -1,7 +1,7 @@
 use Rattle.std.proofs.Common.{◌≡◌, ◌+◌, ◌<◌, ◌≤◌, ℕ, length, get_or}
 use Rattle.pc_solver.specs.Solver.{SuspendedView}
-use Rattle.pc_theory.specs.Searching.{AreSearched}
-use Rattle.pc_theory.specs.Starting.{IsStarted}
+use Rattle.pc_theory.specs.inside.Searching.{AreSearched}
+use Rattle.pc_theory.specs.inside.Starting.{IsStarted}
 use Rattle.pc_theory.specs.declared.spending.PartSpending.{PartSpending}
 use Rattle.pc_theory.proofs.searching.search_parts.Given as goal
 

@@ -8,8 +8,8 @@ use Rattle.pc_sheet.specs.Entailment.{AreWithin}
 use Rattle.pc_sheet.specs.declared.ids.ValueId.{ValueId}
 use Rattle.pc_solver.specs.Answers.{value_in}
 use Rattle.pc_solver.specs.Solver.{SuspendedView}
-use Rattle.pc_theory.specs.Calling.{EndSays}
-use Rattle.pc_theory.specs.Starting.{ArePlaces, AreStarted}
+use Rattle.pc_theory.specs.inside.Calling.{EndSays}
+use Rattle.pc_theory.specs.inside.Starting.{ArePlaces, AreStarted}
 use Rattle.pc_theory.specs.declared.spending.PartSpending.{PartSpending}
 use Rattle.pc_theory.specs.declared.starting.End.{End}
 use Rattle.pc_theory.proofs.Started.{first_pairs, aside_started, started_next, places_more, refused_halts}

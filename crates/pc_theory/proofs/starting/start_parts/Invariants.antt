@@ -1,5 +1,5 @@
 use Rattle.std.proofs.Common.{◌≡◌, ◌≤◌, length}
-use Rattle.pc_theory.specs.Starting.{AreStarted}
+use Rattle.pc_theory.specs.inside.Starting.{AreStarted}
 use Rattle.pc_theory.proofs.starting.start_parts.Given as goal
 
 abbrev pub invariant-loop-number : goal.invariant-loop-number

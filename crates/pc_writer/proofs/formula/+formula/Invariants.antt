@@ -1,7 +1,7 @@
 use Rattle.std.proofs.Common.{take, map, Ok}
 use Rattle.pc_sheet.specs.Views.{statement_of, statements_of}
 use Rattle.pc_writer.specs.FormulaText.{part_texts}
-use Rattle.pc_writer.specs.Scope.{variables_of}
+use Rattle.pc_writer.specs.inside.Scope.{variables_of}
 use Rattle.pc_writer.specs.Spelling.{joined}
 use Rattle.pc_port.specs.declared.source.Failed.{Failed}
 use Rattle.pc_writer.specs.Writes.{Writes}

@@ -2,7 +2,7 @@ use Rattle.std.proofs.Common.{take, map, Ok}
 use Rattle.std.specs.List.{flat_map}
 use Rattle.pc_sheet.specs.Views.{added_of}
 use Rattle.pc_writer.specs.FormulaText.{added_text}
-use Rattle.pc_writer.specs.Scope.{variables_of}
+use Rattle.pc_writer.specs.inside.Scope.{variables_of}
 use Rattle.pc_port.specs.declared.source.Failed.{Failed}
 use Rattle.pc_writer.specs.Writes.{Writes}
 use Rattle.pc_writer.proofs.formula.write_rest.Given as goal

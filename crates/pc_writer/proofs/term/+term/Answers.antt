@@ -2,7 +2,7 @@ use Rattle.std.proofs.Common.{sym, map, ap, ◌∙◌, arith, rules, subst, code
 use denote.Param.Weighed.{at_most}
 use Rattle.pc_sheet.specs.Views.{item_of, items_of}
 use Rattle.pc_writer.specs.FormulaText.{in_parentheses, item_text, item_texts}
-use Rattle.pc_writer.specs.Scope.{variables_of}
+use Rattle.pc_writer.specs.inside.Scope.{variables_of}
 use Rattle.pc_writer.specs.Writable.{IsWritable}
 use Rattle.pc_writer.proofs.Names.{in_parentheses-some}
 use Rattle.pc_writer.proofs.Items.{length-item_texts, item_text_at, writable_at, item_of-Cell, item_of-Variable, variable_name_at}

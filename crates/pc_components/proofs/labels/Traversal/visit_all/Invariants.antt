@@ -1,6 +1,6 @@
 use Rattle.std.proofs.Common.{◌≡◌, drop, length}
 use Rattle.pc_components.specs.Traversal.{rows_visited}
-use Rattle.pc_components.specs.Within.{AreBelow}
+use Rattle.pc_components.specs.inside.Within.{AreBelow}
 use Rattle.pc_components.proofs.labels.Traversal.visit_all.Given as goal
 
 abbrev pub invariant-loop-place : goal.invariant-loop-place

@@ -1,6 +1,6 @@
 use Rattle.std.proofs.Common.{ap, arith, length, map, refl, subst, sym, ◌∙◌}
-use Rattle.pc_components.specs.Numbers.{AreOwn, own_firsts, piece_number}
-use Rattle.pc_components.specs.Owners.{place_in}
+use Rattle.pc_components.specs.inside.Numbers.{AreOwn, own_firsts, piece_number}
+use Rattle.pc_components.specs.inside.Owners.{place_in}
 use Rattle.pc_components.proofs.NumbersRight.{labels_same, own_labels}
 use Rattle.pc_components.proofs.PartNumbersRight.{labels_length, numbers_right}
 use Rattle.pc_components.proofs.part_numbers.PartNumbers.new.Goals as goal

@@ -6,7 +6,7 @@ use Rattle.pc_sheet.specs.Truth.{size_of, cells_in, product}
 use Rattle.pc_sheet.specs.WellFormed.{IsWellFormed, AreDifferent}
 use Rattle.pc_logic.specs.BookView.{sheet_of, IsTableOf}
 use Rattle.pc_logic.specs.Edits.{family_from, with_family}
-use Rattle.pc_logic.specs.NameTable.{named_texts}
+use Rattle.pc_logic.specs.inside.NameTable.{named_texts}
 use Rattle.pc_logic.specs.SchemeView.{universe_of, family_of}
 use Rattle.pc_logic.specs.Sound.{AreCounted}
 use Rattle.pc_logic.specs.declared.names.Named.TheVariants as named

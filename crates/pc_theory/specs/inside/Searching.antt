@@ -17,7 +17,7 @@ use Rattle.pc_solver.specs.declared.stop.Stop.TheVariants.{Spent, Memory}
 use Rattle.pc_theory.specs.Theories.{rules_alone, IsPartNumbered}
 use Rattle.pc_theory.specs.Targets.{targets_on}
 use Rattle.pc_theory.specs.Spendings.{learned_of, calls_of, IsSpentOn}
-use Rattle.pc_theory.specs.Starting.{ArePlaces}
+use Rattle.pc_theory.specs.inside.Starting.{ArePlaces}
 use Rattle.pc_theory.specs.declared.spending.PartSpending.{PartSpending}
 
 -- the rows of all targets on the part's cells were added, none with more steps than clauses were learned and calls made for the part

@@ -10,7 +10,7 @@ use Rattle.pc_justify.specs.Found.{clause_on, IsDerivedAt}
 use Rattle.pc_reason.specs.Refutations.{Refutes}
 use Rattle.pc_solver.specs.Answers.{value_in, MeetsEach}
 use Rattle.pc_solver.specs.Solver.{SolverView, SuspendedView, clauses_used}
-use Rattle.pc_theory.specs.Starting.{IsStarted}
+use Rattle.pc_theory.specs.inside.Starting.{IsStarted}
 use Rattle.pc_theory.specs.declared.spending.PartSpending.{PartSpending}
 use Rattle.pc_theory.specs.declared.starting.End.{End}
 use Rattle.pc_theory.specs.declared.starting.End.TheVariants.{Met}

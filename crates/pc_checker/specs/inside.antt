@@ -1,0 +1,4 @@
+pub mod Prepared
+pub mod Written
+pub mod Numbers
+pub mod Parts

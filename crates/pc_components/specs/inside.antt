@@ -1,0 +1,9 @@
+pub mod PartNumbers
+pub mod Within
+pub mod Owners
+pub mod Numbers
+pub mod Marks
+pub mod Turned
+pub mod Walk
+pub mod ClauseVariables
+pub mod PieceCells
