@@ -25,9 +25,10 @@ use crate::assignment::Assignment;
 use crate::copies::{copy_rules, copy_scheme};
 use crate::entries::{clear, enter};
 use crate::names::{NameTable, Named, key_of, keys_of_list};
+use crate::reading::CellReads;
 use crate::rows::Rows;
 use crate::scheme::{self, FamilyDecl, Scheme, SortDecl, SortValues, TableDecl};
-use crate::{nodes, partial, reading, truth, weighing};
+use crate::{nodes, partial, truth, weighing};
 use pc_sheet::{
     CellId, Entry, FamilyId, Formula, Name, NodeKind, NodePath, Rule, SortId, TableId, ValueId,
 };
@@ -395,5 +396,6 @@ pub fn read_atom(
     ensures known { IfOk result (λ is. after reads.now (atom_reading book.now.universe scope.now (statement_of atom.now)) ≡ known is) }
     ensures stopped { IfErr result (λ c. StopsAt c (after reads.now (atom_reading book.now.universe scope.now (statement_of atom.now)))) }
 {
-    reading::read_atom(&book.scheme, reads, scope, atom, &(None, None))
+    let scheme = &book.scheme;
+    CellReads { scheme, reads }.read_atom(scope, atom, &(None, None))
 }

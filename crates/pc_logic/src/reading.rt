@@ -20,6 +20,13 @@ use pc_sheet::{
     Entry, Formula, MOST_ARGUMENTS, Meaning, Op, Side, Sign, SortId, TableId, Term, ValueId,
 };
 
+/// Values of some cells, over the declarations: what a reading may go by.
+#[derive(Clone, Copy)]
+pub(crate) struct CellReads<'a> {
+    pub(crate) scheme: &'a Scheme,
+    pub(crate) reads: &'a [Entry],
+}
+
 /// The value that the reads have for the cell.
 fn value_in(reads: &[Entry], cell: usize) -> Option<ValueId>
     ensures { result ≡ value_in reads.now cell }
@@ -56,208 +63,6 @@ fn rank_at(scheme: &Scheme, sorts: &[SortId], places: &[ValueId]) -> usize
     rank
 }
 
-/// What a term stands for, or the first cell that it needs and that wasn't read.
-#[cycle(read)]
-fn read_term(
-    scheme: &Scheme,
-    reads: &[Entry],
-    scope: &[(SortId, ValueId)],
-    term: &Term,
-) -> Result<Meaning, usize>
-    requires { IsSound scheme.now }
-    ensures known { IfOk result (λ m. (next : TheMeaning → Reading) → after reads.now (read (universe_of scheme.now) scope.now (item_of term.now) next) ≡ after reads.now (next m)) }
-    ensures small { IfOk result (λ m. IsWithin (2 ^ 32) (number_of m)) }
-    ensures stopped { IfErr result (λ c. (next : TheMeaning → Reading) → StopsAt c (after reads.now (read (universe_of scheme.now) scope.now (item_of term.now) next))) }
-{
-    match term {
-        Term::Variable(k) => Ok(variable_at(scope, *k)),
-        Term::Value(sort, value) => Ok(Meaning::Value(*sort, *value)),
-        Term::Number(n) => Ok(Meaning::Whole(i128::from(*n))),
-        Term::Cell { family, args } => match read_terms(scheme, reads, scope, args) {
-            Err(cell) => Err(cell),
-            Ok(places) => {
-                let sorts = argument_sorts(scheme, *family);
-                let rank = rank_at(scheme, sorts, &places[..args.len().min(4)]);
-                let cell = first_cell(scheme, *family) + rank;
-                match value_in(reads, cell) {
-                    None => Err(cell),
-                    Some(value) => Ok(Meaning::Value(result_sort(scheme, *family), value)),
-                }
-            }
-        },
-    }
-}
-
-/// The places of the first four of these terms, in the first parts of an array.
-#[cycle(read)]
-fn read_terms(
-    scheme: &Scheme,
-    reads: &[Entry],
-    scope: &[(SortId, ValueId)],
-    terms: &[Term],
-) -> Result<[ValueId; 4], usize>
-    requires { IsSound scheme.now }
-    ensures known { IfOk result (λ places. (vs : List TheValue) × (length vs ≡ length terms.now) × (take (min (length terms.now) 4) places ≡ take 4 vs) × ((next : List TheValue → Reading) → after reads.now (read_all (universe_of scheme.now) scope.now (items_of (map item_of terms.now)) next) ≡ after reads.now (next vs))) }
-    ensures stopped { IfErr result (λ c. (next : List TheValue → Reading) → StopsAt c (after reads.now (read_all (universe_of scheme.now) scope.now (items_of (map item_of terms.now)) next))) }
-{
-    let mut places = [ValueId(0); 4];
-    for (i, term) in terms.iter().enumerate() {
-        match read_term(scheme, reads, scope, term) {
-            Err(cell) => return Err(cell),
-            Ok(m) => {
-                if i < MOST_ARGUMENTS {
-                    places[i] = place_of(m);
-                }
-            }
-        }
-    }
-    Ok(places)
-}
-
-/// A side, item by item.
-fn read_items(
-    scheme: &Scheme,
-    reads: &[Entry],
-    scope: &[(SortId, ValueId)],
-    side: &Side,
-) -> Result<Meaning, usize>
-    requires { IsSound scheme.now }
-    ensures known { IfOk result (λ m. (next : TheMeaning → Reading) → after reads.now (read_sum (universe_of scheme.now) scope.now (sum_of side.now) next) ≡ after reads.now (next m)) }
-    ensures stopped { IfErr result (λ c. (next : TheMeaning → Reading) → StopsAt c (after reads.now (read_sum (universe_of scheme.now) scope.now (sum_of side.now) next))) }
-{
-    match read_term(scheme, reads, scope, &side.first) {
-        Err(cell) => Err(cell),
-        Ok(first) => {
-            let mut total = settled(scheme, first);
-            let mut items = 1;
-            for (sign, term) in &side.rest {
-                match read_term(scheme, reads, scope, term) {
-                    Err(cell) => return Err(cell),
-                    Ok(m) => {
-                        let more = number_of(settled(scheme, m));
-                        total = Meaning::Whole(added(number_of(total), *sign, more, items));
-                        items += 1;
-                    }
-                }
-            }
-            Ok(total)
-        }
-    }
-}
-
-/// The items at these places of a side, added to a number.
-fn read_places(
-    scheme: &Scheme,
-    reads: &[Entry],
-    scope: &[(SortId, ValueId)],
-    items: &[(Sign, Term)],
-    places: &[usize],
-    start: i128,
-) -> Result<Meaning, usize>
-    requires sound { IsSound scheme.now }
-    requires within { All (λ p. p < length items.now) places.now }
-    requires few { length places.now ≤ most_reads }
-    requires start { IsWithin (2 ^ 33 * 4294967297) start }
-    ensures known { IfOk result (λ m. (next : TheMeaning → Reading) → after reads.now (read_rest (universe_of scheme.now) scope.now (Whole start) (at_places (map added_of items.now) places.now) next) ≡ after reads.now (next m)) }
-    ensures stopped { IfErr result (λ c. (next : TheMeaning → Reading) → StopsAt c (after reads.now (read_rest (universe_of scheme.now) scope.now (Whole start) (at_places (map added_of items.now) places.now) next))) }
-{
-    let mut total = start;
-    let mut count = 4_294_967_297;
-    for place in places {
-        let (sign, term) = &items[*place];
-        match read_term(scheme, reads, scope, term) {
-            Err(cell) => return Err(cell),
-            Ok(m) => {
-                total = added(total, *sign, number_of(settled(scheme, m)), count);
-                count += 1;
-            }
-        }
-    }
-    Ok(Meaning::Whole(total))
-}
-
-/// A side, of which it may be known what is added to its first item.
-fn read_side(
-    scheme: &Scheme,
-    reads: &[Entry],
-    scope: &[(SortId, ValueId)],
-    side: &Side,
-    addends: &Option<Addends>,
-) -> Result<Meaning, usize>
-    requires sound { IsSound scheme.now }
-    requires addends { IfSome addends.now (AreAddends (universe_of scheme.now) scope.now (map added_of side.now.rest.items)) }
-    ensures known { IfOk result (λ m. (next : TheMeaning → Reading) → after reads.now (read_sum (universe_of scheme.now) scope.now (sum_of side.now) next) ≡ after reads.now (next m)) }
-    ensures stopped { IfErr result (λ c. (next : TheMeaning → Reading) → StopsAt c (after reads.now (read_sum (universe_of scheme.now) scope.now (sum_of side.now) next))) }
-{
-    let Some(known) = addends else {
-        return read_items(scheme, reads, scope, side);
-    };
-    if side.rest.is_empty() {
-        return read_items(scheme, reads, scope, side);
-    }
-    match read_term(scheme, reads, scope, &side.first) {
-        Err(cell) => Err(cell),
-        Ok(first) => {
-            let number = number_of(settled(scheme, first));
-            let start = added(known.sum, Sign::Plus, number, 4_294_967_296);
-            read_places(
-                scheme,
-                reads,
-                scope,
-                &side.rest,
-                &known.places[..known.cells],
-                start,
-            )
-        }
-    }
-}
-
-fn read_comparison(
-    scheme: &Scheme,
-    reads: &[Entry],
-    scope: &[(SortId, ValueId)],
-    left: &Side,
-    op: Op,
-    right: &Side,
-    addends: &(Option<Addends>, Option<Addends>),
-) -> Result<bool, usize>
-    requires sound { IsSound scheme.now }
-    requires left { IfSome addends.now.0 (AreAddends (universe_of scheme.now) scope.now (map added_of left.now.rest.items)) }
-    requires right { IfSome addends.now.1 (AreAddends (universe_of scheme.now) scope.now (map added_of right.now.rest.items)) }
-    ensures known { IfOk result (λ is. after reads.now (read_comparison (universe_of scheme.now) scope.now (sum_of left.now) op (sum_of right.now)) ≡ known is) }
-    ensures stopped { IfErr result (λ c. StopsAt c (after reads.now (read_comparison (universe_of scheme.now) scope.now (sum_of left.now) op (sum_of right.now)))) }
-{
-    match read_side(scheme, reads, scope, left, &addends.0) {
-        Err(cell) => Err(cell),
-        Ok(x) => match read_side(scheme, reads, scope, right, &addends.1) {
-            Err(cell) => Err(cell),
-            Ok(y) => Ok(compares(op, x, y)),
-        },
-    }
-}
-
-fn read_row(
-    scheme: &Scheme,
-    reads: &[Entry],
-    scope: &[(SortId, ValueId)],
-    table: TableId,
-    args: &[Term],
-) -> Result<bool, usize>
-    requires { IsSound scheme.now }
-    ensures known { IfOk result (λ is. after reads.now (read_row (universe_of scheme.now) scope.now table (items_of (map item_of args.now))) ≡ known is) }
-    ensures stopped { IfErr result (λ c. StopsAt c (after reads.now (read_row (universe_of scheme.now) scope.now table (items_of (map item_of args.now))))) }
-{
-    match read_terms(scheme, reads, scope, args) {
-        Err(cell) => Err(cell),
-        Ok(places) => {
-            if args.len() > MOST_ARGUMENTS {
-                return Ok(false);
-            }
-            Ok(has_row(scheme, table, &places[..args.len()]))
-        }
-    }
-}
-
 /// Whether the tuple is a row of the table.
 fn has_row(scheme: &Scheme, table: TableId, places: &[ValueId]) -> bool
     ensures { result ≡ is_row (universe_of scheme.now) table places.now }
@@ -268,24 +73,201 @@ fn has_row(scheme: &Scheme, table: TableId, places: &[ValueId]) -> bool
     }
 }
 
-/// The truth of an atom, or the first cell that it needs and that wasn't read. At other formulas it is `false`.
-pub(crate) fn read_atom(
-    scheme: &Scheme,
-    reads: &[Entry],
-    scope: &[(SortId, ValueId)],
-    atom: &Formula,
-    addends: &(Option<Addends>, Option<Addends>),
-) -> Result<bool, usize>
-    requires sound { IsSound scheme.now }
-    requires addends { AreOfSides (universe_of scheme.now) scope.now (statement_of atom.now) addends.now.0 addends.now.1 }
-    ensures known { IfOk result (λ is. after reads.now (atom_reading (universe_of scheme.now) scope.now (statement_of atom.now)) ≡ known is) }
-    ensures stopped { IfErr result (λ c. StopsAt c (after reads.now (atom_reading (universe_of scheme.now) scope.now (statement_of atom.now)))) }
-{
-    match atom {
-        Formula::Compare { left, op, right } => {
-            read_comparison(scheme, reads, scope, left, *op, right, addends)
+impl CellReads<'_> {
+    /// What a term stands for, or the first cell that it needs and that wasn't read.
+    #[cycle(read)]
+    fn read_term(&self, scope: &[(SortId, ValueId)], term: &Term) -> Result<Meaning, usize>
+        requires { IsSound self.now.scheme.now }
+        ensures known { IfOk result (λ m. (next : TheMeaning → Reading) → after self.now.reads.now (read (universe_of self.now.scheme.now) scope.now (item_of term.now) next) ≡ after self.now.reads.now (next m)) }
+        ensures small { IfOk result (λ m. IsWithin (2 ^ 32) (number_of m)) }
+        ensures stopped { IfErr result (λ c. (next : TheMeaning → Reading) → StopsAt c (after self.now.reads.now (read (universe_of self.now.scheme.now) scope.now (item_of term.now) next))) }
+    {
+        match term {
+            Term::Variable(k) => Ok(variable_at(scope, *k)),
+            Term::Value(sort, value) => Ok(Meaning::Value(*sort, *value)),
+            Term::Number(n) => Ok(Meaning::Whole(i128::from(*n))),
+            Term::Cell { family, args } => match self.read_terms(scope, args) {
+                Err(cell) => Err(cell),
+                Ok(places) => {
+                    let sorts = argument_sorts(self.scheme, *family);
+                    let rank = rank_at(self.scheme, sorts, &places[..args.len().min(4)]);
+                    let cell = first_cell(self.scheme, *family) + rank;
+                    match value_in(self.reads, cell) {
+                        None => Err(cell),
+                        Some(value) => Ok(Meaning::Value(result_sort(self.scheme, *family), value)),
+                    }
+                }
+            },
         }
-        Formula::InTable { table, args } => read_row(scheme, reads, scope, *table, args),
-        _ => Ok(false),
+    }
+
+    /// The places of the first four of these terms, in the first parts of an array.
+    #[cycle(read)]
+    fn read_terms(&self, scope: &[(SortId, ValueId)], terms: &[Term]) -> Result<[ValueId; 4], usize>
+        requires { IsSound self.now.scheme.now }
+        ensures known { IfOk result (λ places. (vs : List TheValue) × (length vs ≡ length terms.now) × (take (min (length terms.now) 4) places ≡ take 4 vs) × ((next : List TheValue → Reading) → after self.now.reads.now (read_all (universe_of self.now.scheme.now) scope.now (items_of (map item_of terms.now)) next) ≡ after self.now.reads.now (next vs))) }
+        ensures stopped { IfErr result (λ c. (next : List TheValue → Reading) → StopsAt c (after self.now.reads.now (read_all (universe_of self.now.scheme.now) scope.now (items_of (map item_of terms.now)) next))) }
+    {
+        let mut places = [ValueId(0); 4];
+        for (i, term) in terms.iter().enumerate() {
+            match self.read_term(scope, term) {
+                Err(cell) => return Err(cell),
+                Ok(m) => {
+                    if i < MOST_ARGUMENTS {
+                        places[i] = place_of(m);
+                    }
+                }
+            }
+        }
+        Ok(places)
+    }
+
+    /// A side, item by item.
+    fn read_items(&self, scope: &[(SortId, ValueId)], side: &Side) -> Result<Meaning, usize>
+        requires { IsSound self.now.scheme.now }
+        ensures known { IfOk result (λ m. (next : TheMeaning → Reading) → after self.now.reads.now (read_sum (universe_of self.now.scheme.now) scope.now (sum_of side.now) next) ≡ after self.now.reads.now (next m)) }
+        ensures stopped { IfErr result (λ c. (next : TheMeaning → Reading) → StopsAt c (after self.now.reads.now (read_sum (universe_of self.now.scheme.now) scope.now (sum_of side.now) next))) }
+    {
+        match self.read_term(scope, &side.first) {
+            Err(cell) => Err(cell),
+            Ok(first) => {
+                let mut total = settled(self.scheme, first);
+                let mut items = 1;
+                for (sign, term) in &side.rest {
+                    match self.read_term(scope, term) {
+                        Err(cell) => return Err(cell),
+                        Ok(m) => {
+                            let more = number_of(settled(self.scheme, m));
+                            total = Meaning::Whole(added(number_of(total), *sign, more, items));
+                            items += 1;
+                        }
+                    }
+                }
+                Ok(total)
+            }
+        }
+    }
+
+    /// The items at these places of a side, added to a number.
+    fn read_places(
+        &self,
+        scope: &[(SortId, ValueId)],
+        items: &[(Sign, Term)],
+        places: &[usize],
+        start: i128,
+    ) -> Result<Meaning, usize>
+        requires sound { IsSound self.now.scheme.now }
+        requires within { All (λ p. p < length items.now) places.now }
+        requires few { length places.now ≤ most_reads }
+        requires start { IsWithin (2 ^ 33 * 4294967297) start }
+        ensures known { IfOk result (λ m. (next : TheMeaning → Reading) → after self.now.reads.now (read_rest (universe_of self.now.scheme.now) scope.now (Whole start) (at_places (map added_of items.now) places.now) next) ≡ after self.now.reads.now (next m)) }
+        ensures stopped { IfErr result (λ c. (next : TheMeaning → Reading) → StopsAt c (after self.now.reads.now (read_rest (universe_of self.now.scheme.now) scope.now (Whole start) (at_places (map added_of items.now) places.now) next))) }
+    {
+        let mut total = start;
+        let mut count = 4_294_967_297;
+        for place in places {
+            let (sign, term) = &items[*place];
+            match self.read_term(scope, term) {
+                Err(cell) => return Err(cell),
+                Ok(m) => {
+                    total = added(total, *sign, number_of(settled(self.scheme, m)), count);
+                    count += 1;
+                }
+            }
+        }
+        Ok(Meaning::Whole(total))
+    }
+
+    /// A side, of which it may be known what is added to its first item.
+    fn read_side(
+        &self,
+        scope: &[(SortId, ValueId)],
+        side: &Side,
+        addends: &Option<Addends>,
+    ) -> Result<Meaning, usize>
+        requires sound { IsSound self.now.scheme.now }
+        requires addends { IfSome addends.now (AreAddends (universe_of self.now.scheme.now) scope.now (map added_of side.now.rest.items)) }
+        ensures known { IfOk result (λ m. (next : TheMeaning → Reading) → after self.now.reads.now (read_sum (universe_of self.now.scheme.now) scope.now (sum_of side.now) next) ≡ after self.now.reads.now (next m)) }
+        ensures stopped { IfErr result (λ c. (next : TheMeaning → Reading) → StopsAt c (after self.now.reads.now (read_sum (universe_of self.now.scheme.now) scope.now (sum_of side.now) next))) }
+    {
+        let Some(known) = addends else {
+            return self.read_items(scope, side);
+        };
+        if side.rest.is_empty() {
+            return self.read_items(scope, side);
+        }
+        match self.read_term(scope, &side.first) {
+            Err(cell) => Err(cell),
+            Ok(first) => {
+                let number = number_of(settled(self.scheme, first));
+                let start = added(known.sum, Sign::Plus, number, 4_294_967_296);
+                self.read_places(scope, &side.rest, &known.places[..known.cells], start)
+            }
+        }
+    }
+
+    fn read_comparison(
+        &self,
+        scope: &[(SortId, ValueId)],
+        left: &Side,
+        op: Op,
+        right: &Side,
+        addends: &(Option<Addends>, Option<Addends>),
+    ) -> Result<bool, usize>
+        requires sound { IsSound self.now.scheme.now }
+        requires left { IfSome addends.now.0 (AreAddends (universe_of self.now.scheme.now) scope.now (map added_of left.now.rest.items)) }
+        requires right { IfSome addends.now.1 (AreAddends (universe_of self.now.scheme.now) scope.now (map added_of right.now.rest.items)) }
+        ensures known { IfOk result (λ is. after self.now.reads.now (read_comparison (universe_of self.now.scheme.now) scope.now (sum_of left.now) op (sum_of right.now)) ≡ known is) }
+        ensures stopped { IfErr result (λ c. StopsAt c (after self.now.reads.now (read_comparison (universe_of self.now.scheme.now) scope.now (sum_of left.now) op (sum_of right.now)))) }
+    {
+        match self.read_side(scope, left, &addends.0) {
+            Err(cell) => Err(cell),
+            Ok(x) => match self.read_side(scope, right, &addends.1) {
+                Err(cell) => Err(cell),
+                Ok(y) => Ok(compares(op, x, y)),
+            },
+        }
+    }
+
+    fn read_row(
+        &self,
+        scope: &[(SortId, ValueId)],
+        table: TableId,
+        args: &[Term],
+    ) -> Result<bool, usize>
+        requires { IsSound self.now.scheme.now }
+        ensures known { IfOk result (λ is. after self.now.reads.now (read_row (universe_of self.now.scheme.now) scope.now table (items_of (map item_of args.now))) ≡ known is) }
+        ensures stopped { IfErr result (λ c. StopsAt c (after self.now.reads.now (read_row (universe_of self.now.scheme.now) scope.now table (items_of (map item_of args.now))))) }
+    {
+        match self.read_terms(scope, args) {
+            Err(cell) => Err(cell),
+            Ok(places) => {
+                if args.len() > MOST_ARGUMENTS {
+                    return Ok(false);
+                }
+                Ok(has_row(self.scheme, table, &places[..args.len()]))
+            }
+        }
+    }
+
+    /// The truth of an atom, or the first cell that it needs and that wasn't read. At other formulas it is `false`.
+    pub(crate) fn read_atom(
+        &self,
+        scope: &[(SortId, ValueId)],
+        atom: &Formula,
+        addends: &(Option<Addends>, Option<Addends>),
+    ) -> Result<bool, usize>
+        requires sound { IsSound self.now.scheme.now }
+        requires addends { AreOfSides (universe_of self.now.scheme.now) scope.now (statement_of atom.now) addends.now.0 addends.now.1 }
+        ensures known { IfOk result (λ is. after self.now.reads.now (atom_reading (universe_of self.now.scheme.now) scope.now (statement_of atom.now)) ≡ known is) }
+        ensures stopped { IfErr result (λ c. StopsAt c (after self.now.reads.now (atom_reading (universe_of self.now.scheme.now) scope.now (statement_of atom.now)))) }
+    {
+        match atom {
+            Formula::Compare { left, op, right } => {
+                self.read_comparison(scope, left, *op, right, addends)
+            }
+            Formula::InTable { table, args } => self.read_row(scope, *table, args),
+            _ => Ok(false),
+        }
     }
 }
