@@ -1,7 +1,6 @@
 // What the names in a line stand for in a book.
 ghost use Rattle.std.specs.Prelude.{◌≡◌, ◌↔◌, ℕ, Some};
 ghost use Rattle.pc_formula.specs.Tree.{cell_of, value_of};
-ghost use Rattle.pc_sheet.specs.WellFormed.{IsWellFormed};
 ghost use Rattle.pc_sheet.specs.declared.ids.Entry.{Entry};
 ghost use Rattle.pc_sheet.specs.declared.ids.CellId.{CellId};
 ghost use Rattle.pc_sheet.specs.declared.ids.ValueId.{ValueId};
@@ -12,15 +11,8 @@ ghost use Rattle.pc_cert.specs.Trees.{pair_of};
 use crate::tree::PairTree;
 use pc_elaborate::{find_cell, find_value};
 use pc_formula::{CellTree, Name, ValueTree};
-use pc_logic::Book;
+use pc_logic::{Book, well_formed};
 use pc_sheet::{CellId, Entry, ValueId};
-
-/// A book is well formed.
-fn well_formed(book: &Book)
-    ensures { IsWellFormed book.now }
-{
-    let _ = book.entries();
-}
 
 /// The cell that is named.
 pub fn named_cell(book: &Book, cell: &CellTree) -> Option<CellId>

@@ -12,7 +12,7 @@ ghost use Rattle.pc_cert.specs.Views.{reading_of, said_of};
 use crate::entered::is_entered;
 use crate::verdict::Verdict;
 use pc_cert::{Cert, Claim, Said};
-use pc_logic::{Assignment, Book, eval};
+use pc_logic::{Assignment, Book, eval, well_formed};
 use pc_sheet::ValueId;
 
 /// The verdict, if the used entries or the assignment don't stand.
@@ -54,8 +54,7 @@ fn fault_of_claim(
     if let Some(line) = first_not_held(values.values(), &cert.uses) {
         return Some(Verdict::UseNotHeld { line });
     }
-    // Every book is well formed, which bounds its rules.
-    let _entries = book.entries();
+    well_formed(book);
     if let Some(rule) = first_broken(book, values) {
         return Some(Verdict::RuleBroken { rule });
     }

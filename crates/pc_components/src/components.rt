@@ -10,7 +10,7 @@ use crate::turned::turn;
 use crate::variables::variables_of_parts;
 use pc_ground::Ground;
 use pc_lits::{Rows, Var};
-use pc_logic::Book;
+use pc_logic::{Book, few_cells, well_formed};
 use pc_sheet::CellId;
 use std::alloc::{AllocError, Global};
 use std::marker::Model;
@@ -88,9 +88,8 @@ pub fn find_components(
     requires few { length ground.now.clauses < 2 ^ 32 }
     ensures { IfOk result (AreComponentsOf book.now) }
 {
-    // Every book is well formed, and has at most 4,096 cells.
-    let _entries = book.entries();
-    let _count = book.cells();
+    well_formed(book);
+    few_cells(book);
     let numbers = PartNumbers::new(alloc, book)?;
     let owners = numbers.owners(alloc, book)?;
     let axioms = turn(alloc, &owners, numbers.parts)?;

@@ -1,9 +1,8 @@
 //! Which part each cell, each piece and each axiom of a book is of, by the parts' numbers.
-ghost use Rattle.std.specs.Prelude.{◌≡◌, IfOk, length, map};
-ghost use Rattle.pc_parts.specs.Components.{all_cells, labels_of, parts_of};
-ghost use Rattle.pc_parts.specs.Leaves.{cells_of};
+ghost use Rattle.std.specs.Prelude.{◌≡◌, IfOk};
+ghost use Rattle.pc_parts.specs.Components.{labels_of};
 ghost use Rattle.pc_parts.specs.Pieces.{pieces};
-ghost use Rattle.pc_components.specs.inside.Owners.{cell_number_by, number_by, owners_by};
+ghost use Rattle.pc_components.specs.inside.Owners.{owners_by};
 ghost use Rattle.pc_components.specs.inside.PartNumbers.{HasNumbers};
 
 use crate::labels::labels_by;
@@ -11,7 +10,7 @@ use crate::numbers::{count_last, number_cells, numbers_of_pieces};
 use crate::owners::{add_owners_of_cells, add_owners_of_rules};
 use crate::piece_cells::cells_of_pieces;
 use pc_lits::Rows;
-use pc_logic::Book;
+use pc_logic::{Book, well_formed};
 use std::alloc::{AllocError, Global};
 
 /// How many parts there are, and the number of each cell's and each piece's part.
@@ -28,8 +27,7 @@ impl PartNumbers {
     pub(crate) fn new(alloc: Global, book: &Book) -> Result<PartNumbers, AllocError>
         ensures { IfOk result (λ found. HasNumbers book.now found.parts found.cells.items found.pieces.items) }
     {
-        // Every book is well formed, so that its pieces read its cells alone.
-        let _entries = book.entries();
+        well_formed(book);
         let rows = cells_of_pieces(alloc, book)?;
         let labels = labels_by(alloc, &rows, book.cells())?;
         let (cells, parts) = number_cells(alloc, &labels)?;
@@ -46,8 +44,7 @@ impl PartNumbers {
         requires { HasNumbers book.now self.now.parts self.now.cells.items self.now.pieces.items }
         ensures { IfOk result (λ rows. rows ≡ owners_by book.now (labels_of book.now)) }
     {
-        // Every book is well formed, which sorts its rules.
-        let _entries = book.entries();
+        well_formed(book);
         let mut rows = Rows::new(alloc);
         add_owners_of_cells(&mut rows, book, &self.cells)?;
         add_owners_of_rules(&mut rows, book, book.rules(), &self.pieces)?;

@@ -9,12 +9,12 @@ ghost use Rattle.pc_elaborate.specs.Told.{IsFormulaTold, variables_of};
 
 use crate::fault::{SortFault, Which};
 use crate::items::arguments;
-use crate::names::{find_table, well_formed};
+use crate::names::find_table;
 use crate::reads::{reads_in_side, reads_in_terms};
 use crate::scope::Variable;
 use crate::sides::{find_side, may_compare};
 use pc_formula::{ItemTree, SideTree};
-use pc_logic::{Book, Formula, Name, Op, SortId, TableId};
+use pc_logic::{Book, Formula, Name, Op, SortId, TableId, well_formed};
 use pc_sheet::MOST_READS;
 use std::alloc::Global;
 

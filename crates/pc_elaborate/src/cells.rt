@@ -12,9 +12,9 @@ ghost use Rattle.pc_elaborate.specs.FormulaFaults.{AreValuesFault, IsCellFault, 
 ghost use Rattle.pc_elaborate.specs.Outcome.{IsApplicationTold, IsOutcome, Tells, TellsValues, sort_of_cell};
 
 use crate::fault::SortFault;
-use crate::names::{find_family, name_fault, value_named, well_formed};
+use crate::names::{find_family, name_fault, value_named};
 use pc_formula::{CellTree, ValueTree};
-use pc_logic::{Book, CellId, FamilyId, Name, SortId, ValueId};
+use pc_logic::{Book, CellId, FamilyId, Name, SortId, ValueId, well_formed};
 use pc_sheet::cells_are_numbered_in_order;
 
 /// The listed value of the sort that a name stands for, or why there is none.

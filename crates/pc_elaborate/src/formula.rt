@@ -15,10 +15,10 @@ ghost use Rattle.pc_elaborate.specs.declared.fault.SortFault.{SortFault};
 
 use crate::atoms::{comparison, table_atom};
 use crate::fault::{SortFault, Which};
-use crate::names::{find_sort, well_formed};
+use crate::names::find_sort;
 use crate::scope::{Variable, variable_named, with_variable};
 use pc_formula::FormulaTree;
-use pc_logic::{Book, Formula, Name, SortId};
+use pc_logic::{Book, Formula, Name, SortId, well_formed};
 use pc_sheet::MOST_DEPTH;
 use std::alloc::Global;
 

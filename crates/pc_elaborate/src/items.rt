@@ -1,18 +1,16 @@
 //! What names and applications stand for.
-ghost use Rattle.std.specs.Prelude.{◌≡◌, ◌<◌, length, map};
+ghost use Rattle.std.specs.Prelude.{◌≡◌, ◌<◌, length, map, All};
 ghost use Rattle.pc_formula.specs.Tree.{item_of, items_of, named, no_item};
 ghost use Rattle.pc_elaborate.specs.inside.Scope.{IsScope};
 ghost use Rattle.pc_elaborate.specs.Elaboration.{IsFamilyNamed};
 ghost use Rattle.pc_elaborate.specs.Told.{AreArgumentsTold, IsAppliedTold, IsArgumentTold, IsItemTold, variables_of};
-ghost use Rattle.std.specs.Prelude.{All};
 ghost use Rattle.pc_sheet.specs.WellFormed.{IsDeclaredSort};
 
 use crate::cells::{argument_sorts, find_integer};
 use crate::fault::SortFault;
-use crate::names::well_formed;
 use crate::scope::{Variable, variable_named};
 use pc_formula::ItemTree;
-use pc_logic::{Book, FamilyId, Name, Named, SortId, Term};
+use pc_logic::{Book, FamilyId, Name, Named, SortId, Term, well_formed};
 use std::alloc::Global;
 
 /// What a bare name stands for, with its sort: a variable, a listed value or the only cell of a family.

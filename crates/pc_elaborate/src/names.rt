@@ -1,7 +1,6 @@
 //! What a name stands for in a book.
 ghost use Rattle.std.specs.Prelude.{◌≡◌, ◌↔◌};
 ghost use Rattle.pc_formula.specs.Tree.{name_value};
-ghost use Rattle.pc_sheet.specs.WellFormed.{IsWellFormed};
 ghost use Rattle.pc_sheet.specs.declared.ids.SortId.{SortId};
 ghost use Rattle.pc_sheet.specs.declared.ids.TableId.{TableId};
 ghost use Rattle.pc_sheet.specs.declared.ids.FamilyId.{FamilyId};
@@ -11,14 +10,7 @@ ghost use Rattle.pc_elaborate.specs.FormulaFaults.{IsNameFault, IsSomeFamily, Is
 ghost use Rattle.pc_elaborate.specs.Outcome.{IsOtherName, Tells};
 
 use crate::fault::SortFault;
-use pc_logic::{Book, FamilyId, Name, Named, SortId, TableId, ValueId};
-
-/// A book is well formed.
-pub(crate) fn well_formed(book: &Book)
-    ensures { IsWellFormed book.now }
-{
-    let _ = book.entries();
-}
+use pc_logic::{Book, FamilyId, Name, Named, SortId, TableId, ValueId, well_formed};
 
 /// The sort of that name, if it is declared.
 pub fn sort_named(book: &Book, name: &Name) -> Option<SortId>

@@ -10,10 +10,9 @@ ghost use Rattle.pc_elaborate.specs.Told.{AreAddedTold, IsKindOf, IsSideItemTold
 
 use crate::fault::{SortFault, Which};
 use crate::items::named_item;
-use crate::names::well_formed;
 use crate::scope::Variable;
 use pc_formula::{ItemTree, SideTree};
-use pc_logic::{Book, Name, Op, Side, Sign, SortId, Term};
+use pc_logic::{Book, Name, Op, Side, Sign, SortId, Term, well_formed};
 use pc_sheet::LARGEST_NUMBER;
 use std::alloc::Global;
 

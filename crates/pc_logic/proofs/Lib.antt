@@ -18,3 +18,4 @@ pub mod TooLong
 pub mod WeightLemmas
 pub mod PartialLemmas
 pub mod AddendLemmas
+pub mod FirstLemmas

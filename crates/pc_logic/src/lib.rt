@@ -7,6 +7,7 @@ mod atom_reader;
 mod book;
 mod copies;
 mod entries;
+mod laws;
 mod names;
 mod nodes;
 mod partial;
@@ -20,6 +21,7 @@ mod weighing;
 pub use assignment::Assignment;
 pub use atom_reader::AtomReader;
 pub use book::{Book, eval, eval_partial, node_at, read_atom, satisfies, weight};
+pub use laws::{few_cells, well_formed};
 pub use names::Named;
 pub use pc_sheet::{
     CellId, Entry, FamilyId, Formula, Name, NodeKind, NodePath, Op, Rule, Side, Sign, SortId,

@@ -166,6 +166,13 @@ impl Trail {
         self.entries.len()
     }
 
+    /// Recalls that no variable has two entries.
+    pub fn recall_entries(&self)
+        ensures { AreEntries self.now.variables self.now.entries }
+    {
+        let _ = self.len();
+    }
+
     /// The literal at this place, counted from the oldest.
     pub fn at(&self, place: usize) -> Lit
         requires { place < length self.now.entries }

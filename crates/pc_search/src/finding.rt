@@ -1,6 +1,6 @@
 //! The reasons of targets on a part's cells.
 
-ghost use Rattle.std.specs.Prelude.{◌≡◌, ◌≤◌, ◌<◌, ◌+◌, ◌*◌, ◌^◌, Contains, IfErr, IfSome, OnOk, length};
+ghost use Rattle.std.specs.Prelude.{◌≤◌, ◌<◌, ◌+◌, ◌*◌, ◌^◌, Contains, IfErr, IfSome, OnOk, length};
 ghost use Rattle.pc_sheet.specs.Limits.{most_cells};
 ghost use Rattle.pc_search.specs.Found.{AddsRow, Finds, FindsOne, steps_in};
 ghost use Rattle.pc_search.specs.inside.Finding.{CanFind};
@@ -13,6 +13,7 @@ use crate::task::PartTask;
 use pc_cache::Patch;
 use pc_lits::Tally;
 use pc_log::Log;
+use pc_logic::well_formed;
 use pc_sheet::Target;
 use pc_solver::Stop;
 use pc_support::{Found, least};
@@ -79,8 +80,7 @@ impl Finder<'_> {
         others_are_not_implied();
         trimming_adds_no_steps();
         let task = listed.task;
-        // Every book is well formed.
-        let _entries = task.book.entries();
+        well_formed(task.book);
         let found = least(
             task.alloc,
             task.entries,
@@ -114,7 +114,7 @@ impl Finder<'_> {
         ensures stop { IfErr result (StopSays tally.new) }
     {
         let targets = listed.task.targets;
-        let _limit = tally.limit;
+        tally.recall_limit();
         let _worlds = listed.worlds.len();
         for place in 0..targets.len() {
             self.find_reason(listed, targets[place], log, tally, patch)?;

@@ -47,7 +47,7 @@ impl PartTask<'_> {
     {
         exact_worlds_are_on();
         joined_worlds_are_worlds();
-        let _limit = tally.limit;
+        tally.recall_limit();
         let found = worlds(
             self.alloc,
             self.book,

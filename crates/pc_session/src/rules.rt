@@ -13,7 +13,7 @@ use crate::compaction::compact_if_due;
 use crate::loading::load_book;
 use crate::refused::{EditRefused, refused_edit};
 use crate::state::State;
-use pc_logic::Book;
+use pc_logic::{Book, well_formed};
 use pc_sheet::Rule;
 use std::alloc::Global;
 
@@ -55,8 +55,7 @@ fn with_new_rule(alloc: Global, book: &Book, rule: Rule) -> Result<Book, EditRef
     ensures duplicate { ¬ IsNewName book.now.rules rule.name → result ≡ Err DuplicateRule }
     ensures refused { (budget : ℕ) → IfErr result (IsAddCause book.now (rule_of rule) budget) }
 {
-    // Every book is well formed.
-    let _entries = book.entries();
+    well_formed(book);
     match place_of(book.rules(), rule.name.as_str()) {
         Some(_) => Err(EditRefused::DuplicateRule),
         None => Ok(book.with_rule(alloc, rule)?),

@@ -5,7 +5,7 @@ use Rattle.std.proofs.lemmas.List.Elements.{All-nil, All-append, All-replicate, 
 use Rattle.std.proofs.lemmas.Option.{slice_get-get_or}
 use Rattle.pc_sheet.specs.Sheet.{Values, listed, range, Sort, Family, Universe}
 use Rattle.pc_sheet.specs.Truth.{count_of, values_of_sort, size_of, cells_in}
-use Rattle.pc_sheet.specs.Entailment.{cell_sizes, AreWithin}
+use Rattle.pc_sheet.specs.Entailment.{cell_sizes}
 use Rattle.pc_sheet.specs.WellFormed.{AreWellFormedValues, IsWellFormedFamily, IsWellFormedUniverse}
 use Rattle.pc_sheet.specs.declared.ids.CellId.{CellId}
 use Rattle.pc_sheet.specs.declared.ids.SortId.{SortId}
@@ -37,10 +37,3 @@ at_most (n ∷ ns) all (suc c) = at_most ns (All-tail IsFine n ns all) c
 
 pub size_few : (u : Universe) → IsWellFormedUniverse u → (c : CellId) → size_at (cell_sizes u) c ≤ 256
 size_few u h c = at_most (cell_sizes u) (sizes_fine u u.families h h.families) c.0
-
-within_first : (ns : List ℕ) → All IsFine ns → AreWithin ns (replicate (length ns) (record { 0 = 0 }))
-within_first [] all = tt
-within_first (n ∷ ns) all = (let h = (All-head IsFine n ns all).0 in omega (arith, h), within_first ns (All-tail IsFine n ns all))
-
-pub first_within : (u : Universe) → IsWellFormedUniverse u → AreWithin (cell_sizes u) (replicate (length (cell_sizes u)) (record { 0 = 0 }))
-first_within u h = within_first (cell_sizes u) (sizes_fine u u.families h h.families)

@@ -18,7 +18,7 @@ use pc_components::find_components;
 use pc_ground::{GroundFault, ground_book};
 use pc_justify::names_are_of_their_sheet;
 use pc_log::{Log, Span};
-use pc_logic::{Assignment, Book};
+use pc_logic::{Assignment, Book, few_cells, well_formed};
 use pc_names::Names;
 use pc_parts::{divisions_divide, parts_are_a_division, parts_are_found};
 use pc_searched::SpareTrails;
@@ -146,8 +146,8 @@ pub fn search_book(
     parts_are_found();
     names_are_of_their_sheet();
     certificates_are_sound();
-    let _entries = book.entries();
-    let _cells = book.cells();
+    well_formed(book);
+    few_cells(book);
     let ground = match ground_book(alloc, book) {
         Ok(ground) => ground,
         Err(GroundFault::TooLarge) => return Err(Fault::TooLarge),

@@ -12,7 +12,7 @@ ghost use Rattle.pc_theory.specs.Theories.{rules_alone, IsPartNumbered, IsTheory
 use crate::spending::PartSpending;
 use crate::theory::Theory;
 use pc_cache::Patch;
-use pc_logic::Book;
+use pc_logic::{Book, few_cells, well_formed};
 use pc_search::PartTask;
 use pc_searched::SpareTrails;
 use pc_searched::laws::parts_are_searched;
@@ -50,8 +50,8 @@ impl PartTargets<'_> {
         parts_are_searched();
         let book = self.book;
         let theory = self.theory;
-        let _all = book.entries();
-        let _cells = book.cells();
+        well_formed(book);
+        few_cells(book);
         let own = theory.components.part(self.part);
         let entries = entries_on(self.alloc, book, own.cells)?;
         place.logs.reserve(2)?;
@@ -88,8 +88,8 @@ impl PartTargets<'_> {
         parts_are_searched();
         let book = self.book;
         let theory = self.theory;
-        let _all = book.entries();
-        let _cells = book.cells();
+        well_formed(book);
+        few_cells(book);
         let own = theory.components.part(self.part);
         let entries = entries_on(self.alloc, book, own.cells)?;
         let mut trails = SpareTrails::new(self.alloc, theory.ground.variables());

@@ -1,5 +1,5 @@
 //! An assignment, read from a solver's values.
-ghost use Rattle.std.specs.Prelude.{◌≡◌, ◌<◌, List, Contains, IfNone, IfOk, IfSome, false, length, map, true};
+ghost use Rattle.std.specs.Prelude.{◌≡◌, ◌<◌, List, Contains, IfNone, IfSome, false, length, map, true};
 ghost use Rattle.pc_sheet.specs.Entailment.{AreWithin, cell_sizes};
 ghost use Rattle.pc_sheet.specs.declared.ids.CellId.{CellId};
 ghost use Rattle.pc_sheet.specs.declared.ids.ValueId.{ValueId};
@@ -15,19 +15,6 @@ use pc_logic::{Assignment, Book};
 use pc_sheet::{CellId, ValueId};
 use pc_solver::Solver;
 use std::alloc::{AllocError, Global};
-
-/// The first value for each cell.
-pub(crate) fn first_values(alloc: Global, book: &Book) -> Result<Assignment, AllocError>
-    ensures { IfOk result (λ values. AreWithin (cell_sizes book.now.universe) values) }
-{
-    // Every book is well formed, so that each cell has a value.
-    let _entries = book.entries();
-    let mut values = Vec::new(alloc);
-    for _cell in 0..book.cells() {
-        values.push(ValueId(0))?;
-    }
-    Ok(Assignment::new(values))
-}
 
 // The first value of the cell whose pair is true.
 fn first_true(book: &Book, ground: &Ground, solver: &Solver<'_>, cell: CellId) -> Option<ValueId>

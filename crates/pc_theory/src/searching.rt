@@ -11,6 +11,7 @@ use crate::spending::PartSpending;
 use crate::targets::targets_on;
 use crate::task::Fitted;
 use pc_cache::Patch;
+use pc_logic::few_cells;
 use pc_search::PartTask;
 use pc_searched::SpareTrails;
 use pc_searched::laws::parts_are_searched;
@@ -44,7 +45,7 @@ fn search_one(
 {
     parts_are_searched();
     let task = fitted.task;
-    let _cells = task.book.cells();
+    few_cells(task.book);
     let part = task.components.part(place.part as usize);
     let entries = entries_on(task.alloc, task.book, part.cells)?;
     let targets = targets_on(task.alloc, task.book, part.cells)?;

@@ -7,7 +7,7 @@ ghost use Rattle.pc_theory.specs.inside.Tasks.{IsReady};
 ghost use Rattle.pc_theory.specs.inside.Starting.{AreStarted, HaltSays};
 ghost use Rattle.pc_theory.specs.inside.Calling.{IsCalled, IsEmptyAt, IsRefused};
 
-use crate::reading::{first_values, read_values};
+use crate::reading::read_values;
 use crate::spending::PartSpending;
 use crate::stop::Halt;
 use crate::task::Task;
@@ -204,7 +204,7 @@ pub(crate) fn start_parts<'g>(
     ensures halt { IfErr result (HaltSays task.entry.book.now task.entry.components.now task.entry.budget spent.new parts.new.items) }
     ensures trails { trails.new ≡ trails.old }
 {
-    let mut base = first_values(task.alloc, task.book)?;
+    let mut base = Assignment::first(task.alloc, task.book)?;
     for _number in 0..task.components.len() {
         start_part(task, spent, &mut base, trails, parts, solvers)?;
     }

@@ -8,7 +8,7 @@ ghost use Rattle.pc_theory.specs.Theories.{rules_alone, IsPartNumbered, IsTheory
 
 use pc_components::Components;
 use pc_ground::Ground;
-use pc_logic::{Assignment, Book};
+use pc_logic::{Assignment, Book, few_cells};
 use pc_sheet::CellId;
 use std::marker::Model;
 
@@ -58,7 +58,7 @@ impl Theory {
         ensures few { result ≤ most_cells }
         ensures has { (p : Part) × IsPartNumbered (rules_alone book.now) result p × Contains p.cells cell.0 }
     {
-        let _cells = book.cells();
+        few_cells(book);
         self.components.of(cell)
     }
 

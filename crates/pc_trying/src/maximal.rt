@@ -1,12 +1,12 @@
 //! The maximal sets, by trying every sublist of the entries.
-ghost use Rattle.std.specs.Prelude.{◌≡◌, ◌↔◌, ◌≤◌, ◌∷◌, All, Contains, IsTrue, IfOk, OnOk, List, length, take, drop, map};
+ghost use Rattle.std.specs.Prelude.{◌≡◌, ◌↔◌, ◌≤◌, All, Contains, IsTrue, IfOk, OnOk, List, length, take, drop, map};
 ghost use Rattle.pc_sheet.specs.Entailment.{cell_sizes, HaveDistinctCells, IsSublist};
 ghost use Rattle.pc_sheet.specs.MaximalSets.{IsMaximalSet, ListsExactly};
 ghost use Rattle.pc_laws.specs.Laws.{IsExcluded};
 ghost use Rattle.pc_trying.specs.Collecting.{entries_of, Collects};
 
 use crate::least::with_older;
-use crate::search::{are_consistent, are_consistent_with, first_values};
+use crate::search::{are_consistent, are_consistent_with};
 use pc_logic::{Assignment, Book, Entry};
 use std::alloc::{AllocError, Global};
 
@@ -82,7 +82,7 @@ fn collect(
 pub fn maximal_sets_by_trying(alloc: Global, book: &Book) -> Result<Vec<Vec<Entry>>, AllocError>
     ensures { IfOk result (λ sets. ListsExactly (List Entry) (IsMaximalSet book.now) (map entries_of sets.items)) }
 {
-    let mut values = first_values(alloc, book)?;
+    let mut values = Assignment::first(alloc, book)?;
     let mut sets = Vec::new(alloc);
     collect(
         alloc,

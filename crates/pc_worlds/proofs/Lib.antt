@@ -6,7 +6,6 @@ pub mod RefutedLemmas
 pub mod Pigeons
 pub mod ListLemmas
 pub mod TurnLemmas
-pub mod FirstLemmas
 pub mod LogLemmas
 pub mod PartLemmas
 pub mod EntryLemmas

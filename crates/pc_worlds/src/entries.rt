@@ -7,7 +7,7 @@ ghost use Rattle.pc_sheet.specs.declared.ids.CellId.{CellId};
 ghost use Rattle.pc_components.specs.View.{number_of};
 ghost use Rattle.pc_parts.specs.PartSheets.{is_on, entries_on};
 
-use pc_logic::{Book, CellId, Entry};
+use pc_logic::{Book, CellId, Entry, few_cells};
 use std::alloc::{AllocError, Global};
 
 fn is_among(cells: &[CellId], cell: CellId) -> bool
@@ -40,6 +40,6 @@ pub fn entries_on(alloc: Global, book: &Book, cells: &[CellId]) -> Result<Vec<En
     ensures on { IfOk result (λ on. on.items ≡ entries_on (map number_of cells.now) book.now.entries) }
     ensures few { IfOk result (λ on. length on.items ≤ most_cells) }
 {
-    let _cells = book.cells();
+    few_cells(book);
     chosen_on(alloc, book.entries(), cells)
 }

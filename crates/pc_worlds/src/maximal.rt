@@ -7,9 +7,8 @@ ghost use Rattle.pc_sheet.specs.Entailment.{AreWithin, HaveDistinctCells, cell_s
 ghost use Rattle.pc_sheet.specs.MaximalSets.{IsMaximalSet};
 ghost use Rattle.pc_searched.specs.Searched.{IsSearched};
 ghost use Rattle.pc_components.specs.View.{number_of};
-ghost use Rattle.pc_solver.specs.Solver.{IsProblem};
+ghost use Rattle.pc_solver.specs.Solver.{IsProblem, clauses_used};
 ghost use Rattle.pc_ground.specs.Grounded.{grounded};
-ghost use Rattle.pc_solver.specs.Solver.{clauses_used};
 ghost use Rattle.pc_world_list.specs.Worlds.{AreExact};
 ghost use Rattle.pc_worlds.specs.inside.Listing.{AreFewCalls, IsFullSet, IsOfSheet};
 ghost use Rattle.pc_worlds.specs.Parts.{AddsLogs, AreFewFor, IsListingLog, marked_in};
@@ -32,19 +31,6 @@ use pc_searched::SpareTrails;
 use pc_solver::Stop;
 use pc_world_list::Worlds;
 use std::alloc::{AllocError, Global};
-
-// The first value for each cell.
-fn first_values(alloc: Global, book: &Book) -> Result<Assignment, AllocError>
-    ensures { IfOk result (λ values. AreWithin (cell_sizes book.now.universe) values) }
-{
-    // Every book is well formed, so that each cell has a value.
-    let _entries = book.entries();
-    let mut values = Vec::new(alloc);
-    for _cell in 0..book.cells() {
-        values.push(ValueId(0))?;
-    }
-    Ok(Assignment::new(values))
-}
 
 // Lists the worlds, and hands over the logs of both searches and their trails, whatever comes of it.
 fn list_with_logs(
@@ -130,7 +116,7 @@ fn begin<'g>(
     ensures trails { trails.new ≡ trails.old }
 {
     let entries = entries_on(alloc, book, part.cells)?;
-    let shown = first_values(alloc, book)?;
+    let shown = Assignment::first(alloc, book)?;
     let finder = new_search(alloc, ground, part, trails)?;
     let grower = new_search(alloc, ground, part, trails)?;
     Ok(Beginning {
@@ -173,7 +159,7 @@ pub fn worlds_knowing(
         × SpendsOver (length part.entry.variables.now) tally.old tally.new (marked_in logs.old.items) (marked_in logs.new.items) most }
     ensures trails { trails.new ≡ trails.old }
 {
-    let _limit = tally.limit;
+    tally.recall_limit();
     let Beginning { entries, listing } = begin(alloc, book, ground, part, trails)?;
     let task = Task {
         alloc,

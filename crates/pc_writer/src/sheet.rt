@@ -1,14 +1,14 @@
 // Whole sheets, in canonical form.
-ghost use Rattle.std.specs.Prelude.{◌≡◌, ◌<◌, All, length, map};
+ghost use Rattle.std.specs.Prelude.{◌<◌, length, map};
 ghost use Rattle.std.specs.List.{flat_map};
-ghost use Rattle.pc_sheet.specs.WellFormed.{IsEntryOf, IsWellFormed};
+ghost use Rattle.pc_sheet.specs.WellFormed.{IsWellFormed};
 ghost use Rattle.pc_writer.specs.FormulaText.{table_at};
 ghost use Rattle.pc_writer.specs.SheetText.{enter_line, family_line, lines_text, row_lines, rule_line, sheet_text, sort_line, table_line, universe_lines};
 ghost use Rattle.pc_writer.specs.Writes.{Writes};
 
 use crate::lines::{write_enter, write_family, write_row, write_rule, write_sort, write_table};
 use crate::pieces::write_text;
-use pc_logic::Book;
+use pc_logic::{Book, well_formed};
 use pc_port::{Failed, Sink};
 use pc_sheet::{FamilyId, SortId, TableId};
 
@@ -106,7 +106,7 @@ fn write_universe<O: Sink>(book: &Book, out: &mut O) -> Result<(), Failed>
 pub fn write_sheet<O: Sink>(book: &Book, out: &mut O) -> Result<(), Failed>
     ensures { Writes O.given O.faults out.old out.new result (sheet_text book.now) }
 {
-    let _entries = book.entries();
+    well_formed(book);
     write_text(b"sheet 1\n", out)?;
     write_universe(book, out)?;
     write_rules(book, out)?;

@@ -8,7 +8,7 @@ use Rattle.pc_components.proofs.components.find_components.Goals as goal
 
 pub invariant_of-result : goal.invariant_of-result
 invariant_of-result c = (
-  as_many_axioms c.args.book.now c.entries-entries.ensures.well_formed c.in_ok-numbers.numbers.parts c.variables.result c.in_ok-numbers.numbers.cells.items c.in_ok-numbers.numbers.pieces.items c.in_ok-owners.owners c.in_ok-axioms.axioms c.in_ok-variables.variables c.in_ok-cells.cells
+  as_many_axioms c.args.book.now c.well_formed-2.ensures c.in_ok-numbers.numbers.parts c.variables.result c.in_ok-numbers.numbers.cells.items c.in_ok-numbers.numbers.pieces.items c.in_ok-owners.owners c.in_ok-axioms.axioms c.in_ok-variables.variables c.in_ok-cells.cells
       c.in_ok-numbers.ensures
       (c.variables.ensures ∙ ap (λ (g : Grounded). g.variables) c.requires.ground)
       c.in_ok-owners.ensures
@@ -16,7 +16,7 @@ invariant_of-result c = (
       (c.in_ok-variables.ensures ∙ ap (λ cs. turned c.in_ok-numbers.numbers.parts (turned c.variables.result (map (variables_in cs) c.in_ok-axioms.axioms))) (c.store.ensures ∙ ap (λ (g : Grounded). g.clauses) c.requires.ground))
       (c.in_ok-cells.ensures ∙ ap (turned c.in_ok-numbers.numbers.parts) (c.in_ok-rows_of_each.ensures ∙ ap (map alone) c.deref.ensures.value))
       c.in_ok-rows_of_cells.field-0 c.in_ok-rows_of_axioms.field-0 c.in_ok-rows_of_variables.field-0 c.in_ok-rows_of_cells.ensures c.in_ok-rows_of_axioms.ensures c.in_ok-rows_of_variables.ensures,
-  as_many_variables c.args.book.now c.entries-entries.ensures.well_formed c.in_ok-numbers.numbers.parts c.variables.result c.in_ok-numbers.numbers.cells.items c.in_ok-numbers.numbers.pieces.items c.in_ok-owners.owners c.in_ok-axioms.axioms c.in_ok-variables.variables c.in_ok-cells.cells
+  as_many_variables c.args.book.now c.well_formed-2.ensures c.in_ok-numbers.numbers.parts c.variables.result c.in_ok-numbers.numbers.cells.items c.in_ok-numbers.numbers.pieces.items c.in_ok-owners.owners c.in_ok-axioms.axioms c.in_ok-variables.variables c.in_ok-cells.cells
       c.in_ok-numbers.ensures
       (c.variables.ensures ∙ ap (λ (g : Grounded). g.variables) c.requires.ground)
       c.in_ok-owners.ensures
@@ -28,7 +28,7 @@ invariant_of-result c = (
 
 pub returns : goal.returns
 returns c =
-    all_right c.args.book.now c.entries-entries.ensures.well_formed c.in_ok-numbers.numbers.parts c.variables.result c.in_ok-numbers.numbers.cells.items c.in_ok-numbers.numbers.pieces.items c.in_ok-owners.owners c.in_ok-axioms.axioms c.in_ok-variables.variables c.in_ok-cells.cells
+    all_right c.args.book.now c.well_formed-2.ensures c.in_ok-numbers.numbers.parts c.variables.result c.in_ok-numbers.numbers.cells.items c.in_ok-numbers.numbers.pieces.items c.in_ok-owners.owners c.in_ok-axioms.axioms c.in_ok-variables.variables c.in_ok-cells.cells
     c.in_ok-numbers.ensures
     (c.variables.ensures ∙ ap (λ (g : Grounded). g.variables) c.requires.ground)
     c.in_ok-owners.ensures
@@ -40,11 +40,11 @@ returns c =
 pub rows_of_cells-requires : goal.rows_of_cells-requires
 rows_of_cells-requires c =
     cells_fit c.args.book.now c.in_ok-numbers.numbers.parts c.in_ok-numbers.numbers.cells.items c.in_ok-numbers.numbers.pieces.items c.in_ok-cells.cells c.in_ok-numbers.ensures
-    (c.in_ok-cells.ensures ∙ ap (turned c.in_ok-numbers.numbers.parts) (c.in_ok-rows_of_each.ensures ∙ ap (map alone) c.deref.ensures.value)) (let e = c.cells-count.ensures.exact in let l = c.cells-count.ensures.few in omega (arith, e, l))
+    (c.in_ok-cells.ensures ∙ ap (turned c.in_ok-numbers.numbers.parts) (c.in_ok-rows_of_each.ensures ∙ ap (map alone) c.deref.ensures.value)) (let l = c.few_cells.ensures in omega (arith, l))
 
 pub rows_of_axioms-requires : goal.rows_of_axioms-requires
 rows_of_axioms-requires c =
-    axioms_fit c.args.book.now c.entries-entries.ensures.well_formed c.in_ok-numbers.numbers.parts c.in_ok-owners.owners c.in_ok-axioms.axioms c.in_ok-owners.ensures c.in_ok-axioms.ensures
+    axioms_fit c.args.book.now c.well_formed-2.ensures c.in_ok-numbers.numbers.parts c.in_ok-owners.owners c.in_ok-axioms.axioms c.in_ok-owners.ensures c.in_ok-axioms.ensures
     (subst (λ (g : Grounded). length g.clauses < 2 ^ 32) c.requires.ground c.requires.few)
 
 pub rows_of_variables-requires : goal.rows_of_variables-requires

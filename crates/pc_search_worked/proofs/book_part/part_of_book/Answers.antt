@@ -6,7 +6,7 @@ use Rattle.pc_search_worked.proofs.book_part.part_of_book.Goals as goal
 
 pub returns-clause-searched : goal.returns-clause-searched
 returns-clause-searched c =
-    c.whole_is_searched.ensures c.args.book.now c.entries-entries.ensures.well_formed c.in_ok-cells.cells.items c.in_ok-axioms.axioms.items c.in_ok-variables.variables.items
+    c.whole_is_searched.ensures c.args.book.now c.well_formed-2.ensures c.in_ok-cells.cells.items c.in_ok-axioms.axioms.items c.in_ok-variables.variables.items
     (c.in_ok-cells.ensures ∙ ap (range_with_len 0) c.cells.ensures.exact)
     (c.in_ok-axioms.ensures ∙ ap (range_with_len 0) (c.len-count.ensures ∙ ap (λ (cs : List (List Lit)). length cs) c.store.ensures ∙ ap (λ (g : Grounded). length g.clauses) c.requires))
     (c.in_ok-variables.ensures ∙ ap (range_with_len 0) (c.variables.ensures ∙ ap (λ (g : Grounded). g.variables) c.requires))

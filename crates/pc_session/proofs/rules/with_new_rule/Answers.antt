@@ -5,7 +5,7 @@ use Rattle.pc_session.proofs.rules.with_new_rule.Goals as goal
 
 pub with_rule-requires : goal.with_rule-requires
 with_rule-requires c =
-    formed_with_rule c.args.book.now (rule_of c.args.rule) c.entries-entries.ensures.well_formed c.requires.rule c.requires.few
+    formed_with_rule c.args.book.now (rule_of c.args.rule) c.well_formed-2.ensures c.requires.rule c.requires.few
     (same_new (map rule_of c.rules.result.now) c.args.book.now.rules c.as_str.result.now c.args.rule.name c.rules.ensures c.as_str.ensures.text c.in-None.ensures.none)
 
 pub returns-in-Some-clause-refused : goal.returns-in-Some-clause-refused

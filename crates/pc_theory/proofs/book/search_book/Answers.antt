@@ -13,20 +13,20 @@ use Rattle.pc_theory.proofs.book.search_book.Goals as goal
 pub search_task-requires-clause-ready : goal.search_task-requires-clause-ready
 search_task-requires-clause-ready c =
     let sheet = c.args.book.now in
-    let formed = c.entries-entries.ensures.well_formed in
+    let formed = c.well_formed-2.ensures in
     ready_of c.names_are_of_their_sheet.ensures sheet c.in-Ok.ground c.in_ok-components.components formed c.in-Ok.ensures.ok c.in-Ok.ensures.few c.in_ok-components.ensures
     (c.parts_are_a_division.ensures sheet (parts_of sheet) formed (c.parts_are_found.ensures sheet formed))
 
 pub search_task-requires-clause-few : goal.search_task-requires-clause-few
 search_task-requires-clause-few c =
     let sheet = c.args.book.now in
-    let few : length (cell_sizes sheet.universe) ≤ 4096 = omega (arith, c.cells-cells.ensures.exact, c.cells-cells.ensures.few) in
+    let few : length (cell_sizes sheet.universe) ≤ 4096 = omega (arith, c.few_cells.ensures) in
     few_enough sheet c.in_ok-components.components (components_alone sheet c.in_ok-components.components c.in_ok-components.ensures) few
 
 pub returns-in-Ok-search_task-clause-found : goal.returns-in-Ok-search_task-clause-found
 returns-in-Ok-search_task-clause-found c =
     let sheet = c.args.book.now in
-    let formed = c.entries-entries.ensures.well_formed in
+    let formed = c.well_formed-2.ensures in
     let found = c.in-Ok-search_task.ensures.found in
     let ready =
     ready_of c.names_are_of_their_sheet.ensures sheet c.in-Ok.ground c.in_ok-components.components formed c.in-Ok.ensures.ok c.in-Ok.ensures.few c.in_ok-components.ensures

@@ -16,7 +16,7 @@ pub search_started-outcome-requires-clause-listable : goal.search_started-outcom
 search_started-outcome-requires-clause-listable c =
     let a = c.args in
     let t = a.fitted.task in
-    let few : length (cell_sizes t.book.now.universe) ≤ 4096 = omega (arith, c.cells-cells.ensures.exact, c.cells-cells.ensures.few) in
+    let few : length (cell_sizes t.book.now.universe) ≤ 4096 = omega (arith, c.few_cells.ensures) in
     let entries = c.deref.ensures.value ∙ c.in_ok-entries.ensures.on in
     let targets = c.deref-2.ensures.value ∙ c.in_ok-targets.ensures in
     record {

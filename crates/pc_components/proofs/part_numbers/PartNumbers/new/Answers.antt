@@ -11,7 +11,7 @@ number_cells-requires c = subst AreOwn (sym c.deref.ensures.value) (own_labels c
 pub returns : goal.returns
 returns c =
     let sheet = c.args.book.now in
-    let formed = c.entries-entries.ensures.well_formed in
+    let formed = c.well_formed-2.ensures in
     let rows = c.in_ok-rows.rows in
     let labels = c.in_ok-labels.labels.items in
     let cells = c.in_ok-cells.cells.items in

@@ -20,7 +20,7 @@ returns-clause-few c =
     let are = subst (λ (v : TheoryView). AreComponentsOf (rules_alone c.args.book.now) v.components) (sym c.self.view_is) c.requires.theory.components in
     let there = part_with c.args.book.now _ are c.args.cell.0 _ c.of.ensures c.requires.cell in
     let within = number_within c.args.book.now _ are _ there.0 there.1 in
-    omega (arith, within, few_kept c.args.book.now _ are, c.cells-cells.ensures.exact, c.cells-cells.ensures.few)
+    omega (arith, within, few_kept c.args.book.now _ are, c.few_cells.ensures)
 
 pub returns-clause-has : goal.returns-clause-has
 returns-clause-has c =
