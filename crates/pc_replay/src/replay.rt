@@ -8,7 +8,7 @@ ghost use Rattle.pc_replay.specs.Run.{AskForFile, AskForInput, HasBlocks, HasFil
 use pc_demo::demo;
 use pc_judge::check_file;
 use pc_port::{Shelf, Sink, Source};
-use pc_run::{MOST_BUDGET, Status, edit, end_with, replay, tell_no_memory};
+use pc_run::{MOST_BUDGET, Resources, Status, edit, end_with, replay, tell_no_memory};
 use pc_spreadsheet::{Spendings, Spreadsheet};
 use pc_words::{Mode, Request, WordsFault, read};
 use std::alloc::Global;
@@ -47,11 +47,10 @@ fn run_request<I: Source, H: Shelf, O: Sink>(
     ensures no_write_fault { result ≢ Status.WriteFault → O.faults out.new ≡ O.faults out.old }
 {
     let budget = request.budget;
+    let resources = Resources { alloc, budget };
     match request.mode {
-        Mode::Replay => replay::<Spreadsheet, I, O>(alloc, budget, input, out, spent),
-        Mode::Edit(file) => {
-            edit::<Spreadsheet, I, H, O>(alloc, budget, file, input, shelf, out, spent)
-        }
+        Mode::Replay => replay::<Spreadsheet, I, O>(resources, input, out, spent),
+        Mode::Edit(file) => edit::<Spreadsheet, I, H, O>(resources, file, input, shelf, out, spent),
         Mode::Check(file) => check_file(alloc, file, input, shelf, out),
         Mode::Demo(blocks) => demo(alloc, blocks, budget, out, spent),
     }

@@ -5,7 +5,7 @@ ghost use Rattle.std.specs.Prelude.{◌<◌, ◌≢◌, length, slice_index, Non
 use pc_port::{Failed, MemoryShelf, MemorySink, MemorySource, Sink, Source};
 use pc_run::{
     Counts, LINE_LIMIT, LimitWord, LoadStop, MAX_LINES, MOST_BUDGET, Machine, Refusal, Reply,
-    SHEET_LIMIT, SheetRefusal, Status, edit, replay,
+    Resources, SHEET_LIMIT, SheetRefusal, Status, edit, replay,
 };
 use std::alloc::{AllocError, Global};
 use std::cell::Cell;
@@ -98,7 +98,8 @@ fn ends_so<M: Machine<Notes = u8>>(
     mut out: MemorySink,
     want: &str,
 ) -> Result<bool, AllocError> {
-    let ended = replay::<M, _, _>(alloc, 7, &mut source, &mut out, &mut 0);
+    let resources = Resources { alloc, budget: 7 };
+    let ended = replay::<M, _, _>(resources, &mut source, &mut out, &mut 0);
     let (status, text) = want.split_once('\n').unwrap_or((want, ""));
     Ok(format!(in alloc; "{ended:?}")?.as_str() == status && out.bytes() == text.as_bytes())
 }
@@ -239,7 +240,11 @@ fn nothing_is_read_after_a_refused_sheet(rt: HostRuntime) -> Result<(), Fail> {
     let calls = Cell::new(0);
     let mut input = Refused { calls: &calls };
     let mut out = MemorySink::new(rt.alloc(), 4096, Vec::new(rt.alloc()))?;
-    let ended = replay::<Counter, _, _>(rt.alloc(), 1, &mut input, &mut out, &mut 0);
+    let resources = Resources {
+        alloc: rt.alloc(),
+        budget: 1,
+    };
+    let ended = replay::<Counter, _, _>(resources, &mut input, &mut out, &mut 0);
     assert!(rt; ended == Status::SheetRefused && calls.get() == 1);
     Ok(())
 }
@@ -310,7 +315,11 @@ fn each_line_is_answered_before_the_next_read(rt: HostRuntime) -> Result<(), Fai
         early: &early,
     };
     let mut out = Counting { answers: &answers };
-    let ended = replay::<Counter, _, _>(rt.alloc(), 1, &mut input, &mut out, &mut 0);
+    let resources = Resources {
+        alloc: rt.alloc(),
+        budget: 1,
+    };
+    let ended = replay::<Counter, _, _>(resources, &mut input, &mut out, &mut 0);
     assert!(rt; ended == Status::Done && answers.get() == 8 && !early.get());
     Ok(())
 }
@@ -333,15 +342,11 @@ fn are_answered_in_turn(alloc: Global) -> Result<bool, AllocError> {
         early: &early,
     };
     let mut out = Counting { answers: &answers };
-    let ended = edit::<Counter, _, _, _>(
+    let resources = Resources {
         alloc,
-        MOST_BUDGET,
-        "k",
-        &mut input,
-        &mut shelf,
-        &mut out,
-        &mut 0,
-    );
+        budget: MOST_BUDGET,
+    };
+    let ended = edit::<Counter, _, _, _>(resources, "k", &mut input, &mut shelf, &mut out, &mut 0);
     Ok(ended == Status::Done && answers.get() == 8 && !early.get())
 }
 
@@ -384,8 +389,9 @@ fn is_edited(
     let mut input = OneLine { calls: &calls };
     let mut out = MemorySink::new(alloc, 4096, Vec::new(alloc))?;
     let mut notes = 0;
+    let resources = Resources { alloc, budget: 7 };
     let ended = edit::<Counter, _, _, _>(
-        alloc, 7, file, &mut input, &mut shelf, &mut out, &mut notes,
+        resources, file, &mut input, &mut shelf, &mut out, &mut notes,
     );
     let (status, text) = want.split_once('/').unwrap_or((want, ""));
     let text = text.replace(alloc, '/', "\n")?;

@@ -60,10 +60,14 @@ abbrev pub line_text : Option ℕ → List ℕ
 line_text None = []
 line_text (Some number) = codes " line " ++ decimal number
 
+-- how a refusal is told in a line that begins so, with the line of the sheet that it is for, where it is for one
+abbrev pub told_text : List ℕ → Refusal → Option ℕ → List ℕ
+told_text beginning refusal line = beginning ++ (words_of refusal ++ (line_text line ++ (further_text refusal ++ codes "\n")))
+
 -- how a refused command is told
 abbrev pub refusal_text : Refusal → List ℕ
-refusal_text refusal = codes "refused " ++ (words_of refusal ++ (further_text refusal ++ codes "\n"))
+refusal_text refusal = told_text (codes "refused ") refusal None
 
 -- how a refused sheet is told
 abbrev pub sheet_refusal_text : SheetRefusal → List ℕ
-sheet_refusal_text refused = codes "sheet refused " ++ (words_of refused.refusal ++ (line_text refused.line ++ (further_text refused.refusal ++ codes "\n")))
+sheet_refusal_text refused = told_text (codes "sheet refused ") refused.refusal refused.line

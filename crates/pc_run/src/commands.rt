@@ -4,9 +4,8 @@ ghost use Rattle.pc_port.specs.Port.{Rose};
 ghost use Rattle.pc_lines.specs.Reader.{coming};
 ghost use Rattle.pc_run.specs.Run.{Answers};
 
-use crate::gathered::take_room;
 use crate::machine::Machine;
-use crate::serve::{Marks, serve};
+use crate::serve::Answering;
 use crate::tell::tell_too_long;
 use crate::{LINE_LIMIT, MAX_LINES, Status};
 use pc_lines::{LineReader, Taken};
@@ -29,42 +28,25 @@ pub(crate) fn answer_all<M: Machine, I: Source, O: Sink>(
     ensures write_fault { result ≡ Status.WriteFault → Rose (O.faults out.old) (O.faults out.new) }
     ensures no_write_fault { result ≢ Status.WriteFault → O.faults out.new ≡ O.faults out.old }
 {
-    let mut room = take_room(alloc);
-    let mut marks = Marks::new();
+    let mut answering = Answering::new(alloc);
     for _ in 0..MAX_LINES {
         match reader.next(input, LINE_LIMIT) {
             Err(Failed) => return Status::ReadFault,
-            Ok(Taken::End) => return marks.status(),
+            Ok(Taken::End) => return answering.marks.status(),
             Ok(Taken::TooLong) => return tell_too_long(out),
-            Ok(Taken::Line) => match serve(
-                machine,
-                notes,
-                &mut marks,
-                alloc,
-                reader.text(),
-                &mut room,
-                out,
-            ) {
+            Ok(Taken::Line) => match answering.serve(machine, notes, reader.text(), out) {
                 Ok(()) => {}
                 Err(Failed) => return Status::WriteFault,
             },
-            Ok(Taken::Last) => match serve(
-                machine,
-                notes,
-                &mut marks,
-                alloc,
-                reader.text(),
-                &mut room,
-                out,
-            ) {
-                Ok(()) => return marks.status(),
+            Ok(Taken::Last) => match answering.serve(machine, notes, reader.text(), out) {
+                Ok(()) => return answering.marks.status(),
                 Err(Failed) => return Status::WriteFault,
             },
         }
     }
     match reader.next(input, LINE_LIMIT) {
         Err(Failed) => Status::ReadFault,
-        Ok(Taken::End) => marks.status(),
+        Ok(Taken::End) => answering.marks.status(),
         Ok(Taken::TooLong) => tell_too_long(out),
         // A line more than there may be.
         Ok(Taken::Line) => tell_too_long(out),

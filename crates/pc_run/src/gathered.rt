@@ -6,9 +6,9 @@ ghost use Rattle.pc_run.specs.Refusals.{sheet_refusal_text};
 ghost use Rattle.pc_writer.specs.Writes.{Writes};
 
 use crate::machine::{Machine, Reply};
-use crate::refusal::SheetRefusal;
+use crate::refusal::{SHEET, SheetRefusal};
 use crate::serve::print;
-use crate::showing::print_sheet_refusal;
+use crate::showing::print_refusal;
 use pc_gather::Gathering;
 use pc_port::{Failed, Sink};
 use std::alloc::{AllocError, Global};
@@ -55,8 +55,8 @@ pub(crate) fn print_sheet_refusal_gathered<M: Machine, O: Sink>(
     ensures { (more : List ℕ) × Follows M.IsProof proof.now more × Writes O.given O.faults out.old out.new result (sheet_refusal_text refused ++ more) }
 {
     room.clear();
-    match print_sheet_refusal::<M, Gathering>(refused, proof, room) {
+    match print_refusal::<M, Gathering>(SHEET, refused.refusal, refused.line, proof, room) {
         Ok(()) => room.pass_on(out),
-        Err(Failed) => print_sheet_refusal::<M, O>(refused, proof, out),
+        Err(Failed) => print_refusal::<M, O>(SHEET, refused.refusal, refused.line, proof, out),
     }
 }

@@ -1,11 +1,16 @@
 // Why texts are refused, and how that is told.
 ghost use Rattle.std.specs.Prelude.{◌≡◌, ◌++◌, codes};
 ghost use Rattle.pc_writer.specs.Writes.{Writes};
-ghost use Rattle.pc_run.specs.Refusals.{counts_text, further_text, limit_word_of, line_text, refusal_text, sheet_refusal_text, words_of};
+ghost use Rattle.pc_run.specs.Refusals.{counts_text, further_text, limit_word_of, line_text, told_text, words_of};
 
 use itoa::{Buffer, Integer};
 use pc_port::{Failed, Sink};
 use pc_writer::{write_integer, write_text};
+
+// How the line that tells a refusal begins, by what is refused.
+pub(crate) const COMMAND: &[u8] = b"refused ";
+
+pub(crate) const SHEET: &[u8] = b"sheet refused ";
 
 /// What a limit is put on, as a refusal names it.
 #[derive(Clone, Copy, Debug, PartialEq, Eq)]
@@ -193,23 +198,18 @@ fn write_further<O: Sink>(refusal: Refusal, out: &mut O) -> Result<(), Failed>
     }
 }
 
-// Tells that a command is refused.
-pub(crate) fn write_refusal<O: Sink>(refusal: Refusal, out: &mut O) -> Result<(), Failed>
-    ensures { Writes O.given O.faults out.old out.new result (refusal_text refusal) }
+// Tells a refusal in a line that begins so.
+pub(crate) fn write_refusal<O: Sink>(
+    beginning: &[u8],
+    refusal: Refusal,
+    line: Option<u32>,
+    out: &mut O,
+) -> Result<(), Failed>
+    ensures { Writes O.given O.faults out.old out.new result (told_text beginning.now refusal line) }
 {
-    write_text(b"refused ", out)?;
+    write_text(beginning, out)?;
     write_text(refusal.words(), out)?;
+    write_line(line, out)?;
     write_further(refusal, out)?;
-    write_text(b"\n", out)
-}
-
-// Tells that a sheet is refused.
-pub(crate) fn write_sheet_refusal<O: Sink>(refused: SheetRefusal, out: &mut O) -> Result<(), Failed>
-    ensures { Writes O.given O.faults out.old out.new result (sheet_refusal_text refused) }
-{
-    write_text(b"sheet refused ", out)?;
-    write_text(refused.refusal.words(), out)?;
-    write_line(refused.line, out)?;
-    write_further(refused.refusal, out)?;
     write_text(b"\n", out)
 }

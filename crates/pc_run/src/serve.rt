@@ -4,8 +4,9 @@ ghost use Rattle.pc_port.specs.Port.{HasCause, WriteGives};
 ghost use Rattle.pc_run.specs.Answer.{Answer, CanBeTold, IsAnswer, IsMarked, Serves, ServesInPart, text_of};
 ghost use Rattle.pc_run.specs.Transcript.{worse_of};
 
-use crate::gathered::print_gathered;
+use crate::gathered::{print_gathered, take_room};
 use crate::machine::{Machine, Reply};
+use crate::refusal::COMMAND;
 use crate::showing::print_refusal;
 use crate::{LINE_LIMIT, Status};
 use pc_gather::Gathering;
@@ -80,27 +81,49 @@ pub fn print<M: Machine, O: Sink>(
         Reply::Silent => Ok(()),
         Reply::Accepted => out.write(b"ok\n"),
         Reply::Shown(page) => machine.show(page, out),
-        Reply::Refused(refusal, proof) => print_refusal::<M, O>(*refusal, proof, out),
+        Reply::Refused(refusal, proof) => print_refusal::<M, O>(
+            COMMAND, *refusal, None, proof, out,
+        ),
         Reply::Memory => out.write(b"refused 15 memory\n"),
     }
 }
 
-// Answers a line's text. At a fault a front of the answer was written.
-pub(crate) fn serve<M: Machine, O: Sink>(
-    machine: &mut M,
-    notes: &mut M::Notes,
-    marks: &mut Marks,
+/// Answers lines one after the other: memory, what was told so far, and the room for an answer.
+#[derive(Drop)]
+pub(crate) struct Answering {
     alloc: Global,
-    line: &[u8],
-    room: &mut Gathering,
-    out: &mut O,
-) -> Result<(), Failed>
-    requires { length line.now ≤ LINE_LIMIT }
-    ensures ok { OnOk result (Serves M.Allows (machine.old, notes.old) (machine.new, notes.new) line.now marks.old marks.new (O.given out.old) (O.given out.new)) }
-    ensures err { OnErr result (ServesInPart M.Allows (machine.old, notes.old) (machine.new, notes.new) line.now (O.given out.old) (O.given out.new)) }
-    ensures cause { HasCause (O.faults out.old) (O.faults out.new) result }
-{
-    let reply = machine.decide(alloc, line, notes);
-    *marks = marked(machine, *marks, &reply);
-    print_gathered(machine, &reply, room, out)
+    pub(crate) marks: Marks,
+    room: Gathering,
+}
+
+impl Answering {
+    // Nothing was told.
+    pub(crate) fn new(alloc: Global) -> Self
+        ensures refused { result.marks.refused ≡ false }
+        ensures no_memory { result.marks.no_memory ≡ false }
+    {
+        Answering {
+            alloc,
+            marks: Marks::new(),
+            room: take_room(alloc),
+        }
+    }
+
+    // Answers a line's text. At a fault a front of the answer was written.
+    pub(crate) fn serve<M: Machine, O: Sink>(
+        &mut self,
+        machine: &mut M,
+        notes: &mut M::Notes,
+        line: &[u8],
+        out: &mut O,
+    ) -> Result<(), Failed>
+        requires { length line.now ≤ LINE_LIMIT }
+        ensures ok { OnOk result (Serves M.Allows (machine.old, notes.old) (machine.new, notes.new) line.now self.old.marks self.new.marks (O.given out.old) (O.given out.new)) }
+        ensures err { OnErr result (ServesInPart M.Allows (machine.old, notes.old) (machine.new, notes.new) line.now (O.given out.old) (O.given out.new)) }
+        ensures cause { HasCause (O.faults out.old) (O.faults out.new) result }
+    {
+        let reply = machine.decide(self.alloc, line, notes);
+        self.marks = marked(machine, self.marks, &reply);
+        print_gathered(machine, &reply, &mut self.room, out)
+    }
 }

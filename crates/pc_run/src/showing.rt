@@ -2,14 +2,14 @@
 ghost use Rattle.std.specs.Prelude.{◌≡◌, ◌≢◌, ◌++◌, ℕ, List};
 ghost use Rattle.pc_port.specs.Port.{Rose};
 ghost use Rattle.pc_run.specs.Answer.{Follows};
-ghost use Rattle.pc_run.specs.Refusals.{refusal_text, sheet_refusal_text};
+ghost use Rattle.pc_run.specs.Refusals.{sheet_refusal_text, told_text};
 ghost use Rattle.pc_run.specs.Run.{Tells, TellsStop};
 ghost use Rattle.pc_writer.specs.Writes.{Writes};
 
 use crate::Status;
 use crate::gathered::{print_sheet_refusal_gathered, take_room};
 use crate::machine::{LoadStop, Machine};
-use crate::refusal::{Refusal, SheetRefusal, write_refusal, write_sheet_refusal};
+use crate::refusal::{Refusal, SheetRefusal, write_refusal};
 use crate::tell::tell_no_memory_for_sheet;
 use pc_port::{Failed, Sink};
 use std::alloc::Global;
@@ -34,29 +34,18 @@ fn write_proof<M: Machine, O: Sink>(proof: &Option<M::Proof>, out: &mut O) -> Re
     }
 }
 
-/// Tells that a command is refused, and then what shows that this is right.
+/// Tells a refusal in a line that begins so, and then what shows that it is right.
 pub(crate) fn print_refusal<M: Machine, O: Sink>(
+    beginning: &[u8],
     refusal: Refusal,
+    line: Option<u32>,
     proof: &Option<M::Proof>,
     out: &mut O,
 ) -> Result<(), Failed>
-    ensures { (more : List ℕ) × Follows M.IsProof proof.now more × Writes O.given O.faults out.old out.new result (refusal_text refusal ++ more) }
+    ensures { (more : List ℕ) × Follows M.IsProof proof.now more × Writes O.given O.faults out.old out.new result (told_text beginning.now refusal line ++ more) }
 {
     has_text::<M>(proof);
-    write_refusal(refusal, out)?;
-    write_proof::<M, O>(proof, out)
-}
-
-/// Tells that a sheet is refused, and then what shows that this is right.
-pub(crate) fn print_sheet_refusal<M: Machine, O: Sink>(
-    refused: SheetRefusal,
-    proof: &Option<M::Proof>,
-    out: &mut O,
-) -> Result<(), Failed>
-    ensures { (more : List ℕ) × Follows M.IsProof proof.now more × Writes O.given O.faults out.old out.new result (sheet_refusal_text refused ++ more) }
-{
-    has_text::<M>(proof);
-    write_sheet_refusal(refused, out)?;
+    write_refusal(beginning, refusal, line, out)?;
     write_proof::<M, O>(proof, out)
 }
 

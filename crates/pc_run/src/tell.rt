@@ -6,7 +6,7 @@ ghost use Rattle.pc_run.specs.Run.{Tells, memory_text, sheet_memory_text};
 ghost use Rattle.pc_run.specs.Transcript.{too_long_text};
 
 use crate::Status;
-use crate::refusal::{SheetRefusal, write_sheet_refusal};
+use crate::refusal::{SHEET, SheetRefusal, write_refusal};
 use pc_port::{Failed, Sink};
 
 /// Ends a run by a line, at the status, or at a failed write.
@@ -28,7 +28,7 @@ pub fn refuse<O: Sink>(refused: SheetRefusal, out: &mut O) -> Status
     ensures fault { result ≡ Status.WriteFault → Rose (O.faults out.old) (O.faults out.new) }
     ensures no_fault { result ≢ Status.WriteFault → O.faults out.new ≡ O.faults out.old }
 {
-    match write_sheet_refusal(refused, out) {
+    match write_refusal(SHEET, refused.refusal, refused.line, out) {
         Ok(()) => Status::SheetRefused,
         Err(Failed) => Status::WriteFault,
     }

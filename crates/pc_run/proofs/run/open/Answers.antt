@@ -8,5 +8,5 @@ returns-in-Ok-clause-goes_on g c = by_answers c.in-Ok.machine c.answer_all.new.m
 
 pub returns-in-Err-clause-goes_on : goal.returns-in-Err-clause-goes_on
 returns-in-Err-clause-goes_on g c =
-    stopped (g.M.Machine.IsSheet c.args.budget) (g.M.Machine.RefusesText c.args.budget) g.M.Machine.Allows g.M.Machine.IsProof c.in-Err.stop c.tell_stop.result c.args.notes.now c.load.new.notes c.args.sheet.now (coming c.args.reader.now (g.I.Source.left c.args.input.now)) (g.I.Source.left c.args.input.now) (g.O.Sink.given c.args.out.now) (g.O.Sink.given c.tell_stop.new.out)
+    stopped (g.M.Machine.IsSheet c.args.resources.budget) (g.M.Machine.RefusesText c.args.resources.budget) g.M.Machine.Allows g.M.Machine.IsProof c.in-Err.stop c.tell_stop.result c.args.notes.now c.load.new.notes c.args.sheet.now (coming c.args.reader.now (g.I.Source.left c.args.input.now)) (g.I.Source.left c.args.input.now) (g.O.Sink.given c.args.out.now) (g.O.Sink.given c.tell_stop.new.out)
     c.in-Err.ensures c.tell_stop.ensures.told
