@@ -1,5 +1,5 @@
 -- Lines that are added to what was read.
-use Rattle.std.proofs.Common.{◌≡◌, ◌↔◌, ℕ, suc, ◌+◌, ◌<◌, inl, inr, Bool, Option, Some, None, List, [], ◌∷◌, ◌++◌, map, length, if◌then◌else◌, ◌≤◌, append_assoc, refl, ap, sym, ◌∙◌, subst, arith}
+use Rattle.std.proofs.Common.{◌≡◌, ◌↔◌, ℕ, suc, ◌+◌, ◌<◌, inl, inr, Bool, true, false, Result, Ok, Err, IfOk, MatchBool, Option, Some, None, List, [], ◌∷◌, ◌++◌, map, length, if◌then◌else◌, ◌≤◌, append_assoc, refl, ap, sym, ◌∙◌, subst, arith}
 use Rattle.std.specs.Option.{option_map, option_or}
 use Rattle.std.proofs.lemmas.List.{map-append, append-nil}
 use Rattle.std.specs.Prelude.{Vec}
@@ -13,7 +13,7 @@ use Rattle.pc_cert.specs.Meaning.{IsPairNamed, IsLineNamed}
 use Rattle.pc_cert.specs.Text.{claim_in, uses_from, values_from, after_from, parts_from, has_entry}
 use Rattle.pc_cert.specs.Views.{claim_of, said_of, literal_of, place_of, part_of, numbered_part_of, places_in, places_of, AppearInOrder}
 use Rattle.pc_cert.specs.Numbered.{Grows, IsKept, IsPartTaken}
-use Rattle.pc_cert.specs.Gathered.{IsGathered, Adds}
+use Rattle.pc_cert.specs.Gathered.{IsGathered, IsSaidNext, Adds}
 use Rattle.pc_cert.specs.declared.cert.Claim.{Claim}
 use Rattle.pc_cert.specs.declared.cert.CertLine.{CertLine}
 use Rattle.pc_cert.specs.declared.cert.CertPart.{CertPart}
@@ -139,18 +139,18 @@ module _ (sheet : Sheet) (p : WrittenPair) (ls : List SaidLine) (old : Draft) (n
       let new : Draft = record { claim = claim; uses = old.uses; values = old.values; after = number + 1; table = old.table; lines = old.lines } in
       record { line = claims e holds; named = ((exact e).0 refl, refl); gathered = gathered ls old new number g at (claims e holds) (claimed ls old new number g at (claims e holds) c (ap Some (sym is)) same) (nothing_more _) (nothing_more _) refl (nothing_more _) g.appear g.kept }
 
-module _ (sheet : Sheet) (p : WrittenPair) (ls : List SaidLine) (old : Draft) (number : ℕ) (e : Entry) (exact : (x : Entry) → (Some e ≡ Some x) ↔ IsPairNamed sheet.universe p x) (more : Vec Said Global) where
-  pub use_adds : IsGathered ls old → number ≡ length ls + 1 → more.items ≡ old.uses.items ++ (record { line = number; entry = e }) ∷ []
+module _ (sheet : Sheet) (p : WrittenPair) (ls : List SaidLine) (old : Draft) (number : ℕ) (more : Vec Said Global) where
+  pub use_adds : IsGathered ls old → number ≡ length ls + 1 → IsSaidNext sheet.universe p number old.uses.items more.items
       → Adds sheet (uses p) ls (record { claim = old.claim; uses = more; values = old.values; after = number + 1; table = old.table; lines = old.lines })
-  use_adds g at push =
+  use_adds g at next =
       let new : Draft = record { claim = old.claim; uses = more; values = old.values; after = number + 1; table = old.table; lines = old.lines } in
-      record { line = uses e; named = (exact e).0 refl; gathered = gathered ls old new number g at (uses e) (same_claim old) (pushed said_of old.uses.items (record { line = number; entry = e }) more.items push) (nothing_more _) refl (nothing_more _) g.appear g.kept }
+      record { line = uses next.entry; named = next.named; gathered = gathered ls old new number g at (uses next.entry) (same_claim old) (pushed said_of old.uses.items (record { line = number; entry = next.entry }) more.items next.pushed) (nothing_more _) refl (nothing_more _) g.appear g.kept }
 
-  pub value_adds : IsGathered ls old → number ≡ length ls + 1 → more.items ≡ old.values.items ++ (record { line = number; entry = e }) ∷ []
+  pub value_adds : IsGathered ls old → number ≡ length ls + 1 → IsSaidNext sheet.universe p number old.values.items more.items
       → Adds sheet (assigns p) ls (record { claim = old.claim; uses = old.uses; values = more; after = number + 1; table = old.table; lines = old.lines })
-  value_adds g at push =
+  value_adds g at next =
       let new : Draft = record { claim = old.claim; uses = old.uses; values = more; after = number + 1; table = old.table; lines = old.lines } in
-      record { line = assigns e; named = (exact e).0 refl; gathered = gathered ls old new number g at (assigns e) (same_claim old) (nothing_more _) (pushed said_of old.values.items (record { line = number; entry = e }) more.items push) refl (nothing_more _) g.appear g.kept }
+      record { line = assigns next.entry; named = next.named; gathered = gathered ls old new number g at (assigns next.entry) (same_claim old) (nothing_more _) (pushed said_of old.values.items (record { line = number; entry = next.entry }) more.items next.pushed) refl (nothing_more _) g.appear g.kept }
 
 -- ---- parts
 
@@ -218,7 +218,7 @@ part_adds sheet w place ls old number table q more g at kept took push =
 -- ---- what stands for nothing
 
 module _ (sheet : Sheet) (p : WrittenPair) (exact : (x : Entry) → (◌≡◌ {A = Option Entry} None (Some x)) ↔ IsPairNamed sheet.universe p x) where
-  never : (x : Entry) → IsPairNamed sheet.universe p x → ⊥
+  pub never : (x : Entry) → IsPairNamed sheet.universe p x → ⊥
   never x is = let e = (exact x).1 is in absurd (cc)
 
   pub no_target : (holds : Bool) → (l : SaidLine) → IsLineNamed sheet (claims p holds) l → ⊥
@@ -230,3 +230,30 @@ module _ (sheet : Sheet) (p : WrittenPair) (exact : (x : Entry) → (◌≡◌ {
   no_target holds (assigns e) is = absurd is
   no_target holds (derives k q) is = absurd is
   no_target holds ends is = absurd is
+
+module _ (sheet : Sheet) (p : WrittenPair) (none : (x : Entry) → IsPairNamed sheet.universe p x → ⊥) where
+  pub no_use : (l : SaidLine) → IsLineNamed sheet (uses p) l → ⊥
+  no_use nothing is = absurd is
+  no_use heading is = absurd is
+  no_use (claims e b) is = absurd is
+  no_use claims_inconsistent is = absurd is
+  no_use (uses e) is = none e is
+  no_use (assigns e) is = absurd is
+  no_use (derives k q) is = absurd is
+  no_use ends is = absurd is
+
+  pub no_value : (l : SaidLine) → IsLineNamed sheet (assigns p) l → ⊥
+  no_value nothing is = absurd is
+  no_value heading is = absurd is
+  no_value (claims e b) is = absurd is
+  no_value claims_inconsistent is = absurd is
+  no_value (uses e) is = absurd is
+  no_value (assigns e) is = none e is
+  no_value (derives k q) is = absurd is
+  no_value ends is = absurd is
+
+-- what follows from either answer
+pub either_more : {E : Type 0} (r : Result Bool E) (P Q R S : Type 0) → (P → R) → (Q → S) → IfOk r (λ b. MatchBool b P Q) → IfOk r (λ b. MatchBool b R S)
+either_more (Ok true) P Q R S f g is = f is
+either_more (Ok false) P Q R S f g is = g is
+either_more (Err e) P Q R S f g is = tt

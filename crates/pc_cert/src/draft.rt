@@ -1,8 +1,9 @@
 // What was read of a certificate so far.
 ghost use Rattle.std.specs.Prelude.{◌≡◌, ◌+◌, ◌<◌, ◌^◌, ◌∷◌, ◌++◌, [], ℕ, List, length, map, IfOk, MatchBool};
-ghost use Rattle.pc_cert.specs.Gathered.{IsGathered, Adds};
-ghost use Rattle.pc_cert.specs.Meaning.{IsLineNamed};
+ghost use Rattle.pc_cert.specs.Gathered.{IsGathered, IsSaidNext, Adds};
+ghost use Rattle.pc_cert.specs.Meaning.{IsLineNamed, IsPairNamed};
 ghost use Rattle.pc_cert.specs.Trees.{pair_of, part_of, line_of};
+ghost use Rattle.pc_sheet.specs.declared.ids.Entry.{Entry as TheEntry};
 ghost use Rattle.pc_cert.specs.Written.{SaidLine, claims, claims_inconsistent, uses, assigns, derives};
 
 use crate::cert::{CertLine, Claim, Said};
@@ -52,20 +53,32 @@ fn say_inconsistent(number: u32, draft: &mut Draft)
     draft.after = number + 1;
 }
 
+// Adds the entry that is named to what such lines said.
+fn push_said(
+    book: &Book,
+    pair: &PairTree,
+    number: u32,
+    said: &mut Vec<Said>,
+) -> Result<bool, AllocError>
+    ensures { IfOk result (λ b. MatchBool b (IsSaidNext book.now.universe (pair_of pair.now) number said.old.items said.new.items) ((e : TheEntry) → IsPairNamed book.now.universe (pair_of pair.now) e → ⊥)) }
+{
+    let Some(entry) = named_entry(book, pair) else {
+        return Ok(false);
+    };
+    said.push(Said {
+        line: number,
+        entry,
+    })?;
+    Ok(true)
+}
+
 // `use`
 fn say_use(book: &Book, pair: &PairTree, number: u32, draft: &mut Draft) -> Result<bool, AllocError>
     requires { number + 1 < 2 ^ 32 }
     ensures { (ls : List SaidLine) → IsGathered ls draft.old → number ≡ length ls + 1 → IfOk result (λ b. MatchBool b (Adds book.now (uses (pair_of pair.now)) ls draft.new) ((l : SaidLine) → IsLineNamed book.now (uses (pair_of pair.now)) l → ⊥)) }
 {
-    let Some(entry) = named_entry(book, pair) else {
-        return Ok(false);
-    };
-    draft.uses.push(Said {
-        line: number,
-        entry,
-    })?;
     draft.after = number + 1;
-    Ok(true)
+    push_said(book, pair, number, &mut draft.uses)
 }
 
 // `value`
@@ -78,15 +91,8 @@ fn say_value(
     requires { number + 1 < 2 ^ 32 }
     ensures { (ls : List SaidLine) → IsGathered ls draft.old → number ≡ length ls + 1 → IfOk result (λ b. MatchBool b (Adds book.now (assigns (pair_of pair.now)) ls draft.new) ((l : SaidLine) → IsLineNamed book.now (assigns (pair_of pair.now)) l → ⊥)) }
 {
-    let Some(entry) = named_entry(book, pair) else {
-        return Ok(false);
-    };
-    draft.values.push(Said {
-        line: number,
-        entry,
-    })?;
     draft.after = number + 1;
-    Ok(true)
+    push_said(book, pair, number, &mut draft.values)
 }
 
 // A line of the derivation.

@@ -2,8 +2,9 @@
 
 ghost use Rattle.std.specs.Prelude.{◌≡◌, [], IfOk, OnErr, length};
 ghost use Rattle.pc_cert.specs.Keys.{IsKey, IsNumberedAs, symbol_by};
-ghost use Rattle.pc_cert.specs.Views.{AreDistinct};
+ghost use Rattle.pc_cert.specs.Views.{AreDistinct, symbol_of};
 
+use crate::cert::Symbol;
 use indexmap::IndexSet;
 use std::alloc::{AllocError, Global};
 use std::marker::Model;
@@ -56,5 +57,23 @@ impl Numbering {
         let key = Vec::from_slice(alloc, key)?;
         let (place, _) = self.keys.insert_full(key)?;
         Ok(place as u32)
+    }
+
+    /// The number of the symbol, which gets the next one if it has none.
+    pub fn number_symbol(&mut self, alloc: Global, symbol: &Symbol) -> Result<u32, AllocError>
+        ensures { IfOk result (IsNumberedAs self.old self.new (symbol_of symbol.now)) }
+    {
+        match symbol {
+            Symbol::Pair(cell, value) => {
+                self.number(alloc, &[0, u32::from(cell.0), u32::from(value.0)])
+            }
+            Symbol::Node(path) => {
+                let mut key = Vec::new(alloc);
+                key.push(1)?;
+                key.push(path.rule)?;
+                key.extend_from_slice(&path.steps)?;
+                self.number(alloc, &key)
+            }
+        }
     }
 }

@@ -7,7 +7,7 @@ ghost use Rattle.pc_cert.specs.Texts.{SpellsThis, IsWholeCell, IsWholeValue, IsW
 ghost use Rattle.pc_cert.specs.Line.{equality, IsWordPair, IsClaim, SpellsPair};
 ghost use Rattle.pc_cert.specs.Trees.{pair_of, claimed_of};
 
-use crate::texts::{spelled, split};
+use crate::texts::Spelled;
 use crate::tree::PairTree;
 use pc_formula::{CellTree, Refusal, ValueTree, Words, read_cell, read_value};
 use pc_token::Kind;
@@ -63,11 +63,8 @@ pub fn read_cell_text(alloc: Global, text: &[u8]) -> Result<CellTree, Refusal>
     ensures told { IfOk result (λ c. IsCellText text.now (cell_of c)) }
     ensures none { result ≡ Err Refusal.Syntax → (c : Cell) → IsCellText text.now c → ⊥ }
 {
-    let Some(line) = spelled(text) else {
-        return Err(Refusal::Syntax);
-    };
-    let found = split(alloc, line)?;
-    let mut words = Words::new(line, found.as_slice());
+    let spelled = Spelled::new(alloc, text)?;
+    let mut words = spelled.words();
     whole_cell(alloc, &mut words)
 }
 
@@ -76,11 +73,8 @@ pub fn read_value_text(alloc: Global, text: &[u8]) -> Result<ValueTree, Refusal>
     ensures told { IfOk result (λ v. IsValueText text.now (value_of v)) }
     ensures none { result ≡ Err Refusal.Syntax → (v : Value) → IsValueText text.now v → ⊥ }
 {
-    let Some(line) = spelled(text) else {
-        return Err(Refusal::Syntax);
-    };
-    let found = split(alloc, line)?;
-    let mut words = Words::new(line, found.as_slice());
+    let spelled = Spelled::new(alloc, text)?;
+    let mut words = spelled.words();
     whole_value(alloc, &mut words)
 }
 
@@ -89,11 +83,8 @@ pub fn read_pair_text(alloc: Global, text: &[u8]) -> Result<PairTree, Refusal>
     ensures told { IfOk result (λ p. IsReadText text.now (pair_of p)) }
     ensures none { result ≡ Err Refusal.Syntax → (p : WrittenPair) → IsReadText text.now p → ⊥ }
 {
-    let Some(line) = spelled(text) else {
-        return Err(Refusal::Syntax);
-    };
-    let found = split(alloc, line)?;
-    let mut words = Words::new(line, found.as_slice());
+    let spelled = Spelled::new(alloc, text)?;
+    let mut words = spelled.words();
     whole_pair(alloc, &mut words)
 }
 
@@ -156,11 +147,8 @@ pub fn read_word_pair(alloc: Global, text: &[u8], word: &str) -> Result<PairTree
     ensures told { IfOk result (λ p. SpellsPair text.now word.now (pair_of p)) }
     ensures none { result ≡ Err Refusal.Syntax → (p : WrittenPair) → SpellsPair text.now word.now p → ⊥ }
 {
-    let Some(line) = spelled(text) else {
-        return Err(Refusal::Syntax);
-    };
-    let found = split(alloc, line)?;
-    let mut words = Words::new(line, found.as_slice());
+    let spelled = Spelled::new(alloc, text)?;
+    let mut words = spelled.words();
     word_pair(alloc, &mut words, word)
 }
 
@@ -169,10 +157,7 @@ pub fn read_claim(alloc: Global, text: &[u8]) -> Result<(PairTree, bool), Refusa
     ensures told { IfOk result (λ q. SpellsThis IsClaim text.now (claimed_of q)) }
     ensures none { result ≡ Err Refusal.Syntax → (q : WrittenPair × Bool) → SpellsThis IsClaim text.now q → ⊥ }
 {
-    let Some(line) = spelled(text) else {
-        return Err(Refusal::Syntax);
-    };
-    let found = split(alloc, line)?;
-    let mut words = Words::new(line, found.as_slice());
+    let spelled = Spelled::new(alloc, text)?;
+    let mut words = spelled.words();
     claim_words(alloc, &mut words)
 }

@@ -42,26 +42,15 @@ impl Table {
         ensures same { result ≡ self.symbols }
         ensures distinct { AreDistinct self.names }
     {
-        let _count = self.names.len();
+        self.recall_different();
         self.symbols
     }
-}
 
-// The number of the symbol among these, which it becomes one of.
-fn number_by_key(alloc: Global, symbol: &Symbol, names: &mut Numbering) -> Result<u32, AllocError>
-    ensures { IfOk result (IsNumberedAs names.old names.new (symbol_of symbol.now)) }
-{
-    match symbol {
-        Symbol::Pair(cell, value) => {
-            names.number(alloc, &[0, u32::from(cell.0), u32::from(value.0)])
-        }
-        Symbol::Node(path) => {
-            let mut key = Vec::new(alloc);
-            key.push(1)?;
-            key.push(path.rule)?;
-            key.extend_from_slice(&path.steps)?;
-            names.number(alloc, &key)
-        }
+    // Recalls that the symbols are all different.
+    fn recall_different(&self)
+        ensures { AreDistinct self.now.names }
+    {
+        let _ = self.names.len();
     }
 }
 
@@ -70,7 +59,7 @@ fn number_symbol(alloc: Global, symbol: Symbol, table: &mut Table) -> Result<u32
     ensures kept { IfOk result (λ n. IsKept table.old → IsKept table.new) }
     ensures told { IfOk result (IsNumberedAs table.old.names table.new.names (symbol_of symbol)) }
 {
-    let number = number_by_key(alloc, &symbol, &mut table.names)?;
+    let number = table.names.number_symbol(alloc, &symbol)?;
     if number as usize == table.symbols.len() {
         table.symbols.push(symbol)?;
     }

@@ -1,12 +1,12 @@
 //! The tests of a claim on a target: its used entries and its assignment.
 
-ghost use Rattle.std.specs.Prelude.{◌≡◌, ◌<◌, ◌≤◌, All, Contains, List, length, map};
+ghost use Rattle.std.specs.Prelude.{◌<◌, ◌≤◌, All, Contains, List, length, map};
 ghost use Rattle.pc_sheet.specs.Limits.{most_rules};
 ghost use Rattle.pc_sheet.specs.declared.ids.Entry.{Entry as TheEntry};
-ghost use Rattle.pc_cert.specs.ReadFor.{IsReadFor};
-ghost use Rattle.pc_checker.specs.Entered.{AreByCell, AreEnteredValues};
+ghost use Rattle.pc_checker.specs.Entered.{AreByCell};
 ghost use Rattle.pc_checker.specs.inside.Parts.{IsFirstLine, IsLineOfValues, IsRuleBroken, IsClaimVerdict, IsTargetVerdict};
-ghost use Rattle.pc_checker.specs.Verdicts.{IsHeld, values_in};
+ghost use Rattle.pc_checker.specs.inside.Prepared.{IsClaimPrepared};
+ghost use Rattle.pc_checker.specs.Verdicts.{IsHeld};
 ghost use Rattle.pc_cert.specs.Views.{reading_of, said_of};
 
 use crate::entered::is_entered;
@@ -22,9 +22,7 @@ pub(crate) fn claim_verdict(
     entered: &[Option<ValueId>],
     values: &Assignment,
 ) -> Option<Verdict>
-    requires read { IsReadFor book.now cert.now }
-    requires entered { AreEnteredValues book.now entered.now }
-    requires values { values.now ≡ values_in (reading_of cert.now) }
+    requires { IsClaimPrepared book.now cert.now entered.now values.now }
     ensures { IsClaimVerdict book.now (reading_of cert.now) result }
 {
     match cert.claim {
@@ -40,9 +38,7 @@ fn fault_of_claim(
     entered: &[Option<ValueId>],
     values: &Assignment,
 ) -> Option<Verdict>
-    requires read { IsReadFor book.now cert.now }
-    requires entered { AreEnteredValues book.now entered.now }
-    requires values { values.now ≡ values_in (reading_of cert.now) }
+    requires { IsClaimPrepared book.now cert.now entered.now values.now }
     ensures { IsTargetVerdict book.now (reading_of cert.now) result }
 {
     if let Some(line) = first_not_entered(entered, &cert.uses) {

@@ -4,12 +4,10 @@ ghost use Rattle.std.specs.Prelude.{◌≡◌, ◌<◌, [], IfOk, IfSome, OnOk, 
 ghost use Rattle.pc_accept.specs.Axioms.{negated_entry};
 ghost use Rattle.pc_sheet.specs.Entailment.{cell_sizes};
 ghost use Rattle.pc_cert.specs.Text.{entry_said};
-ghost use Rattle.pc_cert.specs.Views.{reading_of, said_of, symbol_of};
+ghost use Rattle.pc_cert.specs.Views.{reading_of, said_of, symbol_of, AreDistinct};
 ghost use Rattle.pc_checker.specs.Drafts.{AreWritten};
 ghost use Rattle.pc_checker.specs.Made.{IsMadeFor, value_said};
 ghost use Rattle.pc_cert.specs.ReadFor.{IsPartOver, IsReadFor};
-ghost use Rattle.pc_cert.specs.Keys.{IsNumberedAs};
-ghost use Rattle.pc_cert.specs.Views.{AreDistinct};
 ghost use Rattle.pc_checker.specs.inside.Prepared.{ArePrepared, IsLinePrepared, IsPlacePrepared};
 ghost use Rattle.pc_checker.specs.Verdicts.{allowed_in};
 
@@ -23,6 +21,14 @@ use pc_cert::{Cert, CertLine, CertPart, Claim, Numbering, Said, Symbol};
 use pc_logic::{Assignment, Book};
 use pc_values::Values;
 use std::alloc::{AllocError, Global};
+
+// A line's part, an earlier line that takes the same axiom, if there is one, and what was answered for the earlier lines.
+#[derive(Clone, Copy)]
+struct Place<'a> {
+    part: &'a CertPart,
+    earlier: Option<usize>,
+    axioms: &'a [bool],
+}
 
 /// Takes all memory for the check of a certificate that was read for this book.
 pub fn room_for(alloc: Global, book: &Book, cert: &Cert) -> Result<Scratch, AllocError>
@@ -64,26 +70,9 @@ fn number_symbols(alloc: Global, symbols: &[Symbol]) -> Result<Numbering, AllocE
 {
     let mut names = Numbering::new(alloc);
     for symbol in symbols {
-        number_symbol(alloc, symbol, &mut names)?;
+        names.number_symbol(alloc, symbol)?;
     }
     Ok(names)
-}
-
-fn number_symbol(alloc: Global, symbol: &Symbol, names: &mut Numbering) -> Result<u32, AllocError>
-    ensures { IfOk result (IsNumberedAs names.old names.new (symbol_of symbol.now)) }
-{
-    match symbol {
-        Symbol::Pair(cell, value) => {
-            names.number(alloc, &[0, u32::from(cell.0), u32::from(value.0)])
-        }
-        Symbol::Node(path) => {
-            let mut key = Vec::new(alloc);
-            key.push(1)?;
-            key.push(path.rule)?;
-            key.extend_from_slice(&path.steps)?;
-            names.number(alloc, &key)
-        }
-    }
 }
 
 // Stores the clause of each line, and marks which of them may be taken as axioms.
@@ -104,9 +93,12 @@ fn prepare_lines(
     let mut shared = Shared::new(alloc);
     for (place, line) in lines.iter().enumerate() {
         let earlier = shared.earlier(alloc, lines, place)?;
-        let good = prepare_place(
-            alloc, book, &line.part, earlier, draft, clauses, axioms, &mut marks,
-        )?;
+        let given = Place {
+            part: &line.part,
+            earlier,
+            axioms: axioms.as_slice(),
+        };
+        let good = prepare_place(alloc, book, given, draft, clauses, &mut marks)?;
         axioms.push(good)?;
     }
     Ok(())
@@ -116,24 +108,22 @@ fn prepare_lines(
 fn prepare_place(
     alloc: Global,
     book: &Book,
-    part: &CertPart,
-    earlier: Option<usize>,
+    place: Place<'_>,
     draft: &mut ClauseDraft,
     clauses: &mut LineClauses,
-    axioms: &[bool],
     marks: &mut Values,
 ) -> Result<bool, AllocError>
-    requires over { IsPartOver book.now draft.old.symbols part.now }
+    requires over { IsPartOver book.now draft.old.symbols place.part.now }
     requires marks { length marks.old ≡ length (cell_sizes book.now.universe) }
-    requires earlier { IfSome earlier (λ j. (j < length clauses.old) × (j < length axioms.now)) }
+    requires earlier { IfSome place.earlier (λ j. (j < length clauses.old) × (j < length place.axioms.now)) }
     ensures room { length marks.new ≡ length marks.old }
-    ensures prepared { IfOk result (IsPlacePrepared book.now part.now earlier axioms.now draft.old.symbols draft.new.symbols clauses.old clauses.new) }
+    ensures prepared { IfOk result (IsPlacePrepared book.now place.entry.part.now place.entry.earlier place.entry.axioms.now draft.old.symbols draft.new.symbols clauses.old clauses.new) }
 {
-    match earlier {
-        None => prepare_line(alloc, book, part, draft, clauses, marks),
+    match place.earlier {
+        None => prepare_line(alloc, book, place.part, draft, clauses, marks),
         Some(first) => {
             clauses.repeat(first)?;
-            Ok(axioms[first])
+            Ok(place.axioms[first])
         }
     }
 }

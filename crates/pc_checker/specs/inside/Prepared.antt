@@ -1,13 +1,18 @@
--- Lines that are prepared one after the other.
+-- What is prepared of a certificate: its lines, one after the other, and what its claim is tested by.
 use Rattle.std.specs.Prelude.{◌≡◌, ℕ, ◌<◌, Bool, false, List, [], ◌∷◌, ◌++◌, length, slice_index_or, All, Option, None, Some}
 use Rattle.pc_sheet.specs.Sheet.{Sheet}
+use Rattle.pc_sheet.specs.declared.ids.ValueId.{ValueId}
 use Rattle.pc_lits.specs.declared.literal.Lit.{Lit}
 use Rattle.pc_accept.specs.Literals.{Symbol}
+use Rattle.pc_cert.specs.declared.cert.Cert.{Cert}
 use Rattle.pc_cert.specs.declared.cert.CertPart.{CertPart}
 use Rattle.pc_cert.specs.declared.cert.CertLine.{CertLine}
-use Rattle.pc_cert.specs.ReadFor.{IsNamedIn}
+use Rattle.pc_cert.specs.ReadFor.{IsNamedIn, IsReadFor}
+use Rattle.pc_cert.specs.Views.{reading_of}
 use Rattle.pc_checker.specs.Made.{IsPrepared}
 use Rattle.pc_checker.specs.Drafts.{Grows}
+use Rattle.pc_checker.specs.Entered.{AreEnteredValues}
+use Rattle.pc_checker.specs.Verdicts.{values_in}
 
 -- one clause more is stored, which is prepared for the part
 pub record IsLinePrepared (sheet : Sheet) (part : CertPart) (old new : List Symbol) (before after : List (List Lit)) (good : Bool) : Type 0 where
@@ -30,3 +35,10 @@ pub record ArePrepared (sheet : Sheet) (lines : List CertLine) (n : ℕ) (symbol
   pub marks : length axioms ≡ n
   pub within : All (All (IsNamedIn names)) clauses
   pub each : (i : ℕ) (d : CertLine) → i < n → IsPrepared sheet names (slice_index_or clauses i []) (slice_index_or axioms i false) (slice_index_or lines i d).part
+
+-- what the tests of a claim need: a certificate that was read for the sheet, the sheet's entries by cell, and the
+-- assignment that the certificate gives
+pub record IsClaimPrepared (sheet : Sheet) (c : Cert) (by_cell : List (Option ValueId)) (assigned : List ValueId) : Type 0 where
+  pub read : IsReadFor sheet c
+  pub entered : AreEnteredValues sheet by_cell
+  pub values : assigned ≡ values_in (reading_of c)

@@ -1,6 +1,8 @@
 use Rattle.pc_cert.specs.Trees.{pair_of}
-use Rattle.pc_cert.proofs.Gathered.{use_adds}
+use Rattle.pc_cert.proofs.Gathered.{use_adds, no_use, either_more}
 use Rattle.pc_cert.proofs.draft.say_use.Goals as goal
 
 pub returns : goal.returns
-returns c = λ ls g at. use_adds c.args.book.now (pair_of c.args.pair.now) ls c.args.draft.now c.args.number c.in-Some.entry c.in-Some.ensures c.push.new.self g at c.in_ok-push.ensures.items
+returns c = λ ls g at.
+    let p = pair_of c.args.pair.now in
+    either_more c.push_said.result _ _ _ _ (use_adds c.args.book.now p ls c.args.draft.now c.args.number c.push_said.new.said g at) (no_use c.args.book.now p) c.push_said.ensures

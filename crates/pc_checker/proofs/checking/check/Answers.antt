@@ -1,7 +1,16 @@
+use Rattle.std.proofs.Common.{sym, subst}
 use Rattle.pc_cert.specs.Views.{reading_of}
+use Rattle.pc_checker.specs.Entered.{AreEnteredValues}
 use Rattle.pc_checker.proofs.ClaimVerdict.{none_from}
 use Rattle.pc_checker.proofs.CheckVerdict.{claim_stands, at_fault, accepted, wrong_end}
 use Rattle.pc_checker.proofs.checking.check.Goals as goal
+
+pub claim_verdict-requires : goal.claim_verdict-requires
+claim_verdict-requires c = record {
+  read = c.requires.read;
+  entered = subst (AreEnteredValues c.args.book.now) (sym c.deref.ensures.value) c.requires.prepared.entered;
+  values = c.requires.prepared.assignment;
+}
 
 pub returns-in-Some-bad-clause-verdict : goal.returns-in-Some-bad-clause-verdict
 returns-in-Some-bad-clause-verdict c =

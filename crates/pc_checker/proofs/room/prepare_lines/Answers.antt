@@ -13,11 +13,11 @@ pub loop-place-preserved : goal.loop-place-preserved
 loop-place-preserved c =
     let l = c.loop-place in
     let line = c.index-lines-place.result in
-    let lent : ArePrepared c.args.book.now c.args.lines.now l.place c.args.draft.now.symbols l.draft.symbols l.clauses c.deref.result.now =
-    subst (λ (marks : List Bool). ArePrepared c.args.book.now c.args.lines.now l.place c.args.draft.now.symbols l.draft.symbols l.clauses marks) (sym c.deref.ensures.value) l.invariant.prepared
+    let lent : ArePrepared c.args.book.now c.args.lines.now l.place c.args.draft.now.symbols l.draft.symbols l.clauses c.as_slice.result.now =
+    subst (λ (marks : List Bool). ArePrepared c.args.book.now c.args.lines.now l.place c.args.draft.now.symbols l.draft.symbols l.clauses marks) (sym c.as_slice.ensures.value) l.invariant.prepared
     in
     let one : IsLinePrepared c.args.book.now line.part l.draft.symbols c.prepare_place.new.draft.symbols l.clauses c.prepare_place.new.clauses c.in_ok-good.good =
-    place_prepared c.args.book.now c.args.lines.now l.place line c.in_ok-earlier.earlier c.args.draft.now.symbols l.draft.symbols c.prepare_place.new.draft.symbols l.clauses c.prepare_place.new.clauses c.deref.result.now c.in_ok-good.good c.index-lines-place.is
+    place_prepared c.args.book.now c.args.lines.now l.place line c.in_ok-earlier.earlier c.args.draft.now.symbols l.draft.symbols c.prepare_place.new.draft.symbols l.clauses c.prepare_place.new.clauses c.as_slice.result.now c.in_ok-good.good c.index-lines-place.is
     lent c.in_ok-earlier.ensures c.in_ok-good.ensures.prepared
     in
     record {
