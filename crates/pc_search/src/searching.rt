@@ -20,7 +20,7 @@ use pc_log::Log;
 use pc_searched::SpareTrails;
 use pc_solver::Stop;
 use pc_world_list::Worlds;
-use pc_worlds::worlds;
+use pc_worlds::GroundPart;
 
 impl PartTask<'_> {
     /// Lists the worlds of the part, each with an assignment that fits the whole book. The two logs of the listing are added
@@ -48,15 +48,13 @@ impl PartTask<'_> {
         exact_worlds_are_on();
         joined_worlds_are_worlds();
         tally.recall_limit();
-        let found = worlds(
-            self.alloc,
-            self.book,
-            self.ground,
-            self.part,
-            trails,
-            logs,
-            tally,
-        )?;
+        let part = GroundPart {
+            alloc: self.alloc,
+            book: self.book,
+            ground: self.ground,
+            part: self.part,
+        };
+        let found = part.worlds(trails, logs, tally)?;
         let joined = join_worlds(self.alloc, self.base, &found, self.part.cells)?;
         let _worlds = joined.len();
         Ok(joined)

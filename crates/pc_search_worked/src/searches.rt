@@ -16,7 +16,7 @@ use pc_searched::SpareTrails;
 use pc_solver::{Solver, Stop};
 use pc_support::Seen;
 use pc_world_list::Worlds;
-use pc_worlds::worlds;
+use pc_worlds::GroundPart;
 use std::alloc::{AllocError, Global};
 
 /// Counts from nothing on, under a limit that no test reaches.
@@ -85,5 +85,11 @@ pub(crate) fn worlds_of_book(
     let part = all.part();
     let mut trails = SpareTrails::new(alloc, ground.variables());
     let mut logs = Vec::new(alloc);
-    worlds(alloc, book, ground, part, &mut trails, &mut logs, tally)
+    let whole = GroundPart {
+        alloc,
+        book,
+        ground,
+        part,
+    };
+    whole.worlds(&mut trails, &mut logs, tally)
 }

@@ -1,6 +1,6 @@
 //! One question to a solver, whose answer is read as an assignment, or names the entries that it rests on.
 
-ghost use Rattle.std.specs.Prelude.{◌≡◌, ◌<◌, ◌^◌, List, [], All, Contains, IfOk, IfErr, IfSome, IfNone, IsTrue, OnOk, true, false, length, map};
+ghost use Rattle.std.specs.Prelude.{◌≡◌, ◌<◌, ◌^◌, List, All, Contains, IfOk, IfErr, IfSome, IfNone, IsTrue, OnOk, true, false, length, map};
 ghost use Rattle.pc_sheet.specs.Entailment.{AreWithin};
 ghost use Rattle.pc_sheet.specs.declared.ids.ValueId.{ValueId};
 ghost use Rattle.pc_sheet.specs.declared.ids.Entry.{Entry};
@@ -11,7 +11,7 @@ ghost use Rattle.pc_solver.specs.Answers.{value_in};
 ghost use Rattle.pc_solver.specs.InLog.{clause_on};
 ghost use Rattle.pc_solver.specs.Solver.{AreOwn, clauses_used};
 ghost use Rattle.pc_worlds.specs.inside.Assigned.{IsOn};
-ghost use Rattle.pc_worlds.specs.Refuted.{AreRefuted};
+ghost use Rattle.pc_worlds.specs.inside.Growing.{CanGrow, GrowsOn};
 ghost use Rattle.pc_worlds.specs.inside.Searching.{SetSays, AskSays, IsReady};
 ghost use Rattle.pc_solver.specs.Spending.{SpendsOver, marked, StopSays};
 ghost use Rattle.pc_components.specs.View.{number_of};
@@ -132,20 +132,13 @@ pub(crate) fn ask_for(
     shown: &mut Assignment,
     tally: &mut Tally,
 ) -> Result<bool, Stop>
-    requires ready { IsReady task.ground.now.sizes task.cells.now task.entries.now search.old.solver }
-    requires no_blocks { search.old.solver.blocks ≡ [] }
+    requires can { CanGrow task search.old shown.old refuted.old }
     requires set { All (IsOn task.ground.now.sizes task.cells.now) set.now }
-    requires refuted { AreRefuted task.ground.now.sizes task.cells.now (clauses_used search.old.solver.problem) refuted.old }
-    requires within { AreWithin task.ground.now.sizes shown.old }
     requires few_learned { tally.old.learned < 2 ^ 126 }
     requires few_calls { tally.old.calls < 2 ^ 126 }
-    ensures within { AreWithin task.entry.ground.now.sizes shown.new }
+    ensures grows_on { GrowsOn task.entry 1 search.old search.new tally.old tally.new shown.new refuted.new }
     ensures says { IfOk result (SetSays task.entry.ground.now.sizes task.entry.cells.now (clauses_used search.old.solver.problem) set.now shown.old shown.new) }
-    ensures refuted { AreRefuted task.entry.ground.now.sizes task.entry.cells.now (clauses_used search.old.solver.problem) refuted.new }
     ensures cause { IfErr result (StopSays tally.new) }
-    ensures same { search.new.solver.problem ≡ search.old.solver.problem }
-    ensures blocks { search.new.solver.blocks ≡ search.old.solver.blocks }
-    ensures works { SpendsOver (length search.old.solver.problem.own) tally.old tally.new (marked search.old.log) (marked search.new.log) 1 }
 {
     derivations_are_sound();
     let assumed = all_lits(task.alloc, task.ground, set)?;

@@ -1,15 +1,13 @@
 //! Growing a set of entries until no more can be added.
 
-ghost use Rattle.std.specs.Prelude.{◌≡◌, ◌+◌, ◌*◌, ◌<◌, ◌≤◌, ◌^◌, ◌⊎◌, [], Contains, IfErr, IfOk, OnOk, length};
+ghost use Rattle.std.specs.Prelude.{◌≡◌, ◌↔◌, ◌+◌, ◌*◌, ◌<◌, ◌≤◌, ◌^◌, ◌⊎◌, Contains, IfErr, IfOk, IsTrue, OnOk, length};
 ghost use Rattle.pc_sheet.specs.Limits.{most_cells};
-ghost use Rattle.pc_sheet.specs.Entailment.{AreWithin, HasEntry};
+ghost use Rattle.pc_sheet.specs.Entailment.{HasAll, HasEntry};
 ghost use Rattle.pc_sheet.specs.declared.ids.Entry.{Entry};
-ghost use Rattle.pc_worlds.specs.Allowed.{Allow};
 ghost use Rattle.pc_solver.specs.Solver.{clauses_used};
-ghost use Rattle.pc_worlds.specs.inside.Assigned.{HasMore, IsFull, IsSettled};
-ghost use Rattle.pc_worlds.specs.Refuted.{AreRefuted};
-ghost use Rattle.pc_worlds.specs.inside.Searching.{IsReady};
-ghost use Rattle.pc_solver.specs.Spending.{SpendsOver, marked, StopSays};
+ghost use Rattle.pc_worlds.specs.inside.Assigned.{IsFull, IsSettled};
+ghost use Rattle.pc_worlds.specs.inside.Growing.{CanGrow, GrowsOn, HasGrown, IsAllowed};
+ghost use Rattle.pc_solver.specs.Spending.{StopSays};
 
 use crate::asking::ask_for;
 use crate::assigned::{has_entry, set_of, with_more};
@@ -30,23 +28,15 @@ fn try_entry(
     shown: &mut Assignment,
     tally: &mut Tally,
 ) -> Result<(), Stop>
-    requires ready { IsReady task.ground.now.sizes task.cells.now task.entries.now search.old.solver }
-    requires no_blocks { search.old.solver.blocks ≡ [] }
+    requires can { CanGrow task search.old shown.old refuted.old }
+    requires allowed { IsAllowed task search.old shown.old }
     requires entered { Contains task.entries.now entry }
-    requires within { AreWithin task.ground.now.sizes shown.old }
-    requires allowed { Allow task.ground.now.sizes task.cells.now (clauses_used search.old.solver.problem) shown.old }
-    requires refuted { AreRefuted task.ground.now.sizes task.cells.now (clauses_used search.old.solver.problem) refuted.old }
     requires few_learned { tally.old.learned < 2 ^ 126 }
     requires few_calls { tally.old.calls < 2 ^ 126 }
-    ensures within { AreWithin task.entry.ground.now.sizes shown.new }
-    ensures allowed { OnOk result (Allow task.entry.ground.now.sizes task.entry.cells.now (clauses_used search.old.solver.problem) shown.new) }
-    ensures more { OnOk result (HasMore task.entry.entries.now shown.old shown.new) }
+    ensures grows_on { GrowsOn task.entry 1 search.old search.new tally.old tally.new shown.new refuted.new }
+    ensures grown { OnOk result (HasGrown task.entry search.old shown.old shown.new) }
     ensures settled { OnOk result (IsSettled task.entry.ground.now.sizes task.entry.cells.now (clauses_used search.old.solver.problem) task.entry.entries.now shown.new entry) }
-    ensures refuted { AreRefuted task.entry.ground.now.sizes task.entry.cells.now (clauses_used search.old.solver.problem) refuted.new }
     ensures cause { IfErr result (StopSays tally.new) }
-    ensures same { (search.new.solver.problem ≡ search.old.solver.problem) }
-    ensures blocks { search.new.solver.blocks ≡ search.old.solver.blocks }
-    ensures works { SpendsOver (length search.old.solver.problem.own) tally.old tally.new (marked search.old.log) (marked search.new.log) 1 }
 {
     if has_entry(shown, entry) {
         return Ok(());
@@ -68,23 +58,15 @@ fn grow(
     shown: &mut Assignment,
     tally: &mut Tally,
 ) -> Result<(), Stop>
-    requires ready { IsReady task.ground.now.sizes task.cells.now task.entries.now search.old.solver }
-    requires no_blocks { search.old.solver.blocks ≡ [] }
-    requires within { AreWithin task.ground.now.sizes shown.old }
-    requires allowed { Allow task.ground.now.sizes task.cells.now (clauses_used search.old.solver.problem) shown.old }
+    requires can { CanGrow task search.old shown.old refuted.old }
+    requires allowed { IsAllowed task search.old shown.old }
     requires few_entries { length task.entries.now ≤ most_cells }
-    requires refuted { AreRefuted task.ground.now.sizes task.cells.now (clauses_used search.old.solver.problem) refuted.old }
     requires few_learned { tally.old.learned + tally.old.limit < 2 ^ 125 }
     requires few_calls { tally.old.calls < 2 ^ 125 }
-    ensures within { AreWithin task.entry.ground.now.sizes shown.new }
-    ensures allowed { OnOk result (Allow task.entry.ground.now.sizes task.entry.cells.now (clauses_used search.old.solver.problem) shown.new) }
-    ensures more { OnOk result (HasMore task.entry.entries.now shown.old shown.new) }
+    ensures grows_on { GrowsOn task.entry (length task.entry.entries.now) search.old search.new tally.old tally.new shown.new refuted.new }
+    ensures grown { OnOk result (HasGrown task.entry search.old shown.old shown.new) }
     ensures full { OnOk result (IsFull task.entry.ground.now.sizes task.entry.cells.now (clauses_used search.old.solver.problem) task.entry.entries.now shown.new) }
-    ensures refuted { AreRefuted task.entry.ground.now.sizes task.entry.cells.now (clauses_used search.old.solver.problem) refuted.new }
     ensures cause { IfErr result (StopSays tally.new) }
-    ensures same { (search.new.solver.problem ≡ search.old.solver.problem) }
-    ensures blocks { search.new.solver.blocks ≡ search.old.solver.blocks }
-    ensures works { SpendsOver (length search.old.solver.problem.own) tally.old tally.new (marked search.old.log) (marked search.new.log) (length task.entry.entries.now) }
 {
     for entry in task.entries {
         try_entry(task, search, *entry, refuted, shown, tally)?;
@@ -92,7 +74,10 @@ fn grow(
     Ok(())
 }
 
-fn has_all(shown: &Assignment, entries: &[Entry]) -> bool {
+// Whether the assignment has all of the entries.
+fn has_all(shown: &Assignment, entries: &[Entry]) -> bool
+    ensures { IsTrue result ↔ HasAll shown.now entries.now }
+{
     for entry in entries {
         if !has_entry(shown, *entry) {
             return false;
@@ -143,21 +128,13 @@ fn try_most(
     shown: &mut Assignment,
     tally: &mut Tally,
 ) -> Result<(), Stop>
-    requires ready { IsReady task.ground.now.sizes task.cells.now task.entries.now search.old.solver }
-    requires no_blocks { search.old.solver.blocks ≡ [] }
-    requires within { AreWithin task.ground.now.sizes shown.old }
-    requires allowed { Allow task.ground.now.sizes task.cells.now (clauses_used search.old.solver.problem) shown.old }
-    requires refuted { AreRefuted task.ground.now.sizes task.cells.now (clauses_used search.old.solver.problem) refuted.old }
+    requires can { CanGrow task search.old shown.old refuted.old }
+    requires allowed { IsAllowed task search.old shown.old }
     requires few_learned { tally.old.learned < 2 ^ 126 }
     requires few_calls { tally.old.calls < 2 ^ 126 }
-    ensures within { AreWithin task.entry.ground.now.sizes shown.new }
-    ensures allowed { OnOk result (Allow task.entry.ground.now.sizes task.entry.cells.now (clauses_used search.old.solver.problem) shown.new) }
-    ensures more { OnOk result (HasMore task.entry.entries.now shown.old shown.new) }
-    ensures refuted { AreRefuted task.entry.ground.now.sizes task.entry.cells.now (clauses_used search.old.solver.problem) refuted.new }
+    ensures grows_on { GrowsOn task.entry 1 search.old search.new tally.old tally.new shown.new refuted.new }
+    ensures grown { OnOk result (HasGrown task.entry search.old shown.old shown.new) }
     ensures cause { IfErr result (StopSays tally.new) }
-    ensures same { (search.new.solver.problem ≡ search.old.solver.problem) }
-    ensures blocks { search.new.solver.blocks ≡ search.old.solver.blocks }
-    ensures works { SpendsOver (length search.old.solver.problem.own) tally.old tally.new (marked search.old.log) (marked search.new.log) 1 }
 {
     let set = most_allowed(task.alloc, task.entries, refuted, shown)?;
     if has_all(shown, &set) {
@@ -176,23 +153,15 @@ pub(crate) fn grow_whole(
     shown: &mut Assignment,
     tally: &mut Tally,
 ) -> Result<(), Stop>
-    requires ready { IsReady task.ground.now.sizes task.cells.now task.entries.now search.old.solver }
-    requires no_blocks { search.old.solver.blocks ≡ [] }
-    requires within { AreWithin task.ground.now.sizes shown.old }
-    requires allowed { Allow task.ground.now.sizes task.cells.now (clauses_used search.old.solver.problem) shown.old }
+    requires can { CanGrow task search.old shown.old refuted.old }
+    requires allowed { IsAllowed task search.old shown.old }
     requires few_entries { length task.entries.now ≤ most_cells }
-    requires refuted { AreRefuted task.ground.now.sizes task.cells.now (clauses_used search.old.solver.problem) refuted.old }
     requires few_learned { tally.old.learned + 2 * tally.old.limit + 1 < 2 ^ 125 }
     requires few_calls { tally.old.calls + 1 < 2 ^ 125 }
-    ensures within { AreWithin task.entry.ground.now.sizes shown.new }
-    ensures allowed { OnOk result (Allow task.entry.ground.now.sizes task.entry.cells.now (clauses_used search.old.solver.problem) shown.new) }
-    ensures more { OnOk result (HasMore task.entry.entries.now shown.old shown.new) }
+    ensures grows_on { GrowsOn task.entry (1 + length task.entry.entries.now) search.old search.new tally.old tally.new shown.new refuted.new }
+    ensures grown { OnOk result (HasGrown task.entry search.old shown.old shown.new) }
     ensures full { OnOk result (IsFull task.entry.ground.now.sizes task.entry.cells.now (clauses_used search.old.solver.problem) task.entry.entries.now shown.new) }
-    ensures refuted { AreRefuted task.entry.ground.now.sizes task.entry.cells.now (clauses_used search.old.solver.problem) refuted.new }
     ensures cause { IfErr result (StopSays tally.new) }
-    ensures same { (search.new.solver.problem ≡ search.old.solver.problem) }
-    ensures blocks { search.new.solver.blocks ≡ search.old.solver.blocks }
-    ensures works { SpendsOver (length search.old.solver.problem.own) tally.old tally.new (marked search.old.log) (marked search.new.log) (1 + length task.entry.entries.now) }
 {
     try_most(task, search, refuted, shown, tally)?;
     grow(task, search, refuted, shown, tally)

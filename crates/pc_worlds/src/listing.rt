@@ -1,10 +1,10 @@
 //! Listing the worlds one after the other.
 
-ghost use Rattle.std.specs.Prelude.{◌≡◌, ℕ, ◌+◌, ◌<◌, ◌≤◌, ◌^◌, [], IfErr, IfOk, OnOk, length};
+ghost use Rattle.std.specs.Prelude.{◌≡◌, ℕ, ◌+◌, ◌<◌, ◌≤◌, ◌^◌, [], ◌∷◌, ◌++◌, IfErr, IfOk, OnOk, length, vec_capacity, vec_len};
 ghost use Rattle.pc_sheet.specs.Limits.{most_cells};
 ghost use Rattle.pc_sheet.specs.Entailment.{AreWithin, HaveDistinctCells};
 ghost use Rattle.pc_worlds.specs.Allowed.{Allow};
-ghost use Rattle.pc_solver.specs.Solver.{clauses_used};
+ghost use Rattle.pc_solver.specs.Solver.{HasLog, clauses_used};
 ghost use Rattle.pc_worlds.specs.inside.Assigned.{IsFull};
 ghost use Rattle.pc_worlds.specs.inside.Listing.{AreFewCalls, AreOfFullWorlds, IsListing, IsNew, IsTurn, NextSays};
 ghost use Rattle.pc_worlds.specs.Refuted.{AreRefuted};
@@ -18,7 +18,9 @@ use crate::refuted::Refuted;
 use crate::search::Search;
 use crate::task::Task;
 use pc_lits::Tally;
+use pc_log::Log;
 use pc_logic::Assignment;
+use pc_searched::SpareTrails;
 use pc_solver::Stop;
 use pc_world_list::Worlds;
 use std::alloc::AllocError;
@@ -60,6 +62,13 @@ fn keep(
 }
 
 impl Listing<'_> {
+    // Recalls that the worlds found are no more than memory holds.
+    fn recall_few(&self)
+        ensures { length self.now.found < 2 ^ 64 }
+    {
+        let _ = self.found.len();
+    }
+
     /// Adds a world whose set isn't among those found, with its block, and says whether there was one.
     fn next_world(
         &mut self,
@@ -126,10 +135,29 @@ impl Listing<'_> {
             × SpendsOver (length self.old.finder.solver.problem.own) tally.old tally.new (marked self.old.finder.log + marked self.old.grower.log) (marked self.new.finder.log + marked self.new.grower.log) most }
     {
         'turns: loop {
-            let _ = self.found.len();
+            self.recall_few();
             if !self.next_world(task, refuted, tally)? {
                 return Ok(());
             }
         }
+    }
+    /// The worlds alone. The logs of both searches are added to `logs`, which have room for them, and the trails are given back.
+    pub(crate) fn into_worlds(self, trails: &mut SpareTrails, logs: &mut Vec<Log>) -> Worlds
+        requires { vec_len logs.old + 2 ≤ vec_capacity logs.old }
+        ensures same { result ≡ self.entry.found }
+        ensures logs { logs.new.items ≡ logs.old.items ++ self.entry.finder.log ∷ self.entry.grower.log ∷ [] }
+        ensures finder { HasLog self.entry.finder.solver self.entry.finder.log }
+        ensures grower { HasLog self.entry.grower.solver self.entry.grower.log }
+        ensures trails { trails.new ≡ trails.old }
+    {
+        let Listing {
+            finder,
+            grower,
+            shown: _shown,
+            found,
+        } = self;
+        logs.push(finder.into_log(trails)).unwrap();
+        logs.push(grower.into_log(trails)).unwrap();
+        found
     }
 }

@@ -5,13 +5,12 @@ ghost use Rattle.pc_sheet.specs.Limits.{most_cells};
 ghost use Rattle.pc_sheet.specs.Sheet.{Sheet};
 ghost use Rattle.pc_sheet.specs.Entailment.{AreWithin, HaveDistinctCells, cell_sizes};
 ghost use Rattle.pc_sheet.specs.MaximalSets.{IsMaximalSet};
-ghost use Rattle.pc_searched.specs.Searched.{IsSearched};
 ghost use Rattle.pc_components.specs.View.{number_of};
 ghost use Rattle.pc_solver.specs.Solver.{IsProblem, clauses_used};
 ghost use Rattle.pc_ground.specs.Grounded.{grounded};
 ghost use Rattle.pc_world_list.specs.Worlds.{AreExact};
 ghost use Rattle.pc_worlds.specs.inside.Listing.{AreFewCalls, IsFullSet, IsOfSheet};
-ghost use Rattle.pc_worlds.specs.Parts.{AddsLogs, AreFewFor, IsListingLog, marked_in};
+ghost use Rattle.pc_worlds.specs.Parts.{AddsLogs, AreFewFor, IsListingLog, IsSheetOfPart, marked_in, ground_problem};
 ghost use Rattle.pc_worlds.specs.Refuted.{AreRefuted};
 ghost use Rattle.pc_worlds.specs.inside.Searching.{IsNewSearch, IsReady};
 ghost use Rattle.pc_parts.specs.PartSheets.{entries_on};
@@ -66,14 +65,7 @@ fn list_with_logs(
     logs.reserve(2)?;
     let mut listing = listing;
     let outcome = listing.list(task, refuted, tally);
-    let Listing {
-        finder,
-        grower,
-        shown: _shown,
-        found,
-    } = listing;
-    logs.push(finder.into_log(trails)).unwrap();
-    logs.push(grower.into_log(trails)).unwrap();
+    let found = listing.into_worlds(trails, logs);
     match outcome {
         Ok(()) => Ok(found),
         Err(stop) => Err(stop),
@@ -86,116 +78,114 @@ struct Beginning<'g> {
     listing: Listing<'g>,
 }
 
-fn new_search<'g>(
-    alloc: Global,
-    ground: &'g Ground,
-    part: Part<'g>,
-    trails: &mut SpareTrails,
-) -> Result<Search<'g>, AllocError>
-    requires { IsProblem trails.old (record { axioms = ground.now.clauses; used = part.axioms.now; own = part.variables.now }) }
-    ensures new { IfOk result (IsNewSearch (record { axioms = ground.now.clauses; used = part.entry.axioms.now; own = part.entry.variables.now })) }
-    ensures trails { trails.new ≡ trails.old }
-{
-    Search::new(alloc, ground.store(), part, trails)
+/// A part of a book, with the book's clauses.
+#[derive(Clone, Copy)]
+pub struct GroundPart<'a> {
+    pub alloc: Global,
+    pub book: &'a Book,
+    /// The book's clauses.
+    pub ground: &'a Ground,
+    /// One of the book's parts.
+    pub part: Part<'a>,
 }
 
-fn begin<'g>(
-    alloc: Global,
-    book: &Book,
-    ground: &'g Ground,
-    part: Part<'g>,
-    trails: &mut SpareTrails,
-) -> Result<Beginning<'g>, AllocError>
-    requires { IsProblem trails.old (record { axioms = ground.now.clauses; used = part.axioms.now; own = part.variables.now }) }
-    ensures entries { IfOk result (λ s. s.entries.items ≡ entries_on (map number_of part.entry.cells.now) book.now.entries) }
-    ensures few { IfOk result (λ s. length s.entries.items ≤ most_cells) }
-    ensures shown { IfOk result (λ s. AreWithin (cell_sizes book.now.universe) s.listing.shown) }
-    ensures finder { IfOk result (λ s. IsNewSearch (record { axioms = ground.now.clauses; used = part.entry.axioms.now; own = part.entry.variables.now }) s.listing.finder) }
-    ensures grower { IfOk result (λ s. IsNewSearch (record { axioms = ground.now.clauses; used = part.entry.axioms.now; own = part.entry.variables.now }) s.listing.grower) }
-    ensures found { IfOk result (λ s. s.listing.found ≡ []) }
-    ensures trails { trails.new ≡ trails.old }
-{
-    let entries = entries_on(alloc, book, part.cells)?;
-    let shown = Assignment::first(alloc, book)?;
-    let finder = new_search(alloc, ground, part, trails)?;
-    let grower = new_search(alloc, ground, part, trails)?;
-    Ok(Beginning {
-        entries,
-        listing: Listing {
-            finder,
-            grower,
-            shown,
-            found: Worlds::new(alloc),
-        },
-    })
-}
+impl<'a> GroundPart<'a> {
+    // A search of the part, with nothing asked yet.
+    fn new_search(self, trails: &mut SpareTrails) -> Result<Search<'a>, AllocError>
+        requires { IsProblem trails.old (ground_problem self) }
+        ensures new { IfOk result (IsNewSearch (ground_problem self.entry)) }
+        ensures trails { trails.new ≡ trails.old }
+    {
+        Search::new(self.alloc, self.ground.store(), self.part, trails)
+    }
 
-/// The maximal consistent sets of the entries on a part's cells, each once, each with an assignment that has it and makes
-/// the part's rules true. The logs of the two searches are added to `logs`, whatever comes of it. What is known to be refuted by
-/// the part's clauses saves calls, and what is refuted is added to it. Two of the trails serve at once.
-pub fn worlds_knowing(
-    alloc: Global,
-    book: &Book,
-    ground: &Ground,
-    part: Part<'_>,
-    refuted: &mut Refuted,
-    trails: &mut SpareTrails,
-    logs: &mut Vec<Log>,
-    tally: &mut Tally,
-) -> Result<Worlds, Stop>
-    requires ground { ground.now ≡ grounded book.now }
-    requires trails { trails.old ≡ ground.now.variables }
-    requires problem { IsProblem ground.now.variables (record { axioms = ground.now.clauses; used = part.axioms.now; own = part.variables.now }) }
-    requires searched { (sheet : Sheet) × IsSearched sheet part.cells.now ground.now.sizes (entries_on (map number_of part.cells.now) book.now.entries) (record { axioms = ground.now.clauses; used = part.axioms.now; own = part.variables.now }) }
-    requires refuted { AreRefuted ground.now.sizes part.cells.now (clauses_used (record { axioms = ground.now.clauses; used = part.axioms.now; own = part.variables.now })) refuted.old }
-    requires few_learned { tally.old.learned < 2 ^ 120 }
-    requires few_calls { tally.old.calls < 2 ^ 120 }
-    ensures exact { (sheet : Sheet) → IsSearched sheet part.entry.cells.now ground.now.sizes (entries_on (map number_of part.entry.cells.now) book.now.entries) (record { axioms = ground.now.clauses; used = part.entry.axioms.now; own = part.entry.variables.now }) → IfOk result (AreExact sheet) }
-    ensures refuted { AreRefuted ground.now.sizes part.entry.cells.now (clauses_used (record { axioms = ground.now.clauses; used = part.entry.axioms.now; own = part.entry.variables.now })) refuted.new }
-    ensures stop { IfErr result (StopSays tally.new) }
-    ensures logs { (sheet : Sheet) → IsSearched sheet part.entry.cells.now ground.now.sizes (entries_on (map number_of part.entry.cells.now) book.now.entries) (record { axioms = ground.now.clauses; used = part.entry.axioms.now; own = part.entry.variables.now })
-        → AddsLogs 2 (IsListingLog ground.now.sizes sheet.entries (IsMaximalSet sheet) (record { axioms = ground.now.clauses; used = part.entry.axioms.now; own = part.entry.variables.now })) logs.old.items logs.new.items }
-    ensures spends { (most : ℕ) × ((sheet : Sheet) → IsSearched sheet part.entry.cells.now ground.now.sizes (entries_on (map number_of part.entry.cells.now) book.now.entries) (record { axioms = ground.now.clauses; used = part.entry.axioms.now; own = part.entry.variables.now }) → AreFewFor sheet most)
-        × SpendsOver (length part.entry.variables.now) tally.old tally.new (marked_in logs.old.items) (marked_in logs.new.items) most }
-    ensures trails { trails.new ≡ trails.old }
-{
-    tally.recall_limit();
-    let Beginning { entries, listing } = begin(alloc, book, ground, part, trails)?;
-    let task = Task {
-        alloc,
-        book,
-        ground,
-        cells: part.cells,
-        entries: &entries,
-    };
-    list_with_logs(task, listing, refuted, trails, logs, tally)
-}
+    // Two searches of the part, the entries on its cells, and an assignment to begin with.
+    fn begin(self, trails: &mut SpareTrails) -> Result<Beginning<'a>, AllocError>
+        requires { IsProblem trails.old (ground_problem self) }
+        ensures entries { IfOk result (λ s. s.entries.items ≡ entries_on (map number_of self.entry.part.cells.now) self.entry.book.now.entries) }
+        ensures few { IfOk result (λ s. length s.entries.items ≤ most_cells) }
+        ensures shown { IfOk result (λ s. AreWithin (cell_sizes self.entry.book.now.universe) s.listing.shown) }
+        ensures finder { IfOk result (λ s. IsNewSearch (ground_problem self.entry) s.listing.finder) }
+        ensures grower { IfOk result (λ s. IsNewSearch (ground_problem self.entry) s.listing.grower) }
+        ensures found { IfOk result (λ s. s.listing.found ≡ []) }
+        ensures trails { trails.new ≡ trails.old }
+    {
+        let entries = entries_on(self.alloc, self.book, self.part.cells)?;
+        let shown = Assignment::first(self.alloc, self.book)?;
+        let finder = self.new_search(trails)?;
+        let grower = self.new_search(trails)?;
+        Ok(Beginning {
+            entries,
+            listing: Listing {
+                finder,
+                grower,
+                shown,
+                found: Worlds::new(self.alloc),
+            },
+        })
+    }
 
-/// The maximal consistent sets of the entries on a part's cells, each once, each with an assignment that has it and makes
-/// the part's rules true. The logs of the two searches are added to `logs`, whatever comes of it.
-pub fn worlds(
-    alloc: Global,
-    book: &Book,
-    ground: &Ground,
-    part: Part<'_>,
-    trails: &mut SpareTrails,
-    logs: &mut Vec<Log>,
-    tally: &mut Tally,
-) -> Result<Worlds, Stop>
-    requires ground { ground.now ≡ grounded book.now }
-    requires trails { trails.old ≡ ground.now.variables }
-    requires problem { IsProblem ground.now.variables (record { axioms = ground.now.clauses; used = part.axioms.now; own = part.variables.now }) }
-    requires searched { (sheet : Sheet) × IsSearched sheet part.cells.now ground.now.sizes (entries_on (map number_of part.cells.now) book.now.entries) (record { axioms = ground.now.clauses; used = part.axioms.now; own = part.variables.now }) }
-    requires few_learned { tally.old.learned < 2 ^ 120 }
-    requires few_calls { tally.old.calls < 2 ^ 120 }
-    ensures exact { (sheet : Sheet) → IsSearched sheet part.entry.cells.now ground.now.sizes (entries_on (map number_of part.entry.cells.now) book.now.entries) (record { axioms = ground.now.clauses; used = part.entry.axioms.now; own = part.entry.variables.now }) → IfOk result (AreExact sheet) }
-    ensures stop { IfErr result (StopSays tally.new) }
-    ensures logs { (sheet : Sheet) → IsSearched sheet part.entry.cells.now ground.now.sizes (entries_on (map number_of part.entry.cells.now) book.now.entries) (record { axioms = ground.now.clauses; used = part.entry.axioms.now; own = part.entry.variables.now })
-        → AddsLogs 2 (IsListingLog ground.now.sizes sheet.entries (IsMaximalSet sheet) (record { axioms = ground.now.clauses; used = part.entry.axioms.now; own = part.entry.variables.now })) logs.old.items logs.new.items }
-    ensures spends { (most : ℕ) × ((sheet : Sheet) → IsSearched sheet part.entry.cells.now ground.now.sizes (entries_on (map number_of part.entry.cells.now) book.now.entries) (record { axioms = ground.now.clauses; used = part.entry.axioms.now; own = part.entry.variables.now }) → AreFewFor sheet most)
-        × SpendsOver (length part.entry.variables.now) tally.old tally.new (marked_in logs.old.items) (marked_in logs.new.items) most }
-    ensures trails { trails.new ≡ trails.old }
-{
-    let mut refuted = Refuted::new(alloc);
-    worlds_knowing(alloc, book, ground, part, &mut refuted, trails, logs, tally)
+    /// The maximal consistent sets of the entries on a part's cells, each once, each with an assignment that has it and makes
+    /// the part's rules true. The logs of the two searches are added to `logs`, whatever comes of it. What is known to be refuted by
+    /// the part's clauses saves calls, and what is refuted is added to it. Two of the trails serve at once.
+    pub fn worlds_knowing(
+        self,
+        refuted: &mut Refuted,
+        trails: &mut SpareTrails,
+        logs: &mut Vec<Log>,
+        tally: &mut Tally,
+    ) -> Result<Worlds, Stop>
+        requires ground { self.ground.now ≡ grounded self.book.now }
+        requires trails { trails.old ≡ self.ground.now.variables }
+        requires problem { IsProblem self.ground.now.variables (ground_problem self) }
+        requires searched { (sheet : Sheet) × IsSheetOfPart self sheet }
+        requires refuted { AreRefuted self.ground.now.sizes self.part.cells.now (clauses_used (ground_problem self)) refuted.old }
+        requires few_learned { tally.old.learned < 2 ^ 120 }
+        requires few_calls { tally.old.calls < 2 ^ 120 }
+        ensures exact { (sheet : Sheet) → IsSheetOfPart self.entry sheet → IfOk result (AreExact sheet) }
+        ensures refuted { AreRefuted self.entry.ground.now.sizes self.entry.part.cells.now (clauses_used (ground_problem self.entry)) refuted.new }
+        ensures stop { IfErr result (StopSays tally.new) }
+        ensures logs { (sheet : Sheet) → IsSheetOfPart self.entry sheet
+            → AddsLogs 2 (IsListingLog self.entry.ground.now.sizes sheet.entries (IsMaximalSet sheet) (ground_problem self.entry)) logs.old.items logs.new.items }
+        ensures spends { (most : ℕ) × ((sheet : Sheet) → IsSheetOfPart self.entry sheet → AreFewFor sheet most)
+            × SpendsOver (length self.entry.part.variables.now) tally.old tally.new (marked_in logs.old.items) (marked_in logs.new.items) most }
+        ensures trails { trails.new ≡ trails.old }
+    {
+        tally.recall_limit();
+        let Beginning { entries, listing } = self.begin(trails)?;
+        let task = Task {
+            alloc: self.alloc,
+            book: self.book,
+            ground: self.ground,
+            cells: self.part.cells,
+            entries: &entries,
+        };
+        list_with_logs(task, listing, refuted, trails, logs, tally)
+    }
+
+    /// The maximal consistent sets of the entries on a part's cells, each once, each with an assignment that has it and makes
+    /// the part's rules true. The logs of the two searches are added to `logs`, whatever comes of it.
+    pub fn worlds(
+        self,
+        trails: &mut SpareTrails,
+        logs: &mut Vec<Log>,
+        tally: &mut Tally,
+    ) -> Result<Worlds, Stop>
+        requires ground { self.ground.now ≡ grounded self.book.now }
+        requires trails { trails.old ≡ self.ground.now.variables }
+        requires problem { IsProblem self.ground.now.variables (ground_problem self) }
+        requires searched { (sheet : Sheet) × IsSheetOfPart self sheet }
+        requires few_learned { tally.old.learned < 2 ^ 120 }
+        requires few_calls { tally.old.calls < 2 ^ 120 }
+        ensures exact { (sheet : Sheet) → IsSheetOfPart self.entry sheet → IfOk result (AreExact sheet) }
+        ensures stop { IfErr result (StopSays tally.new) }
+        ensures logs { (sheet : Sheet) → IsSheetOfPart self.entry sheet
+            → AddsLogs 2 (IsListingLog self.entry.ground.now.sizes sheet.entries (IsMaximalSet sheet) (ground_problem self.entry)) logs.old.items logs.new.items }
+        ensures spends { (most : ℕ) × ((sheet : Sheet) → IsSheetOfPart self.entry sheet → AreFewFor sheet most)
+            × SpendsOver (length self.entry.part.variables.now) tally.old tally.new (marked_in logs.old.items) (marked_in logs.new.items) most }
+        ensures trails { trails.new ≡ trails.old }
+    {
+        let mut refuted = Refuted::new(self.alloc);
+        self.worlds_knowing(&mut refuted, trails, logs, tally)
+    }
 }
