@@ -8,7 +8,9 @@ ghost use Rattle.pc_solver.specs.Spending.{basis_of, GoesOn, StopSays};
 ghost use Rattle.pc_support.specs.Seen.{AreSeen};
 
 use crate::finder::Finder;
-use crate::laws::{others_are_not_implied, part_reasons_justify, trimming_adds_no_steps};
+use crate::laws::{
+    few_worlds, others_are_not_implied, part_reasons_justify, trimming_adds_no_steps,
+};
 use crate::task::PartTask;
 use pc_cache::Patch;
 use pc_lits::Tally;
@@ -16,7 +18,7 @@ use pc_log::Log;
 use pc_logic::well_formed;
 use pc_sheet::Target;
 use pc_solver::Stop;
-use pc_support::{Found, least};
+use pc_support::{Found, SupportTask};
 use pc_world_list::Worlds;
 use std::alloc::AllocError;
 
@@ -81,17 +83,13 @@ impl Finder<'_> {
         trimming_adds_no_steps();
         let task = listed.task;
         well_formed(task.book);
-        let found = least(
-            task.alloc,
-            task.entries,
-            task.ground,
-            listed.worlds,
-            target,
-            &mut self.seen,
-            &mut self.solver,
-            log,
-            tally,
-        )?;
+        let supports = SupportTask {
+            alloc: task.alloc,
+            entries: task.entries,
+            ground: task.ground,
+            worlds: listed.worlds,
+        };
+        let found = supports.least(target, &mut self.seen, &mut self.solver, log, tally)?;
         put_found(listed.worlds, target, &found, log, patch)?;
         Ok(())
     }
@@ -115,7 +113,7 @@ impl Finder<'_> {
     {
         let targets = listed.task.targets;
         tally.recall_limit();
-        let _worlds = listed.worlds.len();
+        few_worlds(listed.worlds);
         for place in 0..targets.len() {
             self.find_reason(listed, targets[place], log, tally, patch)?;
         }

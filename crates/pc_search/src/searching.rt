@@ -12,7 +12,7 @@ ghost use Rattle.pc_solver.specs.Spending.{SpendsOver, StopSays};
 ghost use Rattle.pc_worlds.specs.Parts.{AddsLogs, marked_in};
 
 use crate::joining::join_worlds;
-use crate::laws::{exact_worlds_are_on, joined_worlds_are_worlds};
+use crate::laws::{exact_worlds_are_on, few_worlds, joined_worlds_are_worlds};
 use crate::task::PartTask;
 use pc_cache::Patch;
 use pc_lits::Tally;
@@ -56,7 +56,7 @@ impl PartTask<'_> {
         };
         let found = part.worlds(trails, logs, tally)?;
         let joined = join_worlds(self.alloc, self.base, &found, self.part.cells)?;
-        let _worlds = joined.len();
+        few_worlds(&joined);
         Ok(joined)
     }
 

@@ -11,7 +11,7 @@ use pc_lits::Tally;
 use pc_log::Log;
 use pc_logic::Target;
 use pc_solver::{Solver, Stop};
-use pc_support::{Found, Seen, least};
+use pc_support::{Found, Seen, SupportTask};
 use pc_world_list::Worlds;
 use std::alloc::{AllocError, Global};
 use std::marker::Model;
@@ -87,11 +87,13 @@ impl<'a> Asking<'a> {
             return Err(Stop::Memory);
         }
         let entries = whole.book.entries();
-        least(
+        let supports = SupportTask {
             alloc,
             entries,
-            &whole.ground,
+            ground: &whole.ground,
             worlds,
+        };
+        supports.least(
             target,
             &mut self.seen,
             &mut self.solver,

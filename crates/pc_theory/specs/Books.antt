@@ -8,6 +8,8 @@ use Rattle.pc_sheet.specs.MaximalSets.{AreRulesConsistent}
 use Rattle.pc_sheet.specs.declared.ids.Target.{Target}
 use Rattle.pc_sheet.specs.declared.ids.ValueId.{ValueId}
 use Rattle.pc_ground.specs.Naming.{names_of}
+use Rattle.pc_ground.specs.declared.ground.GroundFault.{GroundFault}
+use Rattle.pc_ground.specs.declared.ground.GroundFault.TheVariants as ground
 use Rattle.pc_parts.specs.Components.{parts_of}
 use Rattle.pc_components.specs.View.{Kept}
 use Rattle.pc_reason.specs.Reasons.{IsTargetOf, Justification}
@@ -52,3 +54,8 @@ abbrev pub IsPartCause : Sheet → ℕ → PartFault → Type 0
 IsPartCause sheet budget (part.Inconsistent log span) = Refutes sheet (names_of sheet) log span
 IsPartCause sheet budget (part.Spent s) = IsLawful sheet None budget s
 IsPartCause sheet budget part.Memory = Unit {0}
+
+-- the same of a book that isn't grounded
+abbrev pub fault_of : GroundFault → Fault
+fault_of ground.TooLarge = fault.TooLarge
+fault_of ground.Memory = fault.Memory

@@ -58,6 +58,19 @@ impl From<AllocError> for Fault {
     }
 }
 
+impl From<GroundFault> for Fault {
+    ghost use Rattle.pc_theory.specs.Books.{fault_of};
+
+    ghost from_gives = { λ ground fault. fault ≡ fault_of ground };
+
+    fn from(fault: GroundFault) -> Fault {
+        match fault {
+            GroundFault::TooLarge => Fault::TooLarge,
+            GroundFault::Memory => Fault::Memory,
+        }
+    }
+}
+
 /// What is found of a whole book: its theory, the worlds of each part, and what was spent.
 #[derive(Drop)]
 pub struct Found {
@@ -148,11 +161,7 @@ pub fn search_book(
     certificates_are_sound();
     well_formed(book);
     few_cells(book);
-    let ground = match ground_book(alloc, book) {
-        Ok(ground) => ground,
-        Err(GroundFault::TooLarge) => return Err(Fault::TooLarge),
-        Err(GroundFault::Memory) => return Err(Fault::Memory),
-    };
+    let ground = ground_book(alloc, book)?;
     let components = find_components(alloc, book, &ground)?;
     let task = Task {
         alloc,

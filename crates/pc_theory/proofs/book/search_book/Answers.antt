@@ -14,7 +14,7 @@ pub search_task-requires-clause-ready : goal.search_task-requires-clause-ready
 search_task-requires-clause-ready c =
     let sheet = c.args.book.now in
     let formed = c.well_formed-2.ensures in
-    ready_of c.names_are_of_their_sheet.ensures sheet c.in-Ok.ground c.in_ok-components.components formed c.in-Ok.ensures.ok c.in-Ok.ensures.few c.in_ok-components.ensures
+    ready_of c.names_are_of_their_sheet.ensures sheet c.in_ok-ground.ground c.in_ok-components.components formed c.in_ok-ground.ensures.ok c.in_ok-ground.ensures.few c.in_ok-components.ensures
     (c.parts_are_a_division.ensures sheet (parts_of sheet) formed (c.parts_are_found.ensures sheet formed))
 
 pub search_task-requires-clause-few : goal.search_task-requires-clause-few
@@ -23,16 +23,16 @@ search_task-requires-clause-few c =
     let few : length (cell_sizes sheet.universe) ≤ 4096 = omega (arith, c.few_cells.ensures) in
     few_enough sheet c.in_ok-components.components (components_alone sheet c.in_ok-components.components c.in_ok-components.ensures) few
 
-pub returns-in-Ok-search_task-clause-found : goal.returns-in-Ok-search_task-clause-found
-returns-in-Ok-search_task-clause-found c =
+pub returns-in-Ok-clause-found : goal.returns-in-Ok-clause-found
+returns-in-Ok-clause-found c =
     let sheet = c.args.book.now in
     let formed = c.well_formed-2.ensures in
-    let found = c.in-Ok-search_task.ensures.found in
+    let found = c.in-Ok.ensures.found in
     let ready =
-    ready_of c.names_are_of_their_sheet.ensures sheet c.in-Ok.ground c.in_ok-components.components formed c.in-Ok.ensures.ok c.in-Ok.ensures.few c.in_ok-components.ensures
+    ready_of c.names_are_of_their_sheet.ensures sheet c.in_ok-ground.ground c.in_ok-components.components formed c.in_ok-ground.ensures.ok c.in_ok-ground.ensures.few c.in_ok-components.ensures
     (c.parts_are_a_division.ensures sheet (parts_of sheet) formed (c.parts_are_found.ensures sheet formed))
     in
-    record { theory_is = theory_of sheet c.in-Ok.ground c.in_ok-components.components c.in-Ok-search_task.field-0.base ready found.base_is; found = found }
+    record { theory_is = theory_of sheet c.in_ok-ground.ground c.in_ok-components.components c.in-Ok.field-0.base ready found.base_is; found = found }
 
 pub returns-in-Err-Inconsistent-clause-fault : goal.returns-in-Err-Inconsistent-clause-fault
 returns-in-Err-Inconsistent-clause-fault c =
@@ -40,7 +40,7 @@ returns-in-Err-Inconsistent-clause-fault c =
     let fault = c.in-Err-Inconsistent in
     let names : Grounded → NameLists = λ g. g.names in
     let refutes = subst (λ (f : PartFault). IsPartCause sheet c.args.budget f) fault.field-0-is fault.ensures.fault in (
-      c.in-Ok.ensures.small,
-      subst (λ (ns : NameLists). Refutes sheet ns fault.log fault.span) (sym (c.into_names.ensures ∙ ap names c.in-Ok.ensures.ok)) refutes,
+      c.in_ok-ground.ensures.small,
+      subst (λ (ns : NameLists). Refutes sheet ns fault.log fault.span) (sym (c.into_names.ensures ∙ ap names c.in_ok-ground.ensures.ok)) refutes,
       refuted_rules c.certificates_are_sound.ensures sheet fault.log fault.span refutes,
     )

@@ -7,5 +7,5 @@ loop-number-init c = record {
   many = ap length c.requires.none;
   trails = c.requires.trails;
   within = omega (arith, c.requires.nothing);
-  started = none_started c.args.task.book.now c.args.task.components.now _ c.args.spent.now c.args.parts.now.items c.args.solvers.now.items c.requires.none c.requires.no_solvers c.requires.nothing c.in_ok-base.ensures;
+  started = none_started c.args.task.book.now c.args.task.components.now _ c.args.spent.now c.args.parts.now.items c.args.solvers.now.items c.requires.none c.requires.no_solvers c.requires.nothing c.in_ok-base.ensures.within;
 }

@@ -63,14 +63,12 @@ pub returns-clause-few_learned : goal.returns-clause-few_learned
 returns-clause-few_learned c =
     let s = c.in_ok-found.ensures.spends in
     let t = s.2 in
-    let small : length c.in_ok-joined.joined < 2 ^ 64 = omega (arith, c.len-worlds.ensures) in
-    let most : s.0 < 2 ^ 80 = small_listed c.args.self c.requires.listable c.in_ok-found.found c.in_ok-joined.joined c.in_ok-found.ensures.exact c.in_ok-joined.ensures s.0 s.1 small in
+    let most : s.0 < 2 ^ 80 = small_listed c.args.self c.requires.listable c.in_ok-found.found c.in_ok-joined.joined c.in_ok-found.ensures.exact c.in_ok-joined.ensures s.0 s.1 c.few_worlds.ensures in
     omega (arith, t.learned, t.spare, t.limit, t.few, most, c.worlds.new.tally.within_limit, c.requires.few_learned)
 
 pub returns-clause-few_calls : goal.returns-clause-few_calls
 returns-clause-few_calls c =
     let s = c.in_ok-found.ensures.spends in
     let t = s.2 in
-    let small : length c.in_ok-joined.joined < 2 ^ 64 = omega (arith, c.len-worlds.ensures) in
-    let most : s.0 < 2 ^ 80 = small_listed c.args.self c.requires.listable c.in_ok-found.found c.in_ok-joined.joined c.in_ok-found.ensures.exact c.in_ok-joined.ensures s.0 s.1 small in
+    let most : s.0 < 2 ^ 80 = small_listed c.args.self c.requires.listable c.in_ok-found.found c.in_ok-joined.joined c.in_ok-found.ensures.exact c.in_ok-joined.ensures s.0 s.1 c.few_worlds.ensures in
     omega (arith, t.calls, t.few, most, c.requires.few_calls)
