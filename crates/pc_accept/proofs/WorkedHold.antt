@@ -18,7 +18,7 @@ use Rattle.pc_laws.specs.Truths.{sort, blocks, x, single}
 use Rattle.pc_lits.specs.Steps.{IsTautology, Refutes}
 use Rattle.pc_lits.proofs.Elements.{contains_first}
 use Rattle.pc_accept.specs.Literals.{Literal, node, positive, opposite}
-use Rattle.pc_accept.specs.Axioms.{true_rule, IsAtomClause}
+use Rattle.pc_accept.specs.Axioms.{axiom_rule, IsAtomClause}
 use Rattle.pc_accept.specs.Accepts.{Line, taken, derived, IsLineClause, Accepts}
 use Rattle.pc_accept.specs.Worked.{WorkedPaths, WorkedReads, WorkedLimits, WorkedRanges, WorkedRefutation, more_x, adds_x, ranges, lowest, z_of_lowest, w, never, refuting, refutation}
 
@@ -171,12 +171,12 @@ refutation_accepted = record {
   derives = record { clauses = clauses; derivation = record { count = refl; each = each_line }; ends = record { some_line = omega arith; within = λ l has. has } };
 }
 
-unfinished : ¬ Accepts never (refutation (taken (true_rule 0) ∷ []))
+unfinished : ¬ Accepts never (refutation (taken (axiom_rule 0) ∷ []))
 unfinished h =
     let d = h.derives in
     let at : ℕ → List Literal = λ n. get_or d.clauses n [] in
     let count : length d.clauses ≡ 1 = d.derivation.count in
-    let first : get_or d.clauses 0 [] ≡ rule ∷ [] = d.derivation.each 0 (taken (true_rule 0)) (omega arith) in
+    let first : get_or d.clauses 0 [] ≡ rule ∷ [] = d.derivation.each 0 (taken (axiom_rule 0)) (omega arith) in
     let last : get_or d.clauses (length d.clauses - 1) [] ≡ rule ∷ [] = ap (λ n. get_or d.clauses (n - 1) []) count ∙ first in
     nothing_in rule (d.ends.within rule (subst (λ c. Contains c rule) (sym last) (contains_first rule [])))
 

@@ -10,7 +10,7 @@ use Rattle.pc_sheet.specs.WellSorted.{Variables, IsNewVariable, IsWellSorted}
 use Rattle.pc_sheet.specs.declared.ids.SortId.{SortId}
 use Rattle.pc_laws.specs.Examples.{red, green, entry, cell_side, color_side, equal_cells}
 use Rattle.pc_laws.specs.Truths.{place, sort, blocks, x, right, single, before}
-use Rattle.pc_accept.specs.Axioms.{true_rule, by_reads}
+use Rattle.pc_accept.specs.Axioms.{axiom_rule, axiom_atom}
 use Rattle.pc_accept.specs.Accepts.{inconsistent, Line, taken, derived, Certificate, Accepts}
 
 -- ---- a path into a quantifier: exists a:block . before(a, right)
@@ -96,7 +96,7 @@ never = record {
 }
 
 abbrev pub refuting : List Line
-refuting = taken (true_rule 0) ∷ taken (by_reads 0 [] []) ∷ derived [] (0 ∷ 1 ∷ []) ∷ []
+refuting = taken (axiom_rule 0) ∷ taken (axiom_atom 0 [] []) ∷ derived [] (0 ∷ 1 ∷ []) ∷ []
 
 abbrev pub refutation : List Line → Certificate
 refutation lines = record { claim = inconsistent; uses = []; values = []; lines = lines }
@@ -104,4 +104,4 @@ refutation lines = record { claim = inconsistent; uses = []; values = []; lines 
 pub record WorkedRefutation : Type 0 where
   pub accepted : Accepts never (refutation refuting)
   -- its axioms alone don't end with the empty clause
-  pub unfinished : ¬ Accepts never (refutation (taken (true_rule 0) ∷ []))
+  pub unfinished : ¬ Accepts never (refutation (taken (axiom_rule 0) ∷ []))

@@ -5,7 +5,7 @@ use Rattle.pc_sheet.specs.Entailment.{cell_sizes}
 use Rattle.pc_sheet.specs.Nodes.{node_at}
 use Rattle.pc_sheet.specs.WellFormed.{IsEntryOf}
 use Rattle.pc_accept.specs.Literals.{Symbol, pair, node}
-use Rattle.pc_accept.specs.Axioms.{Axiom, some_value, not_both, true_rule, parts, by_reads}
+use Rattle.pc_accept.specs.Axioms.{Axiom, axiom_some, axiom_one, axiom_rule, axiom_node, axiom_atom}
 use Rattle.pc_accept.specs.Accepts.{Claim, implied, inconsistent, Line, taken, derived, Certificate}
 
 -- the path leads to a node of that rule, and each child number fits 32 bits
@@ -20,11 +20,11 @@ IsSymbolOf sheet (node r steps) = IsPathOf sheet r steps
 
 -- an axiom's cells, values, rule and node are the sheet's; its clause's number fits 32 bits
 abbrev pub IsAxiomOf : Sheet → Axiom → Type 0
-IsAxiomOf sheet (some_value c) = c.0 < length (cell_sizes sheet.universe)
-IsAxiomOf sheet (not_both c v w) = IsEntryOf sheet.universe (record { cell = c; value = v }) × IsEntryOf sheet.universe (record { cell = c; value = w })
-IsAxiomOf sheet (true_rule r) = r < length sheet.rules
-IsAxiomOf sheet (parts r steps i) = IsPathOf sheet r steps × (i < 2 ^ 32)
-IsAxiomOf sheet (by_reads r steps reads) = IsPathOf sheet r steps × All (IsEntryOf sheet.universe) reads
+IsAxiomOf sheet (axiom_some c) = c.0 < length (cell_sizes sheet.universe)
+IsAxiomOf sheet (axiom_one c v w) = IsEntryOf sheet.universe (record { cell = c; value = v }) × IsEntryOf sheet.universe (record { cell = c; value = w })
+IsAxiomOf sheet (axiom_rule r) = r < length sheet.rules
+IsAxiomOf sheet (axiom_node r steps i) = IsPathOf sheet r steps × (i < 2 ^ 32)
+IsAxiomOf sheet (axiom_atom r steps reads) = IsPathOf sheet r steps × All (IsEntryOf sheet.universe) reads
 
 -- the line of that number, from 0: an axiom, or a clause over the sheet's symbols whose hints are earlier lines
 abbrev pub IsLineOf : Sheet → ℕ → Line → Type 0
@@ -42,7 +42,7 @@ IsClaimOf sheet c (implied t) = IsEntryOf sheet.universe (record { cell = t.cell
 IsClaimOf sheet c inconsistent = (c.uses ≡ []) × (c.values ≡ [])
 
 -- all that the certificate names is the sheet's, and no line's number has more than 18 digits
-pub record IsWritable (sheet : Sheet) (c : Certificate) : Type 0 where
+pub record IsWritableCertificate (sheet : Sheet) (c : Certificate) : Type 0 where
   pub claim : IsClaimOf sheet c c.claim
   pub uses : All (IsEntryOf sheet.universe) c.uses
   pub values : All (IsEntryOf sheet.universe) c.values

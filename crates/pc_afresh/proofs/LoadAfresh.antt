@@ -2,12 +2,12 @@
 use Rattle.std.proofs.Common.{◌≡◌, ◌↔◌, ℕ, List, ap, sym, subst, ◌∙◌, refl}
 use Rattle.pc_sheet.specs.Sheet.{Sheet}
 use Rattle.pc_sheet.specs.WellFormed.{IsWellFormed}
-use Rattle.pc_run.specs.Answer.{ended}
+use Rattle.pc_writer.specs.SheetText.{ended}
 use Rattle.pc_sortcheck.specs.Declaring.{ReadsAs}
 use Rattle.pc_declared.specs.Declared.{TextsReadBack}
 use Rattle.pc_display.specs.OneDisplay.{HasOneText, SheetHasOneDisplay}
 use Rattle.pc_spreadsheet.specs.Judgement.{State, Starts, SheetVerdict, opens, rejects, PageKind, lines_page, grid_page, json_page, text_page, why_page}
-use Rattle.pc_spreadsheet.specs.Pages.{Says}
+use Rattle.pc_spreadsheet.specs.Pages.{PageSays}
 use Rattle.pc_spreadsheet.specs.Laws.{TextsHaveOneVerdict}
 use Rattle.pc_afresh.specs.Afresh.{IsOpen, StartsAreOpen, TranscriptsKeepOpen, DumpsStartAgain, IsDisplay, SaysOnly, DisplayTheSame, LoadedAfreshShowsTheSame, RunsLoadAfresh}
 
@@ -22,7 +22,7 @@ abbrev state_of : Sheet → ℕ → State
 state_of sheet budget = record { sheet = sheet; budget = budget }
 
 module _ (back : TextsReadBack) (one : TextsHaveOneVerdict) where
-  start_of : (sheet : Sheet) (dumped : List ℕ) → IsOpen sheet → Says text_page sheet dumped → (budget : ℕ) → Starts budget dumped (state_of sheet budget)
+  start_of : (sheet : Sheet) (dumped : List ℕ) → IsOpen sheet → PageSays text_page sheet dumped → (budget : ℕ) → Starts budget dumped (state_of sheet budget)
   start_of sheet dumped is says budget =
       record { reads = subst (λ t. ReadsAs t sheet) (sym says) (back sheet is.formed); light = is.light; consistent = is.consistent; budget = refl }
 
@@ -41,8 +41,8 @@ only_text Is one sheet formed =
 
 module _ (one : SheetHasOneDisplay) where
   one_page : (sheet : Sheet) (kind : PageKind) → IsWellFormed sheet → IsDisplay kind → (text : List ℕ) × SaysOnly kind sheet text
-  one_page sheet lines_page formed form = only_text (Says lines_page) one.shown sheet formed
-  one_page sheet grid_page formed form = only_text (Says grid_page) one.grid sheet formed
+  one_page sheet lines_page formed form = only_text (PageSays lines_page) one.shown sheet formed
+  one_page sheet grid_page formed form = only_text (PageSays grid_page) one.grid sheet formed
   one_page sheet json_page formed form =
       let found = one.json sheet formed in (
         ended found.0,

@@ -12,7 +12,7 @@ use Rattle.pc_logic.specs.Edits.{without_rule}
 use Rattle.pc_lines.specs.Lines as a_line
 use Rattle.pc_syntax.specs.Tree.{Asked}
 use Rattle.pc_run.specs.Answer.{Answer, silent, accepted, shown, refused, no_memory}
-use Rattle.pc_spreadsheet.specs.Judgement.{State, IsLight, Task, entering, clearing, adding, dropping, budgeting, asking, showing, showing_grid, showing_json, dumping, IsTaskOf, IsEdit, after}
+use Rattle.pc_spreadsheet.specs.Judgement.{State, IsLight, Task, entering, clearing, adding, dropping, budgeting, asking, showing, showing_grid, showing_json, dumping, IsTaskOf, IsEdit, state_after}
 use Rattle.pc_spreadsheet.specs.Allowed.{Notes, Allows, as_judged, as_contradiction, as_spent}
 use Rattle.pc_spreadsheet.specs.Laws.{StartsAreWellFormed, AnswersKeepForm}
 use Rattle.pc_afresh.specs.Afresh.{IsOpen, StartsAreOpen, AnswersKeepOpen, TranscriptsKeepOpen}
@@ -40,7 +40,7 @@ still_consistent sheet k is = (is.0, is.1, All-remove (λ rule. Holds sheet.univ
 abbrev IsFit : Sheet → Type 0
 IsFit sheet = IsLight sheet × AreRulesConsistent sheet
 
-edit_fits : (state : State) (asked : Asked) (task : Task) → IsFit state.sheet → IsTaskOf state.sheet asked task → IsEdit task → IsFit (after state task).sheet
+edit_fits : (state : State) (asked : Asked) (task : Task) → IsFit state.sheet → IsTaskOf state.sheet asked task → IsEdit task → IsFit (state_after state task).sheet
 edit_fits state asked task fit (entering e named) edit = fit
 edit_fits state asked task fit (clearing k named has) edit = fit
 edit_fits state asked task fit (adding r new light consistent) edit = (light, consistent)
@@ -79,4 +79,4 @@ answers_keep_open keeps old new line answer is allowed =
 
 pub transcripts_keep_open : AnswersKeepOpen → TranscriptsKeepOpen
 transcripts_keep_open keeps old new [] is legal = subst (λ (s : State × Notes). IsOpen s.0.sheet) (sym legal) is
-transcripts_keep_open keeps old new (pair ∷ more) is legal = transcripts_keep_open keeps legal.0 new more (keeps old legal.0 (a_line.text_of pair.0) pair.1 is legal.1) legal.2
+transcripts_keep_open keeps old new (pair ∷ more) is legal = transcripts_keep_open keeps legal.0 new more (keeps old legal.0 (a_line.line_text_of pair.0) pair.1 is legal.1) legal.2

@@ -7,7 +7,7 @@ use Rattle.pc_run.specs.Answer.{Answer}
 use Rattle.pc_run.specs.Transcript.{Transcript, Legal}
 use Rattle.pc_spreadsheet.specs.Judgement.{State, IsLight, Starts, PageKind, lines_page, grid_page, json_page, text_page}
 use Rattle.pc_spreadsheet.specs.Allowed.{Notes, Allows}
-use Rattle.pc_spreadsheet.specs.Pages.{Says}
+use Rattle.pc_spreadsheet.specs.Pages.{PageSays}
 
 -- ---- the sheets of a run
 
@@ -38,7 +38,7 @@ pub record StartsAgain (text : List ℕ) (sheet : Sheet) : Type 0 where
 
 -- what such a sheet is dumped as starts a run again
 abbrev pub DumpsStartAgain : Type 0
-DumpsStartAgain = (sheet : Sheet) (dumped : List ℕ) → IsOpen sheet → Says text_page sheet dumped → StartsAgain dumped sheet
+DumpsStartAgain = (sheet : Sheet) (dumped : List ℕ) → IsOpen sheet → PageSays text_page sheet dumped → StartsAgain dumped sheet
 
 -- the forms of the display
 abbrev pub IsDisplay : PageKind → Type 0
@@ -49,7 +49,7 @@ IsDisplay kind = ⊥
 
 -- the sheet's page of this kind is this text and no other
 abbrev pub SaysOnly : PageKind → Sheet → List ℕ → Type 0
-SaysOnly kind sheet text = (other : List ℕ) → Says kind sheet other ↔ (other ≡ text)
+SaysOnly kind sheet text = (other : List ℕ) → PageSays kind sheet other ↔ (other ≡ text)
 
 -- both sheets have one display of each form, and it is the same
 abbrev pub DisplayTheSame : Sheet → Sheet → Type 0
@@ -58,7 +58,7 @@ DisplayTheSame sheet other = (kind : PageKind) → IsDisplay kind → (text : Li
 -- such a sheet has the display of that which its dump is loaded as
 abbrev pub LoadedAfreshShowsTheSame : Type 0
 LoadedAfreshShowsTheSame =
-    (budget : ℕ) (sheet : Sheet) (dumped : List ℕ) (state : State) → IsOpen sheet → Says text_page sheet dumped → Starts budget dumped state → DisplayTheSame sheet state.sheet
+    (budget : ℕ) (sheet : Sheet) (dumped : List ℕ) (state : State) → IsOpen sheet → PageSays text_page sheet dumped → Starts budget dumped state → DisplayTheSame sheet state.sheet
 
 -- ---- of whole runs
 
@@ -71,4 +71,4 @@ pub record LoadsTheSame (text : List ℕ) (sheet : Sheet) : Type 0 where
 abbrev pub RunsLoadAfresh : Type 0
 RunsLoadAfresh =
     (budget : ℕ) (text dumped : List ℕ) (start : State) (notes : Notes) (transcript : Transcript) (reached : State × Notes)
-    → Starts budget text start → Legal Allows (start, notes) transcript reached → Says text_page reached.0.sheet dumped → LoadsTheSame dumped reached.0.sheet
+    → Starts budget text start → Legal Allows (start, notes) transcript reached → PageSays text_page reached.0.sheet dumped → LoadsTheSame dumped reached.0.sheet

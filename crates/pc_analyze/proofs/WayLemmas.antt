@@ -7,10 +7,10 @@ use Rattle.pc_lits.specs.declared.literal.Lit.{Lit}
 use Rattle.pc_lits.specs.Literals.{negated}
 use Rattle.pc_lits.specs.Steps.{AreFalse}
 use Rattle.pc_lits.proofs.LitLemmas.{same_lit, lit_from_same, other_lit}
-use Rattle.pc_propagate.specs.declared.trail.Entry.{Entry}
+use Rattle.pc_propagate.specs.declared.trail.TrailEntry.{TrailEntry}
 use Rattle.pc_propagate.specs.declared.clauses.ClauseRef.{ClauseRef}
 use Rattle.pc_propagate.specs.Entries.{falses, Differ}
-use Rattle.pc_propagate.specs.Levels.{level_at, IsPlaceOf}
+use Rattle.pc_propagate.specs.Levels.{level_at, IsEntryOfVariable}
 use Rattle.pc_propagate.specs.Over.{AreJustified}
 use Rattle.pc_propagate.specs.Refs.{clause_at}
 use Rattle.pc_propagate.specs.Watched.{IsFalseAt}
@@ -24,10 +24,10 @@ use Rattle.pc_analyze.proofs.StepLemmas.{HasReason, reason_says, no_entry}
 use Rattle.pc_analyze.proofs.LearnLemmas.{IsEnd, covers_all, only_marked}
 
 -- the entry's reason, read
-has_reason : (entries : List Entry) (place : ℕ) (e : Entry) (reason : ClauseRef) → slice_get entries place ≡ Some e → e.reason ≡ Some reason → HasReason entries place reason
-has_reason entries place e reason at is d = ap (λ (x : Entry). x.reason) (get_or_from_slice_get entries place e d at) ∙ is
+has_reason : (entries : List TrailEntry) (place : ℕ) (e : TrailEntry) (reason : ClauseRef) → slice_get entries place ≡ Some e → e.reason ≡ Some reason → HasReason entries place reason
+has_reason entries place e reason at is d = ap (λ (x : TrailEntry). x.reason) (get_or_from_slice_get entries place e d at) ∙ is
 
-module _ (attached : List ClauseRef) (axioms more : List (List Lit)) (entries : List Entry) (conflict : List Lit) (justified : AreJustified axioms more attached entries) (different : AllPairs Differ entries) where
+module _ (attached : List ClauseRef) (axioms more : List (List Lit)) (entries : List TrailEntry) (conflict : List Lit) (justified : AreJustified axioms more attached entries) (different : AllPairs Differ entries) where
   -- what stands in the reason of an entry, and is false by an entry, is so by an earlier one
   reason_before : (place next : ℕ) (reason : ClauseRef) (m : Lit) → next < length entries → HasReason entries next reason → IsFalseAt entries place m → Contains (clause_at axioms more reason) m → place < next
   reason_before place next reason m within has at m_in =
@@ -124,7 +124,7 @@ module _ (attached : List ClauseRef) (axioms more : List (List Lit)) (entries : 
       marked = λ k below leads. now_met k below leads.0 leads.1;
     }
       where
-        e : Entry
+        e : TrailEntry
         e = get_or entries place no_entry
 
         at : slice_get entries place ≡ Some e
@@ -137,7 +137,7 @@ module _ (attached : List ClauseRef) (axioms more : List (List Lit)) (entries : 
             (λ other. let was = met.leads k (mark_old old place k false other marked) in (omega (arith, was.0, other), more_leads k was.1))
             (cases_eq k place)
 
-        of_reason : (k : ℕ) → k < place → (m : Lit) → Contains (clause_at axioms more reason) m → IsPlaceOf entries m.variable k → (k < place) × Leads axioms more entries conflict place k
+        of_reason : (k : ℕ) → k < place → (m : Lit) → Contains (clause_at axioms more reason) m → IsEntryOfVariable entries m.variable k → (k < place) × Leads axioms more entries conflict place k
         of_reason k below m m_in is =
             let says = reason_says attached axioms more entries place reason no_entry justified within has in
             let l = e.literal in
@@ -157,7 +157,7 @@ module _ (attached : List ClauseRef) (axioms more : List (List Lit)) (entries : 
 
         through : (k : ℕ) → k < place → StandsInReason axioms more entries k place → IsMarked marks k
         through k below (x, r, x_at, r_is, stands) =
-            let same_reason : Some r ≡ Some reason = sym r_is ∙ ap (λ (y : Entry). y.reason) (sym (get_or_from_slice_get entries place x no_entry x_at)) ∙ has no_entry in
+            let same_reason : Some r ≡ Some reason = sym r_is ∙ ap (λ (y : TrailEntry). y.reason) (sym (get_or_from_slice_get entries place x no_entry x_at)) ∙ has no_entry in
             h.of_clause k stands.0 below (subst (λ (c : List Lit). Contains c stands.0) (sym same) (subst (λ (q : ClauseRef). Contains (clause_at axioms more q) stands.0) (same_Some r reason same_reason) stands.2)) stands.1
 
         now_met : (k : ℕ) → k < place → (way : List ℕ) → IsWay axioms more entries conflict place k way → IsMarked marks k
@@ -190,7 +190,7 @@ module _ (attached : List ClauseRef) (axioms more : List (List Lit)) (entries : 
   -- what the walk ends with
   pub first_point : (marks : List Bool) (clause : List Lit) (place start level : ℕ) → AreMet axioms more entries conflict (place + 1) marks → ArePassed axioms more entries conflict start (place + 1)
       → AreNegations entries marks place start clause → marks_from start marks ≡ 1 → IsMarked marks place → start ≤ place → place < length entries
-      → level_at entries start ≡ level → level_at entries place ≡ level → ((d : Entry) → IsNone (get_or entries start d).reason)
+      → level_at entries start ≡ level → level_at entries place ≡ level → ((d : TrailEntry) → IsNone (get_or entries start d).reason)
       → IsOfFirstPoint axioms more entries conflict level clause
   first_point marks clause place start level met passed negations one marked late within start_level place_level starts = record {
     place = place;
@@ -215,7 +215,7 @@ module _ (attached : List ClauseRef) (axioms more : List (List Lit)) (entries : 
   }
 
 -- where the ways that lead from marks before `end` are kept by the walk, the marks before `place` are those of ways past it
-abbrev pub KeepsWays : List (List Lit) → List (List Lit) → List Entry → ℕ → ℕ → List Bool → ℕ → List Bool → Type 0
+abbrev pub KeepsWays : List (List Lit) → List (List Lit) → List TrailEntry → ℕ → ℕ → List Bool → ℕ → List Bool → Type 0
 KeepsWays axioms more entries start end first place marks =
     (conflict : List Lit) → AreMet axioms more entries conflict end first → ArePassed axioms more entries conflict start end
     → AreMet axioms more entries conflict place marks × ArePassed axioms more entries conflict start place
@@ -229,13 +229,13 @@ other_mark marks start place late marked many =
     (other.0, other.1, apart, mark_old marks place other.0 false apart other.2)
 
 -- the analysis of a conflict
-pub walked_point : (attached : List ClauseRef) (axioms more : List (List Lit)) (entries : List Entry) (conflict : List Lit) → AreJustified axioms more attached entries → AllPairs Differ entries
+pub walked_point : (attached : List ClauseRef) (axioms more : List (List Lit)) (entries : List TrailEntry) (conflict : List Lit) → AreJustified axioms more attached entries → AllPairs Differ entries
     → (end start place level added n : ℕ) (blank first marks : List Bool) (clause : List Lit)
     → blank ≡ replicate n false → MarksClause entries conflict end start blank first added → IsEnd entries conflict end → AreFalse negated (falses entries) conflict
     → (AreMet axioms more entries conflict end first → ArePassed axioms more entries conflict start end
     → AreMet axioms more entries conflict (place + 1) marks × ArePassed axioms more entries conflict start (place + 1))
     → AreNegations entries marks place start clause → marks_from start marks ≡ 1 → IsMarked marks place → start ≤ place → place < end → end ≤ length entries
-    → level_at entries start ≡ level → level_at entries (end - 1) ≡ level → ((d : Entry) → IsNone (get_or entries start d).reason)
+    → level_at entries start ≡ level → level_at entries (end - 1) ≡ level → ((d : TrailEntry) → IsNone (get_or entries start d).reason)
     → IsOfFirstPoint axioms more entries conflict level clause
 walked_point attached axioms more entries conflict justified different end start place level added n blank first marks clause is marked_first is_end is_false kept negations one marked late early within start_level end_level starts =
     let found = kept (met_first attached axioms more entries conflict justified different end start added n blank first is marked_first is_end is_false)

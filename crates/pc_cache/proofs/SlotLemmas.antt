@@ -2,9 +2,8 @@
 use Rattle.std.proofs.Common.{◌≡◌, ℕ, zero, suc, ◌+◌, ◌<◌, Bool, true, false, List, [], ◌∷◌, ◌++◌, Option, Some, None, length, slice_get, refl, sym, ap, ◌∙◌, subst, arith, cond, inl, inr, IsSomeAnd, ⊎_elim, get_or, take, drop, map, ◌≤◌, filter}
 use Rattle.pc_sheet.specs.declared.ids.Entry.{Entry}
 use Rattle.std.proofs.Math.ListN.{set}
-use Rattle.std.specs.Prelude.{slice_set}
+use Rattle.std.specs.Prelude.{slice_set, ◌||◌}
 use Rattle.std.specs.List.{list_any}
-use Rattle.std.specs.Prelude.{◌||◌}
 use Rattle.std.proofs.lemmas.Bool.{false≢true, or_left, or_right, true_from_ne_false}
 use Rattle.std.proofs.lemmas.Option.{slice_get-get_or}
 use Rattle.std.proofs.lemmas.List.{append-nil, take_more_set, take_more, take_all, take-take, length-take, drop-set-lt, get_or-drop}
@@ -15,7 +14,7 @@ use Rattle.pc_log.specs.Lines.{LogLine}
 use Rattle.pc_log.specs.Spans.{Extends}
 use Rattle.pc_log.specs.Laws.{SpansStay}
 use Rattle.pc_reason.specs.Reasons.{Justification}
-use Rattle.pc_cache.specs.Rows.{TargetRow, is_same_target, row_of, row_after, HasTarget, HaveTargets, target_of, is_used_in, is_nothing, lacks_row, uses_entry, row_bytes, bytes_of_rows}
+use Rattle.pc_cache.specs.Rows.{TargetRow, is_same_target, row_of, row_after, HasRowOf, HaveTargets, target_of, is_used_in, is_nothing, lacks_row, uses_entry, row_bytes, bytes_of_rows}
 use Rattle.pc_log.specs.Sizes.{bytes_of}
 use Rattle.pc_cache.specs.inside.Kept.{kept_or_none, rows_in, IsRowIn, AreRowsIn, HasSlot, HasSlots, with_slot, with_slots, targets_in, slot_target, slot_is_missing, slot_rests_on, is_row_over, is_no_row}
 use Rattle.pc_cache.specs.inside.Places.{place_of, ArePlaced, IsSlotOf}
@@ -85,7 +84,7 @@ pub no_row : (lines : List LogLine) (slots : List Slot) (t : Target) → ¬ HasS
 no_row lines [] t none = refl
 no_row lines (x ∷ xs) t none = rw (different_by x.target t (λ same. none (inl same))) (no_row lines xs t (λ later. none (inr later)))
 
-pub has_target : (lines : List LogLine) (slots : List Slot) (t : Target) → HasTarget (rows_in lines slots) t → HasSlot slots t
+pub has_target : (lines : List LogLine) (slots : List Slot) (t : Target) → HasRowOf (rows_in lines slots) t → HasSlot slots t
 has_target lines [] t has = absurd has
 has_target lines (x ∷ xs) t (inl same) = inl same
 has_target lines (x ∷ xs) t (inr later) = inr (has_target lines xs t later)
@@ -244,7 +243,7 @@ found_slot slots k s t is read =
     let at : slice_get slots k ≡ Some s = slice_get-get_or slots k s (within_slots slots k t is) ∙ ap Some (sym read) in
     (at, target_at slots k s t at is)
 
-pub to_target : (lines : List LogLine) (slots : List Slot) (t : Target) → HasSlot slots t → HasTarget (rows_in lines slots) t
+pub to_target : (lines : List LogLine) (slots : List Slot) (t : Target) → HasSlot slots t → HasRowOf (rows_in lines slots) t
 to_target lines [] t has = absurd has
 to_target lines (x ∷ xs) t (inl same) = inl same
 to_target lines (x ∷ xs) t (inr later) = inr (to_target lines xs t later)

@@ -22,9 +22,9 @@ abbrev pub target_of : TargetRow → Target
 target_of r = r.target
 
 -- some row is the target's
-abbrev pub HasTarget : List TargetRow → Target → Type 0
-HasTarget [] t = ⊥
-HasTarget (r ∷ rs) t = (r.target ≡ t) ⊎ HasTarget rs t
+abbrev pub HasRowOf : List TargetRow → Target → Type 0
+HasRowOf [] t = ⊥
+HasRowOf (r ∷ rs) t = (r.target ≡ t) ⊎ HasRowOf rs t
 
 -- what the row of a target becomes by changes, of which the last one for the target counts
 abbrev pub row_after : List TargetRow → Target → Option Justification → Option Justification
@@ -45,18 +45,18 @@ is_nothing (Some j) = false
 abbrev pub lacks_row : List TargetRow → Target → Bool
 lacks_row rows t = is_nothing (row_of rows t)
 
-abbrev pub is_same_entry : Entry → Entry → Bool
-is_same_entry e f = (e.cell.0 == f.cell.0) && (e.value.0 == f.value.0)
+abbrev pub is_equal_entry : Entry → Entry → Bool
+is_equal_entry e f = (e.cell.0 == f.cell.0) && (e.value.0 == f.value.0)
 
 -- the entry is one of these
-abbrev pub is_among : Entry → List Entry → Bool
-is_among e [] = false
-is_among e (f ∷ fs) = cond (is_same_entry f e) true (is_among e fs)
+abbrev pub is_entry_among : Entry → List Entry → Bool
+is_entry_among e [] = false
+is_entry_among e (f ∷ fs) = cond (is_equal_entry f e) true (is_entry_among e fs)
 
 -- the support has the entry
 abbrev pub is_used_in : Entry → Option Justification → Bool
 is_used_in e None = false
-is_used_in e (Some j) = is_among e j.support
+is_used_in e (Some j) = is_entry_among e j.support
 
 -- the support that is kept for the target has the entry
 abbrev pub uses_entry : Entry → List TargetRow → Target → Bool
@@ -65,7 +65,7 @@ uses_entry e rows t = is_used_in e (row_of rows t)
 -- no target has two rows
 abbrev pub AreDistinct : List TargetRow → Type 0
 AreDistinct [] = Unit {0}
-AreDistinct (r ∷ rs) = (¬ HasTarget rs r.target) × AreDistinct rs
+AreDistinct (r ∷ rs) = (¬ HasRowOf rs r.target) × AreDistinct rs
 
 -- no target has a row yet
 abbrev pub AreEmpty : List TargetRow → Type 0
@@ -75,7 +75,7 @@ AreEmpty (r ∷ rs) = (r.row ≡ None) × AreEmpty rs
 -- each change is of a target that has a place for a row
 abbrev pub HaveTargets : List TargetRow → List TargetRow → Type 0
 HaveTargets rows [] = Unit {0}
-HaveTargets rows (c ∷ cs) = HasTarget rows c.target × HaveTargets rows cs
+HaveTargets rows (c ∷ cs) = HasRowOf rows c.target × HaveTargets rows cs
 
 -- the rows of all targets of a book, and the bytes that the lines count for in which the derivations are kept
 pub record Cached : Type 0 where

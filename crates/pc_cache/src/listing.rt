@@ -3,7 +3,7 @@ ghost use Rattle.std.specs.Prelude.{◌≡◌, ◌<◌, ◌≤◌, ◌++◌, IfO
 ghost use Rattle.std.specs.List.{list_any};
 ghost use Rattle.pc_sheet.specs.Limits.{most_values};
 ghost use Rattle.pc_cache.specs.inside.Kept.{slot_is_missing, slot_rests_on, slot_target};
-ghost use Rattle.pc_cache.specs.Rows.{is_among, is_same_entry};
+ghost use Rattle.pc_cache.specs.Rows.{is_entry_among, is_equal_entry};
 ghost use Rattle.pc_cache.specs.inside.Slots.{cell_slots, empty_slot};
 
 use crate::row::Slot;
@@ -103,7 +103,7 @@ fn rests_on(slot: &Slot, entry: Entry) -> bool
 }
 
 fn has_entry(entries: &[Entry], entry: Entry) -> bool
-    ensures { result ≡ is_among entry entries.now }
+    ensures { result ≡ is_entry_among entry entries.now }
 {
     for one in entries {
         if is_same(*one, entry) {
@@ -114,7 +114,7 @@ fn has_entry(entries: &[Entry], entry: Entry) -> bool
 }
 
 fn is_same(one: Entry, other: Entry) -> bool
-    ensures { result ≡ is_same_entry one other }
+    ensures { result ≡ is_equal_entry one other }
 {
     one.cell.0 == other.cell.0 && one.value.0 == other.value.0
 }

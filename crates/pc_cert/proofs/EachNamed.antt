@@ -1,11 +1,11 @@
 -- One name after another.
 use Rattle.std.proofs.Common.{◌≡◌, ◌↔◌, ℕ, zero, suc, ◌+◌, ◌<◌, ◌≤◌, Option, None, Some, List, [], ◌∷◌, ◌++◌, length, map, take, drop, get_or, refl, sym, ◌∙◌, ap, subst, arith}
 use Rattle.std.proofs.lemmas.List.{take_all}
-use Rattle.pc_cert.specs.Meaning.{AreNamed}
+use Rattle.pc_cert.specs.Meaning.{AreNamedEach}
 
 module _ {A B : Type 0} (Names : A → B → Type 0) where
   abbrev pub Are : List A → List B → Type 0
-  Are xs ys = AreNamed Names xs ys
+  Are xs ys = AreNamedEach Names xs ys
 
   -- a last one is the name's, behind those of the names before
   last_split : (xs : List A) (x : A) (ys : List B) → Are (xs ++ x ∷ []) ys → (zs : List B) × (y : B) × (ys ≡ zs ++ y ∷ []) × Are xs zs × Names x y

@@ -12,7 +12,7 @@ use Rattle.pc_cert.specs.Written.{nothing, heading, claims, claims_inconsistent,
 use Rattle.pc_cert.specs.Order.{LineKind, empty_line, heading_line, target_line, inconsistent_line, use_line, value_line, numbered_line, end_line, kind_of, may_stand, has, is_end, is_claim}
 use Rattle.pc_cert.specs.Text.{AllSay, syntax, claim_in, parts_from, has_end, IsTextReading, fault_at, endless, whole, SayTogether}
 use Rattle.pc_cert.specs.inside.Taken.{AreTaken}
-use Rattle.pc_cert.specs.Views.{AreDistinct, AppearInOrder, IsCertTold, claim_of, numbered_part_of, places_of, symbol_of, reading_of}
+use Rattle.pc_cert.specs.Views.{AreSymbolsDistinct, AppearInOrder, IsCertTold, claim_of, numbered_part_of, places_of, symbol_of, reading_of}
 use Rattle.pc_cert.specs.declared.draft.Draft.{Draft}
 use Rattle.pc_cert.specs.declared.order.Order.{Order}
 use Rattle.pc_cert.specs.declared.cert.Cert.{Cert}
@@ -84,7 +84,7 @@ module _ (sheet : Sheet) (text rest : List ℕ) (o : Order) (d : Draft) (number 
       has_claim taken.says (all_claimed sheet [] taken.before taken.says taken.all (λ (e : false ≡ true). absurd (cc)) (sym its_end ∙ goes))
       (sym taken.gathered.claim ∙ ap (option_map claim_of) none)
 
-  pub all_read : o.end ≡ true → (c : Claim) → d.claim ≡ Some c → (symbols : Vec SymbolRead Global) → symbols ≡ d.table.symbols → AreDistinct d.table.names
+  pub all_read : o.end ≡ true → (c : Claim) → d.claim ≡ Some c → (symbols : Vec SymbolRead Global) → symbols ≡ d.table.symbols → AreSymbolsDistinct d.table.names
       → IsCertTold sheet text (Ok (record { claim = c; uses = d.uses; values = d.values; after = d.after; symbols = symbols; lines = d.lines }))
   all_read goes c is symbols same distinct =
       let g = taken.gathered in
@@ -93,4 +93,4 @@ module _ (sheet : Sheet) (text rest : List ℕ) (o : Order) (d : Draft) (number 
       let cert : Cert = record { claim = c; uses = d.uses; values = d.values; after = d.after; symbols = symbols; lines = d.lines } in
       let together : SayTogether taken.says (reading_of cert) = record { claim = sym g.claim ∙ ap (option_map claim_of) is; uses = g.uses; values = g.values; after = g.after; parts = parts } in
       let appear = subst (λ (xs : List Symbol). AppearInOrder 0 (places_of d.lines.items) (length xs)) kept g.appear in
-      (whole taken.says all_say (sym its_end ∙ goes) together, record { different = subst AreDistinct kept distinct; appear = appear })
+      (whole taken.says all_say (sym its_end ∙ goes) together, record { different = subst AreSymbolsDistinct kept distinct; appear = appear })

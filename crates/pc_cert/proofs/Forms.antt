@@ -4,7 +4,7 @@ use Rattle.std.specs.Char.{digit_value}
 use Rattle.pc_formula.specs.declared.refusal.Refusal.{Refusal}
 use Rattle.pc_cert.specs.Written.{nothing, heading, claims, claims_inconsistent, uses, assigns, derives, ends, WrittenPair, WrittenLine}
 use Rattle.pc_cert.specs.Texts.{texts_of, SpellsThis, IsNumberText}
-use Rattle.pc_cert.specs.Line.{IsClaim, SpellsPair, IsForm, IsLine}
+use Rattle.pc_cert.specs.Line.{IsClaim, SpellsPair, IsCertificateForm, IsCertificateLine}
 use Rattle.pc_cert.specs.Trees.{line_of, seen}
 use Rattle.pc_cert.specs.declared.tree.LineTree.{LineTree}
 use Rattle.pc_cert.proofs.Words.{starts_otherwise, heads, tails}
@@ -19,7 +19,7 @@ not_digit c cs n large is = omega (arith, large, is.digits.1.0)
 no_number : (c : ℕ) (cs : List ℕ) (rest : List (List ℕ)) (number : List ℕ) (more : List (List ℕ)) (n : ℕ) → 10 ≤ digit_value c → (c ∷ cs) ∷ rest ≡ number ∷ more → IsNumberText number n → ⊥
 no_number c cs rest number more n large e is = not_digit c cs n large (subst (λ t. IsNumberText t n) (sym (heads (c ∷ cs) number rest more e)) is)
 
-pub only_claims : (line : List ℕ) (rest : List (List ℕ)) → (rest ≡ codes "inconsistent" ∷ [] → ⊥) → ((q : WrittenPair × Bool) → SpellsThis IsClaim line q → ⊥) → (f : WrittenLine) → IsForm line (codes "claim" ∷ rest) f → ⊥
+pub only_claims : (line : List ℕ) (rest : List (List ℕ)) → (rest ≡ codes "inconsistent" ∷ [] → ⊥) → ((q : WrittenPair × Bool) → SpellsThis IsClaim line q → ⊥) → (f : WrittenLine) → IsCertificateForm line (codes "claim" ∷ rest) f → ⊥
 only_claims line rest other none nothing is = not_empty (codes "claim") rest is
 only_claims line rest other none heading is = starts_otherwise (codes "claim") (codes "certificate") rest _ refl is.are
 only_claims line rest other none (claims p holds) is = none (p, holds) is.1
@@ -29,7 +29,7 @@ only_claims line rest other none (assigns p) is = starts_otherwise (codes "claim
 only_claims line rest other none (derives n part) is = no_number 99 (codes "laim") rest is.number is.more n (omega arith) is.are is.counts
 only_claims line rest other none ends is = starts_otherwise (codes "claim") (codes "end") rest _ refl is
 
-pub only_uses : (line : List ℕ) (rest : List (List ℕ)) → ((p : WrittenPair) → SpellsPair line (codes "use") p → ⊥) → (f : WrittenLine) → IsForm line (codes "use" ∷ rest) f → ⊥
+pub only_uses : (line : List ℕ) (rest : List (List ℕ)) → ((p : WrittenPair) → SpellsPair line (codes "use") p → ⊥) → (f : WrittenLine) → IsCertificateForm line (codes "use" ∷ rest) f → ⊥
 only_uses line rest none nothing is = not_empty (codes "use") rest is
 only_uses line rest none heading is = starts_otherwise (codes "use") (codes "certificate") rest _ refl is.are
 only_uses line rest none (claims p holds) is = starts_otherwise (codes "use") (codes "claim") rest _ refl is.0.is
@@ -39,7 +39,7 @@ only_uses line rest none (assigns p) is = starts_otherwise (codes "use") (codes 
 only_uses line rest none (derives n part) is = no_number 117 (codes "se") rest is.number is.more n (omega arith) is.are is.counts
 only_uses line rest none ends is = starts_otherwise (codes "use") (codes "end") rest _ refl is
 
-pub only_values : (line : List ℕ) (rest : List (List ℕ)) → ((p : WrittenPair) → SpellsPair line (codes "value") p → ⊥) → (f : WrittenLine) → IsForm line (codes "value" ∷ rest) f → ⊥
+pub only_values : (line : List ℕ) (rest : List (List ℕ)) → ((p : WrittenPair) → SpellsPair line (codes "value") p → ⊥) → (f : WrittenLine) → IsCertificateForm line (codes "value" ∷ rest) f → ⊥
 only_values line rest none nothing is = not_empty (codes "value") rest is
 only_values line rest none heading is = starts_otherwise (codes "value") (codes "certificate") rest _ refl is.are
 only_values line rest none (claims p holds) is = starts_otherwise (codes "value") (codes "claim") rest _ refl is.0.is
@@ -50,8 +50,8 @@ only_values line rest none (derives n part) is = no_number 118 (codes "alue") re
 only_values line rest none ends is = starts_otherwise (codes "value") (codes "end") rest _ refl is
 
 -- what is told of any line with these texts
-pub told_at : (line : List ℕ) (texts : List (List ℕ)) (r : Result LineTree Refusal) → texts_of line ≡ texts → IfOk r (λ t. (l : List ℕ) → IsForm l texts (line_of t)) → IfOk r (λ t. IsLine line (line_of t))
-told_at line texts r same told = if_ok_more r _ _ (λ t is. subst (λ ts. IsForm line ts (line_of t)) (sym same) (is line)) told
+pub told_at : (line : List ℕ) (texts : List (List ℕ)) (r : Result LineTree Refusal) → texts_of line ≡ texts → IfOk r (λ t. (l : List ℕ) → IsCertificateForm l texts (line_of t)) → IfOk r (λ t. IsCertificateLine line (line_of t))
+told_at line texts r same told = if_ok_more r _ _ (λ t is. subst (λ ts. IsCertificateForm line ts (line_of t)) (sym same) (is line)) told
 
 -- the texts of a line, from its first one and those behind it
 pub texts_are : (line : List ℕ) (found read : List (Bor (List ℕ))) (first : Bor (List ℕ)) (rest : List (Bor (List ℕ))) (word : List ℕ) → seen found ≡ texts_of line → read ≡ found → read ≡ first ∷ rest → first.now ≡ word → texts_of line ≡ word ∷ seen rest

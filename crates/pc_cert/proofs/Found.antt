@@ -7,9 +7,9 @@ use Rattle.pc_sheet.specs.declared.ids.CellId.{CellId}
 use Rattle.pc_sheet.specs.declared.ids.ValueId.{ValueId}
 use Rattle.pc_sheet.specs.declared.ids.Entry.{Entry}
 use Rattle.pc_elaborate.specs.declared.fault.SortFault.{SortFault}
-use Rattle.pc_elaborate.specs.Elaboration.{IsCell, IsValueOf, IsCellNamed}
+use Rattle.pc_elaborate.specs.Elaboration.{IsCell, StandsForValue, IsCellNamed}
 use Rattle.pc_elaborate.specs.FormulaFaults.{IsCellFault, IsValueFault}
-use Rattle.pc_elaborate.specs.Outcome.{IsOutcome, Tells, sort_of_cell}
+use Rattle.pc_elaborate.specs.Outcome.{IsFoundOrFault, TellsFound, sort_of_cell}
 use Rattle.pc_cert.specs.Meaning.{IsPairNamed, AreValuesNamed}
 
 no_error : {A E : Type 0} (r : Result A E) (a : A) (e : E) → r ≡ Ok a → r ≡ Err e → ⊥
@@ -43,10 +43,10 @@ none_are P never x y z = (λ e. absurd (cc), λ p. absurd (never x y z p))
 
 module _ (u : Universe) where
   abbrev pub TellsCell : Cell → Result CellId SortFault → Type 0
-  TellsCell c r = Tells (λ id. IsCell u c id (sort_of_cell u id)) (IsCellFault u c) r
+  TellsCell c r = TellsFound (λ id. IsCell u c id (sort_of_cell u id)) (IsCellFault u c) r
 
   abbrev pub TellsValue : CellId → Value → Result ValueId SortFault → Type 0
-  TellsValue id v r = Tells (IsValueOf u (sort_of_cell u id) v) (IsValueFault u (sort_of_cell u id) v) r
+  TellsValue id v r = TellsFound (StandsForValue u (sort_of_cell u id) v) (IsValueFault u (sort_of_cell u id) v) r
 
   abbrev pub HasSort : Cell → Type 0
   HasSort c = (id : CellId) (s : SortId) → IsCell u c id s → s ≡ sort_of_cell u id
@@ -54,8 +54,8 @@ module _ (u : Universe) where
   at_sort : (c : Cell) → HasSort c → (id : CellId) (s : SortId) → IsCell u c id s → IsCell u c id (sort_of_cell u id)
   at_sort c sorts id s is = subst (λ t. IsCell u c id t) (sorts id s is) is
 
-  told : {A : Type 0} (P : A → Type 0) (F : SortFault → Type 0) (r : Result A SortFault) (x : A) → r ≡ Ok x → IsOutcome P F r → P x
-  told P F r x e is = subst (λ q. IsOutcome P F q) e is
+  told : {A : Type 0} (P : A → Type 0) (F : SortFault → Type 0) (r : Result A SortFault) (x : A) → r ≡ Ok x → IsFoundOrFault P F r → P x
+  told P F r x e is = subst (λ q. IsFoundOrFault P F q) e is
 
   pub cell_never : (c : Cell) (r : Result CellId SortFault) (e : SortFault) → TellsCell c r → HasSort c → r ≡ Err e → (id : CellId) (s : SortId) → IsCell u c id s → ⊥
   cell_never c r e tells sorts fails id s is = no_error r id e (tells.only id (at_sort c sorts id s is)) fails
@@ -71,10 +71,10 @@ module _ (u : Universe) where
     the_cell other s is = same_ok r id other found (tells.only other (at_sort c sorts other s is))
 
     -- a value of the cell's sort, as one of the sort of the cell that was found
-    of_found : (v : Value) (other : CellId) (s : SortId) (x : ValueId) → IsCell u c other s → IsValueOf u s v x → IsValueOf u (sort_of_cell u id) v x
-    of_found v other s x is value = subst (λ o. IsValueOf u (sort_of_cell u o) v x) (sym (the_cell other s is)) (subst (λ t. IsValueOf u t v x) (sorts other s is) value)
+    of_found : (v : Value) (other : CellId) (s : SortId) (x : ValueId) → IsCell u c other s → StandsForValue u s v x → StandsForValue u (sort_of_cell u id) v x
+    of_found v other s x is value = subst (λ o. StandsForValue u (sort_of_cell u o) v x) (sym (the_cell other s is)) (subst (λ t. StandsForValue u t v x) (sorts other s is) value)
 
-    pub value_never : (v : Value) (q : Result ValueId SortFault) (e : SortFault) → TellsValue id v q → q ≡ Err e → (other : CellId) (s : SortId) (x : ValueId) → IsCell u c other s → IsValueOf u s v x → ⊥
+    pub value_never : (v : Value) (q : Result ValueId SortFault) (e : SortFault) → TellsValue id v q → q ≡ Err e → (other : CellId) (s : SortId) (x : ValueId) → IsCell u c other s → StandsForValue u s v x → ⊥
     value_never v q e tells_value fails other s x is value = no_error q x e (tells_value.only x (of_found v other s x is value)) fails
 
     pub entry_is : (v : Value) (q : Result ValueId SortFault) (x : ValueId) → TellsValue id v q → q ≡ Ok x → (e : Entry) → (◌≡◌ {A = Option Entry} (Some (record { cell = id; value = x })) (Some e)) ↔ IsPairNamed u (record { cell = c; value = v }) e

@@ -9,11 +9,11 @@ use Rattle.pc_sheet.specs.Sheet.{Sheet}
 use Rattle.pc_sheet.specs.declared.ids.Entry.{Entry}
 use Rattle.pc_accept.specs.Literals.{Symbol}
 use Rattle.pc_cert.specs.Written.{nothing, heading, claims, claims_inconsistent, uses, assigns, derives, ends, WrittenPair, WrittenPart, derived, SaidLine}
-use Rattle.pc_cert.specs.Meaning.{IsPairNamed, IsLineNamed}
+use Rattle.pc_cert.specs.Meaning.{IsPairNamed, IsSaidLine}
 use Rattle.pc_cert.specs.Text.{claim_in, uses_from, values_from, after_from, parts_from, has_entry}
 use Rattle.pc_cert.specs.Views.{claim_of, said_of, literal_of, place_of, part_of, numbered_part_of, places_in, places_of, AppearInOrder}
-use Rattle.pc_cert.specs.Numbered.{Grows, IsKept, IsPartTaken}
-use Rattle.pc_cert.specs.Gathered.{IsGathered, IsSaidNext, Adds}
+use Rattle.pc_cert.specs.Numbered.{StartsWith, AreSymbolNumbers, IsPartTaken}
+use Rattle.pc_cert.specs.Gathered.{IsGathered, IsSaidNext, AddsLine}
 use Rattle.pc_cert.specs.declared.cert.Claim.{Claim}
 use Rattle.pc_cert.specs.declared.cert.CertLine.{CertLine}
 use Rattle.pc_cert.specs.declared.cert.CertPart.{CertPart}
@@ -90,7 +90,7 @@ module _ (ls : List SaidLine) (old new : Draft) (number : ℕ) (g : IsGathered l
   gathered : option_map claim_of new.claim ≡ option_or (option_map claim_of old.claim) (claim_in (l ∷ [])) → map said_of new.uses.items ≡ map said_of old.uses.items ++ uses_from number (l ∷ [])
       → map said_of new.values.items ≡ map said_of old.values.items ++ values_from number (l ∷ []) → new.after ≡ (if has_entry l then number + 1 else old.after)
       → map (numbered_part_of new.table.names) new.lines.items ≡ map (numbered_part_of old.table.names) old.lines.items ++ parts_from number (l ∷ [])
-      → AppearInOrder 0 (places_of new.lines.items) (length new.table.names) → IsKept new.table → IsGathered (ls ++ l ∷ []) new
+      → AppearInOrder 0 (places_of new.lines.items) (length new.table.names) → AreSymbolNumbers new.table → IsGathered (ls ++ l ∷ []) new
   gathered claim used valued after parted appear kept = record {
     claim = claim ∙ ap (λ o. option_or o (claim_in (l ∷ []))) g.claim ∙ sym (claim_on ls l);
     uses = used ∙ ap (λ xs. xs ++ uses_from number (l ∷ [])) g.uses ∙ ap (λ n. uses_from 1 ls ++ uses_from n (l ∷ [])) (sym here) ∙ sym (uses_on 1 ls l);
@@ -110,13 +110,13 @@ nothing_more xs = sym (append-nil xs)
 -- ---- lines that say nothing
 
 module _ (sheet : Sheet) (ls : List SaidLine) (d : Draft) (number : ℕ) (g : IsGathered ls d) (at : number ≡ length ls + 1) where
-  pub adds_nothing : Adds sheet nothing ls d
+  pub adds_nothing : AddsLine sheet nothing ls d
   adds_nothing = record { line = nothing; named = tt; gathered = gathered ls d d number g at nothing (same_claim d) (nothing_more _) (nothing_more _) refl (nothing_more _) g.appear g.kept }
 
-  pub adds_heading : Adds sheet heading ls d
+  pub adds_heading : AddsLine sheet heading ls d
   adds_heading = record { line = heading; named = tt; gathered = gathered ls d d number g at heading (same_claim d) (nothing_more _) (nothing_more _) refl (nothing_more _) g.appear g.kept }
 
-  pub adds_ends : Adds sheet ends ls d
+  pub adds_ends : AddsLine sheet ends ls d
   adds_ends = record { line = ends; named = tt; gathered = gathered ls d d number g at ends (same_claim d) (nothing_more _) (nothing_more _) refl (nothing_more _) g.appear g.kept }
 
 -- ---- claims and entries
@@ -134,20 +134,20 @@ inconsistent_more ls old number g at c claim is e =
 module _ (sheet : Sheet) (p : WrittenPair) (ls : List SaidLine) (old : Draft) (number : ℕ) where
   pub target_adds : IsGathered ls old → number ≡ length ls + 1 → (holds : Bool) (e : Entry) → ((x : Entry) → (Some e ≡ Some x) ↔ IsPairNamed sheet.universe p x) → (c : Claim) (claim : Option Claim)
       → claim_of c ≡ accepts.implied (record { cell = e.cell; value = e.value; holds = holds }) → claim ≡ option_or old.claim (Some c)
-      → Adds sheet (claims p holds) ls (record { claim = claim; uses = old.uses; values = old.values; after = number + 1; table = old.table; lines = old.lines })
+      → AddsLine sheet (claims p holds) ls (record { claim = claim; uses = old.uses; values = old.values; after = number + 1; table = old.table; lines = old.lines })
   target_adds g at holds e exact c claim is same =
       let new : Draft = record { claim = claim; uses = old.uses; values = old.values; after = number + 1; table = old.table; lines = old.lines } in
       record { line = claims e holds; named = ((exact e).0 refl, refl); gathered = gathered ls old new number g at (claims e holds) (claimed ls old new number g at (claims e holds) c (ap Some (sym is)) same) (nothing_more _) (nothing_more _) refl (nothing_more _) g.appear g.kept }
 
 module _ (sheet : Sheet) (p : WrittenPair) (ls : List SaidLine) (old : Draft) (number : ℕ) (more : Vec Said Global) where
   pub use_adds : IsGathered ls old → number ≡ length ls + 1 → IsSaidNext sheet.universe p number old.uses.items more.items
-      → Adds sheet (uses p) ls (record { claim = old.claim; uses = more; values = old.values; after = number + 1; table = old.table; lines = old.lines })
+      → AddsLine sheet (uses p) ls (record { claim = old.claim; uses = more; values = old.values; after = number + 1; table = old.table; lines = old.lines })
   use_adds g at next =
       let new : Draft = record { claim = old.claim; uses = more; values = old.values; after = number + 1; table = old.table; lines = old.lines } in
       record { line = uses next.entry; named = next.named; gathered = gathered ls old new number g at (uses next.entry) (same_claim old) (pushed said_of old.uses.items (record { line = number; entry = next.entry }) more.items next.pushed) (nothing_more _) refl (nothing_more _) g.appear g.kept }
 
   pub value_adds : IsGathered ls old → number ≡ length ls + 1 → IsSaidNext sheet.universe p number old.values.items more.items
-      → Adds sheet (assigns p) ls (record { claim = old.claim; uses = old.uses; values = more; after = number + 1; table = old.table; lines = old.lines })
+      → AddsLine sheet (assigns p) ls (record { claim = old.claim; uses = old.uses; values = more; after = number + 1; table = old.table; lines = old.lines })
   value_adds g at next =
       let new : Draft = record { claim = old.claim; uses = old.uses; values = more; after = number + 1; table = old.table; lines = old.lines } in
       record { line = assigns next.entry; named = next.named; gathered = gathered ls old new number g at (assigns next.entry) (same_claim old) (nothing_more _) (pushed said_of old.values.items (record { line = number; entry = next.entry }) more.items next.pushed) refl (nothing_more _) g.appear g.kept }
@@ -181,7 +181,7 @@ below_right : (m : ℕ) (ks js : List ℕ) → Below m (ks ++ js) → Below m js
 below_right m [] js is = is
 below_right m (k ∷ ks) js is = below_right m ks js is.1
 
-module _ (b c : List Symbol) (g : Grows b c) where
+module _ (b c : List Symbol) (g : StartsWith b c) where
   lits_still : (lits : List Lit) → Below (length b) (map place_of lits) → map (literal_of b) lits ≡ map (literal_of c) lits
   lits_still [] is = refl
   lits_still (l ∷ ls) is = ap (λ k. k ∷ map (literal_of b) ls) (literal_still b c l g is.0) ∙ ap (λ ks. literal_of c l ∷ ks) (lits_still ls is.1)
@@ -201,8 +201,8 @@ places_on [] l = append-nil (places_in l.part)
 places_on (k ∷ ks) l = ap (λ ps. places_in k.part ++ ps) (places_on ks l) ∙ sym (append_assoc (places_in k.part) (places_of ks) (places_in l.part))
 
 pub part_adds : (sheet : Sheet) (w : WrittenPart) (place : ℕ) (ls : List SaidLine) (old : Draft) (number : ℕ) (table : Table) (q : CertPart) (more : Vec CertLine Global) → IsGathered ls old → number ≡ length ls + 1
-    → (IsKept old.table → IsKept table) → IsPartTaken sheet w old.table.names table.names q → more.items ≡ old.lines.items ++ (record { line = number; part = q }) ∷ []
-    → Adds sheet (derives place w) ls (record { claim = old.claim; uses = old.uses; values = old.values; after = old.after; table = table; lines = more })
+    → (AreSymbolNumbers old.table → AreSymbolNumbers table) → IsPartTaken sheet w old.table.names table.names q → more.items ≡ old.lines.items ++ (record { line = number; part = q }) ∷ []
+    → AddsLine sheet (derives place w) ls (record { claim = old.claim; uses = old.uses; values = old.values; after = old.after; table = table; lines = more })
 part_adds sheet w place ls old number table q more g at kept took push =
     let new : Draft = record { claim = old.claim; uses = old.uses; values = old.values; after = old.after; table = table; lines = more } in
     let line : CertLine = record { line = number; part = q } in
@@ -221,7 +221,7 @@ module _ (sheet : Sheet) (p : WrittenPair) (exact : (x : Entry) → (◌≡◌ {
   pub never : (x : Entry) → IsPairNamed sheet.universe p x → ⊥
   never x is = let e = (exact x).1 is in absurd (cc)
 
-  pub no_target : (holds : Bool) → (l : SaidLine) → IsLineNamed sheet (claims p holds) l → ⊥
+  pub no_target : (holds : Bool) → (l : SaidLine) → IsSaidLine sheet (claims p holds) l → ⊥
   no_target holds nothing is = absurd is
   no_target holds heading is = absurd is
   no_target holds (claims e b) is = never e is.0
@@ -232,7 +232,7 @@ module _ (sheet : Sheet) (p : WrittenPair) (exact : (x : Entry) → (◌≡◌ {
   no_target holds ends is = absurd is
 
 module _ (sheet : Sheet) (p : WrittenPair) (none : (x : Entry) → IsPairNamed sheet.universe p x → ⊥) where
-  pub no_use : (l : SaidLine) → IsLineNamed sheet (uses p) l → ⊥
+  pub no_use : (l : SaidLine) → IsSaidLine sheet (uses p) l → ⊥
   no_use nothing is = absurd is
   no_use heading is = absurd is
   no_use (claims e b) is = absurd is
@@ -242,7 +242,7 @@ module _ (sheet : Sheet) (p : WrittenPair) (none : (x : Entry) → IsPairNamed s
   no_use (derives k q) is = absurd is
   no_use ends is = absurd is
 
-  pub no_value : (l : SaidLine) → IsLineNamed sheet (assigns p) l → ⊥
+  pub no_value : (l : SaidLine) → IsSaidLine sheet (assigns p) l → ⊥
   no_value nothing is = absurd is
   no_value heading is = absurd is
   no_value (claims e b) is = absurd is

@@ -4,7 +4,7 @@ use Rattle.std.specs.Option.{option_map}
 use Rattle.pc_formula.specs.Tree.{Cell}
 use Rattle.pc_sheet.specs.Sheet.{Sheet}
 use Rattle.pc_sheet.specs.declared.ids.CellId.{CellId}
-use Rattle.pc_accept.specs.Axioms.{Axiom, some_value, not_both, true_rule, parts, by_reads}
+use Rattle.pc_accept.specs.Axioms.{Axiom, axiom_some, axiom_one, axiom_rule, axiom_node, axiom_atom}
 use Rattle.pc_elaborate.specs.Elaboration.{IsCellNamed}
 use Rattle.pc_cert.specs.Written.{taken, WrittenPart, written_some}
 use Rattle.pc_cert.specs.Meaning.{IsPartNamed}
@@ -28,12 +28,12 @@ module _ (sheet : Sheet) where
   abbrev IsAxiom : WrittenPart → Axiom → Type 0
   IsAxiom p a = IsPartNamed sheet p (taken a)
 
-  of_some : (c : Cell) (a : Axiom) → IsAxiom (written_some c) a → (x : CellId) × (some_value x ≡ a) × IsCellNamed sheet.universe c x
-  of_some c (some_value x) q = (x, refl, q)
-  of_some c (not_both x v w) q = absurd q
-  of_some c (true_rule r) q = absurd q
-  of_some c (parts r s i) q = absurd q
-  of_some c (by_reads r s es) q = absurd q
+  of_some : (c : Cell) (a : Axiom) → IsAxiom (written_some c) a → (x : CellId) × (axiom_some x ≡ a) × IsCellNamed sheet.universe c x
+  of_some c (axiom_some x) q = (x, refl, q)
+  of_some c (axiom_one x v w) q = absurd q
+  of_some c (axiom_rule r) q = absurd q
+  of_some c (axiom_node r s i) q = absurd q
+  of_some c (axiom_atom r s es) q = absurd q
 
-  pub some_is : (c : Cell) (o : Option CellId) → ((x : CellId) → (o ≡ Some x) ↔ IsCellNamed sheet.universe c x) → (a : Axiom) → (option_map some_value o ≡ Some a) ↔ IsAxiom (written_some c) a
-  some_is c o exact = image some_value (IsCellNamed sheet.universe c) (IsAxiom (written_some c)) (λ x p. p) (of_some c) o exact
+  pub some_is : (c : Cell) (o : Option CellId) → ((x : CellId) → (o ≡ Some x) ↔ IsCellNamed sheet.universe c x) → (a : Axiom) → (option_map axiom_some o ≡ Some a) ↔ IsAxiom (written_some c) a
+  some_is c o exact = image axiom_some (IsCellNamed sheet.universe c) (IsAxiom (written_some c)) (λ x p. p) (of_some c) o exact

@@ -9,8 +9,8 @@ use Rattle.pc_sheet.specs.declared.ids.Entry.{Entry}
 use Rattle.pc_lits.specs.declared.literal.Lit.{Lit}
 use Rattle.pc_accept.specs.Literals.{Symbol, pair, node, Literal}
 use Rattle.pc_cert.specs.Keys.{IsNumberedAs}
-use Rattle.pc_cert.specs.Meaning.{IsPairNamed, IsSymbolNamed, IsLiteralNamed, AreNamed}
-use Rattle.pc_cert.specs.Numbered.{Grows, AreNumbered}
+use Rattle.pc_cert.specs.Meaning.{IsPairNamed, IsSymbolNamed, IsLiteralNamed, AreNamedEach}
+use Rattle.pc_cert.specs.Numbered.{StartsWith, AreNumbered}
 use Rattle.pc_cert.specs.Trees as tree
 use Rattle.pc_cert.specs.Views.{symbol_of, symbol_at, literal_of, place_of, AppearInOrder}
 use Rattle.pc_cert.specs.Written.{WrittenPair, written_pair, WrittenLiteral}
@@ -31,7 +31,7 @@ pair_is sheet p o exact = image pair_by (IsPairNamed sheet.universe p) (IsSymbol
 
 -- ---- one symbol
 
-grown : (old new : List Symbol) (x : Symbol) (n : ℕ) → IsNumberedAs old new x n → Grows old new
+grown : (old new : List Symbol) (x : Symbol) (n : ℕ) → IsNumberedAs old new x n → StartsWith old new
 grown old new x n is = elim is.kept [ inl h ↦ ([], h.1 ∙ sym (append-nil old)) | inr h ↦ (x ∷ [], h.1) ]
 
 longer : (old new : List Symbol) (x : Symbol) → new ≡ old ++ x ∷ [] → length new ≡ length old + 1
@@ -91,17 +91,17 @@ appear_most n (k ∷ ks) m is = elim is [
   | inr h ↦ let more = appear_most (n + 1) ks m h.1 in omega (arith, more)
 ]
 
-pub grows_on : (a b c : List Symbol) → Grows a b → Grows b c → Grows a c
+pub grows_on : (a b c : List Symbol) → StartsWith a b → StartsWith b c → StartsWith a c
 grows_on a b c g h = (g.0 ++ h.0, h.1 ∙ ap (λ xs. xs ++ h.0) g.1 ∙ append_assoc a g.0 h.0)
 
-pub literal_still : (b c : List Symbol) (l : Lit) → Grows b c → l.variable.0 < length b → literal_of b l ≡ literal_of c l
+pub literal_still : (b c : List Symbol) (l : Lit) → StartsWith b c → l.variable.0 < length b → literal_of b l ≡ literal_of c l
 literal_still b c l g within =
     let make : Symbol → Literal = λ x. record { what = x; sign = l.sign } in
     let here : symbol_at (b ++ g.0) l.variable.0 ≡ symbol_at b l.variable.0 = get_or_append_left b g.0 (node 0 []) l.variable.0 within in
     ap make (sym here ∙ ap (λ (xs : List Symbol). symbol_at xs l.variable.0) (sym g.1))
 
 -- symbols keep their numbers where more are added
-pub literals_still : (n : ℕ) (b c : List Symbol) (lits : List Lit) → Grows b c → AppearInOrder n (map place_of lits) (length b) → map (literal_of b) lits ≡ map (literal_of c) lits
+pub literals_still : (n : ℕ) (b c : List Symbol) (lits : List Lit) → StartsWith b c → AppearInOrder n (map place_of lits) (length b) → map (literal_of b) lits ≡ map (literal_of c) lits
 literals_still n b c [] g is = refl
 literals_still n b c (l ∷ ls) g is = elim is [
   | inl h ↦
@@ -120,8 +120,8 @@ module _ (sheet : Sheet) where
   more_numbered ws w a b c lits l first second = record {
     grows = grows_on a b c first.grows second.grows;
     named =
-        let before = subst (AreNamed (IsLiteralNamed sheet) ws) (literals_still (length a) b c lits second.grows first.appear) first.named in
-        subst (AreNamed (IsLiteralNamed sheet) (ws ++ w ∷ [])) (sym (map-append (literal_of c) lits (l ∷ [])))
+        let before = subst (AreNamedEach (IsLiteralNamed sheet) ws) (literals_still (length a) b c lits second.grows first.appear) first.named in
+        subst (AreNamedEach (IsLiteralNamed sheet) (ws ++ w ∷ [])) (sym (map-append (literal_of c) lits (l ∷ [])))
         (joined (IsLiteralNamed sheet) ws w (map (literal_of c) lits) (literal_of c l) before second.named.0);
     appear = subst (λ ks. AppearInOrder (length a) ks (length c)) (sym (map-append place_of lits (l ∷ [])))
         (appear_on (length a) (map place_of lits) (length b) (place_of l ∷ []) (length c) first.appear second.appear);
@@ -135,7 +135,7 @@ module _ (sheet : Sheet) where
         (subst (λ ws. AreNumbered sheet ws a c (lits ++ l ∷ [])) (sym (front (IsLiteralNamed sheet) tree.literal_of ts i t inside is))
         (more_numbered (map tree.literal_of (take i ts)) (tree.literal_of t) a b c lits l first second))
 
-    pub literal_none : (t : LiteralTree) → i < length ts → t ≡ get_or ts i t → ((l : Literal) → IsLiteralNamed sheet (tree.literal_of t) l → ⊥) → (ls : List Literal) → AreNamed (IsLiteralNamed sheet) (map tree.literal_of ts) ls → ⊥
+    pub literal_none : (t : LiteralTree) → i < length ts → t ≡ get_or ts i t → ((l : Literal) → IsLiteralNamed sheet (tree.literal_of t) l → ⊥) → (ls : List Literal) → AreNamedEach (IsLiteralNamed sheet) (map tree.literal_of ts) ls → ⊥
     literal_none t inside is never = fails (IsLiteralNamed sheet) tree.literal_of ts i t inside is never
 
     pub literals_all : (a b : List Symbol) (lits : List Lit) → length ts ≤ i → AreNumbered sheet (map tree.literal_of (take i ts)) a b lits → AreNumbered sheet (map tree.literal_of ts) a b lits

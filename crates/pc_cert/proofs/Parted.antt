@@ -3,11 +3,11 @@ use Rattle.std.proofs.Common.{◌≡◌, ◌≢◌, ℕ, List, [], ◌∷◌, �
 use Rattle.std.specs.List.{AllByRecursion}
 use Rattle.pc_formula.specs.Tree.{Cell, Value}
 use Rattle.pc_cert.specs.Written.{WrittenPair, WrittenPath, WrittenLiteral, WrittenPart, written_some, written_one, written_rule, written_node_clause, written_atom, written_step}
-use Rattle.pc_cert.specs.Line.{IsSomeForm, IsOneForm, IsNodeForm, IsAtomForm, IsStep, IsPartOf}
+use Rattle.pc_cert.specs.Line.{IsSomeForm, IsOneForm, IsNodeForm, IsAtomForm, IsStep, IsPartStarting}
 use Rattle.pc_cert.specs.Trees.{seen}
 use Rattle.pc_cert.proofs.Words.{differ, heads, tails}
 
-pub only_some : (texts : List (List ℕ)) → ((c : Cell) → IsSomeForm texts c → ⊥) → (part : WrittenPart) → IsPartOf (codes "some") texts part → ⊥
+pub only_some : (texts : List (List ℕ)) → ((c : Cell) → IsSomeForm texts c → ⊥) → (part : WrittenPart) → IsPartStarting (codes "some") texts part → ⊥
 only_some texts none (written_some c) is = none c is.1
 only_some texts none (written_one c v w) is = differ (codes "one") (codes "some") refl is.0
 only_some texts none (written_rule n) is = differ (codes "rule") (codes "some") refl is.0
@@ -15,7 +15,7 @@ only_some texts none (written_node_clause p i) is = differ (codes "node") (codes
 only_some texts none (written_atom p reads) is = differ (codes "atom") (codes "some") refl is.0
 only_some texts none (written_step ls hints) is = differ (codes "step") (codes "some") refl is.0
 
-pub only_one : (texts : List (List ℕ)) → ((c : Cell) (v w : Value) → IsOneForm texts c v w → ⊥) → (part : WrittenPart) → IsPartOf (codes "one") texts part → ⊥
+pub only_one : (texts : List (List ℕ)) → ((c : Cell) (v w : Value) → IsOneForm texts c v w → ⊥) → (part : WrittenPart) → IsPartStarting (codes "one") texts part → ⊥
 only_one texts none (written_some c) is = differ (codes "some") (codes "one") refl is.0
 only_one texts none (written_one c v w) is = none c v w is.1
 only_one texts none (written_rule n) is = differ (codes "rule") (codes "one") refl is.0
@@ -23,7 +23,7 @@ only_one texts none (written_node_clause p i) is = differ (codes "node") (codes 
 only_one texts none (written_atom p reads) is = differ (codes "atom") (codes "one") refl is.0
 only_one texts none (written_step ls hints) is = differ (codes "step") (codes "one") refl is.0
 
-pub only_node : (texts : List (List ℕ)) → ((p : WrittenPath) (i : ℕ) → IsNodeForm texts p i → ⊥) → (part : WrittenPart) → IsPartOf (codes "node") texts part → ⊥
+pub only_node : (texts : List (List ℕ)) → ((p : WrittenPath) (i : ℕ) → IsNodeForm texts p i → ⊥) → (part : WrittenPart) → IsPartStarting (codes "node") texts part → ⊥
 only_node texts none (written_some c) is = differ (codes "some") (codes "node") refl is.0
 only_node texts none (written_one c v w) is = differ (codes "one") (codes "node") refl is.0
 only_node texts none (written_rule n) is = differ (codes "rule") (codes "node") refl is.0
@@ -31,7 +31,7 @@ only_node texts none (written_node_clause p i) is = none p i is.1
 only_node texts none (written_atom p reads) is = differ (codes "atom") (codes "node") refl is.0
 only_node texts none (written_step ls hints) is = differ (codes "step") (codes "node") refl is.0
 
-pub only_atom : (texts : List (List ℕ)) → ((p : WrittenPath) (reads : List WrittenPair) → IsAtomForm texts p reads → ⊥) → (part : WrittenPart) → IsPartOf (codes "atom") texts part → ⊥
+pub only_atom : (texts : List (List ℕ)) → ((p : WrittenPath) (reads : List WrittenPair) → IsAtomForm texts p reads → ⊥) → (part : WrittenPart) → IsPartStarting (codes "atom") texts part → ⊥
 only_atom texts none (written_some c) is = differ (codes "some") (codes "atom") refl is.0
 only_atom texts none (written_one c v w) is = differ (codes "one") (codes "atom") refl is.0
 only_atom texts none (written_rule n) is = differ (codes "rule") (codes "atom") refl is.0
@@ -39,7 +39,7 @@ only_atom texts none (written_node_clause p i) is = differ (codes "node") (codes
 only_atom texts none (written_atom p reads) is = none p reads is.1
 only_atom texts none (written_step ls hints) is = differ (codes "step") (codes "atom") refl is.0
 
-pub only_step : (texts : List (List ℕ)) → ((ls : List WrittenLiteral) (hints : List ℕ) → IsStep texts ls hints → ⊥) → (part : WrittenPart) → IsPartOf (codes "step") texts part → ⊥
+pub only_step : (texts : List (List ℕ)) → ((ls : List WrittenLiteral) (hints : List ℕ) → IsStep texts ls hints → ⊥) → (part : WrittenPart) → IsPartStarting (codes "step") texts part → ⊥
 only_step texts none (written_some c) is = differ (codes "some") (codes "step") refl is.0
 only_step texts none (written_one c v w) is = differ (codes "one") (codes "step") refl is.0
 only_step texts none (written_rule n) is = differ (codes "rule") (codes "step") refl is.0

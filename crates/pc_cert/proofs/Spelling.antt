@@ -3,7 +3,7 @@ use Rattle.std.proofs.Common.{◌≡◌, ℕ, List, Result, Ok, Err, IfOk, sym, 
 use Rattle.pc_token.specs.Token.{split}
 use Rattle.pc_token.proofs.Once.{one_reading}
 use Rattle.pc_formula.specs.Word.{Word, words_of, HasWords}
-use Rattle.pc_cert.specs.Texts.{Spells, SpellsThis}
+use Rattle.pc_cert.specs.Texts.{SpellsWords, SpellsThis}
 
 -- a text splits into one list of words
 pub one_words : (text : List ℕ) (ws vs : List Word) → HasWords text ws → HasWords text vs → ws ≡ vs
@@ -17,9 +17,9 @@ if_ok_more (Ok a) P Q more is = more a is
 if_ok_more (Err e) P Q more is = tt
 
 -- a text that spells words is what they are, and nothing else
-module _ {A : Type 0} (Is : List Word → A → Type 0) (text : List ℕ) (ws vs : List Word) (spells : Spells text ws) (same : vs ≡ ws) where
+module _ {A : Type 0} (Is : List Word → A → Type 0) (text : List ℕ) (ws vs : List Word) (spells : SpellsWords text ws) (same : vs ≡ ws) where
   pub spells_this : {B E : Type 0} (view : B → A) (r : Result B E) → IfOk r (λ b. Is vs (view b)) → IfOk r (λ b. SpellsThis Is text (view b))
-  spells_this view r told = if_ok_more r _ _ (λ b is. record { words = vs; spells = subst (Spells text) (sym same) spells; is = is }) told
+  spells_this view r told = if_ok_more r _ _ (λ b is. record { words = vs; spells = subst (SpellsWords text) (sym same) spells; is = is }) told
 
   pub spells_nothing : ((a : A) → Is vs a → ⊥) → (a : A) → SpellsThis Is text a → ⊥
   spells_nothing none a s = none a (subst (λ us. Is us a) (one_words text s.words ws s.spells.has spells.has ∙ sym same) s.is)

@@ -7,13 +7,13 @@ use Rattle.std.proofs.lemmas.List.{map-append, append-nil}
 use Rattle.std.proofs.lemmas.Slice.Eq.{bytes_eq-Decides}
 use Rattle.pc_sheet.specs.Sheet.{Sheet}
 use Rattle.pc_cert.specs.Written.{nothing, heading, claims, claims_inconsistent, uses, assigns, derives, ends, WrittenLine, SaidLine}
-use Rattle.pc_cert.specs.Line.{IsForm, IsLine}
+use Rattle.pc_cert.specs.Line.{IsCertificateForm, IsCertificateLine}
 use Rattle.pc_cert.specs.Texts.{texts_of}
-use Rattle.pc_cert.specs.Meaning.{IsLineNamed}
+use Rattle.pc_cert.specs.Meaning.{IsSaidLine}
 use Rattle.pc_cert.specs.Order.{LineKind, empty_line, heading_line, target_line, use_line, value_line, numbered_line, end_line, kind_of, may_stand}
 use Rattle.pc_cert.specs.Standing.{order_of}
-use Rattle.pc_cert.specs.Text.{Says, AllSay, IsAtFault, formless, nameless, syntax, unknown_name, IsTextReading, fault_at, faulty}
-use Rattle.pc_cert.specs.Gathered.{Adds}
+use Rattle.pc_cert.specs.Text.{SaysOfSheet, AllSay, IsCertificateAtFault, formless, nameless, syntax, unknown_name, IsTextReading, fault_at, faulty}
+use Rattle.pc_cert.specs.Gathered.{AddsLine}
 use Rattle.pc_cert.specs.inside.Taken.{IsLineFault, IsFormless, IsTaken, AreTaken}
 use Rattle.pc_cert.specs.Views.{IsCertTold}
 use Rattle.pc_cert.specs.declared.draft.Draft.{Draft}
@@ -21,7 +21,7 @@ use Rattle.pc_cert.specs.declared.order.Order.{Order}
 use Rattle.pc_cert.specs.declared.cert.CertFault.{CertFault}
 use Rattle.pc_cert.specs.declared.cert.CertFault.TheVariants as cert_fault
 
-pub same_kind : (sheet : Sheet) (f : WrittenLine) (l : SaidLine) → IsLineNamed sheet f l → kind_of l ≡ kind_of f
+pub same_kind : (sheet : Sheet) (f : WrittenLine) (l : SaidLine) → IsSaidLine sheet f l → kind_of l ≡ kind_of f
 same_kind sheet nothing nothing is = refl
 same_kind sheet nothing heading is = absurd is
 same_kind sheet nothing (claims e c) is = absurd is
@@ -111,7 +111,7 @@ numeral_kind t ts is =
     choose _ _ _ _ _ (numbered_line (digits_value 10 t)) (no_word t (codes "certificate") is (λ n. omega (arith, n.1.0))) (no_word t (codes "claim") is (λ n. omega (arith, n.1.0)))
     (no_word t (codes "use") is (λ n. omega (arith, n.1.0))) (no_word t (codes "value") is (λ n. omega (arith, n.1.0))) (no_word t (codes "end") is (λ n. omega (arith, n.1.0)))
 
-by_start : (before : List LineKind) (line : List ℕ) (texts : List (List ℕ)) (f : WrittenLine) → IsForm line texts f → may_stand before (kind_of f) ≡ may_stand before (start_kind texts)
+by_start : (before : List LineKind) (line : List ℕ) (texts : List (List ℕ)) (f : WrittenLine) → IsCertificateForm line texts f → may_stand before (kind_of f) ≡ may_stand before (start_kind texts)
 by_start before line texts nothing is = ap (λ ts. may_stand before (start_kind ts)) (sym is)
 by_start before line texts heading is = ap (λ ts. may_stand before (start_kind ts)) (sym is.are)
 by_start before line texts (claims p b) is = ap (λ ts. may_stand before (start_kind ts)) (sym is.0.is)
@@ -127,20 +127,20 @@ false_true b e f = cc
 
 -- ---- one line
 
-module _ (sheet : Sheet) (ls : List SaidLine) (line : List ℕ) (f : WrittenLine) (is : IsLine line f) where
+module _ (sheet : Sheet) (ls : List SaidLine) (line : List ℕ) (f : WrittenLine) (is : IsCertificateLine line f) where
   abbrev before : List LineKind
   before = map kind_of ls
 
-  pub misplaced : (b : Bool) → b ≡ may_stand before (kind_of f) → b ≡ false → IsAtFault sheet before line syntax
+  pub misplaced : (b : Bool) → b ≡ may_stand before (kind_of f) → b ≡ false → IsCertificateAtFault sheet before line syntax
   misplaced b same stays = formless (λ g line_g may.
       false_true (may_stand before (kind_of g)) (by_start before line (texts_of line) g line_g ∙ sym (by_start before line (texts_of line) f is) ∙ sym same ∙ stays) may)
 
-  pub unnamed : (A : Type 0) (b : Bool) → may_stand before (kind_of f) ≡ true → b ≡ false → MatchBool b A ((l : SaidLine) → IsLineNamed sheet f l → ⊥) → IsAtFault sheet before line unknown_name
-  unnamed A b may stays told = nameless f is may (subst (λ c. MatchBool c A ((l : SaidLine) → IsLineNamed sheet f l → ⊥)) stays told)
+  pub unnamed : (A : Type 0) (b : Bool) → may_stand before (kind_of f) ≡ true → b ≡ false → MatchBool b A ((l : SaidLine) → IsSaidLine sheet f l → ⊥) → IsCertificateAtFault sheet before line unknown_name
+  unnamed A b may stays told = nameless f is may (subst (λ c. MatchBool c A ((l : SaidLine) → IsSaidLine sheet f l → ⊥)) stays told)
 
-  pub taken_line : (d : Draft) (o : Order) (N : Type 0) (b : Bool) → may_stand before (kind_of f) ≡ true → b ≡ true → MatchBool b (Adds sheet f ls d) N → o ≡ order_of (before ++ kind_of f ∷ []) → IsTaken sheet ls line o d
+  pub taken_line : (d : Draft) (o : Order) (N : Type 0) (b : Bool) → may_stand before (kind_of f) ≡ true → b ≡ true → MatchBool b (AddsLine sheet f ls d) N → o ≡ order_of (before ++ kind_of f ∷ []) → IsTaken sheet ls line o d
   taken_line d o N b may goes told order =
-      let adds = subst (λ c. MatchBool c (Adds sheet f ls d) N) goes told in
+      let adds = subst (λ c. MatchBool c (AddsLine sheet f ls d) N) goes told in
       record {
         says = adds.line;
         is = record { form = f; is = is; may = may; named = adds.named };
@@ -156,12 +156,12 @@ no_form sheet kinds line number cert_fault.Memory is = tt
 -- ---- many lines
 
 module _ (sheet : Sheet) where
-  all_on : (before : List LineKind) (done : List (List ℕ)) (ls : List SaidLine) (line : List ℕ) (l : SaidLine) → AllSay sheet before done ls → Says sheet (before ++ map kind_of ls) line l → AllSay sheet before (done ++ line ∷ []) (ls ++ l ∷ [])
-  all_on kinds [] [] line l all is = (subst (λ ks. Says sheet ks line l) (append-nil kinds) is, tt)
+  all_on : (before : List LineKind) (done : List (List ℕ)) (ls : List SaidLine) (line : List ℕ) (l : SaidLine) → AllSay sheet before done ls → SaysOfSheet sheet (before ++ map kind_of ls) line l → AllSay sheet before (done ++ line ∷ []) (ls ++ l ∷ [])
+  all_on kinds [] [] line l all is = (subst (λ ks. SaysOfSheet sheet ks line l) (append-nil kinds) is, tt)
   all_on kinds [] (m ∷ ls) line l all is = absurd all
   all_on kinds (d ∷ done) [] line l all is = absurd all
   all_on kinds (d ∷ done) (m ∷ ls) line l all is =
-      (all.0, all_on (kinds ++ kind_of m ∷ []) done ls line l all.1 (subst (λ ks. Says sheet ks line l) (sym (append_assoc kinds (kind_of m ∷ []) (map kind_of ls))) is))
+      (all.0, all_on (kinds ++ kind_of m ∷ []) done ls line l all.1 (subst (λ ks. SaysOfSheet sheet ks line l) (sym (append_assoc kinds (kind_of m ∷ []) (map kind_of ls))) is))
 
   pub same_count : (before : List LineKind) (done : List (List ℕ)) (ls : List SaidLine) → AllSay sheet before done ls → length done ≡ length ls
   same_count kinds [] [] all = refl

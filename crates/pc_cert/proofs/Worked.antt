@@ -1,11 +1,10 @@
 -- The examples of lines.
-use Rattle.std.proofs.Common.{rules, refl, sym, subst, ◌≡◌, ℕ, List, [], ◌∷◌, ◌++◌, codes}
+use Rattle.std.proofs.Common.{rules, refl, sym, subst, ◌≡◌, ℕ, List, [], ◌∷◌, ◌++◌, codes, inl, inr, ⊎_elim, arith}
 use Rattle.std.specs.Str.Parse.{digits_value}
-use Rattle.std.proofs.Common.{inl, inr, ⊎_elim, arith}
 use Rattle.pc_cert.specs.Views.{AppearInOrder}
 use Rattle.pc_cert.specs.Examples.{LineExamples, ViewExamples}
 use Rattle.pc_cert.specs.Texts.{IsNumberText}
-use Rattle.pc_cert.specs.Line.{IsDerivation, IsPart, IsStep}
+use Rattle.pc_cert.specs.Line.{IsDerivationForm, IsPartForm, IsStep}
 use Rattle.pc_cert.specs.Written.{WrittenPart, WrittenLiteral, written_some, written_one, written_rule, written_node_clause, written_atom, written_step}
 use Rattle.pc_cert.proofs.Words.{starts_otherwise, tails}
 
@@ -28,7 +27,7 @@ only_one number e v =
     let value : 1 ≡ digits_value 10 (codes "2") = subst (λ x. 1 ≡ digits_value 10 x) second is in
     cc
 
-nothing_written : (p : WrittenPart) → IsPart [] p → ⊥
+nothing_written : (p : WrittenPart) → IsPartForm [] p → ⊥
 nothing_written p h = absurd (cc (h.are))
 
 no_parts : (xs ys : List (List ℕ)) → [] ≡ xs ++ codes ":" ∷ ys → ⊥
@@ -38,7 +37,7 @@ no_parts (x ∷ xs) ys e = absurd (cc)
 no_step : (ls : List WrittenLiteral) (hints : List ℕ) → IsStep [] ls hints → ⊥
 no_step ls hints h = no_parts h.literals h.hints h.parted
 
-no_colon_written : (p : WrittenPart) → IsPart (codes "step" ∷ []) p → ⊥
+no_colon_written : (p : WrittenPart) → IsPartForm (codes "step" ∷ []) p → ⊥
 no_colon_written (written_step ls hints) h = let none = sym (tails (codes "step") (codes "step") [] h.more h.are) in no_step ls hints (subst (λ x. IsStep x ls hints) none h.follows)
 no_colon_written (written_some c) h = starts_otherwise (codes "step") (codes "some") _ _ refl h.are
 no_colon_written (written_one c v w) h = starts_otherwise (codes "step") (codes "one") _ _ refl h.are
@@ -46,11 +45,11 @@ no_colon_written (written_rule n) h = starts_otherwise (codes "step") (codes "ru
 no_colon_written (written_node_clause p i) h = starts_otherwise (codes "step") (codes "node") _ _ refl h.are
 no_colon_written (written_atom p reads) h = starts_otherwise (codes "step") (codes "atom") _ _ refl h.are
 
-alone : (p : WrittenPart) → IsDerivation (codes "1" ∷ []) 1 p → ⊥
-alone p h = let none = sym (tails (codes "1") h.number [] h.more h.are) in nothing_written p (subst (λ x. IsPart x p) none h.is)
+alone : (p : WrittenPart) → IsDerivationForm (codes "1" ∷ []) 1 p → ⊥
+alone p h = let none = sym (tails (codes "1") h.number [] h.more h.are) in nothing_written p (subst (λ x. IsPartForm x p) none h.is)
 
-before_step : (p : WrittenPart) → IsDerivation (codes "1" ∷ codes "step" ∷ []) 1 p → ⊥
-before_step p h = let none = sym (tails (codes "1") h.number (codes "step" ∷ []) h.more h.are) in no_colon_written p (subst (λ x. IsPart x p) none h.is)
+before_step : (p : WrittenPart) → IsDerivationForm (codes "1" ∷ codes "step" ∷ []) 1 p → ⊥
+before_step p h = let none = sym (tails (codes "1") h.number (codes "step" ∷ []) h.more h.are) in no_colon_written p (subst (λ x. IsPartForm x p) none h.is)
 
 pub line_examples : LineExamples
 line_examples = record {

@@ -1,15 +1,14 @@
 -- Examples of the definitions.
-use Rattle.std.specs.Prelude.{◌≡◌, Bool, true, false, List, [], ◌∷◌, ◌++◌, codes}
+use Rattle.std.specs.Prelude.{◌≡◌, Bool, true, false, List, [], ◌∷◌, ◌++◌, codes, ℕ, Err}
 use Rattle.std.specs.Str.Lines.{lines}
 use Rattle.pc_cert.specs.Texts.{texts_of, pieces_of, is_negated, without_negation, is_path}
 use Rattle.pc_cert.specs.Order.{LineKind, empty_line, heading_line, target_line, inconsistent_line, use_line, value_line, numbered_line, end_line, all_may_stand}
-use Rattle.pc_cert.specs.Line.{IsLine}
+use Rattle.pc_cert.specs.Line.{IsCertificateLine}
 use Rattle.pc_cert.specs.Written.{nothing, heading, claims_inconsistent, derives, ends, WrittenPart, written_step}
 use Rattle.pc_cert.specs.Text.{place_meant}
 use Rattle.pc_cert.specs.Views.{AppearInOrder, IsCertTold}
 use Rattle.pc_cert.specs.declared.cert.CertFault.TheVariants.{Memory}
 use Rattle.pc_sheet.specs.Sheet.{Sheet}
-use Rattle.std.specs.Prelude.{ℕ, Err}
 
 -- a claim on a target, what is used, an assignment, and a derivation of two lines
 abbrev pub in_order : List LineKind
@@ -48,20 +47,20 @@ pub record TextExamples : Type 0 where
   pub nothing_meant : place_meant 3 0 ≡ 3
 
 pub record LineExamples : Type 0 where
-  pub empty : IsLine (codes " ") nothing
-  pub first : IsLine (codes "certificate 1") heading
-  pub by_value : IsLine (codes "certificate 01") heading
-  pub second_version : ¬ IsLine (codes "certificate 2") heading
-  pub none_holds : IsLine (codes "claim inconsistent") claims_inconsistent
-  pub last : IsLine (codes "end ") ends
-  pub not_last : ¬ IsLine (codes "end 1") ends
+  pub empty : IsCertificateLine (codes " ") nothing
+  pub first : IsCertificateLine (codes "certificate 1") heading
+  pub by_value : IsCertificateLine (codes "certificate 01") heading
+  pub second_version : ¬ IsCertificateLine (codes "certificate 2") heading
+  pub none_holds : IsCertificateLine (codes "claim inconsistent") claims_inconsistent
+  pub last : IsCertificateLine (codes "end ") ends
+  pub not_last : ¬ IsCertificateLine (codes "end 1") ends
   -- an empty clause that is derived from the first line
-  pub empty_step : IsLine (codes "2 step : 1") (derives 2 (written_step [] (1 ∷ [])))
+  pub empty_step : IsCertificateLine (codes "2 step : 1") (derives 2 (written_step [] (1 ∷ [])))
   -- a hint 0 is written, though it means no line
-  pub zero_hint : IsLine (codes "2 step : 0") (derives 2 (written_step [] (0 ∷ [])))
-  pub no_hints : IsLine (codes "1 step :") (derives 1 (written_step [] []))
-  pub no_colon : (ls : WrittenPart) → ¬ IsLine (codes "1 step") (derives 1 ls)
-  pub no_word : (p : WrittenPart) → ¬ IsLine (codes "1") (derives 1 p)
+  pub zero_hint : IsCertificateLine (codes "2 step : 0") (derives 2 (written_step [] (0 ∷ [])))
+  pub no_hints : IsCertificateLine (codes "1 step :") (derives 1 (written_step [] []))
+  pub no_colon : (ls : WrittenPart) → ¬ IsCertificateLine (codes "1 step") (derives 1 ls)
+  pub no_word : (p : WrittenPart) → ¬ IsCertificateLine (codes "1") (derives 1 p)
 
 pub record ViewExamples : Type 0 where
   -- three symbols, of which the first appears again

@@ -4,10 +4,10 @@ use Rattle.std.specs.Option.{option_map}
 use Rattle.pc_sheet.specs.Sheet.{Sheet, Universe}
 use Rattle.pc_sheet.specs.declared.ids.Entry.{Entry}
 use Rattle.pc_cert.specs.Written.{WrittenPair, WrittenLine, SaidLine}
-use Rattle.pc_cert.specs.Meaning.{IsPairNamed, IsLineNamed}
+use Rattle.pc_cert.specs.Meaning.{IsPairNamed, IsSaidLine}
 use Rattle.pc_cert.specs.Text.{claim_in, uses_from, values_from, after_from, parts_from}
 use Rattle.pc_cert.specs.Views.{claim_of, said_of, numbered_part_of, places_of, AppearInOrder}
-use Rattle.pc_cert.specs.Numbered.{IsKept}
+use Rattle.pc_cert.specs.Numbered.{AreSymbolNumbers}
 use Rattle.pc_cert.specs.declared.cert.Said.{Said}
 use Rattle.pc_cert.specs.declared.draft.Draft.{Draft}
 
@@ -18,7 +18,7 @@ pub record IsGathered (ls : List SaidLine) (d : Draft) : Type 0 where
   pub after : d.after ≡ after_from 1 0 ls
   pub parts : map (numbered_part_of d.table.names) d.lines.items ≡ parts_from 1 ls
   pub appear : AppearInOrder 0 (places_of d.lines.items) (length d.table.names)
-  pub kept : IsKept d.table
+  pub kept : AreSymbolNumbers d.table
 
 -- an entry more was said, by the line of this number, which names it so
 pub record IsSaidNext (u : Universe) (p : WrittenPair) (number : ℕ) (old new : List Said) : Type 0 where
@@ -27,7 +27,7 @@ pub record IsSaidNext (u : Universe) (p : WrittenPair) (number : ℕ) (old new :
   pub pushed : new ≡ old ++ (record { line = number; entry = entry }) ∷ []
 
 -- a line more, which says this of the sheet
-pub record Adds (sheet : Sheet) (form : WrittenLine) (ls : List SaidLine) (d : Draft) : Type 0 where
+pub record AddsLine (sheet : Sheet) (form : WrittenLine) (ls : List SaidLine) (d : Draft) : Type 0 where
   pub line : SaidLine
-  pub named : IsLineNamed sheet form line
+  pub named : IsSaidLine sheet form line
   pub gathered : IsGathered (ls ++ line ∷ []) d

@@ -12,8 +12,8 @@ use Rattle.pc_cert.specs.declared.cert.Cert.{Cert}
 use Rattle.pc_cert.specs.declared.cert.CertPart.{CertPart}
 use Rattle.pc_cert.specs.declared.cert.CertPart.TheVariants.{Axiom, Step}
 use Rattle.pc_cert.specs.declared.cert.Said.{Said}
-use Rattle.pc_cert.specs.Text.{Reading}
-use Rattle.pc_cert.specs.Views.{symbols_of, reading_of, AreDistinct}
+use Rattle.pc_cert.specs.Text.{CertificateReading}
+use Rattle.pc_cert.specs.Views.{symbols_of, reading_of, AreSymbolsDistinct}
 
 abbrev pub IsSaidOf : Sheet → Said → Type 0
 IsSaidOf sheet s = IsEntryOf sheet.universe s.entry
@@ -23,20 +23,20 @@ abbrev pub IsNamedIn : List Symbol → Lit → Type 0
 IsNamedIn names l = l.variable.0 < length names
 
 -- the axiom speaks of cells and values of the sheet
-abbrev pub IsOver : Sheet → AxiomName → Type 0
-IsOver sheet (Any c) = c.0 < length (cell_sizes sheet.universe)
-IsOver sheet (One c v w) = IsEntryOf sheet.universe (record { cell = c; value = v }) × IsEntryOf sheet.universe (record { cell = c; value = w })
-IsOver sheet (Rule r) = Unit {0}
-IsOver sheet (Node p i) = Unit {0}
-IsOver sheet (Atom p reads) = All (IsEntryOf sheet.universe) reads.items
+abbrev pub IsOverSheet : Sheet → AxiomName → Type 0
+IsOverSheet sheet (Any c) = c.0 < length (cell_sizes sheet.universe)
+IsOverSheet sheet (One c v w) = IsEntryOf sheet.universe (record { cell = c; value = v }) × IsEntryOf sheet.universe (record { cell = c; value = w })
+IsOverSheet sheet (Rule r) = Unit {0}
+IsOverSheet sheet (Node p i) = Unit {0}
+IsOverSheet sheet (Atom p reads) = All (IsEntryOf sheet.universe) reads.items
 
 -- an axiom over the sheet, or a step whose literals are of these symbols
 abbrev pub IsPartOver : Sheet → List Symbol → CertPart → Type 0
-IsPartOver sheet symbols (Axiom a) = IsOver sheet a
+IsPartOver sheet symbols (Axiom a) = IsOverSheet sheet a
 IsPartOver sheet symbols (Step clause hints) = All (IsNamedIn symbols) clause.items
 
 -- with a claim of inconsistency there are neither used entries nor values
-abbrev pub IsBare : Reading → accepts.Claim → Type 0
+abbrev pub IsBare : CertificateReading → accepts.Claim → Type 0
 IsBare r (accepts.implied t) = Unit {0}
 IsBare r accepts.inconsistent = (r.uses ≡ []) × (r.values ≡ [])
 
@@ -45,6 +45,6 @@ IsBare r accepts.inconsistent = (r.uses ≡ []) × (r.values ≡ [])
 pub record IsReadFor (sheet : Sheet) (c : Cert) : Type 0 where
   pub uses : All (IsSaidOf sheet) c.uses.items
   pub values : All (IsSaidOf sheet) c.values.items
-  pub distinct : AreDistinct (symbols_of c)
+  pub distinct : AreSymbolsDistinct (symbols_of c)
   pub parts : All (λ l. IsPartOver sheet (symbols_of c) l.part) c.lines.items
   pub bare : IsBare (reading_of c) (reading_of c).claim

@@ -6,8 +6,8 @@ use Rattle.pc_lits.specs.declared.literal.Lit.{Lit}
 use Rattle.pc_accept.specs.Literals as plain
 use Rattle.pc_accept.specs.Accepts as accepts
 use Rattle.pc_names.specs.Views.{axiom_of}
-use Rattle.pc_cert.specs.Written.{Part, taken, derived}
-use Rattle.pc_cert.specs.Text.{Reading, certificate, fault_at, syntax, unknown_name, IsTextReading}
+use Rattle.pc_cert.specs.Written.{CertificatePart, taken, derived}
+use Rattle.pc_cert.specs.Text.{CertificateReading, certificate, fault_at, syntax, unknown_name, IsTextReading}
 use Rattle.pc_cert.specs.declared.cert.Claim.{Claim}
 use Rattle.pc_cert.specs.declared.cert.Claim.TheVariants.{Implied, Inconsistent}
 use Rattle.pc_cert.specs.declared.cert.Said.{Said}
@@ -40,17 +40,17 @@ symbol_at symbols k = slice_index_or symbols k (plain.node 0 [])
 abbrev pub literal_of : List plain.Symbol → Lit → plain.Literal
 literal_of symbols l = record { what = symbol_at symbols l.variable.0; sign = l.sign }
 
-abbrev pub part_of : List plain.Symbol → CertPart → Part
+abbrev pub part_of : List plain.Symbol → CertPart → CertificatePart
 part_of symbols (Axiom a) = taken (axiom_of a)
 part_of symbols (Step clause hints) = derived (map (literal_of symbols) clause.items) hints.items
 
-abbrev pub numbered_part_of : List plain.Symbol → CertLine → ℕ × Part
+abbrev pub numbered_part_of : List plain.Symbol → CertLine → ℕ × CertificatePart
 numbered_part_of symbols l = (l.line, part_of symbols l.part)
 
 abbrev pub symbols_of : Cert → List plain.Symbol
 symbols_of c = map symbol_of c.symbols.items
 
-abbrev pub reading_of : Cert → Reading
+abbrev pub reading_of : Cert → CertificateReading
 reading_of c = record { claim = claim_of c.claim; uses = map said_of c.uses.items; values = map said_of c.values.items; after = c.after; parts = map (numbered_part_of (symbols_of c)) c.lines.items }
 
 -- ---- how symbols are numbered
@@ -72,19 +72,19 @@ abbrev pub AppearInOrder : ℕ → List ℕ → ℕ → Type 0
 AppearInOrder n [] all = n ≡ all
 AppearInOrder n (k ∷ ks) all = ((k < n) × AppearInOrder n ks all) ⊎ ((k ≡ n) × AppearInOrder (n + 1) ks all)
 
-abbrev pub AreDistinct : List plain.Symbol → Type 0
-AreDistinct symbols = (i j : ℕ) → i < j → j < length symbols → symbol_at symbols i ≢ symbol_at symbols j
+abbrev pub AreSymbolsDistinct : List plain.Symbol → Type 0
+AreSymbolsDistinct symbols = (i j : ℕ) → i < j → j < length symbols → symbol_at symbols i ≢ symbol_at symbols j
 
 -- the symbols are all different, and are those of the clauses in the order in which they first appear
-pub record IsNumbered (symbols : List plain.Symbol) (places : List ℕ) : Type 0 where
-  pub different : AreDistinct symbols
+pub record AreInFirstOrder (symbols : List plain.Symbol) (places : List ℕ) : Type 0 where
+  pub different : AreSymbolsDistinct symbols
   pub appear : AppearInOrder 0 places (length symbols)
 
 -- ---- what the reading of a text tells
 
 -- the text is read as what is answered, unless memory ran out
 abbrev pub IsCertTold : Sheet → List ℕ → Result Cert CertFault → Type 0
-IsCertTold sheet text (Ok c) = IsTextReading sheet text (certificate (reading_of c)) × IsNumbered (symbols_of c) (places_of c.lines.items)
+IsCertTold sheet text (Ok c) = IsTextReading sheet text (certificate (reading_of c)) × AreInFirstOrder (symbols_of c) (places_of c.lines.items)
 IsCertTold sheet text (Err (cert_fault.Syntax n)) = IsTextReading sheet text (fault_at n syntax)
 IsCertTold sheet text (Err (cert_fault.UnknownName n)) = IsTextReading sheet text (fault_at n unknown_name)
 IsCertTold sheet text (Err cert_fault.Memory) = Unit {0}

@@ -2,9 +2,9 @@
 ghost use Rattle.std.specs.Prelude.{◌≡◌, ℕ, List, map, IfOk, MatchOption};
 ghost use Rattle.pc_accept.specs.Literals.{Literal};
 ghost use Rattle.pc_cert.specs.Meaning.{IsPartNamed};
-ghost use Rattle.pc_cert.specs.Numbered.{IsKept, IsPartTaken};
+ghost use Rattle.pc_cert.specs.Numbered.{AreSymbolNumbers, IsPartTaken};
 ghost use Rattle.pc_cert.specs.Trees.{literal_of, part_of};
-ghost use Rattle.pc_cert.specs.Written.{Part, derived, written_step};
+ghost use Rattle.pc_cert.specs.Written.{CertificatePart, derived, written_step};
 
 use crate::axiom::named_axiom;
 use crate::cert::CertPart;
@@ -21,7 +21,7 @@ fn hinted_clause(
     hints: &[u64],
     table: &mut Table,
 ) -> Result<Option<CertPart>, AllocError>
-    ensures kept { IfOk result (λ o. IsKept table.old → IsKept table.new) }
+    ensures kept { IfOk result (λ o. AreSymbolNumbers table.old → AreSymbolNumbers table.new) }
     ensures told { IfOk result (λ o. MatchOption o ((ls : List Literal) (ns : List ℕ) → IsPartNamed book.now (written_step (map literal_of clause.now) hints.now) (derived ls ns) → ⊥) (IsPartTaken book.now (written_step (map literal_of clause.now) hints.now) table.old.names table.new.names)) }
 {
     let Some(clause) = number_literals(alloc, book, clause, table)? else {
@@ -38,7 +38,7 @@ fn named_step(
     part: &PartTree,
     table: &mut Table,
 ) -> Result<Option<CertPart>, AllocError>
-    ensures kept { IfOk result (λ o. IsKept table.old → IsKept table.new) }
+    ensures kept { IfOk result (λ o. AreSymbolNumbers table.old → AreSymbolNumbers table.new) }
     ensures told { IfOk result (λ o. MatchOption o ((ls : List Literal) (ns : List ℕ) → IsPartNamed book.now (part_of part.now) (derived ls ns) → ⊥) (IsPartTaken book.now (part_of part.now) table.old.names table.new.names)) }
 {
     match part {
@@ -60,8 +60,8 @@ pub fn named_part(
     part: &PartTree,
     table: &mut Table,
 ) -> Result<Option<CertPart>, AllocError>
-    ensures kept { IfOk result (λ o. IsKept table.old → IsKept table.new) }
-    ensures told { IfOk result (λ o. MatchOption o ((p : Part) → IsPartNamed book.now (part_of part.now) p → ⊥) (IsPartTaken book.now (part_of part.now) table.old.names table.new.names)) }
+    ensures kept { IfOk result (λ o. AreSymbolNumbers table.old → AreSymbolNumbers table.new) }
+    ensures told { IfOk result (λ o. MatchOption o ((p : CertificatePart) → IsPartNamed book.now (part_of part.now) p → ⊥) (IsPartTaken book.now (part_of part.now) table.old.names table.new.names)) }
 {
     let Some(axiom) = named_axiom(alloc, book, part)? else {
         return named_step(alloc, book, part, table);

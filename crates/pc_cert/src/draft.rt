@@ -1,7 +1,7 @@
 // What was read of a certificate so far.
 ghost use Rattle.std.specs.Prelude.{◌≡◌, ◌+◌, ◌<◌, ◌^◌, ◌∷◌, ◌++◌, [], ℕ, List, length, map, IfOk, MatchBool};
-ghost use Rattle.pc_cert.specs.Gathered.{IsGathered, IsSaidNext, Adds};
-ghost use Rattle.pc_cert.specs.Meaning.{IsLineNamed, IsPairNamed};
+ghost use Rattle.pc_cert.specs.Gathered.{IsGathered, IsSaidNext, AddsLine};
+ghost use Rattle.pc_cert.specs.Meaning.{IsSaidLine, IsPairNamed};
 ghost use Rattle.pc_cert.specs.Trees.{pair_of, part_of, line_of};
 ghost use Rattle.pc_sheet.specs.declared.ids.Entry.{Entry as TheEntry};
 ghost use Rattle.pc_cert.specs.Written.{SaidLine, claims, claims_inconsistent, uses, assigns, derives};
@@ -29,7 +29,7 @@ pub struct Draft {
 // `claim` on a target
 fn say_target(book: &Book, pair: &PairTree, holds: bool, number: u32, draft: &mut Draft) -> bool
     requires { number + 1 < 2 ^ 32 }
-    ensures { (ls : List SaidLine) → IsGathered ls draft.old → number ≡ length ls + 1 → MatchBool result (Adds book.now (claims (pair_of pair.now) holds) ls draft.new) ((l : SaidLine) → IsLineNamed book.now (claims (pair_of pair.now) holds) l → ⊥) }
+    ensures { (ls : List SaidLine) → IsGathered ls draft.old → number ≡ length ls + 1 → MatchBool result (AddsLine book.now (claims (pair_of pair.now) holds) ls draft.new) ((l : SaidLine) → IsSaidLine book.now (claims (pair_of pair.now) holds) l → ⊥) }
 {
     let Some(entry) = named_entry(book, pair) else {
         return false;
@@ -75,7 +75,7 @@ fn push_said(
 // `use`
 fn say_use(book: &Book, pair: &PairTree, number: u32, draft: &mut Draft) -> Result<bool, AllocError>
     requires { number + 1 < 2 ^ 32 }
-    ensures { (ls : List SaidLine) → IsGathered ls draft.old → number ≡ length ls + 1 → IfOk result (λ b. MatchBool b (Adds book.now (uses (pair_of pair.now)) ls draft.new) ((l : SaidLine) → IsLineNamed book.now (uses (pair_of pair.now)) l → ⊥)) }
+    ensures { (ls : List SaidLine) → IsGathered ls draft.old → number ≡ length ls + 1 → IfOk result (λ b. MatchBool b (AddsLine book.now (uses (pair_of pair.now)) ls draft.new) ((l : SaidLine) → IsSaidLine book.now (uses (pair_of pair.now)) l → ⊥)) }
 {
     draft.after = number + 1;
     push_said(book, pair, number, &mut draft.uses)
@@ -89,7 +89,7 @@ fn say_value(
     draft: &mut Draft,
 ) -> Result<bool, AllocError>
     requires { number + 1 < 2 ^ 32 }
-    ensures { (ls : List SaidLine) → IsGathered ls draft.old → number ≡ length ls + 1 → IfOk result (λ b. MatchBool b (Adds book.now (assigns (pair_of pair.now)) ls draft.new) ((l : SaidLine) → IsLineNamed book.now (assigns (pair_of pair.now)) l → ⊥)) }
+    ensures { (ls : List SaidLine) → IsGathered ls draft.old → number ≡ length ls + 1 → IfOk result (λ b. MatchBool b (AddsLine book.now (assigns (pair_of pair.now)) ls draft.new) ((l : SaidLine) → IsSaidLine book.now (assigns (pair_of pair.now)) l → ⊥)) }
 {
     draft.after = number + 1;
     push_said(book, pair, number, &mut draft.values)
@@ -104,7 +104,7 @@ fn say_part(
     number: u32,
     draft: &mut Draft,
 ) -> Result<bool, AllocError>
-    ensures { (ls : List SaidLine) → IsGathered ls draft.old → number ≡ length ls + 1 → IfOk result (λ b. MatchBool b (Adds book.now (derives place (part_of part.now)) ls draft.new) ((l : SaidLine) → IsLineNamed book.now (derives place (part_of part.now)) l → ⊥)) }
+    ensures { (ls : List SaidLine) → IsGathered ls draft.old → number ≡ length ls + 1 → IfOk result (λ b. MatchBool b (AddsLine book.now (derives place (part_of part.now)) ls draft.new) ((l : SaidLine) → IsSaidLine book.now (derives place (part_of part.now)) l → ⊥)) }
 {
     let Some(part) = named_part(alloc, book, part, &mut draft.table)? else {
         return Ok(false);
@@ -122,7 +122,7 @@ pub fn say(
     draft: &mut Draft,
 ) -> Result<bool, AllocError>
     requires { number + 1 < 2 ^ 32 }
-    ensures { (ls : List SaidLine) → IsGathered ls draft.old → number ≡ length ls + 1 → IfOk result (λ b. MatchBool b (Adds book.now (line_of line.now) ls draft.new) ((l : SaidLine) → IsLineNamed book.now (line_of line.now) l → ⊥)) }
+    ensures { (ls : List SaidLine) → IsGathered ls draft.old → number ≡ length ls + 1 → IfOk result (λ b. MatchBool b (AddsLine book.now (line_of line.now) ls draft.new) ((l : SaidLine) → IsSaidLine book.now (line_of line.now) l → ⊥)) }
 {
     match line {
         LineTree::Nothing => Ok(true),

@@ -2,7 +2,7 @@
 ghost use Rattle.std.specs.Prelude.{◌≡◌, ◌↔◌, List, Some, map, IfOk};
 ghost use Rattle.std.specs.Option.{option_map};
 ghost use Rattle.pc_sheet.specs.declared.ids.Entry.{Entry};
-ghost use Rattle.pc_cert.specs.Meaning.{IsPairNamed, AreNamed};
+ghost use Rattle.pc_cert.specs.Meaning.{IsPairNamed, AreNamedEach};
 ghost use Rattle.pc_cert.specs.Trees.{pair_of, entries_in};
 
 use crate::lookup::named_entry;
@@ -17,7 +17,7 @@ pub fn named_entries(
     book: &Book,
     pairs: &[PairTree],
 ) -> Result<Option<Vec<Entry>>, AllocError>
-    ensures { IfOk result (λ o. (es : List Entry) → (option_map entries_in o ≡ Some es) ↔ AreNamed (IsPairNamed book.now.universe) (map pair_of pairs.now) es) }
+    ensures { IfOk result (λ o. (es : List Entry) → (option_map entries_in o ≡ Some es) ↔ AreNamedEach (IsPairNamed book.now.universe) (map pair_of pairs.now) es) }
 {
     let mut entries = Vec::new(alloc);
     for pair in pairs {

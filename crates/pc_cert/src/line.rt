@@ -1,7 +1,7 @@
 // The reader of a line.
 ghost use Rattle.std.specs.Prelude.{◌≡◌, ◌↔◌, ◌∷◌, [], List, ℕ, IfOk, IsTrue, codes};
 ghost use Rattle.pc_cert.specs.Written.{WrittenLine, WrittenPart};
-ghost use Rattle.pc_cert.specs.Line.{IsForm, IsLine, IsDerivation};
+ghost use Rattle.pc_cert.specs.Line.{IsCertificateForm, IsCertificateLine, IsDerivationForm};
 ghost use Rattle.pc_cert.specs.Trees.{line_of, seen};
 
 use crate::number::read_number;
@@ -24,8 +24,8 @@ fn is_one_word(texts: &[&[u8]], word: &str) -> bool
 
 // `certificate` and the number 1
 fn heading_line(rest: &[&[u8]]) -> Result<LineTree, Refusal>
-    ensures told { IfOk result (λ t. (l : List ℕ) → IsForm l (codes "certificate" ∷ seen rest.now) (line_of t)) }
-    ensures none { result ≡ Err Refusal.Syntax → (l : List ℕ) (f : WrittenLine) → IsForm l (codes "certificate" ∷ seen rest.now) f → ⊥ }
+    ensures told { IfOk result (λ t. (l : List ℕ) → IsCertificateForm l (codes "certificate" ∷ seen rest.now) (line_of t)) }
+    ensures none { result ≡ Err Refusal.Syntax → (l : List ℕ) (f : WrittenLine) → IsCertificateForm l (codes "certificate" ∷ seen rest.now) f → ⊥ }
 {
     let [version] = rest else {
         return Err(Refusal::Syntax);
@@ -38,8 +38,8 @@ fn heading_line(rest: &[&[u8]]) -> Result<LineTree, Refusal>
 
 // `end`
 fn end_line(rest: &[&[u8]]) -> Result<LineTree, Refusal>
-    ensures told { IfOk result (λ t. (l : List ℕ) → IsForm l (codes "end" ∷ seen rest.now) (line_of t)) }
-    ensures none { result ≡ Err Refusal.Syntax → (l : List ℕ) (f : WrittenLine) → IsForm l (codes "end" ∷ seen rest.now) f → ⊥ }
+    ensures told { IfOk result (λ t. (l : List ℕ) → IsCertificateForm l (codes "end" ∷ seen rest.now) (line_of t)) }
+    ensures none { result ≡ Err Refusal.Syntax → (l : List ℕ) (f : WrittenLine) → IsCertificateForm l (codes "end" ∷ seen rest.now) f → ⊥ }
 {
     if rest.is_empty() {
         Ok(LineTree::Ends)
@@ -50,8 +50,8 @@ fn end_line(rest: &[&[u8]]) -> Result<LineTree, Refusal>
 
 // `claim`
 fn claim_line(alloc: Global, line: &[u8], rest: &[&[u8]]) -> Result<LineTree, Refusal>
-    ensures told { IfOk result (λ t. IsForm line.now (codes "claim" ∷ seen rest.now) (line_of t)) }
-    ensures none { result ≡ Err Refusal.Syntax → (f : WrittenLine) → IsForm line.now (codes "claim" ∷ seen rest.now) f → ⊥ }
+    ensures told { IfOk result (λ t. IsCertificateForm line.now (codes "claim" ∷ seen rest.now) (line_of t)) }
+    ensures none { result ≡ Err Refusal.Syntax → (f : WrittenLine) → IsCertificateForm line.now (codes "claim" ∷ seen rest.now) f → ⊥ }
 {
     if is_one_word(rest, "inconsistent") {
         return Ok(LineTree::ClaimsInconsistent);
@@ -62,8 +62,8 @@ fn claim_line(alloc: Global, line: &[u8], rest: &[&[u8]]) -> Result<LineTree, Re
 
 // `use`
 fn use_line(alloc: Global, line: &[u8], rest: &[&[u8]]) -> Result<LineTree, Refusal>
-    ensures told { IfOk result (λ t. IsForm line.now (codes "use" ∷ seen rest.now) (line_of t)) }
-    ensures none { result ≡ Err Refusal.Syntax → (f : WrittenLine) → IsForm line.now (codes "use" ∷ seen rest.now) f → ⊥ }
+    ensures told { IfOk result (λ t. IsCertificateForm line.now (codes "use" ∷ seen rest.now) (line_of t)) }
+    ensures none { result ≡ Err Refusal.Syntax → (f : WrittenLine) → IsCertificateForm line.now (codes "use" ∷ seen rest.now) f → ⊥ }
 {
     let pair = read_word_pair(alloc, line, "use")?;
     Ok(LineTree::Uses(pair))
@@ -71,8 +71,8 @@ fn use_line(alloc: Global, line: &[u8], rest: &[&[u8]]) -> Result<LineTree, Refu
 
 // `value`
 fn value_line(alloc: Global, line: &[u8], rest: &[&[u8]]) -> Result<LineTree, Refusal>
-    ensures told { IfOk result (λ t. IsForm line.now (codes "value" ∷ seen rest.now) (line_of t)) }
-    ensures none { result ≡ Err Refusal.Syntax → (f : WrittenLine) → IsForm line.now (codes "value" ∷ seen rest.now) f → ⊥ }
+    ensures told { IfOk result (λ t. IsCertificateForm line.now (codes "value" ∷ seen rest.now) (line_of t)) }
+    ensures none { result ≡ Err Refusal.Syntax → (f : WrittenLine) → IsCertificateForm line.now (codes "value" ∷ seen rest.now) f → ⊥ }
 {
     let pair = read_word_pair(alloc, line, "value")?;
     Ok(LineTree::Assigns(pair))
@@ -80,8 +80,8 @@ fn value_line(alloc: Global, line: &[u8], rest: &[&[u8]]) -> Result<LineTree, Re
 
 // A number and a part of the derivation.
 fn derivation_line(alloc: Global, texts: &[&[u8]]) -> Result<LineTree, Refusal>
-    ensures told { IfOk result (λ t. (l : List ℕ) → IsForm l (seen texts.now) (line_of t)) }
-    ensures none { result ≡ Err Refusal.Syntax → (n : ℕ) (p : WrittenPart) → IsDerivation (seen texts.now) n p → ⊥ }
+    ensures told { IfOk result (λ t. (l : List ℕ) → IsCertificateForm l (seen texts.now) (line_of t)) }
+    ensures none { result ≡ Err Refusal.Syntax → (n : ℕ) (p : WrittenPart) → IsDerivationForm (seen texts.now) n p → ⊥ }
 {
     let Some((first, rest)) = texts.split_first() else {
         return Err(Refusal::Syntax);
@@ -95,8 +95,8 @@ fn derivation_line(alloc: Global, texts: &[&[u8]]) -> Result<LineTree, Refusal>
 
 /// The form of the line.
 pub fn read_line(alloc: Global, line: &[u8]) -> Result<LineTree, Refusal>
-    ensures told { IfOk result (λ t. IsLine line.now (line_of t)) }
-    ensures none { result ≡ Err Refusal.Syntax → (f : WrittenLine) → IsLine line.now f → ⊥ }
+    ensures told { IfOk result (λ t. IsCertificateLine line.now (line_of t)) }
+    ensures none { result ≡ Err Refusal.Syntax → (f : WrittenLine) → IsCertificateLine line.now f → ⊥ }
 {
     let found = texts(alloc, line)?;
     let Some((first, rest)) = found.split_first() else {

@@ -2,7 +2,7 @@
 
 ghost use Rattle.std.specs.Prelude.{◌≡◌, [], IfOk, OnErr, length};
 ghost use Rattle.pc_cert.specs.Keys.{IsKey, IsNumberedAs, symbol_by};
-ghost use Rattle.pc_cert.specs.Views.{AreDistinct, symbol_of};
+ghost use Rattle.pc_cert.specs.Views.{AreSymbolsDistinct, symbol_of};
 
 use crate::cert::Symbol;
 use indexmap::IndexSet;
@@ -40,7 +40,7 @@ impl Numbering {
     /// How many symbols there are.
     pub fn len(&self) -> u32
         ensures count { result ≡ length self.now }
-        ensures distinct { AreDistinct self.now }
+        ensures distinct { AreSymbolsDistinct self.now }
     {
         self.keys.len() as u32
     }

@@ -2,7 +2,7 @@
 ghost use Rattle.std.specs.Prelude.{◌≡◌, ◌≢◌, ◌↔◌, ◌∷◌, ◌++◌, [], List, ℕ, map, codes, IfOk, IsTrue, MatchOption};
 ghost use Rattle.std.specs.List.{AllByRecursion};
 ghost use Rattle.pc_cert.specs.Written.{WrittenPart};
-ghost use Rattle.pc_cert.specs.Line.{part_word, FollowsPart, IsPart, IsPartOf};
+ghost use Rattle.pc_cert.specs.Line.{part_word, FollowsPart, IsPartForm, IsPartStarting};
 ghost use Rattle.pc_cert.specs.Trees.{part_of, seen};
 
 use crate::literal::{read_literals, read_pairs};
@@ -22,8 +22,8 @@ pub fn is_word(text: &[u8], word: &str) -> bool
 
 // CELL
 fn some_part(alloc: Global, texts: &[&[u8]]) -> Result<PartTree, Refusal>
-    ensures told { IfOk result (λ p. IsPartOf (codes "some") (seen texts.now) (part_of p)) }
-    ensures none { result ≡ Err Refusal.Syntax → (p : WrittenPart) → IsPartOf (codes "some") (seen texts.now) p → ⊥ }
+    ensures told { IfOk result (λ p. IsPartStarting (codes "some") (seen texts.now) (part_of p)) }
+    ensures none { result ≡ Err Refusal.Syntax → (p : WrittenPart) → IsPartStarting (codes "some") (seen texts.now) p → ⊥ }
 {
     let [text] = texts else {
         return Err(Refusal::Syntax);
@@ -34,8 +34,8 @@ fn some_part(alloc: Global, texts: &[&[u8]]) -> Result<PartTree, Refusal>
 
 // CELL VALUE VALUE
 fn one_part(alloc: Global, texts: &[&[u8]]) -> Result<PartTree, Refusal>
-    ensures told { IfOk result (λ p. IsPartOf (codes "one") (seen texts.now) (part_of p)) }
-    ensures none { result ≡ Err Refusal.Syntax → (p : WrittenPart) → IsPartOf (codes "one") (seen texts.now) p → ⊥ }
+    ensures told { IfOk result (λ p. IsPartStarting (codes "one") (seen texts.now) (part_of p)) }
+    ensures none { result ≡ Err Refusal.Syntax → (p : WrittenPart) → IsPartStarting (codes "one") (seen texts.now) p → ⊥ }
 {
     let [cell, first, second] = texts else {
         return Err(Refusal::Syntax);
@@ -48,8 +48,8 @@ fn one_part(alloc: Global, texts: &[&[u8]]) -> Result<PartTree, Refusal>
 
 // NAME
 fn rule_part(alloc: Global, texts: &[&[u8]]) -> Result<PartTree, Refusal>
-    ensures told { IfOk result (λ p. IsPartOf (codes "rule") (seen texts.now) (part_of p)) }
-    ensures none { result ≡ Err Refusal.Syntax → (p : WrittenPart) → IsPartOf (codes "rule") (seen texts.now) p → ⊥ }
+    ensures told { IfOk result (λ p. IsPartStarting (codes "rule") (seen texts.now) (part_of p)) }
+    ensures none { result ≡ Err Refusal.Syntax → (p : WrittenPart) → IsPartStarting (codes "rule") (seen texts.now) p → ⊥ }
 {
     let [text] = texts else {
         return Err(Refusal::Syntax);
@@ -60,8 +60,8 @@ fn rule_part(alloc: Global, texts: &[&[u8]]) -> Result<PartTree, Refusal>
 
 // PATH and the number of a clause
 fn node_part(alloc: Global, texts: &[&[u8]]) -> Result<PartTree, Refusal>
-    ensures told { IfOk result (λ p. IsPartOf (codes "node") (seen texts.now) (part_of p)) }
-    ensures none { result ≡ Err Refusal.Syntax → (p : WrittenPart) → IsPartOf (codes "node") (seen texts.now) p → ⊥ }
+    ensures told { IfOk result (λ p. IsPartStarting (codes "node") (seen texts.now) (part_of p)) }
+    ensures none { result ≡ Err Refusal.Syntax → (p : WrittenPart) → IsPartStarting (codes "node") (seen texts.now) p → ⊥ }
 {
     let [path, number] = texts else {
         return Err(Refusal::Syntax);
@@ -78,8 +78,8 @@ fn node_part(alloc: Global, texts: &[&[u8]]) -> Result<PartTree, Refusal>
 
 // PATH { READ }
 fn atom_part(alloc: Global, texts: &[&[u8]]) -> Result<PartTree, Refusal>
-    ensures told { IfOk result (λ p. IsPartOf (codes "atom") (seen texts.now) (part_of p)) }
-    ensures none { result ≡ Err Refusal.Syntax → (p : WrittenPart) → IsPartOf (codes "atom") (seen texts.now) p → ⊥ }
+    ensures told { IfOk result (λ p. IsPartStarting (codes "atom") (seen texts.now) (part_of p)) }
+    ensures none { result ≡ Err Refusal.Syntax → (p : WrittenPart) → IsPartStarting (codes "atom") (seen texts.now) p → ⊥ }
 {
     let Some((path, reads)) = texts.split_first() else {
         return Err(Refusal::Syntax);
@@ -103,8 +103,8 @@ fn at_colon<'a>(texts: &'a [&'a [u8]]) -> Option<(&'a [&'a [u8]], &'a [&'a [u8]]
 
 // { LIT } `:` { H }
 fn step_part(alloc: Global, texts: &[&[u8]]) -> Result<PartTree, Refusal>
-    ensures told { IfOk result (λ p. IsPartOf (codes "step") (seen texts.now) (part_of p)) }
-    ensures none { result ≡ Err Refusal.Syntax → (p : WrittenPart) → IsPartOf (codes "step") (seen texts.now) p → ⊥ }
+    ensures told { IfOk result (λ p. IsPartStarting (codes "step") (seen texts.now) (part_of p)) }
+    ensures none { result ≡ Err Refusal.Syntax → (p : WrittenPart) → IsPartStarting (codes "step") (seen texts.now) p → ⊥ }
 {
     let Some((literals, numbers)) = at_colon(texts) else {
         return Err(Refusal::Syntax);
@@ -116,8 +116,8 @@ fn step_part(alloc: Global, texts: &[&[u8]]) -> Result<PartTree, Refusal>
 
 /// The part of a derivation that the texts are.
 pub fn read_part(alloc: Global, texts: &[&[u8]]) -> Result<PartTree, Refusal>
-    ensures told { IfOk result (λ p. IsPart (seen texts.now) (part_of p)) }
-    ensures none { result ≡ Err Refusal.Syntax → (p : WrittenPart) → IsPart (seen texts.now) p → ⊥ }
+    ensures told { IfOk result (λ p. IsPartForm (seen texts.now) (part_of p)) }
+    ensures none { result ≡ Err Refusal.Syntax → (p : WrittenPart) → IsPartForm (seen texts.now) p → ⊥ }
 {
     let Some((word, rest)) = texts.split_first() else {
         return Err(Refusal::Syntax);

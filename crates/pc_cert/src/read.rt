@@ -3,7 +3,7 @@ ghost use Rattle.std.specs.Prelude.{◌≡◌, ◌+◌, ◌<◌, ◌≤◌, ◌^
 ghost use Rattle.std.specs.Str.Lines.{lines};
 ghost use Rattle.pc_sheet.specs.Sheet.{Sheet};
 ghost use Rattle.pc_cert.specs.Gathered.{IsGathered};
-ghost use Rattle.pc_cert.specs.Line.{IsLine};
+ghost use Rattle.pc_cert.specs.Line.{IsCertificateLine};
 ghost use Rattle.pc_cert.specs.Order.{kind_of};
 ghost use Rattle.pc_cert.specs.Standing.{order_of};
 ghost use Rattle.pc_cert.specs.inside.Taken.{IsFormless, IsLineFault, IsTaken, AreTaken};
@@ -25,7 +25,7 @@ use std::alloc::Global;
 
 // The form of the line of that number.
 fn form_of(alloc: Global, line: &[u8], number: u32) -> Result<LineTree, CertFault>
-    ensures told { IfOk result (λ t. IsLine line.now (line_of t)) }
+    ensures told { IfOk result (λ t. IsCertificateLine line.now (line_of t)) }
     ensures fault { IfErr result (IsFormless line.now number) }
 {
     match read_line(alloc, line) {
@@ -45,7 +45,7 @@ fn take_form(
     draft: &mut Draft,
 ) -> Result<(), CertFault>
     requires { number + 1 < 2 ^ 32 }
-    ensures { (ls : List SaidLine) (line : List ℕ) → IsLine line (line_of tree.now) → IsGathered ls draft.old → order.old ≡ order_of (map kind_of ls) → number ≡ length ls + 1 → MatchResult result (λ _. IsTaken book.now ls line order.new draft.new) (IsLineFault book.now (map kind_of ls) line number) }
+    ensures { (ls : List SaidLine) (line : List ℕ) → IsCertificateLine line (line_of tree.now) → IsGathered ls draft.old → order.old ≡ order_of (map kind_of ls) → number ≡ length ls + 1 → MatchResult result (λ _. IsTaken book.now ls line order.new draft.new) (IsLineFault book.now (map kind_of ls) line number) }
 {
     if !stands(order, tree) {
         return Err(CertFault::Syntax { line: number });

@@ -3,10 +3,10 @@ ghost use Rattle.std.specs.Prelude.{◌≡◌, ◌↔◌, ◌∷◌, [], List, S
 ghost use Rattle.std.specs.Option.{option_map};
 ghost use Rattle.pc_accept.specs.Literals.{Symbol as PlainSymbol, Literal};
 ghost use Rattle.pc_cert.specs.Keys.{IsNumberedAs};
-ghost use Rattle.pc_cert.specs.Meaning.{IsSymbolNamed, IsLiteralNamed, AreNamed};
-ghost use Rattle.pc_cert.specs.Numbered.{IsKept, AreNumbered};
+ghost use Rattle.pc_cert.specs.Meaning.{IsSymbolNamed, IsLiteralNamed, AreNamedEach};
+ghost use Rattle.pc_cert.specs.Numbered.{AreSymbolNumbers, AreNumbered};
 ghost use Rattle.pc_cert.specs.Trees as tree;
-ghost use Rattle.pc_cert.specs.Views.{symbol_of, AreDistinct};
+ghost use Rattle.pc_cert.specs.Views.{symbol_of, AreSymbolsDistinct};
 ghost use Rattle.pc_cert.specs.Written.{written_pair, written_node};
 
 use crate::cert::Symbol;
@@ -40,7 +40,7 @@ impl Table {
     /// The symbols. They were all different.
     pub fn into_symbols(self) -> Vec<Symbol>
         ensures same { result ≡ self.symbols }
-        ensures distinct { AreDistinct self.names }
+        ensures distinct { AreSymbolsDistinct self.names }
     {
         self.recall_different();
         self.symbols
@@ -48,7 +48,7 @@ impl Table {
 
     // Recalls that the symbols are all different.
     fn recall_different(&self)
-        ensures { AreDistinct self.now.names }
+        ensures { AreSymbolsDistinct self.now.names }
     {
         let _ = self.names.len();
     }
@@ -56,7 +56,7 @@ impl Table {
 
 // The number of the symbol, which becomes one of the table's.
 fn number_symbol(alloc: Global, symbol: Symbol, table: &mut Table) -> Result<u32, AllocError>
-    ensures kept { IfOk result (λ n. IsKept table.old → IsKept table.new) }
+    ensures kept { IfOk result (λ n. AreSymbolNumbers table.old → AreSymbolNumbers table.new) }
     ensures told { IfOk result (IsNumberedAs table.old.names table.new.names (symbol_of symbol)) }
 {
     let number = table.names.number_symbol(alloc, &symbol)?;
@@ -107,7 +107,7 @@ fn number_literal(
     literal: &LiteralTree,
     table: &mut Table,
 ) -> Result<Option<Lit>, AllocError>
-    ensures kept { IfOk result (λ o. IsKept table.old → IsKept table.new) }
+    ensures kept { IfOk result (λ o. AreSymbolNumbers table.old → AreSymbolNumbers table.new) }
     ensures told { IfOk result (λ o. MatchOption o ((l : Literal) → IsLiteralNamed book.now (tree.literal_of literal.now) l → ⊥) (λ l. AreNumbered book.now (tree.literal_of literal.now ∷ []) table.old.names table.new.names (l ∷ []))) }
 {
     let Some(symbol) = named_symbol(alloc, book, &literal.what)? else {
@@ -127,8 +127,8 @@ pub fn number_literals(
     literals: &[LiteralTree],
     table: &mut Table,
 ) -> Result<Option<Vec<Lit>>, AllocError>
-    ensures kept { IfOk result (λ o. IsKept table.old → IsKept table.new) }
-    ensures told { IfOk result (λ o. MatchOption o ((ls : List Literal) → AreNamed (IsLiteralNamed book.now) (map tree.literal_of literals.now) ls → ⊥) (λ v. AreNumbered book.now (map tree.literal_of literals.now) table.old.names table.new.names v.items)) }
+    ensures kept { IfOk result (λ o. AreSymbolNumbers table.old → AreSymbolNumbers table.new) }
+    ensures told { IfOk result (λ o. MatchOption o ((ls : List Literal) → AreNamedEach (IsLiteralNamed book.now) (map tree.literal_of literals.now) ls → ⊥) (λ v. AreNumbered book.now (map tree.literal_of literals.now) table.old.names table.new.names v.items)) }
 {
     let mut numbered = Vec::new(alloc);
     for literal in literals {

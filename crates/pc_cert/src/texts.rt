@@ -4,7 +4,7 @@ ghost use Rattle.std.specs.Str.{IsUtf8};
 ghost use Rattle.std.specs.List.{AllByRecursion};
 ghost use Rattle.pc_token.specs.Token.{IsTokenOf};
 ghost use Rattle.pc_formula.specs.Word.{Word, words_of, HasWords, HasShortNames};
-ghost use Rattle.pc_cert.specs.Texts.{texts_of, Spells};
+ghost use Rattle.pc_cert.specs.Texts.{texts_of, SpellsWords};
 ghost use Rattle.pc_cert.specs.Trees.{seen};
 
 use pc_formula::{Refusal, Words, has_short_names};
@@ -45,8 +45,8 @@ impl<'a> Model for Spelled<'a> {
 impl<'a> Spelled<'a> {
     /// Splits the text.
     pub fn new(alloc: Global, text: &'a [u8]) -> Result<Spelled<'a>, Refusal>
-        ensures told { IfOk result (Spells text.now) }
-        ensures none { result ≡ Err Refusal.Syntax → (ws : List Word) → Spells text.now ws → ⊥ }
+        ensures told { IfOk result (SpellsWords text.now) }
+        ensures none { result ≡ Err Refusal.Syntax → (ws : List Word) → SpellsWords text.now ws → ⊥ }
     {
         let Some(line) = utf8(text) else {
             return Err(Refusal::Syntax);
@@ -65,7 +65,7 @@ impl<'a> Spelled<'a> {
 
 // The text, where it is UTF-8.
 fn utf8(text: &[u8]) -> Option<&str>
-    ensures { MatchOption result ((ws : List Word) → Spells text.now ws → ⊥) (λ s. (s.now ≡ text.now) × IsUtf8 text.now) }
+    ensures { MatchOption result ((ws : List Word) → SpellsWords text.now ws → ⊥) (λ s. (s.now ≡ text.now) × IsUtf8 text.now) }
 {
     str::from_utf8(text).ok()
 }

@@ -18,24 +18,23 @@ use Rattle.pc_read_back.proofs.Signs.{cut_op}
 use Rattle.pc_read_back.proofs.Unbroken.{is_line_end, cuts_unbroken}
 use Rattle.pc_cert.specs.Written.{heading, claims, claims_inconsistent, uses, assigns, derives, ends, WrittenLine, SaidLine}
 use Rattle.pc_cert.specs.Texts.{texts_of, SpellsThis}
-use Rattle.pc_cert.specs.Line.{IsLine, IsWordPair, StartsWithText, equality}
+use Rattle.pc_cert.specs.Line.{IsCertificateLine, IsWordPair, StartsWithText, equality}
 use Rattle.pc_cert.specs.Order.{kind_of}
-use Rattle.pc_cert.specs.Meaning.{IsLineNamed}
-use Rattle.pc_cert_text.specs.CertificateText.{number_text, behind_blank, line_text, equality_text, claim_text}
+use Rattle.pc_cert.specs.Meaning.{IsSaidLine}
+use Rattle.pc_cert_text.specs.CertificateText.{number_text, behind_blank, derivation_line_text, equality_text, claim_text}
 use Rattle.pc_cert_back.specs.Said.{part_of, claim_said}
-use Rattle.pc_cert_back.proofs.Marks.{IsFree, free_join, IsWordText}
+use Rattle.pc_cert_back.proofs.Marks.{IsFree, free_join, IsWordText, number_text_is}
 use Rattle.pc_cert_back.proofs.Words.{texts_more}
 use Rattle.pc_declared.proofs.Entries.{entry_stands}
 use Rattle.pc_cert_back.proofs.Spelled.{pair_of, spelled_words, spell_entry}
 use Rattle.pc_cert_back.proofs.Parts.{line_reads, number_word}
-use Rattle.pc_cert_back.proofs.Marks.{number_text_is}
 
 -- the line is one line, has a form, and says this by it
 pub record ReadsAsLine (sheet : Sheet) (line : List ℕ) (l : SaidLine) : Type 0 where
   pub form : WrittenLine
-  pub is : IsLine line form
+  pub is : IsCertificateLine line form
   pub same_kind : kind_of form ≡ kind_of l
-  pub named : IsLineNamed sheet form l
+  pub named : IsSaidLine sheet form l
   pub whole : IsFree is_line_end line
 
 -- a word of small letters that is no reserved one
@@ -117,10 +116,10 @@ module _ (sheet : Sheet) (formed : IsWellFormed sheet) where
 
   -- ---- lines of the derivation
 
-  pub derivation_reads : (n : ℕ) (l : Line) (place : ℕ) → n < 10 ^ 18 → place < 10 ^ 18 → IsLineOf sheet place l → ReadsAsLine sheet (number_text n ++ behind_blank (line_text sheet l)) (derives n (part_of l))
+  pub derivation_reads : (n : ℕ) (l : Line) (place : ℕ) → n < 10 ^ 18 → place < 10 ^ 18 → IsLineOf sheet place l → ReadsAsLine sheet (number_text n ++ behind_blank (derivation_line_text sheet l)) (derives n (part_of l))
   derivation_reads n l place short few of =
       let part = line_reads sheet formed place l few of in
-      let text = line_text sheet l in
+      let text = derivation_line_text sheet l in
       let word = number_word n short in
       record {
         form = derives n part.written;

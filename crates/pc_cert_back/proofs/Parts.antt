@@ -9,7 +9,7 @@ use Rattle.pc_sheet.specs.declared.ids.CellId.{CellId}
 use Rattle.pc_sheet.specs.declared.ids.ValueId.{ValueId}
 use Rattle.pc_sheet.specs.declared.ids.Entry.{Entry}
 use Rattle.pc_accept.specs.Literals.{Literal}
-use Rattle.pc_accept.specs.Axioms.{Axiom, some_value, not_both, true_rule, parts, by_reads}
+use Rattle.pc_accept.specs.Axioms.{Axiom, axiom_some, axiom_one, axiom_rule, axiom_node, axiom_atom}
 use Rattle.pc_accept.specs.Accepts.{Line}
 use Rattle.pc_accept.specs.Accepts as accepts
 use Rattle.pc_accept.specs.Writable.{IsPathOf, IsSymbolOf, IsAxiomOf, IsLineOf}
@@ -17,11 +17,11 @@ use Rattle.pc_writer.specs.Spelling.{value_text, sort_of}
 use Rattle.pc_writer.proofs.CellLemmas.{entered_cell, entered_value}
 use Rattle.pc_read_back.specs.Declarations.{written_value, written_cell}
 use Rattle.pc_read_back.proofs.Unbroken.{is_line_end}
-use Rattle.pc_cert.specs.Written.{WrittenPart, written_some, written_one, written_rule, written_node_clause, written_atom, written_step, Part, taken}
+use Rattle.pc_cert.specs.Written.{WrittenPart, written_some, written_one, written_rule, written_node_clause, written_atom, written_step, CertificatePart, taken}
 use Rattle.pc_cert.specs.Texts.{texts_of, AreAll, IsReadText, IsNumberText, IsLiteralText}
 use Rattle.pc_cert.specs.Line.{FollowsPart, part_word}
-use Rattle.pc_cert.specs.Meaning.{AreNamed, IsPairNamed, IsLiteralNamed, IsPartNamed}
-use Rattle.pc_cert_text.specs.CertificateText.{number_text, tight_cell_text, read_text, rule_name, path_text, literal_text, behind_blank, axiom_text, line_text}
+use Rattle.pc_cert.specs.Meaning.{AreNamedEach, IsPairNamed, IsLiteralNamed, IsPartNamed}
+use Rattle.pc_cert_text.specs.CertificateText.{number_text, tight_cell_text, read_text, name_of_rule_at, path_text, literal_text, behind_blank, axiom_text, derivation_line_text}
 use Rattle.pc_cert_back.specs.Said.{part_of}
 use Rattle.pc_cert_back.proofs.Marks.{IsFree, free_join, number_plain, number_some, number_text_is, IsWordText, plain_word}
 use Rattle.pc_cert_back.proofs.Words.{texts_more, texts_last, texts_behind, texts_between, AreWordTexts, whole_behind}
@@ -32,7 +32,7 @@ use Rattle.pc_cert_back.proofs.Spelled.{pair_of, value_text_is, value_plain, val
 use Rattle.pc_cert_back.proofs.Paths.{name_text_is, name_word, written_path, path_text_is, path_word, node_stands, written_literal, literal_spelled, literal_stands}
 
 -- the text, behind a line's number, is a part that is written so and stands for this
-pub record ReadsAsPart (sheet : Sheet) (text : List ℕ) (p : Part) : Type 0 where
+pub record ReadsAsPart (sheet : Sheet) (text : List ℕ) (p : CertificatePart) : Type 0 where
   pub written : WrittenPart
   pub more : List (List ℕ)
   pub are : texts_of text ≡ part_word written ∷ more
@@ -54,7 +54,7 @@ module _ (sheet : Sheet) (formed : IsWellFormed sheet) where
   reads_words [] all = tt
   reads_words (e ∷ es) all = (read_word sheet.universe formed.universe e (All-head (IsEntryOf sheet.universe) e es all), reads_words es (All-tail (IsEntryOf sheet.universe) e es all))
 
-  reads_stand : (es : List Entry) → All (IsEntryOf sheet.universe) es → AreNamed (IsPairNamed sheet.universe) (map (pair_of sheet.universe) es) es
+  reads_stand : (es : List Entry) → All (IsEntryOf sheet.universe) es → AreNamedEach (IsPairNamed sheet.universe) (map (pair_of sheet.universe) es) es
   reads_stand [] all = tt
   reads_stand (e ∷ es) all = (entry_stands sheet.universe e (All-head (IsEntryOf sheet.universe) e es all), reads_stand es (All-tail (IsEntryOf sheet.universe) e es all))
 
@@ -79,7 +79,7 @@ module _ (sheet : Sheet) (formed : IsWellFormed sheet) where
   literals_other [] all = tt
   literals_other (l ∷ ls) all = ((literal_spelled sheet formed l (own l ls all)).other, literals_other ls (others l ls all))
 
-  literals_stand : (ls : List Literal) → AreOfSheet ls → AreNamed (IsLiteralNamed sheet) (map (written_literal sheet formed) ls) ls
+  literals_stand : (ls : List Literal) → AreOfSheet ls → AreNamedEach (IsLiteralNamed sheet) (map (written_literal sheet formed) ls) ls
   literals_stand [] all = tt
   literals_stand (l ∷ ls) all = (literal_stands sheet formed l (own l ls all), literals_stand ls (others l ls all))
 
@@ -103,7 +103,7 @@ module _ (sheet : Sheet) (formed : IsWellFormed sheet) where
 
   -- ---- axioms
 
-  some_reads : (c : CellId) → c.0 < length (cell_sizes sheet.universe) → ReadsAsPart sheet (axiom_text sheet (some_value c)) (taken (some_value c))
+  some_reads : (c : CellId) → c.0 < length (cell_sizes sheet.universe) → ReadsAsPart sheet (axiom_text sheet (axiom_some c)) (taken (axiom_some c))
   some_reads c within =
       let u = sheet.universe in
       let cell = tight_cell_text u c in
@@ -117,7 +117,7 @@ module _ (sheet : Sheet) (formed : IsWellFormed sheet) where
         whole = cell_word.whole;
       }
 
-  one_reads : (c : CellId) (v w : ValueId) → IsEntryOf sheet.universe (record { cell = c; value = v }) → IsEntryOf sheet.universe (record { cell = c; value = w }) → ReadsAsPart sheet (axiom_text sheet (not_both c v w)) (taken (not_both c v w))
+  one_reads : (c : CellId) (v w : ValueId) → IsEntryOf sheet.universe (record { cell = c; value = v }) → IsEntryOf sheet.universe (record { cell = c; value = w }) → ReadsAsPart sheet (axiom_text sheet (axiom_one c v w)) (taken (axiom_one c v w))
   one_reads c v w first second =
       let u = sheet.universe in
       let s = sort_of u c in
@@ -151,9 +151,9 @@ module _ (sheet : Sheet) (formed : IsWellFormed sheet) where
         whole = free_join is_line_end cell (32 ∷ (one ++ 32 ∷ two)) cell_word.whole (free_join is_line_end one (32 ∷ two) one_word.whole two_word.whole);
       }
 
-  rule_reads : (r : ℕ) → r < length sheet.rules → ReadsAsPart sheet (axiom_text sheet (true_rule r)) (taken (true_rule r))
+  rule_reads : (r : ℕ) → r < length sheet.rules → ReadsAsPart sheet (axiom_text sheet (axiom_rule r)) (taken (axiom_rule r))
   rule_reads r below =
-      let name = rule_name sheet r in
+      let name = name_of_rule_at sheet r in
       let own_word = name_word sheet formed r below in
       record {
         written = written_rule name;
@@ -164,7 +164,7 @@ module _ (sheet : Sheet) (formed : IsWellFormed sheet) where
         whole = own_word.whole;
       }
 
-  node_reads : (r : ℕ) (steps : List ℕ) (i : ℕ) → IsPathOf sheet r steps → i < 2 ^ 32 → ReadsAsPart sheet (axiom_text sheet (parts r steps i)) (taken (parts r steps i))
+  node_reads : (r : ℕ) (steps : List ℕ) (i : ℕ) → IsPathOf sheet r steps → i < 2 ^ 32 → ReadsAsPart sheet (axiom_text sheet (axiom_node r steps i)) (taken (axiom_node r steps i))
   node_reads r steps i is small =
       let path = path_text sheet r steps in
       let own_word = path_word sheet formed r steps is in
@@ -180,7 +180,7 @@ module _ (sheet : Sheet) (formed : IsWellFormed sheet) where
         whole = free_join is_line_end path (32 ∷ number_text i) own_word.whole count.whole;
       }
 
-  atom_reads : (r : ℕ) (steps : List ℕ) (es : List Entry) → IsPathOf sheet r steps → All (IsEntryOf sheet.universe) es → ReadsAsPart sheet (axiom_text sheet (by_reads r steps es)) (taken (by_reads r steps es))
+  atom_reads : (r : ℕ) (steps : List ℕ) (es : List Entry) → IsPathOf sheet r steps → All (IsEntryOf sheet.universe) es → ReadsAsPart sheet (axiom_text sheet (axiom_atom r steps es)) (taken (axiom_atom r steps es))
   atom_reads r steps es is all =
       let u = sheet.universe in
       let path = path_text sheet r steps in
@@ -198,15 +198,15 @@ module _ (sheet : Sheet) (formed : IsWellFormed sheet) where
       }
 
   axiom_reads : (a : Axiom) → IsAxiomOf sheet a → ReadsAsPart sheet (axiom_text sheet a) (taken a)
-  axiom_reads (some_value c) is = some_reads c is
-  axiom_reads (not_both c v w) is = one_reads c v w is.0 is.1
-  axiom_reads (true_rule r) is = rule_reads r is
-  axiom_reads (parts r steps i) is = node_reads r steps i is.0 is.1
-  axiom_reads (by_reads r steps es) is = atom_reads r steps es is.0 is.1
+  axiom_reads (axiom_some c) is = some_reads c is
+  axiom_reads (axiom_one c v w) is = one_reads c v w is.0 is.1
+  axiom_reads (axiom_rule r) is = rule_reads r is
+  axiom_reads (axiom_node r steps i) is = node_reads r steps i is.0 is.1
+  axiom_reads (axiom_atom r steps es) is = atom_reads r steps es is.0 is.1
 
   -- ---- steps
 
-  step_reads : (place : ℕ) → place < 10 ^ 18 → (ls : List Literal) (hs : List ℕ) → AreOfSheet ls → All (λ h. h < place) hs → ReadsAsPart sheet (line_text sheet (accepts.derived ls hs)) (part_of (accepts.derived ls hs))
+  step_reads : (place : ℕ) → place < 10 ^ 18 → (ls : List Literal) (hs : List ℕ) → AreOfSheet ls → All (λ h. h < place) hs → ReadsAsPart sheet (derivation_line_text sheet (accepts.derived ls hs)) (part_of (accepts.derived ls hs))
   step_reads place few ls hs clause hints =
       let literals = flat_map (λ l. behind_blank (literal_text sheet l)) ls in
       let numbers = flat_map (λ h. behind_blank (hint_number h)) hs in
@@ -228,6 +228,6 @@ module _ (sheet : Sheet) (formed : IsWellFormed sheet) where
         whole = free_join is_line_end literals (codes " :" ++ numbers) (whole_behind (literal_text sheet) ls (literals_words ls clause)) (whole_behind hint_number hs (hints_words place few hs hints));
       }
 
-  pub line_reads : (place : ℕ) (l : Line) → place < 10 ^ 18 → IsLineOf sheet place l → ReadsAsPart sheet (line_text sheet l) (part_of l)
+  pub line_reads : (place : ℕ) (l : Line) → place < 10 ^ 18 → IsLineOf sheet place l → ReadsAsPart sheet (derivation_line_text sheet l) (part_of l)
   line_reads place (accepts.taken a) few of = axiom_reads a of
   line_reads place (accepts.derived clause hints) few of = step_reads place few clause hints of.0 of.1

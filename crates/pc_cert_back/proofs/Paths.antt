@@ -18,7 +18,7 @@ use Rattle.pc_cert.specs.Meaning.{IsNodeNamed, IsSymbolNamed, IsLiteralNamed}
 use Rattle.pc_read_back.proofs.Cutting.{name_nonempty}
 use Rattle.pc_read_back.proofs.Scalars.{name_utf8}
 use Rattle.pc_read_back.proofs.Unbroken.{is_line_end}
-use Rattle.pc_cert_text.specs.CertificateText.{number_text, name_of_rule, rule_name, path_text, symbol_text, sign_text, literal_text}
+use Rattle.pc_cert_text.specs.CertificateText.{number_text, name_of_found_rule, name_of_rule_at, path_text, symbol_text, claim_sign_text, literal_text}
 use Rattle.pc_cert_back.proofs.Marks.{IsFree, IsPlain, is_mark, free_join, free_each, neither, name_plain, number_plain, number_text_is, IsWordText, plain_word, none, blanks_free, ends_free, slashes_free}
 use Rattle.pc_cert_back.proofs.Spelled.{pair_of, read_text_is, read_plain, read_word}
 use Rattle.pc_declared.proofs.Entries.{entry_stands}
@@ -80,38 +80,38 @@ no_colon text is same = let there : list_any is_mark text ≡ true = ap (list_an
 module _ (sheet : Sheet) (formed : IsWellFormed sheet) where
   -- ---- rules
 
-  pub rule_named : (r : ℕ) → r < length sheet.rules → IsName (rule_name sheet r)
+  pub rule_named : (r : ℕ) → r < length sheet.rules → IsName (name_of_rule_at sheet r)
   rule_named r below =
       let at = element_at sheet.rules r below in
-      subst (λ found. IsName (name_of_rule found)) (sym at.1) (all_at (IsWellFormedRule sheet.universe) sheet.rules r at.0 formed.rules.each at.1).named
+      subst (λ found. IsName (name_of_found_rule found)) (sym at.1) (all_at (IsWellFormedRule sheet.universe) sheet.rules r at.0 formed.rules.each at.1).named
 
-  pub name_text_is : (r : ℕ) → r < length sheet.rules → IsNameText (rule_name sheet r)
-  name_text_is r below = let named = rule_named r below in record { utf8 = name_utf8 (rule_name sheet r) named.characters; name = named }
+  pub name_text_is : (r : ℕ) → r < length sheet.rules → IsNameText (name_of_rule_at sheet r)
+  name_text_is r below = let named = rule_named r below in record { utf8 = name_utf8 (name_of_rule_at sheet r) named.characters; name = named }
 
-  pub name_word : (r : ℕ) → r < length sheet.rules → IsWordText (rule_name sheet r)
-  name_word r below = let named = rule_named r below in plain_word (rule_name sheet r) (name_plain (rule_name sheet r) named.characters) (name_nonempty (rule_name sheet r) named.characters)
+  pub name_word : (r : ℕ) → r < length sheet.rules → IsWordText (name_of_rule_at sheet r)
+  name_word r below = let named = rule_named r below in plain_word (name_of_rule_at sheet r) (name_plain (name_of_rule_at sheet r) named.characters) (name_nonempty (name_of_rule_at sheet r) named.characters)
 
   -- ---- paths
 
   abbrev pub written_path : ℕ → List ℕ → WrittenPath
-  written_path r steps = record { rule = rule_name sheet r; steps = steps }
+  written_path r steps = record { rule = name_of_rule_at sheet r; steps = steps }
 
   module _ (r : ℕ) (steps : List ℕ) (is : IsPathOf sheet r steps) where
-    path_plain : IsPlain (rule_name sheet r)
-    path_plain = name_plain (rule_name sheet r) (rule_named r (rule_there sheet r steps is)).characters
+    path_plain : IsPlain (name_of_rule_at sheet r)
+    path_plain = name_plain (name_of_rule_at sheet r) (rule_named r (rule_there sheet r steps is)).characters
 
     pub path_text_is : IsPathText (path_text sheet r steps) (written_path r steps)
     path_text_is = record {
       numbers = map number_text steps;
-      pieces = pieces_are steps (codes "@" ++ rule_name sheet r) (slashes_free (rule_name sheet r) path_plain) is.small;
+      pieces = pieces_are steps (codes "@" ++ name_of_rule_at sheet r) (slashes_free (name_of_rule_at sheet r) path_plain) is.small;
       name = name_text_is r (rule_there sheet r steps is);
       steps = numbers_are steps is.small;
     }
 
     pub path_word : IsWordText (path_text sheet r steps)
     path_word = record {
-      solid = free_join is_blank (rule_name sheet r) (flat_map step_text steps) (blanks_free (rule_name sheet r) path_plain) (steps_free is_blank refl blanks_free steps is.small);
-      whole = free_join is_line_end (rule_name sheet r) (flat_map step_text steps) (ends_free (rule_name sheet r) path_plain) (steps_free is_line_end refl ends_free steps is.small);
+      solid = free_join is_blank (name_of_rule_at sheet r) (flat_map step_text steps) (blanks_free (name_of_rule_at sheet r) path_plain) (steps_free is_blank refl blanks_free steps is.small);
+      whole = free_join is_line_end (name_of_rule_at sheet r) (flat_map step_text steps) (ends_free (name_of_rule_at sheet r) path_plain) (steps_free is_line_end refl ends_free steps is.small);
       some = omega arith;
     }
 
@@ -151,7 +151,7 @@ module _ (sheet : Sheet) (formed : IsWellFormed sheet) where
     pub word : IsWordText text
     pub other : text ≢ codes ":"
 
-  literal_from : (s : Symbol) (sign : Bool) → IsSymbolOf sheet s → IsSpelledLiteral (sign_text sign ++ symbol_text sheet s) (record { what = written_symbol s; sign = sign })
+  literal_from : (s : Symbol) (sign : Bool) → IsSymbolOf sheet s → IsSpelledLiteral (claim_sign_text sign ++ symbol_text sheet s) (record { what = written_symbol s; sign = sign })
   literal_from s true of =
       let spelled = symbol_spelled s of in
       let text = symbol_text sheet s in

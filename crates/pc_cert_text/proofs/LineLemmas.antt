@@ -22,7 +22,8 @@ use Rattle.pc_log.proofs.SpanLemmas.{get_within, length_range}
 use Rattle.pc_names.specs.Listed.{NameLists}
 use Rattle.pc_reason.specs.Derivation.{AreLinesNamed, IsLineNamed, line_named, literal_named, entries_from}
 use Rattle.pc_writer.proofs.CellLemmas.{entered_cell}
-use Rattle.pc_cert_text.specs.CertificateText.{behind_blank, ended, line_text, lines_text, number_text}
+use Rattle.pc_cert_text.specs.CertificateText.{behind_blank, derivation_line_text, derivation_lines_text, number_text}
+use Rattle.pc_writer.specs.SheetText.{ended}
 use Rattle.pc_cert_text.specs.inside.Steps.{CanBeWritten, IsLiteralOf}
 
 pub all_at : {A : Type 0} (P : A → Type 0) (xs : List A) (i : ℕ) (x : A) → All P xs → slice_get xs i ≡ Some x → P x
@@ -68,9 +69,9 @@ numbered n [] = []
 numbered n (l ∷ ls) = (n, l) ∷ numbered (n + 1) ls
 
 abbrev pub numbered_text : Sheet → ℕ × Line → List ℕ
-numbered_text sheet p = ended (number_text p.0 ++ behind_blank (line_text sheet p.1))
+numbered_text sheet p = ended (number_text p.0 ++ behind_blank (derivation_line_text sheet p.1))
 
-pub lines_are_numbered : (sheet : Sheet) (n : ℕ) (ls : List Line) → flat_map (numbered_text sheet) (numbered n ls) ≡ lines_text sheet n ls
+pub lines_are_numbered : (sheet : Sheet) (n : ℕ) (ls : List Line) → flat_map (numbered_text sheet) (numbered n ls) ≡ derivation_lines_text sheet n ls
 lines_are_numbered sheet n [] = refl
 lines_are_numbered sheet n (l ∷ ls) = ap (λ rest. numbered_text sheet (n, l) ++ rest) (lines_are_numbered sheet (n + 1) ls)
 

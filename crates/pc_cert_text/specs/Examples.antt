@@ -6,10 +6,11 @@ use Rattle.pc_sheet.specs.Sheet.{listed, range, compare, implies, Sheet}
 use Rattle.pc_sheet.specs.declared.ids.ValueId.{ValueId}
 use Rattle.pc_laws.specs.Examples.{red, green, entry, equal_cells, colored, color, cell_side, color_side}
 use Rattle.pc_accept.specs.Literals.{node, positive, negative}
-use Rattle.pc_accept.specs.Axioms.{some_value, not_both, true_rule, parts, by_reads, pair_of}
+use Rattle.pc_accept.specs.Axioms.{axiom_some, axiom_one, axiom_rule, axiom_node, axiom_atom, pair_of}
 use Rattle.pc_accept.specs.Accepts.{implied, inconsistent, taken, derived, Certificate}
 use Rattle.pc_accept.specs.Examples.{claiming, both_red, steps_by}
-use Rattle.pc_cert_text.specs.CertificateText.{ended, certificate_text}
+use Rattle.pc_cert_text.specs.CertificateText.{certificate_text}
+use Rattle.pc_writer.specs.SheetText.{ended}
 
 abbrev pub text_of_lines : List (List ℕ) → List ℕ
 text_of_lines lines = flat_map ended lines
@@ -34,9 +35,9 @@ by_nodes = record {
   uses = entry 0 red ∷ [];
   values = both_red;
   lines =
-      taken (true_rule 0) ∷ taken (parts 0 [] 1) ∷ taken (by_reads 0 (0 ∷ []) (entry 0 red ∷ [])) ∷ taken (by_reads 0 (1 ∷ []) (entry 1 green ∷ [])) ∷ taken (by_reads 0 (1 ∷ []) (entry 1 blue ∷ []))
-      ∷ taken (some_value (record { 0 = 1 })) ∷ derived (negative (pair_of (entry 0 red)) ∷ positive (node 0 (1 ∷ [])) ∷ []) (0 ∷ 2 ∷ 1 ∷ [])
-      ∷ derived (negative (pair_of (entry 0 red)) ∷ positive (pair_of (entry 1 red)) ∷ []) (6 ∷ 3 ∷ 4 ∷ 5 ∷ []) ∷ taken (not_both (record { 0 = 1 }) red green)
+      taken (axiom_rule 0) ∷ taken (axiom_node 0 [] 1) ∷ taken (axiom_atom 0 (0 ∷ []) (entry 0 red ∷ [])) ∷ taken (axiom_atom 0 (1 ∷ []) (entry 1 green ∷ [])) ∷ taken (axiom_atom 0 (1 ∷ []) (entry 1 blue ∷ []))
+      ∷ taken (axiom_some (record { 0 = 1 })) ∷ derived (negative (pair_of (entry 0 red)) ∷ positive (node 0 (1 ∷ [])) ∷ []) (0 ∷ 2 ∷ 1 ∷ [])
+      ∷ derived (negative (pair_of (entry 0 red)) ∷ positive (pair_of (entry 1 red)) ∷ []) (6 ∷ 3 ∷ 4 ∷ 5 ∷ []) ∷ taken (axiom_one (record { 0 = 1 }) red green)
       ∷ derived (negative (pair_of (entry 0 red)) ∷ negative (pair_of (entry 1 green)) ∷ []) (7 ∷ 8 ∷ []) ∷ [];
 }
 
@@ -59,7 +60,7 @@ not_both_of_a_cell = record {
   claim = implied (record { cell = record { 0 = 0 }; value = green; holds = false });
   uses = entry 0 red ∷ [];
   values = entry 0 red ∷ entry 1 red ∷ entry 2 red ∷ entry 3 red ∷ entry 4 red ∷ entry 5 green ∷ [];
-  lines = taken (not_both (record { 0 = 0 }) red green) ∷ derived (negative (pair_of (entry 0 red)) ∷ negative (pair_of (entry 0 green)) ∷ []) (0 ∷ []) ∷ [];
+  lines = taken (axiom_one (record { 0 = 0 }) red green) ∷ derived (negative (pair_of (entry 0 red)) ∷ negative (pair_of (entry 0 green)) ∷ []) (0 ∷ []) ∷ [];
 }
 
 pub record WorkedTexts : Type 0 where
@@ -81,5 +82,5 @@ pub record WorkedTexts : Type 0 where
       ∷ codes "value p(-1, red) = red" ∷ codes "value p(-1, green) = red" ∷ codes "value p(0, red) = red" ∷ codes "value p(0, green) = red" ∷ codes "value p(1, red) = red" ∷ codes "value p(1, green) = green"
       ∷ codes "1 one p(-1,red) red green" ∷ codes "2 step ~p(-1,red)=red ~p(-1,red)=green : 1" ∷ codes "end" ∷ []
       )
-  pub refuted : certificate_text equal_cells (record { claim = inconsistent; uses = []; values = []; lines = taken (true_rule 0) ∷ derived [] (0 ∷ []) ∷ [] })
+  pub refuted : certificate_text equal_cells (record { claim = inconsistent; uses = []; values = []; lines = taken (axiom_rule 0) ∷ derived [] (0 ∷ []) ∷ [] })
       ≡ text_of_lines (codes "certificate 1" ∷ codes "claim inconsistent" ∷ codes "1 rule ab" ∷ codes "2 step : 1" ∷ codes "end" ∷ [])

@@ -4,7 +4,7 @@ use Rattle.pc_sheet.specs.Sheet.{Sheet}
 use Rattle.pc_sheet.specs.Entailment.{IsImplied, IsLeastSupport}
 use Rattle.pc_sheet.specs.declared.ids.Target.{Target}
 use Rattle.pc_accept.specs.Accepts.{implied, Certificate, Accepts}
-use Rattle.pc_accept.specs.Writable.{IsWritable}
+use Rattle.pc_accept.specs.Writable.{IsWritableCertificate}
 use Rattle.pc_writer.specs.Writes.{Writes}
 use Rattle.pc_cert_text.specs.CertificateText.{certificate_text}
 
@@ -13,7 +13,7 @@ pub record IsFor (sheet : Sheet) (t : Target) (c : Certificate) : Type 0 where
   pub claim : c.claim ≡ implied t
   pub least : IsLeastSupport sheet c.uses t
   pub accepted : Accepts sheet c
-  pub written : IsWritable sheet c
+  pub written : IsWritableCertificate sheet c
 
 -- of an implied target such a certificate's text is written, and of another nothing
 pub record WritesWhy {S T E : Type 0} (sheet : Sheet) (t : Target) (given : S → Option (List ℕ)) (faults : S → ℕ) (before after : S) (outcome : Result T E) : Type 0 where

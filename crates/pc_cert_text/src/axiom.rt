@@ -3,7 +3,7 @@ ghost use Rattle.std.specs.Prelude.{◌<◌, ◌^◌, ◌++◌, All, codes, leng
 ghost use Rattle.std.specs.List.{flat_map};
 ghost use Rattle.pc_sheet.specs.Entailment.{cell_sizes};
 ghost use Rattle.pc_sheet.specs.WellFormed.{IsEntryOf};
-ghost use Rattle.pc_accept.specs.Axioms.{some_value, not_both, true_rule, parts, by_reads};
+ghost use Rattle.pc_accept.specs.Axioms.{axiom_some, axiom_one, axiom_rule, axiom_node, axiom_atom};
 ghost use Rattle.pc_names.specs.Shown.{axiom_shown};
 ghost use Rattle.pc_writer.specs.Spelling.{sort_of, value_text};
 ghost use Rattle.pc_writer.specs.Writes.{Writes};
@@ -39,7 +39,7 @@ pub(crate) fn write_axiom<O: Sink>(
 
 fn write_some<O: Sink>(book: &Book, cell: CellId, out: &mut O) -> Result<(), Failed>
     requires { cell.0 < length (cell_sizes book.now.universe) }
-    ensures { Writes O.given O.faults out.old out.new result (axiom_text book.now (some_value cell)) }
+    ensures { Writes O.given O.faults out.old out.new result (axiom_text book.now (axiom_some cell)) }
 {
     write_text(b"some ", out)?;
     write_tight_cell(book, cell, out)
@@ -54,7 +54,7 @@ fn write_one<O: Sink>(
 ) -> Result<(), Failed>
     requires value { IsEntryOf book.now.universe (record { cell = cell; value = value }) }
     requires other { IsEntryOf book.now.universe (record { cell = cell; value = other }) }
-    ensures { Writes O.given O.faults out.old out.new result (axiom_text book.now (not_both cell value other)) }
+    ensures { Writes O.given O.faults out.old out.new result (axiom_text book.now (axiom_one cell value other)) }
 {
     write_text(b"one ", out)?;
     write_tight_cell(book, cell, out)?;
@@ -78,7 +78,7 @@ fn write_next_value<O: Sink>(
 
 fn write_rule<O: Sink>(book: &Book, rule: u32, out: &mut O) -> Result<(), Failed>
     requires { rule < length book.now.rules }
-    ensures { Writes O.given O.faults out.old out.new result (axiom_text book.now (true_rule rule)) }
+    ensures { Writes O.given O.faults out.old out.new result (axiom_text book.now (axiom_rule rule)) }
 {
     write_text(b"rule ", out)?;
     write_rule_name(book, rule, out)
@@ -86,7 +86,7 @@ fn write_rule<O: Sink>(book: &Book, rule: u32, out: &mut O) -> Result<(), Failed
 
 fn write_node<O: Sink>(book: &Book, path: &NodePath, number: u32, out: &mut O) -> Result<(), Failed>
     requires { IsPathOf book.now path.now.rule path.now.steps.items }
-    ensures { Writes O.given O.faults out.old out.new result (axiom_text book.now (parts path.now.rule path.now.steps.items number)) }
+    ensures { Writes O.given O.faults out.old out.new result (axiom_text book.now (axiom_node path.now.rule path.now.steps.items number)) }
 {
     write_text(b"node ", out)?;
     write_path(book, path.rule, &path.steps, out)?;
@@ -102,7 +102,7 @@ fn write_atom<O: Sink>(
 ) -> Result<(), Failed>
     requires path { IsPathOf book.now path.now.rule path.now.steps.items }
     requires reads { All (IsEntryOf book.now.universe) reads.now }
-    ensures { Writes O.given O.faults out.old out.new result (axiom_text book.now (by_reads path.now.rule path.now.steps.items reads.now)) }
+    ensures { Writes O.given O.faults out.old out.new result (axiom_text book.now (axiom_atom path.now.rule path.now.steps.items reads.now)) }
 {
     write_text(b"atom ", out)?;
     write_path(book, path.rule, &path.steps, out)?;

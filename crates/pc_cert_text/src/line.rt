@@ -8,7 +8,8 @@ ghost use Rattle.pc_log.specs.Spans.{IsSpanOf, lines_of_span};
 ghost use Rattle.pc_reason.specs.Derivation.{AreLinesNamed, line_named};
 ghost use Rattle.pc_accept.specs.Writable.{AreLinesOf};
 ghost use Rattle.pc_writer.specs.Writes.{Writes};
-ghost use Rattle.pc_cert_text.specs.CertificateText.{behind_blank, ended, lines_text, number_text};
+ghost use Rattle.pc_cert_text.specs.CertificateText.{behind_blank, derivation_lines_text, number_text};
+ghost use Rattle.pc_writer.specs.SheetText.{ended};
 ghost use Rattle.pc_cert_text.specs.inside.Steps.{CanBeWritten, hint_text, IsLiteralOf, logged_text, spaced_literal_text, step_text};
 
 use crate::axiom::write_axiom;
@@ -27,7 +28,7 @@ pub(crate) fn write_lines<O: Sink>(book: &Book, proof: Proof<'_>, out: &mut O) -
     requires span { IsSpanOf proof.log.now proof.span }
     requires named { AreLinesNamed proof.names.now (lines_of_span proof.log.now proof.span) }
     requires written { AreLinesOf book.now 0 (map (line_named proof.names.now) (lines_of_span proof.log.now proof.span)) }
-    ensures { Writes O.given O.faults out.old out.new result (lines_text book.now 1 (map (line_named proof.entry.names.now) (lines_of_span proof.entry.log.now proof.entry.span))) }
+    ensures { Writes O.given O.faults out.old out.new result (derivation_lines_text book.now 1 (map (line_named proof.entry.names.now) (lines_of_span proof.entry.log.now proof.entry.span))) }
 {
     let first = proof.span.first.0;
     let last = proof.span.last.0;

@@ -4,7 +4,7 @@ ghost use Rattle.pc_accept.specs.Literals.{Symbol};
 ghost use Rattle.pc_names.specs.Shown.{symbol_shown};
 ghost use Rattle.pc_reason.specs.Derivation.{literal_named, symbol_named};
 ghost use Rattle.pc_writer.specs.Writes.{Writes};
-ghost use Rattle.pc_cert_text.specs.CertificateText.{literal_text, sign_text, symbol_text};
+ghost use Rattle.pc_cert_text.specs.CertificateText.{literal_text, claim_sign_text, symbol_text};
 ghost use Rattle.pc_accept.specs.Writable.{IsSymbolOf};
 
 use crate::path::write_path;
@@ -32,7 +32,7 @@ pub(crate) fn write_literal<O: Sink>(
 }
 
 fn write_sign<O: Sink>(sign: bool, out: &mut O) -> Result<(), Failed>
-    ensures { Writes O.given O.faults out.old out.new result (sign_text sign) }
+    ensures { Writes O.given O.faults out.old out.new result (claim_sign_text sign) }
 {
     if sign { Ok(()) } else { write_text(b"~", out) }
 }

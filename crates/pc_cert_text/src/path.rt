@@ -2,7 +2,7 @@
 ghost use Rattle.std.specs.Prelude.{◌<◌, ◌++◌, codes, length};
 ghost use Rattle.std.specs.List.{flat_map};
 ghost use Rattle.pc_writer.specs.Writes.{Writes};
-ghost use Rattle.pc_cert_text.specs.CertificateText.{number_text, path_text, rule_name};
+ghost use Rattle.pc_cert_text.specs.CertificateText.{number_text, path_text, name_of_rule_at};
 
 use crate::number::write_number;
 use pc_logic::Book;
@@ -27,7 +27,7 @@ pub(crate) fn write_path<O: Sink>(
 /// Writes the name of a rule.
 pub(crate) fn write_rule_name<O: Sink>(book: &Book, rule: u32, out: &mut O) -> Result<(), Failed>
     requires { rule < length book.now.rules }
-    ensures { Writes O.given O.faults out.old out.new result (rule_name book.now rule) }
+    ensures { Writes O.given O.faults out.old out.new result (name_of_rule_at book.now rule) }
 {
     write_text(book.rules()[rule as usize].name.as_str().as_bytes(), out)
 }

@@ -3,15 +3,15 @@ use Rattle.std.proofs.Common.{◌↔◌, map, Contains, ap}
 use Rattle.std.proofs.lemmas.List.Elements.{All-map}
 use Rattle.pc_sheet.specs.Sheet.{Sheet}
 use Rattle.pc_sheet.specs.Entailment.{HasEntry}
-use Rattle.pc_accept.specs.Accepts.{Claim, implied, inconsistent, Derives, AcceptsClaim}
-use Rattle.pc_cert.specs.Text.{Reading, entry_said, lines_from}
+use Rattle.pc_accept.specs.Accepts.{Claim, implied, inconsistent, DerivesClause, AcceptsClaim}
+use Rattle.pc_cert.specs.Text.{CertificateReading, entry_said, lines_from}
 use Rattle.pc_checker.specs.Verdicts.{values_in, allowed_by, ClaimStands}
 use Rattle.pc_checker.specs.Laws.{AcceptedIsAccepts}
 use Rattle.pc_cert.specs.ReadFor.{IsBare}
 use Rattle.pc_checker.proofs.ListLemmas.{all_mapped}
 
-accepts : (sheet : Sheet) (t : Reading) (claim : Claim) → IsBare t claim
-    → (ClaimStands sheet t claim × Derives sheet (lines_from 0 t.parts) (allowed_by t claim)) ↔ AcceptsClaim sheet (map entry_said t.uses) (map entry_said t.values) (lines_from 0 t.parts) claim
+accepts : (sheet : Sheet) (t : CertificateReading) (claim : Claim) → IsBare t claim
+    → (ClaimStands sheet t claim × DerivesClause sheet (lines_from 0 t.parts) (allowed_by t claim)) ↔ AcceptsClaim sheet (map entry_said t.uses) (map entry_said t.values) (lines_from 0 t.parts) claim
 accepts sheet t (implied target) bare = (
   λ h. record {
     entered = All-map (Contains sheet.entries) entry_said t.uses h.0.entered;

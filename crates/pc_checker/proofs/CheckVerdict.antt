@@ -4,7 +4,7 @@ use Rattle.std.proofs.lemmas.Bool.{iff_false}
 use Rattle.std.proofs.lemmas.List.{get_or_default}
 use Rattle.pc_lits.specs.declared.literal.Lit.{Lit}
 use Rattle.pc_sheet.specs.Sheet.{Sheet}
-use Rattle.pc_cert.specs.Text.{Reading}
+use Rattle.pc_cert.specs.Text.{CertificateReading}
 use Rattle.pc_cert.specs.Views.{symbols_of, reading_of}
 use Rattle.pc_cert.specs.declared.cert.CertLine.{CertLine}
 use Rattle.pc_cert.specs.declared.cert.Cert.{Cert}
@@ -16,7 +16,7 @@ use Rattle.pc_checker.specs.inside.Parts.{IsClaimVerdict, AreGoodBelow, IsFirstB
 use Rattle.pc_checker.specs.Verdicts.{ClaimStands, IsVerdict}
 use Rattle.pc_checker.proofs.CheckedLines.{no_line, first_at_fault, derivation, ends, fault_verdict}
 
-pub claim_stands : (sheet : Sheet) (r : Reading) (o : Option Verdict) → o ≡ None → IsClaimVerdict sheet r o → ClaimStands sheet r r.claim
+pub claim_stands : (sheet : Sheet) (r : CertificateReading) (o : Option Verdict) → o ≡ None → IsClaimVerdict sheet r o → ClaimStands sheet r r.claim
 claim_stands sheet r o none h = subst (IsClaimVerdict sheet r) none h
 
 module _ (sheet : Sheet) (c : Cert) (s : Scratch) (made : IsMadeFor sheet c s) (stands : ClaimStands sheet (reading_of c) (reading_of c).claim) where

@@ -7,19 +7,17 @@ use Rattle.pc_sheet.specs.Sheet.{Sheet}
 use Rattle.pc_accept.specs.Literals.{Symbol, Literal, opposite}
 use Rattle.pc_accept.specs.Axioms.{IsClauseOf}
 use Rattle.pc_accept.specs.Accepts as accepts
-use Rattle.pc_accept.specs.Accepts.{IsLineClause, IsDerivation, EndsWithin, Derives}
+use Rattle.pc_accept.specs.Accepts.{IsLineClause, AreLineClauses, EndsWithin, DerivesClause}
 use Rattle.pc_names.specs.Views.{axiom_of}
 use Rattle.pc_names.specs.declared.axiom_name.AxiomName.TheVariants.{Any}
-use Rattle.pc_cert.specs.Written.{Part}
-use Rattle.pc_cert.specs.Text.{Reading, line_of, lines_from}
-use Rattle.pc_cert.specs.Views.{literal_of, part_of, numbered_part_of}
+use Rattle.pc_cert.specs.Written.{CertificatePart}
+use Rattle.pc_cert.specs.Text.{CertificateReading, line_of, lines_from}
+use Rattle.pc_cert.specs.Views.{literal_of, part_of, numbered_part_of, AreSymbolsDistinct}
 use Rattle.pc_cert.specs.declared.cert.CertPart.{CertPart}
 use Rattle.pc_cert.specs.declared.cert.CertPart.TheVariants.{Axiom, Step}
 use Rattle.pc_cert.specs.declared.cert.CertLine.{CertLine}
-use Rattle.pc_cert.specs.Views.{AreDistinct}
-use Rattle.pc_cert.specs.ReadFor.{IsNamedIn}
+use Rattle.pc_cert.specs.ReadFor.{IsNamedIn, IsPartOver}
 use Rattle.pc_checker.specs.Made.{IsPrepared}
-use Rattle.pc_cert.specs.ReadFor.{IsPartOver}
 use Rattle.pc_checker.specs.inside.Parts.{places_meant, IsGoodPart, AreGoodBelow, EndsAmong, fault_by}
 use Rattle.pc_checker.specs.Verdicts.{Numbered, IsFirstAtFault, ClaimStands, IsVerdict}
 use Rattle.pc_checker.proofs.ListLemmas.{cut_at}
@@ -38,7 +36,7 @@ unmarked false P Q is never = absurd (never is)
 abbrev pub no_line : CertLine
 no_line = record { line = 0; part = Axiom (Any (record { 0 = 0 })) }
 
-module _ (sheet : Sheet) (symbols more : List Symbol) (distinct : AreDistinct (symbols ++ more)) (clauses : List (List Lit)) (axioms : List Bool) (lines : List CertLine)
+module _ (sheet : Sheet) (symbols more : List Symbol) (distinct : AreSymbolsDistinct (symbols ++ more)) (clauses : List (List Lit)) (axioms : List Bool) (lines : List CertLine)
     (count : length clauses ≡ length lines) (within : All (All (IsNamedIn (symbols ++ more))) clauses) (over : All (λ l. IsPartOver sheet symbols l.part) lines)
     (each : (i : ℕ) (d : CertLine) → i < length lines → IsPrepared sheet (symbols ++ more) (get_or clauses i []) (get_or axioms i false) (get_or lines i d).part) where
   abbrev names : List Symbol
@@ -47,10 +45,10 @@ module _ (sheet : Sheet) (symbols more : List Symbol) (distinct : AreDistinct (s
   abbrev named_clauses : List (List Literal)
   named_clauses = map (map (literal_of names)) clauses
 
-  abbrev parts : List (Numbered Part)
+  abbrev parts : List (Numbered CertificatePart)
   parts = map (numbered_part_of symbols) lines
 
-  abbrev no_part : Numbered Part
+  abbrev no_part : Numbered CertificatePart
   no_part = numbered_part_of symbols no_line
 
   clause_at : (i : ℕ) → i < length lines → get_or named_clauses i [] ≡ map (literal_of names) (get_or clauses i [])
@@ -87,11 +85,11 @@ module _ (sheet : Sheet) (symbols more : List Symbol) (distinct : AreDistinct (s
   line_before : (k i : ℕ) (e : accepts.Line) → i < k → k ≤ length lines → get_or (lines_from 0 (take k parts)) i e ≡ line_of i (part_of symbols (get_or lines i no_line).part)
   line_before k i e less most =
       let count_parts : length (take k parts) ≡ k = length-take-le k parts (omega (arith, length-map lines (numbered_part_of symbols))) in
-      let says : Numbered Part → accepts.Line = λ p. line_of i p.1 in
+      let says : Numbered CertificatePart → accepts.Line = λ p. line_of i p.1 in
       let at : ℕ → accepts.Line = λ n. line_of n (get_or (take k parts) i no_part).1 in
       line_at 0 (take k parts) i no_part e (omega arith) ∙ ap at (zero-add i) ∙ ap says (get_or-take k parts i no_part less ∙ part_at i (omega arith))
 
-  derivation_before : (k : ℕ) → k ≤ length lines → AreGoodBelow clauses axioms lines k → IsDerivation sheet (lines_from 0 (take k parts)) (take k named_clauses)
+  derivation_before : (k : ℕ) → k ≤ length lines → AreGoodBelow clauses axioms lines k → AreLineClauses sheet (lines_from 0 (take k parts)) (take k named_clauses)
   derivation_before k most good =
       let count_parts : length (take k parts) ≡ k = length-take-le k parts (omega (arith, length-map lines (numbered_part_of symbols))) in
       let count_lines : length (lines_from 0 (take k parts)) ≡ k = length-lines_from 0 (take k parts) ∙ count_parts in
@@ -132,13 +130,13 @@ module _ (sheet : Sheet) (symbols more : List Symbol) (distinct : AreDistinct (s
 
   -- ---- all lines
 
-  pub derivation : AreGoodBelow clauses axioms lines (length lines) → IsDerivation sheet (lines_from 0 parts) named_clauses
+  pub derivation : AreGoodBelow clauses axioms lines (length lines) → AreLineClauses sheet (lines_from 0 parts) named_clauses
   derivation good =
       let n = length lines in
       let all = derivation_before n (omega arith) good in
       let same_clauses : take n named_clauses ≡ named_clauses = take_all n named_clauses (omega (arith, length-map clauses (map (literal_of names)))) in
       let same_parts : take n parts ≡ parts = take_all n parts (omega (arith, length-map lines (numbered_part_of symbols))) in
-      subst (λ ps. IsDerivation sheet (lines_from 0 ps) named_clauses) same_parts (subst (IsDerivation sheet (lines_from 0 (take n parts))) same_clauses all)
+      subst (λ ps. AreLineClauses sheet (lines_from 0 ps) named_clauses) same_parts (subst (AreLineClauses sheet (lines_from 0 (take n parts))) same_clauses all)
 
   pub ends : (allowed : List Lit) (literals : List Literal) → All (IsNamedIn names) allowed → map (literal_of names) allowed ≡ literals
       → (EndsAmong clauses allowed → EndsWithin named_clauses literals) × (EndsWithin named_clauses literals → EndsAmong clauses allowed)
@@ -147,7 +145,7 @@ module _ (sheet : Sheet) (symbols more : List Symbol) (distinct : AreDistinct (s
       (λ h. subst (EndsWithin named_clauses) same (both.0 h), λ h. both.1 (subst (EndsWithin named_clauses) (sym same) h))
 
 -- the verdict on a line at fault
-pub fault_verdict : (sheet : Sheet) (r : Reading) (symbols : List Symbol) (line : ℕ) (part : CertPart) → ClaimStands sheet r r.claim → IsFirstAtFault sheet r.parts (line, part_of symbols part)
+pub fault_verdict : (sheet : Sheet) (r : CertificateReading) (symbols : List Symbol) (line : ℕ) (part : CertPart) → ClaimStands sheet r r.claim → IsFirstAtFault sheet r.parts (line, part_of symbols part)
     → IsVerdict sheet r (fault_by line part)
 fault_verdict sheet r symbols line (Axiom a) stands at = (stands, (axiom_of a, at))
 fault_verdict sheet r symbols line (Step clause hints) stands at = (stands, (_, _, at))

@@ -6,7 +6,7 @@ use Rattle.pc_sheet.specs.Entailment.{cell_sizes}
 use Rattle.pc_sheet.specs.WellFormed.{IsEntryOf}
 use Rattle.pc_sheet.specs.declared.ids.Entry.{Entry}
 use Rattle.pc_sheet.specs.declared.ids.ValueId.{ValueId}
-use Rattle.pc_cert.specs.Text.{Reading}
+use Rattle.pc_cert.specs.Text.{CertificateReading}
 use Rattle.pc_cert.specs.Views.{said_of, reading_of}
 use Rattle.pc_cert.specs.declared.cert.Cert.{Cert}
 use Rattle.pc_cert.specs.declared.cert.Said.{Said}
@@ -18,7 +18,7 @@ use Rattle.pc_checker.proofs.ClaimLemmas.{some_and, values_assign, within_length
 use Rattle.std.proofs.lemmas.Option.{slice_get_within}
 
 module _ (sheet : Sheet) (c : Cert) (read : IsReadFor sheet c) where
-  abbrev r : Reading
+  abbrev r : CertificateReading
   r = reading_of c
 
   said : All (λ (e : Numbered Entry). IsEntryOf sheet.universe e.1) r.values

@@ -13,18 +13,17 @@ use Rattle.pc_values.specs.Hints.{clauses_at}
 use Rattle.pc_sheet.specs.Sheet.{Sheet}
 use Rattle.pc_accept.specs.Literals.{Symbol, node, Literal, opposite}
 use Rattle.pc_accept.specs.Accepts as accepts
-use Rattle.pc_accept.specs.Accepts.{IsLineClause, IsDerivation, EndsWithin}
-use Rattle.pc_cert.specs.Written.{Part}
+use Rattle.pc_accept.specs.Accepts.{IsLineClause, AreLineClauses, EndsWithin}
+use Rattle.pc_cert.specs.Written.{CertificatePart}
 use Rattle.pc_cert.specs.Text.{line_of, lines_from}
-use Rattle.pc_cert.specs.Views.{symbol_at, literal_of}
-use Rattle.pc_cert.specs.Views.{AreDistinct}
+use Rattle.pc_cert.specs.Views.{symbol_at, literal_of, AreSymbolsDistinct}
 use Rattle.pc_cert.specs.ReadFor.{IsNamedIn}
 use Rattle.pc_checker.specs.inside.Parts.{EndsAmong}
 use Rattle.pc_checker.specs.Verdicts.{Numbered}
 
 -- ---- names
 
-module _ (names : List Symbol) (distinct : AreDistinct names) where
+module _ (names : List Symbol) (distinct : AreSymbolsDistinct names) where
   same_symbol : (i j : ℕ) → i < length names → j < length names → symbol_at names i ≡ symbol_at names j → i ≡ j
   same_symbol i j l m same = elim (cases_order i j) [
     | inl is ↦ is
@@ -107,11 +106,11 @@ kept_names symbols more (l ∷ ls) ok =
 
 -- ---- lines
 
-pub length-lines_from : (i : ℕ) (ps : List (Numbered Part)) → length (lines_from i ps) ≡ length ps
+pub length-lines_from : (i : ℕ) (ps : List (Numbered CertificatePart)) → length (lines_from i ps) ≡ length ps
 length-lines_from i [] = refl
 length-lines_from i (p ∷ ps) = ap suc (length-lines_from (i + 1) ps)
 
-pub line_at : (i : ℕ) (ps : List (Numbered Part)) (k : ℕ) (d : Numbered Part) (e : accepts.Line) → k < length ps → get_or (lines_from i ps) k e ≡ line_of (i + k) (get_or ps k d).1
+pub line_at : (i : ℕ) (ps : List (Numbered CertificatePart)) (k : ℕ) (d : Numbered CertificatePart) (e : accepts.Line) → k < length ps → get_or (lines_from i ps) k e ≡ line_of (i + k) (get_or ps k d).1
 line_at i [] k d e within = absurd (omega arith)
 line_at i (p ∷ ps) zero d e within = let n : ℕ → accepts.Line = λ n. line_of n p.1 in ap n (let same : i ≡ i + 0 = omega arith in same)
 line_at i (p ∷ ps) (suc k) d e within =

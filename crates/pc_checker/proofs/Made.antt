@@ -2,26 +2,25 @@
 use Rattle.std.proofs.Common.{◌≡◌, List, [], ◌++◌, map, length, get_or, false, All, ap, ◌∙◌, subst}
 use Rattle.pc_sheet.specs.Sheet.{Sheet}
 use Rattle.pc_accept.specs.Literals.{Symbol}
-use Rattle.pc_cert.specs.Views.{literal_of, symbols_of, reading_of}
+use Rattle.pc_cert.specs.Views.{literal_of, symbols_of, reading_of, AreSymbolsDistinct}
 use Rattle.pc_cert.specs.declared.cert.Cert.{Cert}
 use Rattle.pc_cert.specs.declared.cert.CertLine.{CertLine}
 use Rattle.pc_checker.specs.declared.scratch.Scratch.{Scratch}
-use Rattle.pc_cert.specs.Views.{AreDistinct}
-use Rattle.pc_cert.specs.ReadFor.{IsNamedIn}
+use Rattle.pc_cert.specs.ReadFor.{IsNamedIn, IsReadFor}
 use Rattle.pc_checker.specs.Entered.{AreEnteredValues}
 use Rattle.pc_checker.specs.Made.{IsPrepared, IsMadeFor}
-use Rattle.pc_cert.specs.ReadFor.{IsReadFor}
-use Rattle.pc_checker.specs.Drafts.{Grows, Draft, AreWritten}
+use Rattle.pc_checker.specs.Drafts.{Draft, AreWritten}
+use Rattle.pc_cert.specs.Numbered.{StartsWith}
 use Rattle.pc_checker.specs.inside.Prepared.{ArePrepared}
 use Rattle.pc_checker.specs.Verdicts.{values_in, allowed_in}
 use Rattle.pc_checker.proofs.RoomLemmas.{prepared_grown}
 
 pub made : (sheet : Sheet) (c : Cert) (s : Scratch) (lines : List CertLine) (start mid last : Draft) (first : List Symbol) → IsReadFor sheet c → lines ≡ c.lines.items → first ≡ symbols_of c
     → ArePrepared sheet lines (length lines) first mid.symbols s.clauses s.axioms.items → start.symbols ≡ mid.symbols → start.clause ≡ [] → AreWritten start last (allowed_in (reading_of c))
-    → map (literal_of last.symbols) s.allowed.items ≡ last.clause → All (IsNamedIn last.symbols) s.allowed.items → length s.values ≡ length last.symbols → AreDistinct last.symbols
+    → map (literal_of last.symbols) s.allowed.items ≡ last.clause → All (IsNamedIn last.symbols) s.allowed.items → length s.values ≡ length last.symbols → AreSymbolsDistinct last.symbols
     → s.assignment ≡ values_in (reading_of c) → AreEnteredValues sheet s.entered.items → IsMadeFor sheet c s
 made sheet c s lines start mid last first read same_lines same_first are begun blank written literals within room distinct values entered =
-    let grows : Grows mid.symbols last.symbols = subst (λ (xs : List Symbol). Grows xs last.symbols) begun written.grows in
+    let grows : StartsWith mid.symbols last.symbols = subst (λ (xs : List Symbol). StartsWith xs last.symbols) begun written.grows in
     let ready = prepared_grown sheet c.lines.items (length c.lines.items) (symbols_of c) mid.symbols last.symbols s.clauses s.axioms.items grows
     (subst (λ (xs : List Symbol). ArePrepared sheet c.lines.items (length c.lines.items) xs mid.symbols s.clauses s.axioms.items) same_first
     (subst (λ ls. ArePrepared sheet ls (length ls) first mid.symbols s.clauses s.axioms.items) same_lines are)) in
@@ -31,7 +30,7 @@ made sheet c s lines start mid last first read same_lines same_first are begun b
       read = read;
       prepared = record {
         more = names.0;
-        distinct = subst AreDistinct names.1 distinct;
+        distinct = subst AreSymbolsDistinct names.1 distinct;
         room = room ∙ ap length names.1;
         entered = entered;
         assignment = values;

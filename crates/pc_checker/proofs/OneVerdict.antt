@@ -8,10 +8,10 @@ use Rattle.pc_sheet.specs.declared.ids.Entry.{Entry}
 use Rattle.pc_sheet.specs.declared.ids.ValueId.{ValueId}
 use Rattle.pc_accept.specs.Literals.{Literal}
 use Rattle.pc_accept.specs.Accepts as accepts
-use Rattle.pc_accept.specs.Accepts.{Claim, implied, inconsistent, IsLineClause, IsDerivation, EndsWithin, AreInCellOrder, value_of_entry}
+use Rattle.pc_accept.specs.Accepts.{Claim, implied, inconsistent, IsLineClause, AreLineClauses, EndsWithin, AreInCellOrder, value_of_entry}
 use Rattle.pc_accept.proofs.Determined.{one_derivation}
-use Rattle.pc_cert.specs.Written.{Part}
-use Rattle.pc_cert.specs.Text.{Reading, entry_said, line_of, lines_from}
+use Rattle.pc_cert.specs.Written.{CertificatePart}
+use Rattle.pc_cert.specs.Text.{CertificateReading, entry_said, line_of, lines_from}
 use Rattle.pc_checker.specs.declared.verdict.Verdict.{Verdict}
 use Rattle.pc_checker.specs.declared.verdict.Verdict.TheVariants.{UseNotEntered, BadValues, UseNotHeld, RuleBroken, BadAxiom, BadStep, WrongEnd, Accepted}
 use Rattle.pc_checker.specs.Laws.{VerdictsAreOne}
@@ -42,7 +42,7 @@ in_turn before after x order =
     let here : get_or (map entry_said all) (length before) x.1 ≡ x.1 = get_or-map entry_said all (length before) x x.1 within ∙ ap entry_said (get_or_at before x after x (length before) refl) in
     ap cell (sym here) ∙ order.cells (length before) x.1 (omega (arith, length-map all entry_said))
 
-module _ (sheet : Sheet) (r : Reading) where
+module _ (sheet : Sheet) (r : CertificateReading) where
   astray_ordered : (x : Numbered Entry) → IsFirstAstray r.values x → AreInCellOrder (map entry_said r.values) → ⊥
   astray_ordered x h order = h.astray (in_turn h.before h.after x (subst (λ (vs : List (Numbered Entry)). AreInCellOrder (map entry_said vs)) h.are order))
 
@@ -75,17 +75,17 @@ one_broken sheet a i j h g = elim (cases_order i j) [ inl same ↦ same | inr (i
 
 -- ---- lines
 
-module _ (sheet : Sheet) (before after : List (Numbered Part)) (x : Numbered Part) (cs ds : List (List Literal)) (short : IsDerivation sheet (lines_from 0 before) cs) (long : IsDerivation sheet (lines_from 0 (before ++ x ∷ after)) ds) where
+module _ (sheet : Sheet) (before after : List (Numbered CertificatePart)) (x : Numbered CertificatePart) (cs ds : List (List Literal)) (short : AreLineClauses sheet (lines_from 0 before) cs) (long : AreLineClauses sheet (lines_from 0 (before ++ x ∷ after)) ds) where
   abbrev n : ℕ
   n = length before
 
-  abbrev all : List (Numbered Part)
+  abbrev all : List (Numbered CertificatePart)
   all = before ++ x ∷ after
 
   counts : (length ds ≡ length all) × (n < length all)
   counts = (long.count ∙ length-lines_from 0 all, omega (arith, length-append before (x ∷ after)))
 
-  front : IsDerivation sheet (lines_from 0 before) (take n ds)
+  front : AreLineClauses sheet (lines_from 0 before) (take n ds)
   front =
       let c = counts in
       let count : length (take n ds) ≡ n = length-take-le n ds (omega (arith, c.0, c.1)) in
@@ -93,7 +93,7 @@ module _ (sheet : Sheet) (before after : List (Numbered Part)) (x : Numbered Par
         count = count ∙ sym (length-lines_from 0 before);
         each = λ i e l.
             let lower : i < n = omega (arith, length-lines_from 0 before) in
-            let line : Numbered Part → accepts.Line = λ p. line_of (0 + i) p.1 in
+            let line : Numbered CertificatePart → accepts.Line = λ p. line_of (0 + i) p.1 in
             let same : get_or (lines_from 0 before) i e ≡ get_or (lines_from 0 all) i e =
             line_at 0 before i x e lower ∙ ap line (sym (get_or_append_left before (x ∷ after) x i lower)) ∙ sym (line_at 0 all i x e (omega (arith, c.1)))
             in
@@ -109,30 +109,30 @@ module _ (sheet : Sheet) (before after : List (Numbered Part)) (x : Numbered Par
       let c = counts in
       let none : accepts.Line = accepts.derived [] [] in
       let at : ℕ → accepts.Line = λ m. line_of m (get_or all n x).1 in
-      let line : Numbered Part → accepts.Line = λ p. line_of n p.1 in
+      let line : Numbered CertificatePart → accepts.Line = λ p. line_of n p.1 in
       let same : get_or (lines_from 0 all) n none ≡ line_of n x.1 = line_at 0 all n x none c.1 ∙ ap at (zero-add n) ∙ ap line (get_or_at before x after x n refl) in
       let is = subst (λ k. IsLineClause sheet ds n k (get_or ds n [])) same (long.each n none (omega (arith, length-lines_from 0 all, c.1))) in
       let equal : cs ≡ take n ds = one_derivation sheet (lines_from 0 before) cs (take n ds) short front in
       same_line sheet ds cs n (line_of n x.1) (get_or ds n []) (λ j less. sym (ap (λ ks. get_or ks j []) equal ∙ get_or-take n ds j [] less)) is
 
-module _ (sheet : Sheet) (ps : List (Numbered Part)) where
-  not_derived : (x : Numbered Part) (ds : List (List Literal)) → IsFirstAtFault sheet ps x → IsDerivation sheet (lines_from 0 ps) ds → ⊥
-  not_derived x ds h d = h.fault _ (middle sheet h.before h.after x h.clauses ds h.derivation (subst (λ (qs : List (Numbered Part)). IsDerivation sheet (lines_from 0 qs) ds) h.are d))
+module _ (sheet : Sheet) (ps : List (Numbered CertificatePart)) where
+  not_derived : (x : Numbered CertificatePart) (ds : List (List Literal)) → IsFirstAtFault sheet ps x → AreLineClauses sheet (lines_from 0 ps) ds → ⊥
+  not_derived x ds h d = h.fault _ (middle sheet h.before h.after x h.clauses ds h.derivation (subst (λ (qs : List (Numbered CertificatePart)). AreLineClauses sheet (lines_from 0 qs) ds) h.are d))
 
-  one_at_fault : (x y : Numbered Part) → IsFirstAtFault sheet ps x → IsFirstAtFault sheet ps y → x ≡ y
+  one_at_fault : (x y : Numbered CertificatePart) → IsFirstAtFault sheet ps x → IsFirstAtFault sheet ps y → x ≡ y
   one_at_fault x y h g = elim (two_cuts h.before h.after g.before g.after x y (sym h.are ∙ g.are)) [
     | inl e ↦ e.0
-    | inr (inl e) ↦ absurd (h.fault _ (middle sheet h.before e.0 x h.clauses g.clauses h.derivation (subst (λ (qs : List (Numbered Part)). IsDerivation sheet (lines_from 0 qs) g.clauses) e.1 g.derivation)))
-    | inr (inr e) ↦ absurd (g.fault _ (middle sheet g.before e.0 y g.clauses h.clauses g.derivation (subst (λ (qs : List (Numbered Part)). IsDerivation sheet (lines_from 0 qs) h.clauses) e.1 h.derivation)))
+    | inr (inl e) ↦ absurd (h.fault _ (middle sheet h.before e.0 x h.clauses g.clauses h.derivation (subst (λ (qs : List (Numbered CertificatePart)). AreLineClauses sheet (lines_from 0 qs) g.clauses) e.1 g.derivation)))
+    | inr (inr e) ↦ absurd (g.fault _ (middle sheet g.before e.0 y g.clauses h.clauses g.derivation (subst (λ (qs : List (Numbered CertificatePart)). AreLineClauses sheet (lines_from 0 qs) h.clauses) e.1 h.derivation)))
   ]
 
 -- ---- verdicts
 
-stands_of : (sheet : Sheet) (r : Reading) (claim : Claim) → IsOnTarget claim → ClaimStands sheet r claim → Stands sheet r
+stands_of : (sheet : Sheet) (r : CertificateReading) (claim : Claim) → IsOnTarget claim → ClaimStands sheet r claim → Stands sheet r
 stands_of sheet r (implied t) on h = h
 stands_of sheet r inconsistent on h = absurd on
 
-module _ (sheet : Sheet) (r : Reading) where
+module _ (sheet : Sheet) (r : CertificateReading) where
   abbrev number : {X : Type 0} → Numbered X → ℕ
   number x = x.0
 
@@ -190,8 +190,8 @@ module _ (sheet : Sheet) (r : Reading) where
   fifth a (BadValues b) h g = sym (second b (BadAxiom a) g h)
   fifth a (UseNotHeld b) h g = sym (third b (BadAxiom a) g h)
   fifth a (RuleBroken b) h g = sym (fourth b (BadAxiom a) g h)
-  fifth a (BadAxiom b) h g = ap BadAxiom (let n : Numbered Part → ℕ = λ x. x.0 in ap n (one_at_fault sheet r.parts _ _ h.1.1 g.1.1))
-  fifth a (BadStep b) h g = absurd (let p : Numbered Part → Part = λ x. x.1 in let e = ap p (one_at_fault sheet r.parts _ _ h.1.1 g.1.2) in cc e)
+  fifth a (BadAxiom b) h g = ap BadAxiom (let n : Numbered CertificatePart → ℕ = λ x. x.0 in ap n (one_at_fault sheet r.parts _ _ h.1.1 g.1.1))
+  fifth a (BadStep b) h g = absurd (let p : Numbered CertificatePart → CertificatePart = λ x. x.1 in let e = ap p (one_at_fault sheet r.parts _ _ h.1.1 g.1.2) in cc e)
   fifth a WrongEnd h g = absurd (not_derived sheet r.parts _ g.1.clauses h.1.1 g.1.derivation)
   fifth a Accepted h g = absurd (not_derived sheet r.parts _ g.1.clauses h.1.1 g.1.derivation)
 
@@ -201,7 +201,7 @@ module _ (sheet : Sheet) (r : Reading) where
   sixth a (UseNotHeld b) h g = sym (third b (BadStep a) g h)
   sixth a (RuleBroken b) h g = sym (fourth b (BadStep a) g h)
   sixth a (BadAxiom b) h g = sym (fifth b (BadStep a) g h)
-  sixth a (BadStep b) h g = ap BadStep (let n : Numbered Part → ℕ = λ x. x.0 in ap n (one_at_fault sheet r.parts _ _ h.1.2 g.1.2))
+  sixth a (BadStep b) h g = ap BadStep (let n : Numbered CertificatePart → ℕ = λ x. x.0 in ap n (one_at_fault sheet r.parts _ _ h.1.2 g.1.2))
   sixth a WrongEnd h g = absurd (not_derived sheet r.parts _ g.1.clauses h.1.2 g.1.derivation)
   sixth a Accepted h g = absurd (not_derived sheet r.parts _ g.1.clauses h.1.2 g.1.derivation)
 

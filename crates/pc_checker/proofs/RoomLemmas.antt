@@ -10,22 +10,21 @@ use Rattle.pc_accept.specs.Axioms.{IsClauseOf, negated_entry}
 use Rattle.pc_accept.specs.Accepts.{value_of_entry}
 use Rattle.pc_names.specs.Views.{axiom_of}
 use Rattle.pc_cert.specs.Text.{entry_said}
-use Rattle.pc_cert.specs.Views.{said_of, symbol_of, symbol_at}
+use Rattle.pc_cert.specs.Views.{said_of, symbol_of, symbol_at, AreSymbolsDistinct}
 use Rattle.pc_cert.specs.declared.cert.Symbol.{Symbol as SymbolRead}
 use Rattle.pc_cert.specs.declared.cert.Said.{Said}
 use Rattle.pc_cert.specs.declared.cert.CertPart.{CertPart}
 use Rattle.pc_cert.specs.declared.cert.CertPart.TheVariants.{Axiom, Step}
 use Rattle.pc_cert.specs.declared.cert.CertLine.{CertLine}
-use Rattle.pc_cert.specs.Views.{AreDistinct}
 use Rattle.pc_cert.specs.ReadFor.{IsNamedIn, IsPartOver}
 use Rattle.pc_checker.specs.Made.{IsPrepared, value_said}
 use Rattle.pc_cert.specs.Keys.{IsNumberedAs}
-use Rattle.pc_checker.specs.Drafts.{Grows}
+use Rattle.pc_cert.specs.Numbered.{StartsWith}
 use Rattle.pc_checker.specs.inside.Prepared.{IsLinePrepared, ArePrepared}
 use Rattle.pc_checker.proofs.AxiomLemmas.{match_along}
 use Rattle.pc_checker.proofs.DraftLemmas.{grows_on, named_still, names_still}
 
-pub numbered_more : (symbols : List SymbolRead) (i : ℕ) (x : SymbolRead) (old new : List Symbol) (n : ℕ) → i < length symbols → x ≡ get_or symbols i x → AreDistinct (map symbol_of symbols)
+pub numbered_more : (symbols : List SymbolRead) (i : ℕ) (x : SymbolRead) (old new : List Symbol) (n : ℕ) → i < length symbols → x ≡ get_or symbols i x → AreSymbolsDistinct (map symbol_of symbols)
     → old ≡ map symbol_of (take i symbols) → IsNumberedAs old new (symbol_of x) n → new ≡ map symbol_of (take (i + 1) symbols)
 numbered_more symbols i x old new n within is distinct so numbered =
     let all = map symbol_of symbols in
@@ -54,17 +53,17 @@ values_mapped (s ∷ values) = ap (λ vs. s.entry.value ∷ vs) (values_mapped v
 
 -- ---- lines
 
-prepared_still : (sheet : Sheet) (old new : List Symbol) (clause : List Lit) (good : Bool) (part : CertPart) → Grows old new → All (IsNamedIn old) clause → IsPrepared sheet old clause good part → IsPrepared sheet new clause good part
+prepared_still : (sheet : Sheet) (old new : List Symbol) (clause : List Lit) (good : Bool) (part : CertPart) → StartsWith old new → All (IsNamedIn old) clause → IsPrepared sheet old clause good part → IsPrepared sheet new clause good part
 prepared_still sheet old new clause good (Axiom a) g all is =
     match_along good _ _ _ _ (λ h. subst (IsClauseOf sheet (axiom_of a)) (names_still old new clause g all) h) (λ h. h) is
 prepared_still sheet old new clause good (Step c hints) g all is = is
 
-part_over : (sheet : Sheet) (old new : List Symbol) (part : CertPart) → Grows old new → IsPartOver sheet old part → IsPartOver sheet new part
+part_over : (sheet : Sheet) (old new : List Symbol) (part : CertPart) → StartsWith old new → IsPartOver sheet old part → IsPartOver sheet new part
 part_over sheet old new (Axiom a) g over = over
 part_over sheet old new (Step c hints) g over = named_still old new c.items g over
 
 -- a line's part speaks of the sheet and of the symbols so far
-pub line_over : (sheet : Sheet) (lines : List CertLine) (n : ℕ) (line : CertLine) (old new : List Symbol) → n < length lines → line ≡ get_or lines n line → Grows old new → All (λ l. IsPartOver sheet old l.part) lines
+pub line_over : (sheet : Sheet) (lines : List CertLine) (n : ℕ) (line : CertLine) (old new : List Symbol) → n < length lines → line ≡ get_or lines n line → StartsWith old new → All (λ l. IsPartOver sheet old l.part) lines
     → IsPartOver sheet new line.part
 line_over sheet lines n line old new within is g over = part_over sheet old new line.part g (subst (λ (l : CertLine). IsPartOver sheet old l.part) (sym is) (over n line within))
 
@@ -99,7 +98,7 @@ prepared_more sheet lines n line symbols old new before after marks more good wi
     }))
 
 -- lines that are prepared stay so where more symbols are numbered
-pub prepared_grown : (sheet : Sheet) (lines : List CertLine) (n : ℕ) (symbols old new : List Symbol) (clauses : List (List Lit)) (marks : List Bool) → Grows old new
+pub prepared_grown : (sheet : Sheet) (lines : List CertLine) (n : ℕ) (symbols old new : List Symbol) (clauses : List (List Lit)) (marks : List Bool) → StartsWith old new
     → ArePrepared sheet lines n symbols old clauses marks → ArePrepared sheet lines n symbols new clauses marks
 prepared_grown sheet lines n symbols old new clauses marks g are =
     let count = are.count in

@@ -1,10 +1,7 @@
 -- A clause that is being written.
 use Rattle.std.specs.Prelude.{◌≡◌, List, [], ◌∷◌, ◌++◌}
+use Rattle.pc_cert.specs.Numbered.{StartsWith}
 use Rattle.pc_accept.specs.Literals.{Symbol, Literal}
-
--- more symbols may follow these
-abbrev pub Grows : List Symbol → List Symbol → Type 0
-Grows old new = (more : List Symbol) × (new ≡ old ++ more)
 
 -- the symbols that are numbered, and the literals so far
 pub record Draft : Type 0 where
@@ -12,11 +9,11 @@ pub record Draft : Type 0 where
   pub clause : List Literal
 
 -- one literal more
-pub record IsWritten (old new : Draft) (l : Literal) : Type 0 where
-  pub grows : Grows old.symbols new.symbols
+pub record IsLiteralWritten (old new : Draft) (l : Literal) : Type 0 where
+  pub grows : StartsWith old.symbols new.symbols
   pub clause : new.clause ≡ old.clause ++ l ∷ []
 
 -- these literals more
 pub record AreWritten (old new : Draft) (ls : List Literal) : Type 0 where
-  pub grows : Grows old.symbols new.symbols
+  pub grows : StartsWith old.symbols new.symbols
   pub clause : new.clause ≡ old.clause ++ ls

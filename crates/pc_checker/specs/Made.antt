@@ -11,7 +11,7 @@ use Rattle.pc_cert.specs.declared.cert.CertPart.{CertPart}
 use Rattle.pc_cert.specs.declared.cert.CertPart.TheVariants.{Axiom, Step}
 use Rattle.pc_cert.specs.declared.cert.CertLine.{CertLine}
 use Rattle.pc_cert.specs.declared.cert.Said.{Said}
-use Rattle.pc_cert.specs.Views.{symbols_of, literal_of, reading_of, AreDistinct}
+use Rattle.pc_cert.specs.Views.{symbols_of, literal_of, reading_of, AreSymbolsDistinct}
 use Rattle.pc_cert.specs.ReadFor.{IsNamedIn, IsReadFor}
 use Rattle.pc_checker.specs.declared.scratch.Scratch.{Scratch}
 use Rattle.pc_checker.specs.Entered.{AreEnteredValues}
@@ -30,7 +30,7 @@ IsPrepared sheet names clause good (Step c hints) = clause ≡ c.items
 -- their numbers
 pub record IsPreparedFor (sheet : Sheet) (c : Cert) (s : Scratch) : Type 0 where
   pub more : List Symbol
-  pub distinct : AreDistinct (symbols_of c ++ more)
+  pub distinct : AreSymbolsDistinct (symbols_of c ++ more)
   pub room : length s.values ≡ length (symbols_of c ++ more)
   pub entered : AreEnteredValues sheet s.entered.items
   pub assignment : s.assignment ≡ values_in (reading_of c)

@@ -3,10 +3,9 @@
 ghost use Rattle.std.specs.Prelude.{◌≡◌, ◌∷◌, ◌++◌, [], All, OnOk, length, map};
 ghost use Rattle.pc_accept.specs.Literals.{pair, node};
 ghost use Rattle.pc_accept.specs.Axioms.{child_of};
-ghost use Rattle.pc_cert.specs.Views.{literal_of};
-ghost use Rattle.pc_checker.specs.Drafts.{IsWritten};
+ghost use Rattle.pc_cert.specs.Views.{literal_of, AreSymbolsDistinct};
+ghost use Rattle.pc_checker.specs.Drafts.{IsLiteralWritten};
 ghost use Rattle.pc_cert.specs.Keys.{IsKey, symbol_by};
-ghost use Rattle.pc_cert.specs.Views.{AreDistinct};
 ghost use Rattle.pc_cert.specs.ReadFor.{IsNamedIn};
 
 use pc_cert::Numbering;
@@ -50,7 +49,7 @@ impl ClauseDraft {
     /// How many symbols have numbers.
     pub(crate) fn symbols(&self) -> u32
         ensures count { result ≡ length self.now.symbols }
-        ensures distinct { AreDistinct self.now.symbols }
+        ensures distinct { AreSymbolsDistinct self.now.symbols }
     {
         self.names.len()
     }
@@ -79,7 +78,7 @@ impl ClauseDraft {
         value: ValueId,
         sign: bool,
     ) -> Result<(), AllocError>
-        ensures { OnOk result (IsWritten self.old self.new (record { what = pair cell value; sign = sign })) }
+        ensures { OnOk result (IsLiteralWritten self.old self.new (record { what = pair cell value; sign = sign })) }
     {
         self.push(alloc, &[0, u32::from(cell.0), u32::from(value.0)], sign)
     }
@@ -92,7 +91,7 @@ impl ClauseDraft {
         steps: &[u32],
         sign: bool,
     ) -> Result<(), AllocError>
-        ensures { OnOk result (IsWritten self.old self.new (record { what = node rule steps.now; sign = sign })) }
+        ensures { OnOk result (IsLiteralWritten self.old self.new (record { what = node rule steps.now; sign = sign })) }
     {
         let mut key = Vec::new(alloc);
         key.push(1)?;
@@ -109,7 +108,7 @@ impl ClauseDraft {
         child: u32,
         sign: bool,
     ) -> Result<(), AllocError>
-        ensures { OnOk result (IsWritten self.old self.new (record { what = child_of parent.now.rule parent.now.steps.items child; sign = sign })) }
+        ensures { OnOk result (IsLiteralWritten self.old self.new (record { what = child_of parent.now.rule parent.now.steps.items child; sign = sign })) }
     {
         let mut steps = Vec::from_slice(alloc, &parent.steps)?;
         steps.push(child)?;
@@ -119,7 +118,7 @@ impl ClauseDraft {
     // Adds a literal by its symbol's key.
     fn push(&mut self, alloc: Global, key: &[u32], sign: bool) -> Result<(), AllocError>
         requires { IsKey key.now }
-        ensures { OnOk result (IsWritten self.old self.new (record { what = symbol_by key.now; sign = sign })) }
+        ensures { OnOk result (IsLiteralWritten self.old self.new (record { what = symbol_by key.now; sign = sign })) }
     {
         let number = self.names.number(alloc, key)?;
         self.lits.push(Lit {

@@ -4,7 +4,7 @@ ghost use Rattle.std.specs.Prelude.{◌≡◌, ◌<◌, [], IfOk, IfSome, OnOk, 
 ghost use Rattle.pc_accept.specs.Axioms.{negated_entry};
 ghost use Rattle.pc_sheet.specs.Entailment.{cell_sizes};
 ghost use Rattle.pc_cert.specs.Text.{entry_said};
-ghost use Rattle.pc_cert.specs.Views.{reading_of, said_of, symbol_of, AreDistinct};
+ghost use Rattle.pc_cert.specs.Views.{reading_of, said_of, symbol_of, AreSymbolsDistinct};
 ghost use Rattle.pc_checker.specs.Drafts.{AreWritten};
 ghost use Rattle.pc_checker.specs.Made.{IsMadeFor, value_said};
 ghost use Rattle.pc_cert.specs.ReadFor.{IsPartOver, IsReadFor};
@@ -65,7 +65,7 @@ pub fn room_for(alloc: Global, book: &Book, cert: &Cert) -> Result<Scratch, Allo
 
 // Gives the certificate's symbols their places as numbers.
 fn number_symbols(alloc: Global, symbols: &[Symbol]) -> Result<Numbering, AllocError>
-    requires { AreDistinct (map symbol_of symbols.now) }
+    requires { AreSymbolsDistinct (map symbol_of symbols.now) }
     ensures { IfOk result (λ names. names ≡ map symbol_of symbols.now) }
 {
     let mut names = Numbering::new(alloc);

@@ -2,12 +2,12 @@
 
 ghost use Rattle.std.specs.Prelude.{◌≡◌, ◌<◌, ◌↔◌, IfOk, IsTrue, All, Some, [], length};
 ghost use Rattle.pc_names.specs.Views.{axiom_of};
-ghost use Rattle.pc_accept.specs.Axioms.{by_reads};
+ghost use Rattle.pc_accept.specs.Axioms.{axiom_atom};
 ghost use Rattle.pc_sheet.specs.Entailment.{HaveDistinctCells, cell_sizes};
 ghost use Rattle.pc_sheet.specs.Nodes.{kind_at};
 ghost use Rattle.pc_sheet.specs.WellFormed.{IsEntryOf};
 ghost use Rattle.pc_sheet.specs.declared.nodes.NodeKind.{NodeKind};
-ghost use Rattle.pc_cert.specs.ReadFor.{IsOver};
+ghost use Rattle.pc_cert.specs.ReadFor.{IsOverSheet};
 ghost use Rattle.pc_checker.specs.inside.Written.{IsAxiomWritten};
 
 use crate::axiom::{write_reads, write_values};
@@ -29,7 +29,7 @@ pub(crate) fn write_axiom(
     draft: &mut ClauseDraft,
     marks: &mut Values,
 ) -> Result<bool, AllocError>
-    requires over { IsOver book.now name.now }
+    requires over { IsOverSheet book.now name.now }
     requires blank { draft.old.clause ≡ [] }
     requires marks { length marks.old ≡ length (cell_sizes book.now.universe) }
     ensures written { IfOk result (IsAxiomWritten book.now (axiom_of name.now) draft.old draft.new) }
@@ -79,7 +79,7 @@ fn write_atom(
     requires reads { All (IsEntryOf book.now.universe) reads.now }
     requires blank { draft.old.clause ≡ [] }
     requires marks { length marks.old ≡ length (cell_sizes book.now.universe) }
-    ensures written { IfOk result (IsAxiomWritten book.now (by_reads path.now.rule path.now.steps.items reads.now) draft.old draft.new) }
+    ensures written { IfOk result (IsAxiomWritten book.now (axiom_atom path.now.rule path.now.steps.items reads.now) draft.old draft.new) }
     ensures room { length marks.new ≡ length marks.old }
 {
     if !have_distinct_cells(reads, marks) {

@@ -10,7 +10,7 @@ use Rattle.pc_lits.proofs.Elements.{contains_map, contains_mapped}
 use Rattle.pc_sheet.specs.Entailment.{AreWithin}
 use Rattle.pc_sheet.specs.declared.ids.CellId.{CellId}
 use Rattle.pc_sheet.specs.declared.ids.ValueId.{ValueId}
-use Rattle.pc_components.specs.Pairs.{IsValueOf, pair_var}
+use Rattle.pc_components.specs.Pairs.{IsValueOfCell, pair_var}
 use Rattle.pc_components.specs.Used.{MeetsUsed, HasValues}
 use Rattle.pc_components.specs.View.{number_of}
 
@@ -38,7 +38,7 @@ same_assignment sizes a b wa wb same =
 
 -- the cell has the value whose pair is true
 pub has_value : (sizes : List ℕ) (cells : List CellId) (v : Var → Bool) (a : List ValueId) → HasValues sizes (map number_of cells) v a
-    → (c : CellId) (x : ValueId) → Contains cells c → IsValueOf sizes c x → (v (pair_var sizes c x) ≡ true) ↔ (slice_get a c.0 ≡ Some x)
+    → (c : CellId) (x : ValueId) → Contains cells c → IsValueOfCell sizes c x → (v (pair_var sizes c x) ≡ true) ↔ (slice_get a c.0 ≡ Some x)
 has_value sizes cells v a h c x there below =
     let low : c.0 < length sizes = in_range sizes c.0 x.0 below in
     h c.0 (contains_map number_of cells c there) (slice_index_or sizes c.0 0) x.0 (slice_get-get_or sizes c.0 0 low) below
@@ -49,7 +49,7 @@ has_value sizes cells v a h c x there below =
     in_range (n ∷ ns) (suc k) x l = omega (arith, in_range ns k x l)
 
 pub has_values : (sizes : List ℕ) (cells : List CellId) (v : Var → Bool) (a : List ValueId)
-    → ((c : CellId) (x : ValueId) → Contains cells c → IsValueOf sizes c x → (v (pair_var sizes c x) ≡ true) ↔ (slice_get a c.0 ≡ Some x)) → HasValues sizes (map number_of cells) v a
+    → ((c : CellId) (x : ValueId) → Contains cells c → IsValueOfCell sizes c x → (v (pair_var sizes c x) ≡ true) ↔ (slice_get a c.0 ≡ Some x)) → HasValues sizes (map number_of cells) v a
 has_values sizes cells v a h c there n w at below =
     let o = contains_mapped number_of cells c there in
     let make = λ (k : ℕ). let d : CellId = record { 0 = k } in d in

@@ -4,7 +4,8 @@ use Rattle.std.specs.List.{flat_map}
 use Rattle.std.proofs.lemmas.Bool.Decides.{Decides-ltb}
 use Rattle.std.proofs.lemmas.List.Elements.{All-nil, All-cons, All-append, All-map, All-weaker, Contains-append_left, Contains-append_right}
 use Rattle.pc_sheet.specs.Sheet.{Universe, Sheet, NamedStatement, Statement, Statements, no_statements, statement, compare, in_table, negation, all_of, some_of, implies, iff, for_all, exists}
-use Rattle.pc_sheet.specs.Truth.{Scope, size_of}
+use Rattle.pc_sheet.specs.Truth.{Scope}
+use Rattle.pc_sheet.specs.Sizes.{size_of}
 use Rattle.pc_sheet.specs.Cells.{values_below}
 use Rattle.pc_sheet.specs.Nodes.{Node, part_at, one_of_two, child, node_from, root_of, node_at}
 use Rattle.pc_sheet.specs.Reads.{number_of_cell}
@@ -12,10 +13,9 @@ use Rattle.pc_sheet.specs.Readings.{leaves_of}
 use Rattle.pc_sheet.specs.declared.ids.SortId.{SortId}
 use Rattle.pc_sheet.specs.declared.ids.ValueId.{ValueId}
 use Rattle.pc_accept.specs.Literals.{Literal, node}
-use Rattle.pc_accept.specs.Axioms.{Axiom, some_value, not_both, true_rule, parts, by_reads, clauses_of_node, child_of}
+use Rattle.pc_accept.specs.Axioms.{Axiom, axiom_some, axiom_one, axiom_rule, axiom_node, axiom_atom, clauses_of_node, child_of}
 use Rattle.pc_parts.specs.Leaves.{cells_of_leaf, cells_of_atom, cells_under, cells_under_parts}
-use Rattle.pc_laws.proofs.Elements.{contains_later, contains_map, all_from, values_each, value_there}
-use Rattle.pc_laws.proofs.Elements.{flat_there}
+use Rattle.pc_laws.proofs.Elements.{contains_later, contains_map, all_from, values_each, value_there, flat_there}
 use Rattle.pc_ground.specs.Ground.{GroundAxiom, leaf_axiom, atom_axioms, numbered_axioms, own_axioms, node_axioms, parts_axioms, rule_axioms, rules_axioms, root_axiom, cells_axioms, axioms}
 use Rattle.pc_sheet.specs.Entailment.{cell_sizes}
 
@@ -121,18 +121,18 @@ node_there sheet r path n at g h =
 
 -- of a node to which that path leads or which is under it, and reading these cells alone
 abbrev pub IsInside : ℕ → List ℕ → List ℕ → Axiom → Type 0
-IsInside r steps cells (some_value c) = ⊥
-IsInside r steps cells (not_both c v w) = ⊥
-IsInside r steps cells (true_rule q) = ⊥
-IsInside r steps cells (parts q path i) = (r ≡ q) × (rest : List ℕ) × (path ≡ steps ++ rest)
-IsInside r steps cells (by_reads q path reads) = ((r ≡ q) × (rest : List ℕ) × (path ≡ steps ++ rest)) × All (λ e. Contains cells (number_of_cell e)) reads
+IsInside r steps cells (axiom_some c) = ⊥
+IsInside r steps cells (axiom_one c v w) = ⊥
+IsInside r steps cells (axiom_rule q) = ⊥
+IsInside r steps cells (axiom_node q path i) = (r ≡ q) × (rest : List ℕ) × (path ≡ steps ++ rest)
+IsInside r steps cells (axiom_atom q path reads) = ((r ≡ q) × (rest : List ℕ) × (path ≡ steps ++ rest)) × All (λ e. Contains cells (number_of_cell e)) reads
 
 further : (r : ℕ) (steps : List ℕ) (k : ℕ) (few more : List ℕ) → ((c : ℕ) → Contains few c → Contains more c) → (x : Axiom) → IsInside r (steps ++ k ∷ []) few x → IsInside r steps more x
-further r steps k few more f (some_value c) h = h
-further r steps k few more f (not_both c v w) h = h
-further r steps k few more f (true_rule q) h = h
-further r steps k few more f (parts q path i) h = (h.0, k ∷ h.1, h.2 ∙ append_assoc steps (k ∷ []) h.1)
-further r steps k few more f (by_reads q path reads) h =
+further r steps k few more f (axiom_some c) h = h
+further r steps k few more f (axiom_one c v w) h = h
+further r steps k few more f (axiom_rule q) h = h
+further r steps k few more f (axiom_node q path i) h = (h.0, k ∷ h.1, h.2 ∙ append_assoc steps (k ∷ []) h.1)
+further r steps k few more f (axiom_atom q path reads) h =
     ((h.0.0, k ∷ h.0.1, h.0.2 ∙ append_assoc steps (k ∷ []) h.0.1), All-weaker (λ e. Contains few (number_of_cell e)) (λ e. Contains more (number_of_cell e)) (λ e c. f (number_of_cell e) c) reads h.1)
 
 module _ (u : Universe) (r : ℕ) where
@@ -143,11 +143,11 @@ module _ (u : Universe) (r : ℕ) where
   from_child steps k few more gs f h = All-weaker (λ g. IsInside r (steps ++ k ∷ []) few g.name) (λ g. IsInside r steps more g.name) (λ g i. further r steps k few more f g.name i) gs h
 
   wider_name : (steps few more : List ℕ) → ((c : ℕ) → Contains few c → Contains more c) → (x : Axiom) → IsInside r steps few x → IsInside r steps more x
-  wider_name steps few more f (some_value c) h = h
-  wider_name steps few more f (not_both c v w) h = h
-  wider_name steps few more f (true_rule q) h = h
-  wider_name steps few more f (parts q path i) h = h
-  wider_name steps few more f (by_reads q path reads) h = (h.0, All-weaker (λ e. Contains few (number_of_cell e)) (λ e. Contains more (number_of_cell e)) (λ e c. f (number_of_cell e) c) reads h.1)
+  wider_name steps few more f (axiom_some c) h = h
+  wider_name steps few more f (axiom_one c v w) h = h
+  wider_name steps few more f (axiom_rule q) h = h
+  wider_name steps few more f (axiom_node q path i) h = h
+  wider_name steps few more f (axiom_atom q path reads) h = (h.0, All-weaker (λ e. Contains few (number_of_cell e)) (λ e. Contains more (number_of_cell e)) (λ e c. f (number_of_cell e) c) reads h.1)
 
   wider : (steps few more : List ℕ) (gs : List GroundAxiom) → ((c : ℕ) → Contains few c → Contains more c) → AreInside steps few gs → AreInside steps more gs
   wider steps few more gs f h = All-weaker (λ g. IsInside r steps few g.name) (λ g. IsInside r steps more g.name) (λ g i. wider_name steps few more f g.name i) gs h
@@ -155,7 +155,7 @@ module _ (u : Universe) (r : ℕ) where
   numbered_inside : (path cells : List ℕ) (i : ℕ) (cs : List (List Literal)) → AreInside path cells (numbered_axioms r path i cs)
   numbered_inside path cells i [] = All-nil (λ g. IsInside r path cells g.name)
   numbered_inside path cells i (c ∷ cs) =
-      All-cons (λ g. IsInside r path cells g.name) (record { name = parts r path i; clause = c }) (numbered_axioms r path (i + 1) cs) (refl, [], sym (append-nil path)) (numbered_inside path cells (i + 1) cs)
+      All-cons (λ g. IsInside r path cells g.name) (record { name = axiom_node r path i; clause = c }) (numbered_axioms r path (i + 1) cs) (refl, [], sym (append-nil path)) (numbered_inside path cells (i + 1) cs)
 
   own_inside : (path cells : List ℕ) (s : Statement) → AreInside path cells (own_axioms u r path s)
   own_inside path cells s = numbered_inside path cells 1 (clauses_of_node (node r path) (child_of r path) u s)

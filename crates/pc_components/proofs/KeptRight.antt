@@ -15,7 +15,7 @@ use Rattle.pc_parts.specs.Parts.{Part, cell_count, part_without_cells}
 use Rattle.pc_parts.specs.Pieces.{Piece, pieces}
 use Rattle.pc_laws.proofs.Elements.{contains_first, contains_later, contains_cases, contains_none, contains_map, contains_mapped, flat_there, there_flat}
 use Rattle.pc_parts.proofs.Found.{range_order, of_part}
-use Rattle.pc_ground.specs.Ground.{GroundAxiom, axioms, clauses, clause_of, lit_of}
+use Rattle.pc_ground.specs.Ground.{GroundAxiom, axioms, clauses, clause_of_axiom, lit_of}
 use Rattle.pc_ground.specs.Variables.{variables, variable_count, number}
 use Rattle.pc_ground.proofs.Numbers.{have_their_places}
 use Rattle.pc_ground.proofs.Symbols.{symbols_are_variables}
@@ -23,7 +23,7 @@ use Rattle.pc_components.specs.inside.ClauseVariables.{variable_of, variables_at
 use Rattle.pc_components.specs.Laws.{PartsAreInTheirGround}
 use Rattle.pc_components.specs.inside.Numbers.{alone}
 use Rattle.pc_components.specs.inside.Owners.{firsts_by, cell_number_by, owners_by}
-use Rattle.pc_components.specs.PartAxioms.{IsAxiomOf, AreAxiomsOf, IsUsed, AreVariablesOf}
+use Rattle.pc_components.specs.PartAxioms.{IsAxiomOfPart, AreAxiomsOf, IsUsed, AreVariablesOf}
 use Rattle.pc_components.specs.inside.PartNumbers.{HasNumbers}
 use Rattle.pc_components.specs.inside.Turned.{places_from, turned}
 use Rattle.pc_components.specs.inside.Within.{AreAllBelow}
@@ -162,7 +162,7 @@ range_has_below n x h =
 
 used_below : (sheet : Sheet) (used : List ℕ) (x : ℕ) → IsUsed (clauses sheet) used x → x < variable_count sheet
 used_below sheet used x (k, there, clause, at, l, in_it, is) =
-    let a = unmapped (clause_of sheet) (axioms sheet) k clause at in
+    let a = unmapped (clause_of_axiom sheet) (axioms sheet) k clause at in
     let b = contains_mapped (lit_of sheet) a.0.clause l (subst (λ ls. Contains ls l) (sym a.2) in_it) in
     let c = symbols_are_variables sheet a.0 (slice_in (axioms sheet) k a.0 a.1) b.0 b.1 in
     let e : number sheet b.0.what ≡ x = ap (λ (m : Lit). m.variable.0) b.2 ∙ is in
@@ -172,7 +172,7 @@ pub parts_are_in_their_ground : PartsAreInTheirGround
 parts_are_in_their_ground sheet part used own axs vars = (
   λ k h.
       let g = (axs.exact k).0 h in
-      within (clauses sheet) k (clause_of sheet g.0) (mapped (clause_of sheet) (axioms sheet) k g.0 g.1),
+      within (clauses sheet) k (clause_of_axiom sheet g.0) (mapped (clause_of_axiom sheet) (axioms sheet) k g.0 g.1),
   λ x h. used_below sheet used x ((vars.exact x).0 h),
 )
 
@@ -270,7 +270,7 @@ module _ (sheet : Sheet) (formed : IsWellFormed sheet) where
   axioms_right : (i : ℕ) (part : Part) → slice_get (parts_of sheet) i ≡ Some part → AreAxiomsOf sheet part (places_from 0 (owners_by sheet labels) i)
   axioms_right i part at =
       let os = owners_by sheet labels in
-      let IsOwned : GroundAxiom → List ℕ → Type 0 = λ g row. (j : ℕ) (p : Part) → slice_get (parts_of sheet) j ≡ Some p → Contains row j ↔ IsAxiomOf p g.name in
+      let IsOwned : GroundAxiom → List ℕ → Type 0 = λ g row. (j : ℕ) (p : Part) → slice_get (parts_of sheet) j ≡ Some p → Contains row j ↔ IsAxiomOfPart p g.name in
       let owned = owners_are_parts sheet formed in
       record {
         exact = λ k. (
@@ -365,7 +365,7 @@ pub axioms_fit : (sheet : Sheet) → IsWellFormed sheet → (count : ℕ) (own a
 axioms_fit sheet formed count own axs own_is is few =
     let os = owners_by sheet (labels_of sheet) in
     let many = zip_length _ (axioms sheet) os (owners_are_parts sheet formed) in
-    let clauses_many = length-map (axioms sheet) (clause_of sheet) in
+    let clauses_many = length-map (axioms sheet) (clause_of_axiom sheet) in
     let own_many = ap length own_is in
     subst (AreAllBelow (2 ^ 32)) (sym is) (turned_fit (2 ^ 32) count own (omega (arith, many, clauses_many, own_many, few)))
   where

@@ -5,7 +5,8 @@ use Rattle.std.proofs.lemmas.List.Elements.{All-nil, All-cons, All-append, All-c
 use Rattle.std.proofs.lemmas.Option.{slice_get-get_or}
 use Rattle.pc_lits.specs.declared.literal.Lit.{Lit}
 use Rattle.pc_sheet.specs.Sheet.{Universe, Sheet, NamedStatement, Statement, Statements, no_statements, statement, compare, in_table, negation, all_of, some_of, implies, iff, for_all, exists}
-use Rattle.pc_sheet.specs.Truth.{Scope, size_of}
+use Rattle.pc_sheet.specs.Truth.{Scope}
+use Rattle.pc_sheet.specs.Sizes.{size_of}
 use Rattle.pc_sheet.specs.Cells.{values_below}
 use Rattle.pc_sheet.specs.Entailment.{cell_sizes, IsAssignment}
 use Rattle.pc_sheet.specs.Nodes.{Node, node_at}
@@ -14,11 +15,11 @@ use Rattle.pc_sheet.specs.WellFormed.{IsWellFormed}
 use Rattle.pc_sheet.specs.declared.ids.CellId.{CellId}
 use Rattle.pc_sheet.specs.declared.ids.ValueId.{ValueId}
 use Rattle.pc_accept.specs.Literals.{Symbol, pair, node, Literal, positive, negative}
-use Rattle.pc_accept.specs.Axioms.{Axiom, some_value, not_both, true_rule, parts, by_reads, each_below, clauses_of_node, child_of, negated_entry, IsNumbered, IsClauseOf}
+use Rattle.pc_accept.specs.Axioms.{Axiom, axiom_some, axiom_one, axiom_rule, axiom_node, axiom_atom, each_below, clauses_of_node, child_of, negated_entry, IsAtNumber, IsClauseOf}
 use Rattle.pc_accept.proofs.Children.{some_and}
 use Rattle.pc_parts.specs.Pieces.{Piece, piece, pieces_below, pieces_of_parts, pieces_from, pieces, looked_up_under, ReadsCell}
 use Rattle.pc_parts.specs.Leaves.{cells_of, cells_under}
-use Rattle.pc_parts.specs.Parts.{Part, cell_count, IsComponent, ReadsNone, AreParts, part_without_cells, IsDivision}
+use Rattle.pc_parts.specs.Parts.{Part, cell_count, IsComponent, ReadsNoCell, AreParts, part_without_cells, IsDivision}
 use Rattle.pc_laws.proofs.Elements.{contains_first, contains_later, contains_cases, contains_none, contains_map, contains_mapped, all_from, values_each, value_there}
 use Rattle.pc_parts.proofs.Divided.{same_part}
 use Rattle.pc_parts.proofs.Dividing.{kept_of, without_is, parts_are_a_division}
@@ -26,11 +27,11 @@ use Rattle.pc_laws.proofs.SomeAssignment.{family_sizes}
 use Rattle.pc_parts.proofs.LeafReads.{leaves_read_the_cells}
 use Rattle.pc_parts.proofs.Listed.{none_above}
 use Rattle.pc_ground.specs.Variables.{pair_at, variables, number}
-use Rattle.pc_ground.specs.Ground.{GroundAxiom, some_axiom, one_axioms, cell_axioms, cells_axioms, numbered_axioms, own_axioms, node_axioms, parts_axioms, root_axiom, rule_axioms, rules_axioms, axioms, lit_of, clause_of, clauses}
+use Rattle.pc_ground.specs.Ground.{GroundAxiom, some_axiom, one_axioms, cell_axioms, cells_axioms, numbered_axioms, own_axioms, node_axioms, parts_axioms, root_axiom, rule_axioms, rules_axioms, axioms, lit_of, clause_of_axiom, clauses}
 use Rattle.pc_ground.proofs.Lists.{each_there, there_each}
 use Rattle.pc_ground.proofs.OfAxioms.{all_right}
 use Rattle.pc_ground.proofs.Symbols.{symbols_are_variables}
-use Rattle.pc_components.specs.PartAxioms.{IsAxiomOf, AreAxiomsOf, AreVariablesOf}
+use Rattle.pc_components.specs.PartAxioms.{IsAxiomOfPart, AreAxiomsOf, AreVariablesOf}
 use Rattle.pc_components.specs.Laws.{PartsHaveTheirOwnVariables}
 use Rattle.pc_accept.proofs.AxiomsTrue.{numbered}
 use Rattle.pc_components.proofs.Inside.{IsInside, inside, rule_there}
@@ -42,32 +43,32 @@ use Rattle.pc_components.proofs.Way.{piece_at, piece_rule, above_piece, joint_cl
 -- ---- each leaf's axiom is inside a piece
 
 abbrev InPiece : Universe → List Piece → Axiom → Type 0
-InPiece u ps (some_value c) = Unit {0}
-InPiece u ps (not_both c v w) = Unit {0}
-InPiece u ps (true_rule r) = Unit {0}
-InPiece u ps (parts r path k) = Unit {0}
-InPiece u ps (by_reads r path reads) = (p : Piece) × Contains ps p × IsInside p.path.rule p.path.steps (cells_of u p) (by_reads r path reads)
+InPiece u ps (axiom_some c) = Unit {0}
+InPiece u ps (axiom_one c v w) = Unit {0}
+InPiece u ps (axiom_rule r) = Unit {0}
+InPiece u ps (axiom_node r path k) = Unit {0}
+InPiece u ps (axiom_atom r path reads) = (p : Piece) × Contains ps p × IsInside p.path.rule p.path.steps (cells_of u p) (axiom_atom r path reads)
 
 module _ (u : Universe) (r : ℕ) where
   abbrev AreIn : List Piece → List GroundAxiom → Type 0
   AreIn ps gs = All (λ g. InPiece u ps g.name) gs
 
   in_more : (ps more : List Piece) → ((p : Piece) → Contains ps p → Contains more p) → (x : Axiom) → InPiece u ps x → InPiece u more x
-  in_more ps more f (some_value c) h = h
-  in_more ps more f (not_both c v w) h = h
-  in_more ps more f (true_rule q) h = h
-  in_more ps more f (parts q path k) h = h
-  in_more ps more f (by_reads q path reads) h = (h.0, f h.0 h.1, h.2)
+  in_more ps more f (axiom_some c) h = h
+  in_more ps more f (axiom_one c v w) h = h
+  in_more ps more f (axiom_rule q) h = h
+  in_more ps more f (axiom_node q path k) h = h
+  in_more ps more f (axiom_atom q path reads) h = (h.0, f h.0 h.1, h.2)
 
   all_more : (ps more : List Piece) (gs : List GroundAxiom) → ((p : Piece) → Contains ps p → Contains more p) → AreIn ps gs → AreIn more gs
   all_more ps more gs f h = all_from (λ g. InPiece u more g.name) gs (λ g c. in_more ps more f g.name (All-contains (λ q. InPiece u ps q.name) gs g h c))
 
   by_inside : (p : Piece) (x : Axiom) → IsInside p.path.rule p.path.steps (cells_of u p) x → InPiece u (p ∷ []) x
-  by_inside p (some_value c) i = tt
-  by_inside p (not_both c v w) i = tt
-  by_inside p (true_rule q) i = tt
-  by_inside p (parts q path k) i = tt
-  by_inside p (by_reads q path reads) i = (p, contains_first p [], i)
+  by_inside p (axiom_some c) i = tt
+  by_inside p (axiom_one c v w) i = tt
+  by_inside p (axiom_rule q) i = tt
+  by_inside p (axiom_node q path k) i = tt
+  by_inside p (axiom_atom q path reads) i = (p, contains_first p [], i)
 
   alone : (path : List ℕ) (scope : Scope) (s : Statement) → AreIn (piece r path scope s ∷ []) (node_axioms u r path scope s)
   alone path scope s =
@@ -77,7 +78,7 @@ module _ (u : Universe) (r : ℕ) where
 
   numbers_in : (path : List ℕ) (ps : List Piece) (i : ℕ) (cs : List (List Literal)) → AreIn ps (numbered_axioms r path i cs)
   numbers_in path ps i [] = All-nil (λ g. InPiece u ps g.name)
-  numbers_in path ps i (c ∷ cs) = All-cons (λ g. InPiece u ps g.name) (record { name = parts r path i; clause = c }) (numbered_axioms r path (i + 1) cs) tt (numbers_in path ps (i + 1) cs)
+  numbers_in path ps i (c ∷ cs) = All-cons (λ g. InPiece u ps g.name) (record { name = axiom_node r path i; clause = c }) (numbered_axioms r path (i + 1) cs) tt (numbers_in path ps (i + 1) cs)
 
   mutual
     nodes_in : (path : List ℕ) (scope : Scope) (s : Statement) → AreIn (pieces_below u r path scope s) (node_axioms u r path scope s)
@@ -117,11 +118,11 @@ rules_in u r (rule ∷ rules) =
     (all_more u (r + 1) qs (ps ++ qs) (rules_axioms u (r + 1) rules) (λ p c. Contains-append_right ps qs p c) (rules_in u (r + 1) rules))
 
 cell_in_piece : (u : Universe) (ps : List Piece) (c : ℕ) (x : Axiom) → IsOfCell c x → InPiece u ps x
-cell_in_piece u ps c (some_value d) is = tt
-cell_in_piece u ps c (not_both d v w) is = tt
-cell_in_piece u ps c (true_rule r) is = absurd is
-cell_in_piece u ps c (parts r path k) is = absurd is
-cell_in_piece u ps c (by_reads r path reads) is = absurd is
+cell_in_piece u ps c (axiom_some d) is = tt
+cell_in_piece u ps c (axiom_one d v w) is = tt
+cell_in_piece u ps c (axiom_rule r) is = absurd is
+cell_in_piece u ps c (axiom_node r path k) is = absurd is
+cell_in_piece u ps c (axiom_atom r path reads) is = absurd is
 
 cells_in : (u : Universe) (ps : List Piece) (c : ℕ) (ns : List ℕ) → All (λ g. InPiece u ps g.name) (cells_axioms c ns)
 cells_in u ps c [] = All-nil (λ g. InPiece u ps g.name)
@@ -220,14 +221,14 @@ module _ (sheet : Sheet) where
       listed : (p : Piece) → Contains other.pieces p → Contains (pieces sheet) p
       listed p h = division.pieces other there p h
 
-      pair_in_axiom : (x : Axiom) (clause : List Literal) → IsClauseOf sheet x clause → IsAxiomOf other x → InPiece u (pieces sheet) x → (l : Literal) → Contains clause l
+      pair_in_axiom : (x : Axiom) (clause : List Literal) → IsClauseOf sheet x clause → IsAxiomOfPart other x → InPiece u (pieces sheet) x → (l : Literal) → Contains clause l
           → (c : ℕ) (v : ValueId) → l.what ≡ pair (record { 0 = c }) v → Contains other.cells c
-      pair_in_axiom (some_value d) clause is h i l has c v e =
+      pair_in_axiom (axiom_some d) clause is h i l has c v e =
           let f : ℕ → Literal = λ w. positive (pair d (record { 0 = w })) in
           let n = some_and (slice_get (cell_sizes u) d.0) (λ n. clause ≡ each_below n f) is in
           let k = there_each n.0 f l (subst (λ d'. Contains d' l) n.2 has) in
           subst (Contains other.cells) (same_cell d (record { 0 = k.0 }) v c (ap (λ (m : Literal). m.what) k.2 ∙ e)) h
-      pair_in_axiom (not_both d w y) clause is h i l has c v e =
+      pair_in_axiom (axiom_one d w y) clause is h i l has c v e =
           let n = some_and (slice_get (cell_sizes u) d.0) (λ n. (w.0 < n) × (y.0 < n) × (w ≢ y) × (clause ≡ negative (pair d w) ∷ negative (pair d y) ∷ [])) is in
           elim (contains_cases (negative (pair d w)) (negative (pair d y) ∷ []) l (subst (λ d'. Contains d' l) n.2.3 has)) [
             | inl same ↦ subst (Contains other.cells) (same_cell d w v c (ap (λ (m : Literal). m.what) same ∙ e)) h
@@ -236,17 +237,17 @@ module _ (sheet : Sheet) where
               | inr none ↦ absurd (contains_none l none)
             ]
           ]
-      pair_in_axiom (true_rule r) clause is h i l has c v e =
+      pair_in_axiom (axiom_rule r) clause is h i l has c v e =
           let named = some_and (slice_get sheet.rules r) (λ named. clause ≡ positive (node r []) ∷ []) is in
           elim (contains_cases (positive (node r [])) [] l (subst (λ d'. Contains d' l) named.2 has)) [
             | inl same ↦ absurd (no_pair (ap (λ (m : Literal). m.what) same ∙ e))
             | inr none ↦ absurd (contains_none l none)
           ]
-      pair_in_axiom (parts r path k) clause is h i l has c v e =
-          let n = some_and (node_at sheet r path) (λ n. IsNumbered (clauses_of_node (node r path) (child_of r path) u n.1) k clause) is in
+      pair_in_axiom (axiom_node r path k) clause is h i l has c v e =
+          let n = some_and (node_at sheet r path) (λ n. IsAtNumber (clauses_of_node (node r path) (child_of r path) u n.1) k clause) is in
           absurd (node_symbols (λ x. x ≡ pair (record { 0 = c }) v → ⊥) (node r path) (child_of r path) (λ f. no_pair f) (λ j f. no_pair f) u n.0.1 clause
           (numbered (clauses_of_node (node r path) (child_of r path) u n.0.1) k clause n.2) l has e)
-      pair_in_axiom (by_reads r path reads) clause is (p, p_in, (same, rest, at)) (q, q_in, (from, within)) l has c v e =
+      pair_in_axiom (axiom_atom r path reads) clause is (p, p_in, (same, rest, at)) (q, q_in, (from, within)) l has c v e =
           let end : Literal = record { what = node r path; sign = is.truth } in
           elim (Contains-append_cases (map negated_entry reads) (end ∷ []) l (subst (λ d'. Contains d' l) is.is has)) [
             | inl read ↦
@@ -273,19 +274,19 @@ module _ (sheet : Sheet) where
         same_from : (q : Piece) → Contains other.pieces q → (r : ℕ) → q.path.rule ≡ r → r ≡ p.path.rule → (xs ys : List ℕ) → q.path.steps ++ xs ≡ p.path.steps ++ ys → Same
         same_from q h r a b xs ys e = (q, h, a ∙ b, one_path q p (listed q h) p_listed (a ∙ b) xs ys e)
 
-        node_in_axiom : (x : Axiom) (clause : List Literal) → IsClauseOf sheet x clause → IsAxiomOf other x → (l : Literal) → Contains clause l → l.what ≡ node p.path.rule p.path.steps → Same
-        node_in_axiom (some_value d) clause is h l has e =
+        node_in_axiom : (x : Axiom) (clause : List Literal) → IsClauseOf sheet x clause → IsAxiomOfPart other x → (l : Literal) → Contains clause l → l.what ≡ node p.path.rule p.path.steps → Same
+        node_in_axiom (axiom_some d) clause is h l has e =
             let f : ℕ → Literal = λ w. positive (pair d (record { 0 = w })) in
             let n = some_and (slice_get (cell_sizes u) d.0) (λ n. clause ≡ each_below n f) is in
             let k = there_each n.0 f l (subst (λ d'. Contains d' l) n.2 has) in
             absurd (no_node (ap (λ (m : Literal). m.what) k.2 ∙ e))
-        node_in_axiom (not_both d w y) clause is h l has e =
+        node_in_axiom (axiom_one d w y) clause is h l has e =
             let n = some_and (slice_get (cell_sizes u) d.0) (λ n. (w.0 < n) × (y.0 < n) × (w ≢ y) × (clause ≡ negative (pair d w) ∷ negative (pair d y) ∷ [])) is in
             elim (contains_cases (negative (pair d w)) (negative (pair d y) ∷ []) l (subst (λ d'. Contains d' l) n.2.3 has)) [
               | inl same ↦ absurd (no_node (ap (λ (m : Literal). m.what) same ∙ e))
               | inr later ↦ elim (contains_cases (negative (pair d y)) [] l later) [ inl same ↦ absurd (no_node (ap (λ (m : Literal). m.what) same ∙ e)) | inr none ↦ absurd (contains_none l none) ]
             ]
-        node_in_axiom (true_rule r) clause is (q, q_in, same) l has e =
+        node_in_axiom (axiom_rule r) clause is (q, q_in, same) l has e =
             let named = some_and (slice_get sheet.rules r) (λ named. clause ≡ positive (node r []) ∷ []) is in
             elim (contains_cases (positive (node r [])) [] l (subst (λ d'. Contains d' l) named.2 has)) [
               | inl is_root ↦
@@ -293,20 +294,20 @@ module _ (sheet : Sheet) where
                   same_from q q_in r same (same_rule r p.path.rule [] p.path.steps f) [] q.path.steps (append-nil q.path.steps ∙ ap (λ xs. xs ++ q.path.steps) (same_steps r p.path.rule [] p.path.steps f))
               | inr none ↦ absurd (contains_none l none)
             ]
-        node_in_axiom (parts r path k) clause is (inl (q, q_in, (same, rest, at))) l has e =
-            let n = some_and (node_at sheet r path) (λ n. IsNumbered (clauses_of_node (node r path) (child_of r path) u n.1) k clause) is in
+        node_in_axiom (axiom_node r path k) clause is (inl (q, q_in, (same, rest, at))) l has e =
+            let n = some_and (node_at sheet r path) (λ n. IsAtNumber (clauses_of_node (node r path) (child_of r path) u n.1) k clause) is in
             node_symbols (λ x. x ≡ node p.path.rule p.path.steps → Same) (node r path) (child_of r path)
             (λ f. same_from q q_in r same (same_rule r p.path.rule path p.path.steps f) rest [] (sym at ∙ same_steps r p.path.rule path p.path.steps f ∙ sym (append-nil p.path.steps)))
             (λ j f. same_from q q_in r same (same_rule r p.path.rule (path ++ j ∷ []) p.path.steps f) (rest ++ j ∷ []) []
             (sym (append_assoc q.path.steps rest (j ∷ [])) ∙ ap (λ xs. xs ++ j ∷ []) (sym at) ∙ same_steps r p.path.rule (path ++ j ∷ []) p.path.steps f ∙ sym (append-nil p.path.steps)))
             u n.0.1 clause (numbered (clauses_of_node (node r path) (child_of r path) u n.0.1) k clause n.2) l has e
-        node_in_axiom (parts r path k) clause is (inr (j, number', (q, q_in, (same, rest, at)))) l has e =
-            let n = some_and (node_at sheet r path) (λ n. IsNumbered (clauses_of_node (node r path) (child_of r path) u n.1) k clause) is in
+        node_in_axiom (axiom_node r path k) clause is (inr (j, number', (q, q_in, (same, rest, at)))) l has e =
+            let n = some_and (node_at sheet r path) (λ n. IsAtNumber (clauses_of_node (node r path) (child_of r path) u n.1) k clause) is in
             let above = above_piece sheet q (listed q q_in) path j rest at in
             let node_same : n.0 ≡ above.joint = same_some (sym n.1 ∙ ap (λ i. node_at sheet i path) (sym same) ∙ above.at) in
-            let joint = subst (λ (m : Node). IsNumbered (clauses_of_node (node r path) (child_of r path) u m.1) k clause) node_same n.2 in
+            let joint = subst (λ (m : Node). IsAtNumber (clauses_of_node (node r path) (child_of r path) u m.1) k clause) node_same n.2 in
             let place : k ≡ suc j = omega arith in
-            let at_j : slice_get (clauses_of_node (node r path) (child_of r path) u above.joint.1) j ≡ Some clause = subst (λ i. IsNumbered (clauses_of_node (node r path) (child_of r path) u above.joint.1) i clause) place joint in
+            let at_j : slice_get (clauses_of_node (node r path) (child_of r path) u above.joint.1) j ≡ Some clause = subst (λ i. IsAtNumber (clauses_of_node (node r path) (child_of r path) u above.joint.1) i clause) place joint in
             let way = joint_clause u (node r path) (child_of r path) above.joint.0 above.joint.1 above.is j above.next above.child_at in
             let clause_is : clause ≡ way_clause u (node r path) (child_of r path) j = same_some (sym at_j ∙ way) in
             elim (contains_cases (negative (node r path)) (positive (child_of r path j) ∷ []) l (subst (λ d'. Contains d' l) clause_is has)) [
@@ -321,7 +322,7 @@ module _ (sheet : Sheet) where
                 | inr none ↦ absurd (contains_none l none)
               ]
             ]
-        node_in_axiom (by_reads r path reads) clause is (q, q_in, (same, rest, at)) l has e =
+        node_in_axiom (axiom_atom r path reads) clause is (q, q_in, (same, rest, at)) l has e =
             let end : Literal = record { what = node r path; sign = is.truth } in
             elim (Contains-append_cases (map negated_entry reads) (end ∷ []) l (subst (λ d'. Contains d' l) is.is has)) [
               | inl read ↦ let f = contains_mapped negated_entry reads l read in absurd (no_node (ap (λ (m : Literal). m.what) f.2 ∙ e))
@@ -336,12 +337,12 @@ module _ (sheet : Sheet) where
       -- ---- a symbol whose number is one of its variables
 
       named_in : (used own : List ℕ) → AreAxiomsOf sheet other used → AreVariablesOf (clauses sheet) used own → (x : Symbol) → Contains (variables sheet) x → Contains own (number sheet x)
-          → (g : GroundAxiom) × Contains (axioms sheet) g × IsAxiomOf other g.name × (l : Literal) × Contains g.clause l × (l.what ≡ x)
+          → (g : GroundAxiom) × Contains (axioms sheet) g × IsAxiomOfPart other g.name × (l : Literal) × Contains g.clause l × (l.what ≡ x)
       named_in used own of vars x x_there h =
           let k = (vars.exact (number sheet x)).0 h in
           let g = (of.exact k.0).0 k.1 in
           let g_there = slice_contains (axioms sheet) k.0 g.0 g.1 in
-          let clause_is : clause_of sheet g.0 ≡ k.2 = same_clause (sym (slice_map (clause_of sheet) (axioms sheet) k.0 g.0 g.1) ∙ k.3) in
+          let clause_is : clause_of_axiom sheet g.0 ≡ k.2 = same_clause (sym (slice_map (clause_of_axiom sheet) (axioms sheet) k.0 g.0 g.1) ∙ k.3) in
           let l = contains_mapped (lit_of sheet) g.0.clause k.4 (subst (λ d. Contains d k.4) (sym clause_is) k.5) in
           let numbers : number sheet l.0.what ≡ number sheet x = ap (λ (m : Lit). m.variable.0) l.2 ∙ k.6 in
           let l_there = symbols_are_variables sheet g.0 g_there l.0 l.1 in
@@ -352,11 +353,11 @@ module _ (sheet : Sheet) where
 -- ---- the parts
 
 pub has_symbol : (sheet : Sheet) (part : Part) (used own : List ℕ) → AreAxiomsOf sheet part used → AreVariablesOf (clauses sheet) used own
-    → (g : GroundAxiom) → Contains (axioms sheet) g → IsAxiomOf part g.name → (l : Literal) → Contains g.clause l → Contains own (number sheet l.what)
+    → (g : GroundAxiom) → Contains (axioms sheet) g → IsAxiomOfPart part g.name → (l : Literal) → Contains g.clause l → Contains own (number sheet l.what)
 has_symbol sheet part used own of vars g there o l has =
     let k = contains_slice (axioms sheet) g there in
     (vars.exact (number sheet l.what)).1
-    (k.0, (of.exact k.0).1 (g, k.1, o), clause_of sheet g, slice_map (clause_of sheet) (axioms sheet) k.0 g k.1, lit_of sheet l, contains_map (lit_of sheet) g.clause l has, refl)
+    (k.0, (of.exact k.0).1 (g, k.1, o), clause_of_axiom sheet g, slice_map (clause_of_axiom sheet) (axioms sheet) k.0 g k.1, lit_of sheet l, contains_map (lit_of sheet) g.clause l has, refl)
 
 one_last : (ps : List Piece) (x y : Part) → Contains (part_without_cells ps) x → Contains (part_without_cells ps) y → x ≡ y
 one_last [] x y h l = absurd (contains_none x h)
@@ -405,7 +406,7 @@ module _ (sheet : Sheet) (formed : IsWellFormed sheet) (all : List Part) (are : 
 
   -- an axiom of the part that has the piece's node
   own_axiom : (p : Piece) → Contains part.pieces p → Contains (pieces sheet) p → (steps : List ℕ) → p.path.steps ≡ steps
-      → (g : GroundAxiom) × Contains (axioms sheet) g × IsAxiomOf part g.name × (l : Literal) × Contains g.clause l × (l.what ≡ node p.path.rule steps)
+      → (g : GroundAxiom) × Contains (axioms sheet) g × IsAxiomOfPart part g.name × (l : Literal) × Contains g.clause l × (l.what ≡ node p.path.rule steps)
   own_axiom p has listed' [] is =
       let r = p.path.rule in
       let rule = piece_rule sheet p listed' in
@@ -431,7 +432,7 @@ module _ (sheet : Sheet) (formed : IsWellFormed sheet) (all : List Part) (are : 
   of_piece last =
       let q = some_piece are.read_none part last in
       let p = q.0 in
-      let kept' = kept_of (ReadsNone sheet) (pieces sheet) are.read_none are.others p q.1 in
+      let kept' = kept_of (ReadsNoCell sheet) (pieces sheet) are.read_none are.others p q.1 in
       let has : Contains part.pieces p = subst (λ ps. Contains ps p) (sym (without_is sheet are.read_none part last).1) q.1 in
       let a = own_axiom p has kept'.0 p.path.steps refl in
       let x : Symbol = node p.path.rule p.path.steps in

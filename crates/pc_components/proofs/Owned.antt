@@ -7,13 +7,14 @@ use Rattle.std.proofs.lemmas.List.{length-append, length-map}
 use Rattle.std.proofs.lemmas.List.Elements.{All-nil, All-cons, All-append, All-contains, Contains-append_cases}
 use Rattle.std.proofs.lemmas.List.FromFn.{length-map-range_with_len}
 use Rattle.pc_sheet.specs.Sheet.{Universe, NamedStatement, Statement, Statements, no_statements, statement, compare, in_table, negation, all_of, some_of, implies, iff, for_all, exists}
-use Rattle.pc_sheet.specs.Truth.{Scope, size_of}
+use Rattle.pc_sheet.specs.Truth.{Scope}
+use Rattle.pc_sheet.specs.Sizes.{size_of}
 use Rattle.pc_sheet.specs.Cells.{values_below}
 use Rattle.pc_sheet.specs.Nodes.{Node, part_at}
 use Rattle.pc_sheet.specs.declared.ids.SortId.{SortId}
 use Rattle.pc_sheet.specs.declared.ids.ValueId.{ValueId}
 use Rattle.pc_accept.specs.Literals.{Literal, node, negative, positive}
-use Rattle.pc_accept.specs.Axioms.{Axiom, some_value, not_both, true_rule, parts, by_reads, how_many, each_below, clauses_of_all, child_of}
+use Rattle.pc_accept.specs.Axioms.{Axiom, axiom_some, axiom_one, axiom_rule, axiom_node, axiom_atom, how_many, each_below, clauses_of_all, child_of}
 use Rattle.pc_parts.specs.Pieces.{Piece, piece, pieces_below, pieces_of_parts, pieces_from, pieces}
 use Rattle.pc_parts.specs.Leaves.{cells_of, cells_under}
 use Rattle.pc_laws.proofs.Elements.{contains_first, contains_later, contains_cases, contains_none, contains_map, contains_mapped, all_from, values_each, value_there, there_value}
@@ -56,14 +57,14 @@ zip_values R f h (suc n) e =
 
 -- by the number in the name
 numbered_zip : (R : GroundAxiom → List ℕ → Type 0) (r : ℕ) (path : List ℕ) (i : ℕ) (cs : List (List Literal)) (os : List (List ℕ)) → length cs ≡ length os
-    → ((j : ℕ) (o : List ℕ) (clause : List Literal) → slice_get os j ≡ Some o → R (record { name = parts r path (i + j); clause = clause }) o) → AllZip R (numbered_axioms r path i cs) os
+    → ((j : ℕ) (o : List ℕ) (clause : List Literal) → slice_get os j ≡ Some o → R (record { name = axiom_node r path (i + j); clause = clause }) o) → AllZip R (numbered_axioms r path i cs) os
 numbered_zip R r path i [] [] e h = tt
 numbered_zip R r path i [] (o ∷ os) e h = absurd (omega arith)
 numbered_zip R r path i (c ∷ cs) [] e h = absurd (omega arith)
 numbered_zip R r path i (c ∷ cs) (o ∷ os) e h =
     let here : i + 0 ≡ i = omega arith in (
-      subst (λ k. R (record { name = parts r path k; clause = c }) o) here (h 0 o c refl),
-      numbered_zip R r path (i + 1) cs os (omega arith) (λ j p clause is. let there : i + suc j ≡ i + 1 + j = omega arith in subst (λ k. R (record { name = parts r path k; clause = clause }) p) there (h (suc j) p clause is)),
+      subst (λ k. R (record { name = axiom_node r path k; clause = c }) o) here (h 0 o c refl),
+      numbered_zip R r path (i + 1) cs os (omega arith) (λ j p clause is. let there : i + suc j ≡ i + 1 + j = omega arith in subst (λ k. R (record { name = axiom_node r path k; clause = clause }) p) there (h (suc j) p clause is)),
     )
 
 -- ---- paths
@@ -81,28 +82,28 @@ Extends r path p = (p.path.rule ≡ r) × (rest : List ℕ) × (p.path.steps ≡
 
 -- what touches a piece under one child is not inside another
 same_child : (r : ℕ) (path : List ℕ) (j k : ℕ) (cells : List ℕ) (x : Axiom) (p : Piece) → IsInside r (path ++ j ∷ []) cells x → Extends r (path ++ k ∷ []) p → Touches x p → j ≡ k
-same_child r path j k cells (some_value c) p i e t = absurd i
-same_child r path j k cells (not_both c v w) p i e t = absurd i
-same_child r path j k cells (true_rule q) p i e t = absurd i
-same_child r path j k cells (parts q way n) p i e (inl t) =
+same_child r path j k cells (axiom_some c) p i e t = absurd i
+same_child r path j k cells (axiom_one c v w) p i e t = absurd i
+same_child r path j k cells (axiom_rule q) p i e t = absurd i
+same_child r path j k cells (axiom_node q way n) p i e (inl t) =
     first_is j k i.1 (e.1 ++ t.1) (cancel path (j ∷ i.1) (k ∷ (e.1 ++ t.1))
     (sym (i.2 ∙ append_assoc path (j ∷ []) i.1) ∙ t.2 ∙ ap (λ xs. xs ++ t.1) (e.2 ∙ append_assoc path (k ∷ []) e.1) ∙ append_assoc path (k ∷ e.1) t.1))
-same_child r path j k cells (parts q way n) p i e (inr (m, number, t)) =
+same_child r path j k cells (axiom_node q way n) p i e (inr (m, number, t)) =
     sym (first_is k j e.1 (i.1 ++ m ∷ t.1) (cancel path (k ∷ e.1) (j ∷ (i.1 ++ m ∷ t.1))
     (sym (e.2 ∙ append_assoc path (k ∷ []) e.1) ∙ t.2 ∙ ap (λ xs. xs ++ m ∷ t.1) (i.2 ∙ append_assoc path (j ∷ []) i.1) ∙ append_assoc path (j ∷ i.1) (m ∷ t.1))))
-same_child r path j k cells (by_reads q way reads) p i e t =
+same_child r path j k cells (axiom_atom q way reads) p i e t =
     first_is j k i.0.1 (e.1 ++ t.1) (cancel path (j ∷ i.0.1) (k ∷ (e.1 ++ t.1))
     (sym (i.0.2 ∙ append_assoc path (j ∷ []) i.0.1) ∙ t.2 ∙ ap (λ xs. xs ++ t.1) (e.2 ∙ append_assoc path (k ∷ []) e.1) ∙ append_assoc path (k ∷ e.1) t.1))
 
 -- a joint node's clause for child j touches a piece under child k where these are the same
-way_child : (r : ℕ) (path : List ℕ) (j k : ℕ) (p : Piece) → Extends r (path ++ k ∷ []) p → Touches (parts r path (1 + j)) p → j ≡ k
+way_child : (r : ℕ) (path : List ℕ) (j k : ℕ) (p : Piece) → Extends r (path ++ k ∷ []) p → Touches (axiom_node r path (1 + j)) p → j ≡ k
 way_child r path j k p e (inl t) =
     absurd (let none : [] ≡ k ∷ (e.1 ++ t.1) = cancel path [] (k ∷ (e.1 ++ t.1)) (append-nil path ∙ t.2 ∙ ap (λ xs. xs ++ t.1) (e.2 ∙ append_assoc path (k ∷ []) e.1) ∙ append_assoc path (k ∷ e.1) t.1) in cc)
 way_child r path j k p e (inr (m, number, t)) =
     let same : k ≡ m = first_is k m e.1 t.1 (cancel path (k ∷ e.1) (m ∷ t.1) (sym (e.2 ∙ append_assoc path (k ∷ []) e.1) ∙ t.2)) in
     omega arith
 
-child_way : (r : ℕ) (path : List ℕ) (j : ℕ) (p : Piece) → Extends r (path ++ j ∷ []) p → Touches (parts r path (1 + j)) p
+child_way : (r : ℕ) (path : List ℕ) (j : ℕ) (p : Piece) → Extends r (path ++ j ∷ []) p → Touches (axiom_node r path (1 + j)) p
 child_way r path j p e = let number : 1 + j ≡ j + 1 = omega arith in inr (j, number, (e.0, e.1, e.2 ∙ append_assoc path (j ∷ []) e.1))
 
 -- ---- pieces under a node extend its path
@@ -206,11 +207,11 @@ module _ (u : Universe) (number : List ℕ → ℕ) where
     Own ps g os = AreOwners u number ps g os
 
     inside_touches : (path : List ℕ) (scope : Scope) (s : Statement) (cells : List ℕ) (x : Axiom) → IsInside r path cells x → Touches x (piece r path scope s)
-    inside_touches path scope s cells (some_value c) i = absurd i
-    inside_touches path scope s cells (not_both c v w) i = absurd i
-    inside_touches path scope s cells (true_rule q) i = absurd i
-    inside_touches path scope s cells (parts q way k) i = inl i
-    inside_touches path scope s cells (by_reads q way reads) i = i.0
+    inside_touches path scope s cells (axiom_some c) i = absurd i
+    inside_touches path scope s cells (axiom_one c v w) i = absurd i
+    inside_touches path scope s cells (axiom_rule q) i = absurd i
+    inside_touches path scope s cells (axiom_node q way k) i = inl i
+    inside_touches path scope s cells (axiom_atom q way reads) i = i.0
 
     -- all axioms of a piece are of its part
     alone : (path : List ℕ) (scope : Scope) (s : Statement) → AllZip (Own (piece r path scope s ∷ [])) (node_axioms u r path scope s) (of_one (number (cells_under u scope s)) (node_axioms u r path scope s))
@@ -253,7 +254,7 @@ module _ (u : Universe) (number : List ℕ → ℕ) where
     -- ---- a conjunction's clauses
 
     part_way : (path : List ℕ) (scope : Scope) (ss : Statements) (j : ℕ) (o : List ℕ) (clause : List Literal) → slice_get (parts_of_children u number scope ss ++ [] ∷ []) j ≡ Some o
-        → Own (pieces_of_parts u r path scope 0 ss) (record { name = parts r path (1 + j); clause = clause }) o
+        → Own (pieces_of_parts u r path scope 0 ss) (record { name = axiom_node r path (1 + j); clause = clause }) o
     part_way path scope ss j o clause is i = elim (child_at scope ss j o is) [
       | inl child ↦
           let n = child.0 in
@@ -285,7 +286,7 @@ module _ (u : Universe) (number : List ℕ → ℕ) where
 
     value_way : (path : List ℕ) (scope : Scope) (s : SortId) (body : Statement) (n j : ℕ) (o : List ℕ) (clause : List Literal)
         → slice_get (map (λ v. parts_under u number (scope ++ (s, v) ∷ []) body) (values_below n) ++ [] ∷ []) j ≡ Some o
-        → Own (flat_map (λ v. pieces_below u r (path ++ v.0 ∷ []) (scope ++ (s, v) ∷ []) body) (values_below n)) (record { name = parts r path (1 + j); clause = clause }) o
+        → Own (flat_map (λ v. pieces_below u r (path ++ v.0 ∷ []) (scope ++ (s, v) ∷ []) body) (values_below n)) (record { name = axiom_node r path (1 + j); clause = clause }) o
     value_way path scope s body n j o clause is i =
         let ps : ValueId → List Piece = λ v. pieces_below u r (path ++ v.0 ∷ []) (scope ++ (s, v) ∷ []) body in
         let v : ValueId = record { 0 = j } in
@@ -393,12 +394,12 @@ module _ (u : Universe) (number : List ℕ → ℕ) where
 -- ---- rules
 
 touched_rule : (r : ℕ) (steps cells : List ℕ) (x : Axiom) (p : Piece) → IsInside r steps cells x → Touches x p → p.path.rule ≡ r
-touched_rule r steps cells (some_value c) p i t = absurd i
-touched_rule r steps cells (not_both c v w) p i t = absurd i
-touched_rule r steps cells (true_rule q) p i t = absurd i
-touched_rule r steps cells (parts q way n) p i (inl t) = t.0 ∙ sym i.0
-touched_rule r steps cells (parts q way n) p i (inr (m, number, t)) = t.0 ∙ sym i.0
-touched_rule r steps cells (by_reads q way reads) p i t = t.0 ∙ sym i.0.0
+touched_rule r steps cells (axiom_some c) p i t = absurd i
+touched_rule r steps cells (axiom_one c v w) p i t = absurd i
+touched_rule r steps cells (axiom_rule q) p i t = absurd i
+touched_rule r steps cells (axiom_node q way n) p i (inl t) = t.0 ∙ sym i.0
+touched_rule r steps cells (axiom_node q way n) p i (inr (m, number, t)) = t.0 ∙ sym i.0
+touched_rule r steps cells (axiom_atom q way reads) p i t = t.0 ∙ sym i.0.0
 
 module _ (u : Universe) (number : List ℕ → ℕ) where
   abbrev Below : ℕ → NamedStatement → List Piece

@@ -8,7 +8,7 @@ use Rattle.std.proofs.lemmas.List.Kept.{AllPairs-filter}
 use Rattle.pc_sheet.specs.Sheet.{Universe, Sheet, NamedStatement}
 use Rattle.pc_sheet.specs.Entailment.{cell_sizes}
 use Rattle.pc_sheet.specs.WellFormed.{IsWellFormed}
-use Rattle.pc_accept.specs.Axioms.{Axiom, some_value, not_both, true_rule, parts, by_reads}
+use Rattle.pc_accept.specs.Axioms.{Axiom, axiom_some, axiom_one, axiom_rule, axiom_node, axiom_atom}
 use Rattle.pc_parts.specs.Pieces.{Piece, pieces}
 use Rattle.pc_parts.specs.Leaves.{cells_of, cells_under}
 use Rattle.pc_parts.specs.Parts.{Part, cell_count, part_without_cells}
@@ -19,7 +19,7 @@ use Rattle.pc_parts.proofs.Labels.{label_joined, joined_label, label_there}
 use Rattle.pc_parts.proofs.LeafReads.{leaves_read_the_cells}
 use Rattle.pc_parts.proofs.ReadWithin.{reads_cells}
 use Rattle.pc_ground.specs.Ground.{GroundAxiom, cell_axioms, cells_axioms, node_axioms, root_axiom, rule_axioms, rules_axioms}
-use Rattle.pc_components.specs.PartAxioms.{IsAxiomOf}
+use Rattle.pc_components.specs.PartAxioms.{IsAxiomOfPart}
 use Rattle.pc_components.specs.inside.Owners.{of_one, Touches, AreOwners, firsts_by, place_in, cell_number_by, number_by, owners_of_cells, owners_of_rules, OwnersAreParts}
 use Rattle.pc_components.proofs.Inside.{IsInside, inside}
 use Rattle.pc_components.proofs.Owned.{zip_append, zip_one, zip_wider, same_some, slice_left, owners_are_found}
@@ -170,36 +170,36 @@ module _ (sheet : Sheet) (formed : IsWellFormed sheet) where
 
   -- ---- axioms
 
-  to_axiom : (part : Part) (x : Axiom) (p : Piece) → Contains part.pieces p → Touches x p → IsAxiomOf part x
-  to_axiom part (some_value c) p h t = absurd t
-  to_axiom part (not_both c v w) p h t = absurd t
-  to_axiom part (true_rule r) p h t = (p, h, t)
-  to_axiom part (parts r path k) p h (inl t) = inl (p, h, t)
-  to_axiom part (parts r path k) p h (inr (m, number, t)) = inr (m, number, (p, h, t))
-  to_axiom part (by_reads r path reads) p h t = (p, h, t)
+  to_axiom : (part : Part) (x : Axiom) (p : Piece) → Contains part.pieces p → Touches x p → IsAxiomOfPart part x
+  to_axiom part (axiom_some c) p h t = absurd t
+  to_axiom part (axiom_one c v w) p h t = absurd t
+  to_axiom part (axiom_rule r) p h t = (p, h, t)
+  to_axiom part (axiom_node r path k) p h (inl t) = inl (p, h, t)
+  to_axiom part (axiom_node r path k) p h (inr (m, number, t)) = inr (m, number, (p, h, t))
+  to_axiom part (axiom_atom r path reads) p h t = (p, h, t)
 
   -- not of a cell
   abbrev IsOfRule : Axiom → Type 0
-  IsOfRule (some_value c) = ⊥
-  IsOfRule (not_both c v w) = ⊥
-  IsOfRule (true_rule r) = Unit {0}
-  IsOfRule (parts r path k) = Unit {0}
-  IsOfRule (by_reads r path reads) = Unit {0}
+  IsOfRule (axiom_some c) = ⊥
+  IsOfRule (axiom_one c v w) = ⊥
+  IsOfRule (axiom_rule r) = Unit {0}
+  IsOfRule (axiom_node r path k) = Unit {0}
+  IsOfRule (axiom_atom r path reads) = Unit {0}
 
-  of_axiom : (part : Part) (x : Axiom) → IsOfRule x → IsAxiomOf part x → (p : Piece) × Contains part.pieces p × Touches x p
-  of_axiom part (some_value c) is h = absurd is
-  of_axiom part (not_both c v w) is h = absurd is
-  of_axiom part (true_rule r) is h = h
-  of_axiom part (parts r path k) is (inl h) = (h.0, h.1, inl h.2)
-  of_axiom part (parts r path k) is (inr h) = (h.2.0, h.2.1, inr (h.0, h.1, h.2.2))
-  of_axiom part (by_reads r path reads) is h = h
+  of_axiom : (part : Part) (x : Axiom) → IsOfRule x → IsAxiomOfPart part x → (p : Piece) × Contains part.pieces p × Touches x p
+  of_axiom part (axiom_some c) is h = absurd is
+  of_axiom part (axiom_one c v w) is h = absurd is
+  of_axiom part (axiom_rule r) is h = h
+  of_axiom part (axiom_node r path k) is (inl h) = (h.0, h.1, inl h.2)
+  of_axiom part (axiom_node r path k) is (inr h) = (h.2.0, h.2.1, inr (h.0, h.1, h.2.2))
+  of_axiom part (axiom_atom r path reads) is h = h
 
   inside_rule : (r : ℕ) (steps cells : List ℕ) (x : Axiom) → IsInside r steps cells x → IsOfRule x
-  inside_rule r steps cells (some_value c) i = i
-  inside_rule r steps cells (not_both c v w) i = i
-  inside_rule r steps cells (true_rule q) i = tt
-  inside_rule r steps cells (parts q way k) i = tt
-  inside_rule r steps cells (by_reads q way reads) i = tt
+  inside_rule r steps cells (axiom_some c) i = i
+  inside_rule r steps cells (axiom_one c v w) i = i
+  inside_rule r steps cells (axiom_rule q) i = tt
+  inside_rule r steps cells (axiom_node q way k) i = tt
+  inside_rule r steps cells (axiom_atom q way reads) i = tt
 
   of_rules : (r : ℕ) (rules : List NamedStatement) → All (λ g. IsOfRule g.name) (rules_axioms u r rules)
   of_rules r [] = All-nil (λ g. IsOfRule g.name)
@@ -217,14 +217,14 @@ module _ (sheet : Sheet) (formed : IsWellFormed sheet) where
   ]
 
   abbrev IsOwned : GroundAxiom → List ℕ → Type 0
-  IsOwned g os = (i : ℕ) (part : Part) → slice_get (parts_of sheet) i ≡ Some part → Contains os i ↔ IsAxiomOf part g.name
+  IsOwned g os = (i : ℕ) (part : Part) → slice_get (parts_of sheet) i ≡ Some part → Contains os i ↔ IsAxiomOfPart part g.name
 
-  of_cell : (part : Part) (c : ℕ) (x : Axiom) → IsOfCell c x → IsAxiomOf part x ↔ Contains part.cells c
-  of_cell part c (some_value d) is = (subst (Contains part.cells) is, subst (Contains part.cells) (sym is))
-  of_cell part c (not_both d v w) is = (subst (Contains part.cells) is, subst (Contains part.cells) (sym is))
-  of_cell part c (true_rule r) is = absurd is
-  of_cell part c (parts r path k) is = absurd is
-  of_cell part c (by_reads r path reads) is = absurd is
+  of_cell : (part : Part) (c : ℕ) (x : Axiom) → IsOfCell c x → IsAxiomOfPart part x ↔ Contains part.cells c
+  of_cell part c (axiom_some d) is = (subst (Contains part.cells) is, subst (Contains part.cells) (sym is))
+  of_cell part c (axiom_one d v w) is = (subst (Contains part.cells) is, subst (Contains part.cells) (sym is))
+  of_cell part c (axiom_rule r) is = absurd is
+  of_cell part c (axiom_node r path k) is = absurd is
+  of_cell part c (axiom_atom r path reads) is = absurd is
 
   cells_owned : (c : ℕ) (ns : List ℕ) → ((j : ℕ) → j < length ns → c + j < cell_count u) → AllZip IsOwned (cells_axioms c ns) (owners_of_cells (cell_number_by u labels) c ns)
   cells_owned c [] h = tt

@@ -20,13 +20,13 @@ use Rattle.pc_parts.specs.Components.{all_cells}
 use Rattle.pc_parts.proofs.Divided.{own_fits as own_fits_too}
 use Rattle.pc_laws.proofs.Elements.{contains_first, contains_later, contains_cases, contains_none, all_from}
 use Rattle.pc_ground.specs.Variables.{pair_at, pairs_from, nodes_from, variables, variable_count, number}
-use Rattle.pc_ground.specs.Ground.{GroundAxiom, axioms, lit_of, clause_of, clauses}
+use Rattle.pc_ground.specs.Ground.{GroundAxiom, axioms, lit_of, clause_of_axiom, clauses}
 use Rattle.pc_ground.specs.Laws.{var_of, HasTruths, MeetsAll}
 use Rattle.pc_ground.proofs.Made.{Makes}
 use Rattle.pc_ground.proofs.Numbers.{numbered_up, counted_up}
 use Rattle.pc_ground.proofs.Same.{same_assignments}
 use Rattle.pc_ground.proofs.Symbols.{symbols_are_variables, pair_there}
-use Rattle.pc_components.specs.PartAxioms.{IsAxiomOf, AreAxiomsOf}
+use Rattle.pc_components.specs.PartAxioms.{IsAxiomOfPart, AreAxiomsOf}
 use Rattle.pc_components.specs.Used.{MeetsUsed, HasValues}
 use Rattle.pc_components.specs.Laws.{PartAxiomsAreForTheirParts, AxiomsAreForTheirSheet}
 use Rattle.pc_components.proofs.PartMet.{own, own_assigned, own_values, own_fits}
@@ -112,10 +112,10 @@ pair_in sheet c n w is below =
 -- ---- a part
 
 module _ (sheet : Sheet) (formed : IsWellFormed sheet) (all : List Part) (division : IsDivision sheet all) (part : Part) (there : Contains all part) (used : List ℕ) (of : AreAxiomsOf sheet part used) where
-  met : (v : Var → Bool) → MeetsUsed (clauses sheet) used v → (g : GroundAxiom) → Contains (axioms sheet) g → IsAxiomOf part g.name → Makes (value sheet v) g.clause
+  met : (v : Var → Bool) → MeetsUsed (clauses sheet) used v → (g : GroundAxiom) → Contains (axioms sheet) g → IsAxiomOfPart part g.name → Makes (value sheet v) g.clause
   met v h g g_there o =
       let k = contains_slice (axioms sheet) g g_there in
-      makes_of sheet v g.clause (h k.0 ((of.exact k.0).1 (g, k.1, o)) (clause_of sheet g) (slice_map (clause_of sheet) (axioms sheet) k.0 g k.1))
+      makes_of sheet v g.clause (h k.0 ((of.exact k.0).1 (g, k.1, o)) (clause_of_axiom sheet g) (slice_map (clause_of_axiom sheet) (axioms sheet) k.0 g k.1))
 
   part_fits : (v : Var → Bool) → MeetsUsed (clauses sheet) used v → (a : List ValueId) × IsAssignment sheet.universe a × Fits (sheet_of sheet part) a × HasValues (cell_sizes sheet.universe) part.cells v a
   part_fits v h =
@@ -136,7 +136,7 @@ module _ (sheet : Sheet) (formed : IsWellFormed sheet) (all : List Part) (divisi
             let g_there = slice_contains (axioms sheet) k g.0 g.1 in
             let made_there = made sheet all division part there a assigned fits g.0 g_there g.2 in
             let makes : Makes (value sheet v) g.0.clause = (made_there.0, made_there.1, numbered_is sheet t made_there.0.what (symbols_are_variables sheet g.0 g_there made_there.0 made_there.1) ∙ made_there.2) in
-            let clause_is : clause_of sheet g.0 ≡ clause = same_clause (sym (slice_map (clause_of sheet) (axioms sheet) k g.0 g.1) ∙ is) in
+            let clause_is : clause_of_axiom sheet g.0 ≡ clause = same_clause (sym (slice_map (clause_of_axiom sheet) (axioms sheet) k g.0 g.1) ∙ is) in
             subst (IsTrueUnder v) clause_is (of_makes sheet v g.0.clause makes),
         λ c c_there n w is below.
             let same = numbered_is sheet t (pair_at c w) (pair_in sheet c n w is below) in

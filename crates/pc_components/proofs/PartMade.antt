@@ -9,7 +9,7 @@ use Rattle.pc_sheet.specs.declared.ids.CellId.{CellId}
 use Rattle.pc_sheet.specs.declared.ids.ValueId.{ValueId}
 use Rattle.pc_laws.specs.Laws.{IsDecided}
 use Rattle.pc_accept.specs.Literals.{Symbol, pair, node, Literal, positive, negative, SymbolHolds, ClauseHolds}
-use Rattle.pc_accept.specs.Axioms.{Axiom, some_value, not_both, true_rule, parts, by_reads, each_below, clauses_of_node, child_of, negated_entry, IsNumbered, IsClauseOf}
+use Rattle.pc_accept.specs.Axioms.{Axiom, axiom_some, axiom_one, axiom_rule, axiom_node, axiom_atom, each_below, clauses_of_node, child_of, negated_entry, IsAtNumber, IsClauseOf}
 use Rattle.pc_accept.proofs.Children.{some_and, node_is}
 use Rattle.pc_accept.proofs.Decided.{decide_symbol}
 use Rattle.pc_parts.specs.Pieces.{Piece, pieces, PieceHolds}
@@ -22,7 +22,7 @@ use Rattle.pc_ground.specs.Ground.{GroundAxiom, axioms}
 use Rattle.pc_ground.proofs.Lists.{there_each}
 use Rattle.pc_ground.proofs.Made.{Makes}
 use Rattle.pc_ground.proofs.OfAxioms.{all_right}
-use Rattle.pc_components.specs.PartAxioms.{IsOnTheWay, OfSomePiece, IsAxiomOf}
+use Rattle.pc_components.specs.PartAxioms.{IsOnTheWay, OfSomePiece, IsAxiomOfPart}
 use Rattle.pc_accept.proofs.AxiomsTrue.{numbered, other_axioms_true}
 use Rattle.pc_components.proofs.Way.{piece_at, above_piece, joint_clause, way_clause}
 use Rattle.pc_components.proofs.Symbols.{node_symbols}
@@ -147,13 +147,13 @@ module _ (sheet : Sheet) (all : List Part) (division : IsDivision sheet all) (pa
   later_true l ls h = (h.0, contains_later l ls h.0 h.1, h.2)
 
   -- the clause of the child on the way
-  way_made : (r : ℕ) (path : List ℕ) (i k : ℕ) (clause : List Literal) → i ≡ k + 1 → OfSomePiece part (IsOnTheWay r path k) → IsClauseOf sheet (parts r path i) clause → Makes truth clause
+  way_made : (r : ℕ) (path : List ℕ) (i k : ℕ) (clause : List Literal) → i ≡ k + 1 → OfSomePiece part (IsOnTheWay r path k) → IsClauseOf sheet (axiom_node r path i) clause → Makes truth clause
   way_made r path i k clause number (p, c, (same, rest, is)) h =
-      let n = some_and (node_at sheet r path) (λ n. IsNumbered (clauses_of_node (node r path) (child_of r path) u n.1) i clause) h in
+      let n = some_and (node_at sheet r path) (λ n. IsAtNumber (clauses_of_node (node r path) (child_of r path) u n.1) i clause) h in
       let above = above_piece sheet p (division.pieces part there p c) path k rest is in
       let node_same : n.0 ≡ above.joint = some_node (sym n.1 ∙ ap (λ q. node_at sheet q path) (sym same) ∙ above.at) in
-      let joint = subst (λ (m : Node). IsNumbered (clauses_of_node (node r path) (child_of r path) u m.1) i clause) node_same n.2 in
-      let at_k : slice_get (clauses_of_node (node r path) (child_of r path) u above.joint.1) k ≡ Some clause = subst (λ j. IsNumbered (clauses_of_node (node r path) (child_of r path) u above.joint.1) j clause) number' joint in
+      let joint = subst (λ (m : Node). IsAtNumber (clauses_of_node (node r path) (child_of r path) u m.1) i clause) node_same n.2 in
+      let at_k : slice_get (clauses_of_node (node r path) (child_of r path) u above.joint.1) k ≡ Some clause = subst (λ j. IsAtNumber (clauses_of_node (node r path) (child_of r path) u above.joint.1) j clause) number' joint in
       let way = joint_clause u (node r path) (child_of r path) above.joint.0 above.joint.1 above.is k above.next above.child_at in
       let clause_is : way_clause u (node r path) (child_of r path) k ≡ clause = some_clause (sym way ∙ at_k) in
       let child_true : truth (child_of r path k) ≡ true = subst (λ q. truth (node q (path ++ k ∷ [])) ≡ true) same (path_true p c (path ++ k ∷ []) rest (is ∙ sym (append_assoc path (k ∷ []) rest))) in
@@ -168,35 +168,35 @@ module _ (sheet : Sheet) (all : List Part) (division : IsDivision sheet all) (pa
       some_clause : {x y : List Literal} → Some x ≡ Some y → x ≡ y
       some_clause {x} {y} e = let f : Option (List Literal) → List Literal = elim [ None ↦ x | Some z ↦ z ] in ap f e
 
-  of_axiom : (x : Axiom) (clause : List Literal) → IsClauseOf sheet x clause → IsAxiomOf part x → Makes truth clause
-  of_axiom (some_value c) clause h o =
+  of_axiom : (x : Axiom) (clause : List Literal) → IsClauseOf sheet x clause → IsAxiomOfPart part x → Makes truth clause
+  of_axiom (axiom_some c) clause h o =
       let f : ℕ → Literal = λ v. positive (pair c (record { 0 = v })) in
       let n = some_and (slice_get (cell_sizes u) c.0) (λ n. clause ≡ each_below n f) h in
       from_holds clause (λ l has. let k = there_each n.0 f l (subst (λ d. Contains d l) n.2 has) in subst (λ m. IsRight m.what) k.2 (pair_truth c (record { 0 = k.0 })))
-      (other_axioms_true sheet a assigned (some_value c) clause tt h)
-  of_axiom (not_both c v w) clause h o =
+      (other_axioms_true sheet a assigned (axiom_some c) clause tt h)
+  of_axiom (axiom_one c v w) clause h o =
       let n = some_and (slice_get (cell_sizes u) c.0) (λ n. (v.0 < n) × (w.0 < n) × (v ≢ w) × (clause ≡ negative (pair c v) ∷ negative (pair c w) ∷ [])) h in
       from_holds clause (λ l has. elim (contains_cases (negative (pair c v)) (negative (pair c w) ∷ []) l (subst (λ d. Contains d l) n.2.3 has)) [
         | inl same ↦ subst (λ m. IsRight m.what) same (pair_truth c v)
         | inr later ↦ elim (contains_cases (negative (pair c w)) [] l later) [ inl same ↦ subst (λ m. IsRight m.what) same (pair_truth c w) | inr none ↦ absurd (contains_none l none) ]
-      ]) (other_axioms_true sheet a assigned (not_both c v w) clause tt h)
-  of_axiom (true_rule r) clause h (p, c, same) =
+      ]) (other_axioms_true sheet a assigned (axiom_one c v w) clause tt h)
+  of_axiom (axiom_rule r) clause h (p, c, same) =
       let named = some_and (slice_get sheet.rules r) (λ named. clause ≡ positive (node r []) ∷ []) h in
       subst (Makes truth) (sym named.2) (one_true (positive (node r [])) [] (subst (λ q. truth (node q []) ≡ true) same (path_true p c [] p.path.steps refl)))
-  of_axiom (parts r path i) clause h (inl (p, c, (same, rest, is))) =
-      let n = some_and (node_at sheet r path) (λ n. IsNumbered (clauses_of_node (node r path) (child_of r path) u n.1) i clause) h in
+  of_axiom (axiom_node r path i) clause h (inl (p, c, (same, rest, is))) =
+      let n = some_and (node_at sheet r path) (λ n. IsAtNumber (clauses_of_node (node r path) (child_of r path) u n.1) i clause) h in
       let in_clauses = numbered (clauses_of_node (node r path) (child_of r path) u n.0.1) i clause n.2 in
       from_holds clause
       (node_symbols IsRight (node r path) (child_of r path) (under_right p c r same path rest is)
       (λ k. under_right p c r same (path ++ k ∷ []) (rest ++ k ∷ []) (ap (λ xs. xs ++ k ∷ []) is ∙ append_assoc p.path.steps rest (k ∷ []))) u n.0.1 clause in_clauses)
-      (other_axioms_true sheet a assigned (parts r path i) clause tt h)
-  of_axiom (parts r path i) clause h (inr (k, number, some)) = way_made r path i k clause number some h
-  of_axiom (by_reads r path reads) clause h (p, c, (same, rest, is)) =
+      (other_axioms_true sheet a assigned (axiom_node r path i) clause tt h)
+  of_axiom (axiom_node r path i) clause h (inr (k, number, some)) = way_made r path i k clause number some h
+  of_axiom (axiom_atom r path reads) clause h (p, c, (same, rest, is)) =
       let end : Literal = record { what = node r path; sign = h.truth } in
       from_holds clause (λ l has. elim (Contains-append_cases (map negated_entry reads) (end ∷ []) l (subst (λ d. Contains d l) h.is has)) [
         | inl read ↦ let e = contains_mapped negated_entry reads l read in subst (λ m. IsRight m.what) e.2 (pair_truth e.0.cell e.0.value)
         | inr last ↦ elim (contains_cases end [] l last) [ inl is_end ↦ subst (λ m. IsRight m.what) is_end (under_right p c r same path rest is) | inr none ↦ absurd (contains_none l none) ]
-      ]) (other_axioms_true sheet a assigned (by_reads r path reads) clause tt h)
+      ]) (other_axioms_true sheet a assigned (axiom_atom r path reads) clause tt h)
 
-  pub made : (g : GroundAxiom) → Contains (axioms sheet) g → IsAxiomOf part g.name → Makes truth g.clause
+  pub made : (g : GroundAxiom) → Contains (axioms sheet) g → IsAxiomOfPart part g.name → Makes truth g.clause
   made g g_there o = of_axiom g.name g.clause (All-contains (λ q. IsClauseOf sheet q.name q.clause) (axioms sheet) g (all_right sheet) g_there) o

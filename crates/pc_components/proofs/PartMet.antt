@@ -12,7 +12,7 @@ use Rattle.pc_sheet.specs.declared.ids.Entry.{Entry}
 use Rattle.pc_laws.specs.Laws.{IsDecided}
 use Rattle.pc_laws.proofs.Decide.{same_option}
 use Rattle.pc_accept.specs.Literals.{Symbol, pair, node, Literal, positive, negative, SymbolHolds}
-use Rattle.pc_accept.specs.Axioms.{Axiom, some_value, not_both, true_rule, parts, by_reads, clauses_of_node, child_of, negated_entry, pair_of, IsNumbered, IsClauseOf}
+use Rattle.pc_accept.specs.Axioms.{Axiom, axiom_some, axiom_one, axiom_rule, axiom_node, axiom_atom, clauses_of_node, child_of, negated_entry, pair_of, IsAtNumber, IsClauseOf}
 use Rattle.pc_accept.proofs.Children.{some_and, node_is}
 use Rattle.pc_parts.specs.Pieces.{Piece, pieces, PieceHolds}
 use Rattle.pc_parts.specs.Parts.{Part, IsDivision}
@@ -30,7 +30,7 @@ use Rattle.pc_ground.proofs.Made.{Makes, Meets, unit, last, one_value}
 use Rattle.pc_ground.proofs.NodesRight.{nodes_right}
 use Rattle.pc_ground.proofs.OfAxioms.{all_right}
 use Rattle.pc_ground.proofs.Symbols.{root_there}
-use Rattle.pc_components.specs.PartAxioms.{IsAxiomOf}
+use Rattle.pc_components.specs.PartAxioms.{IsAxiomOfPart}
 use Rattle.pc_accept.proofs.AxiomsTrue.{numbered, value_within}
 use Rattle.pc_components.proofs.Inside.{rule_there, node_there, IsInside, inside}
 use Rattle.pc_components.proofs.Way.{piece_at, piece_rule, above_piece, way_axiom, way_there}
@@ -81,7 +81,7 @@ unfolding mixed
 mixed_out cells value a e is = ap (λ b. cond b (value (pair_of e)) (yes_of (same_option (slice_get a e.cell.0) (Some e.value)))) is
 
 module _ (sheet : Sheet) (formed : IsWellFormed sheet) (all : List Part) (division : IsDivision sheet all) (part : Part) (there : Contains all part)
-    (value : Symbol → Bool) (met : (g : GroundAxiom) → Contains (axioms sheet) g → IsAxiomOf part g.name → Makes value g.clause) where
+    (value : Symbol → Bool) (met : (g : GroundAxiom) → Contains (axioms sheet) g → IsAxiomOfPart part g.name → Makes value g.clause) where
   abbrev u : Universe
   u = sheet.universe
 
@@ -111,12 +111,12 @@ module _ (sheet : Sheet) (formed : IsWellFormed sheet) (all : List Part) (divisi
 
   -- ---- the cells' values
 
-  of_cell : (c : ℕ) → Contains part.cells c → (x : Axiom) → IsOfCell c x → IsAxiomOf part x
-  of_cell c h (some_value d) is = subst (Contains part.cells) (sym is) h
-  of_cell c h (not_both d v w) is = subst (Contains part.cells) (sym is) h
-  of_cell c h (true_rule r) is = absurd is
-  of_cell c h (parts r path i) is = absurd is
-  of_cell c h (by_reads r path reads) is = absurd is
+  of_cell : (c : ℕ) → Contains part.cells c → (x : Axiom) → IsOfCell c x → IsAxiomOfPart part x
+  of_cell c h (axiom_some d) is = subst (Contains part.cells) (sym is) h
+  of_cell c h (axiom_one d v w) is = subst (Contains part.cells) (sym is) h
+  of_cell c h (axiom_rule r) is = absurd is
+  of_cell c h (axiom_node r path i) is = absurd is
+  of_cell c h (axiom_atom r path reads) is = absurd is
 
   cell_met : (c n : ℕ) → Contains part.cells c → slice_get sizes c ≡ Some n → Meets value (cell_axioms c n)
   cell_met c n h is g g_there = met g (cell_there sheet c n is g g_there) (of_cell c h g.name (All-contains (λ q. IsOfCell c q.name) (cell_axioms c n) g (cell_named c n) g_there))
@@ -173,14 +173,14 @@ module _ (sheet : Sheet) (formed : IsWellFormed sheet) (all : List Part) (divisi
   IsUnmixed x = mixed part.cells value own x ≡ value x
 
   unmixed : (r : ℕ) (steps cells : List ℕ) → ((c : ℕ) → Contains cells c → Contains part.cells c) → (x : Axiom) → IsInside r steps cells x → (clause : List Literal) → IsClauseOf sheet x clause → (l : Literal) → Contains clause l → IsUnmixed l.what
-  unmixed r steps cells f (some_value c) i clause is l has = absurd i
-  unmixed r steps cells f (not_both c v w) i clause is l has = absurd i
-  unmixed r steps cells f (true_rule q) i clause is l has = absurd i
-  unmixed r steps cells f (parts q path k) i clause is l has =
-      let n = some_and (node_at sheet q path) (λ n. IsNumbered (clauses_of_node (node q path) (child_of q path) u n.1) k clause) is in
+  unmixed r steps cells f (axiom_some c) i clause is l has = absurd i
+  unmixed r steps cells f (axiom_one c v w) i clause is l has = absurd i
+  unmixed r steps cells f (axiom_rule q) i clause is l has = absurd i
+  unmixed r steps cells f (axiom_node q path k) i clause is l has =
+      let n = some_and (node_at sheet q path) (λ n. IsAtNumber (clauses_of_node (node q path) (child_of q path) u n.1) k clause) is in
       node_symbols IsUnmixed (node q path) (child_of q path) (mixed_node part.cells value own q path) (λ j. mixed_node part.cells value own q (path ++ j ∷ [])) u n.0.1 clause
       (numbered (clauses_of_node (node q path) (child_of q path) u n.0.1) k clause n.2) l has
-  unmixed r steps cells f (by_reads q path reads) i clause is l has =
+  unmixed r steps cells f (axiom_atom q path reads) i clause is l has =
       let end : Literal = record { what = node q path; sign = is.truth } in
       elim (Contains-append_cases (map negated_entry reads) (end ∷ []) l (subst (λ c. Contains c l) is.is has)) [
         | inl read ↦
@@ -193,12 +193,12 @@ module _ (sheet : Sheet) (formed : IsWellFormed sheet) (all : List Part) (divisi
         ]
       ]
 
-  of_inside : (p : Piece) → Contains part.pieces p → (cells : List ℕ) (x : Axiom) → IsInside p.path.rule p.path.steps cells x → IsAxiomOf part x
-  of_inside p c cells (some_value d) i = absurd i
-  of_inside p c cells (not_both d v w) i = absurd i
-  of_inside p c cells (true_rule q) i = absurd i
-  of_inside p c cells (parts q path k) i = inl (p, c, (i.0, i.1, i.2))
-  of_inside p c cells (by_reads q path reads) i = (p, c, (i.0.0, i.0.1, i.0.2))
+  of_inside : (p : Piece) → Contains part.pieces p → (cells : List ℕ) (x : Axiom) → IsInside p.path.rule p.path.steps cells x → IsAxiomOfPart part x
+  of_inside p c cells (axiom_some d) i = absurd i
+  of_inside p c cells (axiom_one d v w) i = absurd i
+  of_inside p c cells (axiom_rule q) i = absurd i
+  of_inside p c cells (axiom_node q path k) i = inl (p, c, (i.0, i.1, i.2))
+  of_inside p c cells (axiom_atom q path reads) i = (p, c, (i.0.0, i.0.1, i.0.2))
 
   piece_met : (p : Piece) → Contains part.pieces p → Meets (mixed part.cells value own) (node_axioms u p.path.rule p.path.steps p.node.0 p.node.1)
   piece_met p c g g_in =

@@ -3,10 +3,10 @@ use Rattle.std.proofs.Common.{◌≡◌, ℕ, zero, suc, ◌+◌, inl, inr, List
 use Rattle.std.specs.List.{range_with_len}
 use Rattle.std.proofs.lemmas.List.Elements.{All-nil, All-cons, All-append, All-map, Contains-append_left, Contains-append_right, Contains-push_cases}
 use Rattle.pc_sheet.specs.Sheet.{Universe, Sheet, Statement, compare, in_table, negation, all_of, some_of, implies, iff, for_all, exists}
-use Rattle.pc_sheet.specs.Truth.{size_of}
+use Rattle.pc_sheet.specs.Sizes.{size_of}
 use Rattle.pc_sheet.specs.Entailment.{cell_sizes}
 use Rattle.pc_accept.specs.Literals.{Symbol, Literal, positive, negative}
-use Rattle.pc_accept.specs.Axioms.{Axiom, some_value, not_both, true_rule, parts, by_reads, how_many, each_below, clauses_of_node}
+use Rattle.pc_accept.specs.Axioms.{Axiom, axiom_some, axiom_one, axiom_rule, axiom_node, axiom_atom, how_many, each_below, clauses_of_node}
 use Rattle.pc_laws.proofs.Elements.{contains_cases, contains_none, all_from}
 use Rattle.pc_ground.specs.Ground.{GroundAxiom, some_axiom, one_axiom, one_axioms, cell_axioms, cells_axioms, rules_axioms, axioms}
 use Rattle.pc_ground.proofs.Lists.{there_each}
@@ -69,11 +69,11 @@ module _ (In : Symbol → Type 0) (p : Symbol) (c : ℕ → Symbol) (here : In p
 -- ---- a cell's axioms
 
 abbrev pub IsOfCell : ℕ → Axiom → Type 0
-IsOfCell c (some_value d) = d.0 ≡ c
-IsOfCell c (not_both d v w) = d.0 ≡ c
-IsOfCell c (true_rule r) = ⊥
-IsOfCell c (parts r path i) = ⊥
-IsOfCell c (by_reads r path reads) = ⊥
+IsOfCell c (axiom_some d) = d.0 ≡ c
+IsOfCell c (axiom_one d v w) = d.0 ≡ c
+IsOfCell c (axiom_rule r) = ⊥
+IsOfCell c (axiom_node r path i) = ⊥
+IsOfCell c (axiom_atom r path reads) = ⊥
 
 ones_named : (c v n : ℕ) → All (λ g. IsOfCell c g.name) (one_axioms c v n)
 ones_named c v zero = All-nil (λ g. IsOfCell c g.name)

@@ -4,11 +4,12 @@ use Rattle.std.specs.List.{flat_map, range_with_len}
 use Rattle.std.proofs.lemmas.Bool.Decides.{Decides-ltb}
 use Rattle.std.proofs.lemmas.List.Elements.{All-contains, Contains-append_left}
 use Rattle.pc_sheet.specs.Sheet.{Universe, Sheet, NamedStatement, Statement, Statements, no_statements, statement, compare, in_table, negation, all_of, some_of, implies, iff, for_all, exists}
-use Rattle.pc_sheet.specs.Truth.{Scope, size_of}
+use Rattle.pc_sheet.specs.Truth.{Scope}
+use Rattle.pc_sheet.specs.Sizes.{size_of}
 use Rattle.pc_sheet.specs.Cells.{values_below}
 use Rattle.pc_sheet.specs.Nodes.{Node, part_at, child, node_from, root_of, node_at}
 use Rattle.pc_accept.specs.Literals.{Symbol, Literal, node, positive, negative}
-use Rattle.pc_accept.specs.Axioms.{parts, how_many, each_below, clauses_of_all, clauses_of_node, child_of}
+use Rattle.pc_accept.specs.Axioms.{axiom_node, how_many, each_below, clauses_of_all, clauses_of_node, child_of}
 use Rattle.pc_parts.specs.Pieces.{Piece, pieces, IsJoint, LeadsTo, IsPiece}
 use Rattle.pc_laws.proofs.Elements.{contains_first, contains_later}
 use Rattle.pc_parts.proofs.Listed.{all_reached, root_is}
@@ -110,17 +111,17 @@ module _ (u : Universe) (p : Symbol) (c : ℕ → Symbol) where
   joint_clause scope (exists name s body) j k n h = absurd j
 
 module _ (u : Universe) (r : ℕ) (path : List ℕ) where
-  numbered_has : (i : ℕ) (cs : List (List Literal)) (k : ℕ) (clause : List Literal) → slice_get cs k ≡ Some clause → Contains (numbered_axioms r path i cs) (record { name = parts r path (i + k); clause = clause })
+  numbered_has : (i : ℕ) (cs : List (List Literal)) (k : ℕ) (clause : List Literal) → slice_get cs k ≡ Some clause → Contains (numbered_axioms r path i cs) (record { name = axiom_node r path (i + k); clause = clause })
   numbered_has i [] k clause h = absurd (cc)
   numbered_has i (c ∷ cs) zero clause h =
       let here : i ≡ i + 0 = omega arith in
       let same : c ≡ clause = cc in
-      let make : ℕ → List Literal → GroundAxiom = λ j d. record { name = parts r path j; clause = d } in
+      let make : ℕ → List Literal → GroundAxiom = λ j d. record { name = axiom_node r path j; clause = d } in
       subst (Contains (numbered_axioms r path i (c ∷ cs))) (ap (λ j. make j c) here ∙ ap (make (i + 0)) same) (contains_first (make i c) (numbered_axioms r path (i + 1) cs))
   numbered_has i (c ∷ cs) (suc k) clause h =
       let there : i + 1 + k ≡ i + suc k = omega arith in
-      let make : ℕ → GroundAxiom = λ j. record { name = parts r path j; clause = clause } in
-      contains_later (record { name = parts r path i; clause = c }) (numbered_axioms r path (i + 1) cs) (make (i + suc k))
+      let make : ℕ → GroundAxiom = λ j. record { name = axiom_node r path j; clause = clause } in
+      contains_later (record { name = axiom_node r path i; clause = c }) (numbered_axioms r path (i + 1) cs) (make (i + suc k))
       (subst (λ j. Contains (numbered_axioms r path (i + 1) cs) (make j)) there (numbered_has (i + 1) cs k clause h))
 
   own_there : (scope : Scope) (s : Statement) → IsJoint s → (g : GroundAxiom) → Contains (own_axioms u r path s) g → Contains (node_axioms u r path scope s) g
@@ -136,7 +137,7 @@ module _ (u : Universe) (r : ℕ) (path : List ℕ) where
   own_there scope (exists name s body) j g h = absurd j
 
 abbrev pub way_axiom : ℕ → List ℕ → ℕ → GroundAxiom
-way_axiom r path k = record { name = parts r path (1 + k); clause = negative (node r path) ∷ positive (child_of r path k) ∷ [] }
+way_axiom r path k = record { name = axiom_node r path (1 + k); clause = negative (node r path) ∷ positive (child_of r path k) ∷ [] }
 
 pub way_there : (sheet : Sheet) (r : ℕ) (path : List ℕ) (k : ℕ) → IsAbove sheet r path k → Contains (axioms sheet) (way_axiom r path k)
 way_there sheet r path k i =

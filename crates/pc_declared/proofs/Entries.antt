@@ -2,7 +2,7 @@
 use Rattle.std.proofs.Common.{◌≡◌, ◌≢◌, ℕ, ◌<◌, List, [], ◌∷◌, ◌++◌, length, map, AllPairs, Option, None, Some, IsSomeAnd, refl, sym, subst, ap}
 use Rattle.std.proofs.lemmas.List.Elements.{All-weaker}
 use Rattle.pc_sheet.specs.Sheet.{Universe, Family, NamedStatement, Sheet}
-use Rattle.pc_sheet.specs.Truth.{argument_sorts, result_sort_of, size_of}
+use Rattle.pc_sheet.specs.Sizes.{argument_sorts, result_sort_of, size_of}
 use Rattle.pc_sheet.specs.Entailment.{AreWithin, cell_sizes}
 use Rattle.pc_sheet.specs.WellFormed.{IsWellFormedUniverse, AreWellFormedRules, AreWellFormedEntries, IsEntryOf, IsWellFormed}
 use Rattle.pc_sheet.specs.declared.ids.CellId.{CellId}

@@ -7,7 +7,7 @@ use Rattle.pc_name.specs.declared.sign.Op.{Op}
 use Rattle.pc_name.specs.declared.sign.Sign.{Sign}
 use Rattle.pc_formula.specs.Tree.{named, no_item, one_item, items_of, name_value, integer_value}
 use Rattle.pc_sheet.specs.Sheet.{Universe, Values, listed, range, Family, Item, Items, no_items, item, variable, constant, number, cell, Sum, Statement, Statements, no_statements, statement, compare, in_table, negation, all_of, some_of, implies, iff, for_all, exists}
-use Rattle.pc_sheet.specs.Truth.{count_of, values_at}
+use Rattle.pc_sheet.specs.Sizes.{count_of, values_at}
 use Rattle.pc_sheet.specs.WellSorted.{Variables, IsListed, IsOfSort, AreOfSorts, IsInteger, IsIntegerSum, IsValueOf, AreComparable, IsWellSorted, AreWellSorted}
 use Rattle.pc_sheet.specs.declared.ids.SortId.{SortId}
 use Rattle.pc_sheet.specs.declared.ids.TableId.{TableId}

@@ -7,7 +7,7 @@ use Rattle.std.proofs.lemmas.List.Elements.{All-nil, All-cons, All-head, All-tai
 use Rattle.std.proofs.lemmas.List.Sums.{sum_by-cons, sum_by-append}
 use Rattle.pc_name.specs.Names.{IsName}
 use Rattle.pc_sheet.specs.Sheet.{Universe, Sort, Table, Family}
-use Rattle.pc_sheet.specs.Truth.{size_of, cells_in}
+use Rattle.pc_sheet.specs.Sizes.{size_of, cells_in}
 use Rattle.pc_sheet.specs.Entailment.{AreWithin}
 use Rattle.pc_sheet.specs.WellFormed.{AreWellFormedValues, IsDeclaredSort, IsWellFormedTable, IsWellFormedFamily, IsWellFormedUniverse, rows_in}
 use Rattle.pc_sheet.specs.WellSorted.{names_of_sort, name_of_table, name_of_family, declared_names}

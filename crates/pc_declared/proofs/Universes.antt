@@ -5,7 +5,7 @@ use Rattle.std.proofs.lemmas.List.{map-append}
 use Rattle.std.proofs.lemmas.List.Elements.{All-head, All-tail, All-contains}
 use Rattle.pc_sheet.specs.Readings.{is_same_row}
 use Rattle.pc_sheet.specs.Sheet.{Values, listed, range, Universe, Sort, Table, Family, Sheet, empty_sheet}
-use Rattle.pc_sheet.specs.Truth.{size_of}
+use Rattle.pc_sheet.specs.Sizes.{size_of}
 use Rattle.pc_sheet.specs.Entailment.{AreWithin}
 use Rattle.pc_sheet.specs.WellFormed.{IsDeclaredSort, IsWellFormedTable, IsWellFormedFamily, IsWellFormedUniverse, IsWellFormed}
 use Rattle.pc_sheet.specs.declared.ids.SortId.{SortId}

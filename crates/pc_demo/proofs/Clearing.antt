@@ -12,7 +12,7 @@ use Rattle.pc_writer.specs.Writes.{Writes}
 use Rattle.pc_run.specs.declared.machine.Reply.{Reply}
 use Rattle.pc_run.specs.declared.machine.Reply.TheVariants.{Silent, Accepted, Shown, Refused, Memory}
 use Rattle.pc_run.specs.declared.serve.Marks.{Marks}
-use Rattle.pc_run.specs.Answer.{Answer, IsAnswer, IsMarked, text_of, is_refused, is_no_memory}
+use Rattle.pc_run.specs.Answer.{Answer, IsAnswer, IsMarked, answer_text, is_refused, is_no_memory}
 use Rattle.pc_run.specs.Transcript.{Transcript}
 use Rattle.pc_run.proofs.Progress.{Legal-push, any-push, lines-push}
 use Rattle.pc_spreadsheet.specs.Judgement.{State}
@@ -29,7 +29,7 @@ abbrev IsAnswerOf : State → Reply Page Sheet → Answer → Type 0
 IsAnswerOf state reply answer = IsAnswer IsPage IsCertificateAgainst state reply answer
 
 -- all is told of an answer that isn't `ok`
-told_all : (state : State) (reply : Reply Page Sheet) (answer : Answer) → (reply ≡ Accepted → ⊥) → IsAnswerOf state reply answer → text_of answer ≡ told_of answer
+told_all : (state : State) (reply : Reply Page Sheet) (answer : Answer) → (reply ≡ Accepted → ⊥) → IsAnswerOf state reply answer → answer_text answer ≡ told_of answer
 told_all state Silent answer other is = rw is refl
 told_all state Accepted answer other is = absurd (other refl)
 told_all state (Shown page) answer other is = rw is.2 refl
@@ -37,7 +37,7 @@ told_all state (Refused refusal proof) answer other is = rw is.2 refl
 told_all state Memory answer other is = rw is refl
 
 pub told_as : {S : Type 0} {given : S → Option (List ℕ)} {faults : S → ℕ} {before after : S} (state : State) (reply : Reply Page Sheet) (result : Result (Unit {0}) Failed) → (reply ≡ Accepted → ⊥)
-    → (answer : Answer) × IsAnswerOf state reply answer × WriteGives (given before) (given after) result (text_of answer) → HasCause (faults before) (faults after) result
+    → (answer : Answer) × IsAnswerOf state reply answer × WriteGives (given before) (given after) result (answer_text answer) → HasCause (faults before) (faults after) result
     → (answer : Answer) × IsAnswerOf state reply answer × Writes given faults before after result (told_of answer)
 told_as {given = given} {before = before} {after = after} state reply result other (answer, is, written) cause =
     (answer, is, record { bytes = subst (λ (text : List ℕ). WriteGives (given before) (given after) result text) (told_all state reply answer other is) written; cause = cause })

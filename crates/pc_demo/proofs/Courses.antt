@@ -16,7 +16,7 @@ use Rattle.pc_run.specs.declared.status.Status.TheVariants as status
 use Rattle.pc_run.specs.Refusals.{sheet_refusal_text}
 use Rattle.pc_run.specs.Answer.{Printing, printed, StopsBy, is_refused, is_no_memory}
 use Rattle.pc_run.specs.Transcript.{worse_of, status_of}
-use Rattle.pc_run.specs.Run.{IsWritten, AppendsPart, Tells, TellsStop, sheet_memory_text}
+use Rattle.pc_run.specs.Run.{IsPrinted, AppendsPart, TellsAtEnd, TellsStop, sheet_memory_text}
 use Rattle.pc_spreadsheet.specs.Judgement.{State, Starts}
 use Rattle.pc_spreadsheet.specs.Allowed.{Notes, RefusesText}
 use Rattle.pc_spreadsheet.specs.Pages.{IsCertificateAgainst}
@@ -39,7 +39,7 @@ module _ (blocks budget : ℕ) (notes notes' : Notes) where
   by_worse false true text completes = completes
   by_worse false false text completes = completes
 
-  written_all : (no_memory refused : Bool) (sink sink' : Option (List ℕ)) (text : Printing) → Appends sink sink' (text.before ++ text.last) → IsWritten (worse_of no_memory refused) sink sink' text
+  written_all : (no_memory refused : Bool) (sink sink' : Option (List ℕ)) (text : Printing) → Appends sink sink' (text.before ++ text.last) → IsPrinted (worse_of no_memory refused) sink sink' text
   written_all true refused sink sink' text written = written
   written_all false true sink sink' text written = written
   written_all false false sink sink' text written = written
@@ -55,7 +55,7 @@ module _ (blocks budget : ℕ) (notes notes' : Notes) where
   module _ (sink sink' : Option (List ℕ)) (s : Status) where
     -- ---- no sheet
 
-    pub lacks : notes' ≡ notes → Tells status.Memory sheet_memory_text s sink sink' → Demonstrated blocks budget s notes notes' sink sink'
+    pub lacks : notes' ≡ notes → TellsAtEnd status.Memory sheet_memory_text s sink sink' → Demonstrated blocks budget s notes notes' sink sink'
     lacks none (inl told) =
         subst (λ (r : Status). Demonstrated blocks budget r notes notes' sink sink') (sym told.0) record { text = printed [] sheet_memory_text; course = inl record { none_noted = none; text_is = refl }; written = told.1 }
     lacks none (inr told) =
@@ -65,7 +65,7 @@ module _ (blocks budget : ℕ) (notes notes' : Notes) where
           written = record { count = told.1.count; written = told.1.front };
         }
 
-    refused_so : (why : SheetRefusal) (more : List ℕ) → RefusesText budget (generated_text blocks) why more notes notes' → Tells status.SheetRefused (sheet_refusal_text why ++ more) s sink sink' → Demonstrated blocks budget s notes notes' sink sink'
+    refused_so : (why : SheetRefusal) (more : List ℕ) → RefusesText budget (generated_text blocks) why more notes notes' → TellsAtEnd status.SheetRefused (sheet_refusal_text why ++ more) s sink sink' → Demonstrated blocks budget s notes notes' sink sink'
     refused_so why more refuses (inl told) =
         subst (λ (r : Status). Demonstrated blocks budget r notes notes' sink sink') (sym told.0) record {
           text = printed [] (sheet_refusal_text why ++ more);
@@ -148,7 +148,7 @@ module _ (blocks budget : ℕ) (notes notes' : Notes) where
 
 -- ---- from the lines on
 
-pub finished : (blocks : ℕ) (old new : State × Notes) (marks : Marks) (s : Status) (sink before sink' : Option (List ℕ)) → Progress blocks old new marks sink before → (text : List ℕ) × SumsUp (codes "cleared") new.0.sheet text × Tells (worse_of marks.no_memory marks.refused) text s before sink'
+pub finished : (blocks : ℕ) (old new : State × Notes) (marks : Marks) (s : Status) (sink before sink' : Option (List ℕ)) → Progress blocks old new marks sink before → (text : List ℕ) × SumsUp (codes "cleared") new.0.sheet text × TellsAtEnd (worse_of marks.no_memory marks.refused) text s before sink'
     → GoesOn blocks old new s sink sink'
 finished blocks old new marks s sink before sink' p (text, sums, inl told) =
     to_the_end p.transcript text p.clears sums (status_tells blocks old new marks sink before s p told.0) (Appends-trans sink before sink' (told_in p.transcript) text p.written told.1)

@@ -10,9 +10,9 @@ use Rattle.pc_run.specs.declared.status.Status.{Status}
 use Rattle.pc_run.specs.declared.status.Status.TheVariants.{Done, SomeRefused, Usage, SheetRefused, ReadFault, WriteFault, Memory, TooLong, CertRefused}
 use Rattle.pc_run.specs.declared.refusal.SheetRefusal.{SheetRefusal}
 use Rattle.pc_run.specs.Refusals.{sheet_refusal_text}
-use Rattle.pc_run.specs.Answer.{Answer, accepted, text_of, Printing, printed}
+use Rattle.pc_run.specs.Answer.{Answer, accepted, answer_text, Printing, printed}
 use Rattle.pc_run.specs.Transcript.{Transcript, Legal, lines, status_of}
-use Rattle.pc_run.specs.Run.{IsWritten, sheet_memory_text}
+use Rattle.pc_run.specs.Run.{IsPrinted, sheet_memory_text}
 use Rattle.pc_spreadsheet.specs.Judgement.{State, Starts}
 use Rattle.pc_spreadsheet.specs.Allowed.{Notes, Allows, RefusesText}
 use Rattle.pc_spreadsheet.specs.Summary.{IsSummary}
@@ -36,7 +36,7 @@ pub record Clears (blocks : ℕ) (old new : State × Notes) (transcript : Transc
 -- what is printed of an answer: nothing of `ok`, and all of any other
 abbrev pub told_of : Answer → List ℕ
 told_of accepted = []
-told_of answer = text_of answer
+told_of answer = answer_text answer
 
 -- of all answers
 abbrev pub told_in : Transcript → List ℕ
@@ -80,12 +80,12 @@ pub record Completes (blocks budget : ℕ) (status : Status) (notes notes' : Not
   pub status_is : status ≡ status_of transcript
 
 -- there was no memory for the sheet
-pub record LacksMemory (notes notes' : Notes) (text : Printing) : Type 0 where
+pub record DemonstrationLacksMemory (notes notes' : Notes) (text : Printing) : Type 0 where
   pub none_noted : notes' ≡ notes
   pub text_is : text ≡ printed [] sheet_memory_text
 
 -- the sheet is refused
-pub record IsRefused (blocks budget : ℕ) (notes notes' : Notes) (text : Printing) : Type 0 where
+pub record IsDemonstrationRefused (blocks budget : ℕ) (notes notes' : Notes) (text : Printing) : Type 0 where
   pub why : SheetRefusal
   pub more : List ℕ
   pub refuses : RefusesText budget (generated_text blocks) why more notes notes'
@@ -127,20 +127,20 @@ pub record StopsCleared (blocks budget : ℕ) (notes notes' : Notes) (text : Pri
   pub text_is : text ≡ printed (loaded ++ told_in transcript) cleared
 
 -- what was to be printed where a write failed
-pub data IsCut (blocks budget : ℕ) (notes notes' : Notes) (text : Printing) : Type 0 where
-  at_memory : LacksMemory notes notes' text → IsCut blocks budget notes notes' text
-  at_sheet : IsRefused blocks budget notes notes' text → IsCut blocks budget notes notes' text
-  at_loaded : StopsLoaded blocks budget notes notes' text → IsCut blocks budget notes notes' text
-  at_line : StopsClearing blocks budget notes notes' text → IsCut blocks budget notes notes' text
-  at_cleared : StopsCleared blocks budget notes notes' text → IsCut blocks budget notes notes' text
+pub data IsDemonstrationCutOff (blocks budget : ℕ) (notes notes' : Notes) (text : Printing) : Type 0 where
+  at_memory : DemonstrationLacksMemory notes notes' text → IsDemonstrationCutOff blocks budget notes notes' text
+  at_sheet : IsDemonstrationRefused blocks budget notes notes' text → IsDemonstrationCutOff blocks budget notes notes' text
+  at_loaded : StopsLoaded blocks budget notes notes' text → IsDemonstrationCutOff blocks budget notes notes' text
+  at_line : StopsClearing blocks budget notes notes' text → IsDemonstrationCutOff blocks budget notes notes' text
+  at_cleared : StopsCleared blocks budget notes notes' text → IsDemonstrationCutOff blocks budget notes notes' text
 
 -- how it went at this status, what was to be printed, and what was noted
 abbrev pub Goes : ℕ → ℕ → Status → Notes → Notes → Printing → Type 0
 Goes blocks budget Done notes notes' text = Completes blocks budget Done notes notes' text
 Goes blocks budget SomeRefused notes notes' text = Completes blocks budget SomeRefused notes notes' text
-Goes blocks budget SheetRefused notes notes' text = IsRefused blocks budget notes notes' text
-Goes blocks budget WriteFault notes notes' text = IsCut blocks budget notes notes' text
-Goes blocks budget Memory notes notes' text = LacksMemory notes notes' text ⊎ Completes blocks budget Memory notes notes' text
+Goes blocks budget SheetRefused notes notes' text = IsDemonstrationRefused blocks budget notes notes' text
+Goes blocks budget WriteFault notes notes' text = IsDemonstrationCutOff blocks budget notes notes' text
+Goes blocks budget Memory notes notes' text = DemonstrationLacksMemory notes notes' text ⊎ Completes blocks budget Memory notes notes' text
 Goes blocks budget Usage notes notes' text = ⊥
 Goes blocks budget ReadFault notes notes' text = ⊥
 Goes blocks budget TooLong notes notes' text = ⊥
@@ -150,4 +150,4 @@ Goes blocks budget CertRefused notes notes' text = ⊥
 pub record Demonstrated (blocks budget : ℕ) (status : Status) (notes notes' : Notes) (sink sink' : Option (List ℕ)) : Type 0 where
   pub text : Printing
   pub course : Goes blocks budget status notes notes' text
-  pub written : IsWritten status sink sink' text
+  pub written : IsPrinted status sink sink' text

@@ -1,7 +1,7 @@
 //! A demonstration, from its number of blocks to its status.
 ghost use Rattle.std.specs.Prelude.{◌≡◌, ◌≢◌, ◌≤◌, ℕ, List, codes};
 ghost use Rattle.pc_port.specs.Port.{Rose};
-ghost use Rattle.pc_run.specs.Run.{Tells};
+ghost use Rattle.pc_run.specs.Run.{TellsAtEnd};
 ghost use Rattle.pc_run.specs.Transcript.{worse_of};
 ghost use Rattle.pc_demo.specs.Demonstration.{Demonstrated, SumsUp};
 ghost use Rattle.pc_demo.specs.inside.Courses.{Begins, GoesOn};
@@ -18,7 +18,7 @@ use std::alloc::Global;
 
 // Sums the sheet up in the end.
 fn finish<O: Sink>(machine: &Spreadsheet, marks: Marks, out: &mut O) -> Status
-    ensures told { (text : List ℕ) × SumsUp (codes "cleared") machine.now.sheet text × Tells (worse_of marks.no_memory marks.refused) text result (O.given out.old) (O.given out.new) }
+    ensures told { (text : List ℕ) × SumsUp (codes "cleared") machine.now.sheet text × TellsAtEnd (worse_of marks.no_memory marks.refused) text result (O.given out.old) (O.given out.new) }
     ensures fault { result ≡ Status.WriteFault → Rose (O.faults out.old) (O.faults out.new) }
     ensures no_fault { result ≢ Status.WriteFault → O.faults out.new ≡ O.faults out.old }
 {

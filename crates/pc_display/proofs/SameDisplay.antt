@@ -9,7 +9,7 @@ use Rattle.pc_laws.proofs.Assignments.{implication_decided}
 use Rattle.pc_laws.proofs.Least.{one_least}
 use Rattle.pc_sheet.proofs.CellsListed.{cells_are_numbered}
 use Rattle.pc_sheet.specs.Sheet.{Sheet}
-use Rattle.pc_sheet.specs.Truth.{size_of}
+use Rattle.pc_sheet.specs.Sizes.{size_of}
 use Rattle.pc_sheet.specs.Cells.{cells, values_below}
 use Rattle.pc_sheet.specs.Entailment.{cell_sizes}
 use Rattle.pc_sheet.specs.WellFormed.{IsWellFormed, IsEntryOf}
@@ -21,7 +21,8 @@ use Rattle.pc_writer.specs.Spelling.{cell_text, sort_of}
 use Rattle.pc_reason.specs.Reasons.{IsTargetOf}
 use Rattle.pc_display.specs.OneDisplay.{HasOneText, SheetHasOneDisplay}
 use Rattle.pc_display.specs.Supports.{IsSupportFor, IsReasoning, Reasoning}
-use Rattle.pc_display.specs.Show.{cell_lines, cells_below, conflict_line, conflict_of, ended, entry_of, head_line, reason_of, value_line, show_text}
+use Rattle.pc_display.specs.Show.{cell_lines, cells_below, conflict_line, conflict_of, entry_of, head_line, reason_of, value_line, show_text}
+use Rattle.pc_writer.specs.SheetText.{ended}
 use Rattle.pc_display.specs.Grid.{conflict_column, entry_column, grid_line, grid_text, implied_text, listed_texts, padded, widest}
 use Rattle.pc_display.specs.Json.{array_of, cell_data, conflict_data, entered_data, implied_data, json_text, object_data, sheet_data}
 use Rattle.pc_display.proofs.SheetLemmas.{entry_is_of, is_target, same_reason}

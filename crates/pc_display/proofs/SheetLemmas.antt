@@ -5,7 +5,7 @@ use Rattle.std.specs.Option.{option_copied}
 use Rattle.std.proofs.lemmas.List.Elements.{All-cons, All-head, All-tail}
 use Rattle.pc_laws.proofs.Order.{irreflexive, transitive}
 use Rattle.pc_sheet.specs.Sheet.{Universe, Sheet}
-use Rattle.pc_sheet.specs.Truth.{size_of}
+use Rattle.pc_sheet.specs.Sizes.{size_of}
 use Rattle.pc_sheet.specs.Entailment.{cell_sizes, IsSublist, IsLeastSupport}
 use Rattle.pc_sheet.specs.WellFormed.{IsWellFormed, IsEntryOf}
 use Rattle.pc_sheet.specs.declared.ids.CellId.{CellId}
@@ -16,7 +16,8 @@ use Rattle.pc_writer.specs.Spelling.{sort_of}
 use Rattle.pc_writer.proofs.CellLemmas.{cell_size, entered_value}
 use Rattle.pc_reason.specs.Reasons.{IsTargetOf}
 use Rattle.pc_display.specs.Supports.{IsSupportFor, IsReasoning, Reasoning}
-use Rattle.pc_display.specs.Show.{against, conflict_line, conflict_of, ended, entry_of, head_line, IsConflictOf}
+use Rattle.pc_display.specs.Show.{against, conflict_line, conflict_of, entry_of, head_line, IsConflictOf}
+use Rattle.pc_writer.specs.SheetText.{ended}
 
 sublist_all : (P : Entry → Type 0) (es s : List Entry) → IsSublist es s → All P es → All P s
 sublist_all P [] s sub each = subst (All P) (sym sub) each

@@ -9,7 +9,7 @@ use Rattle.std.proofs.lemmas.Option.{slice_get-get_or}
 use Rattle.std.proofs.lemmas.Str.{IsUtf8-append, IsUtf8-nil, IsUtf8-from_ascii}
 use Rattle.pc_name.specs.Names.{IsName}
 use Rattle.pc_sheet.specs.Sheet.{Universe, Values, listed, range, Family}
-use Rattle.pc_sheet.specs.Truth.{argument_sorts, size_of, values_at}
+use Rattle.pc_sheet.specs.Sizes.{argument_sorts, size_of, values_at}
 use Rattle.pc_sheet.specs.Entailment.{AreWithin, cell_sizes}
 use Rattle.pc_sheet.specs.WellFormed.{IsEntryOf, IsWellFormedFamily, IsWellFormedUniverse}
 use Rattle.pc_sheet.specs.WellSorted.{names_of_values}

@@ -1,12 +1,12 @@
 -- Small sheets with the reasons that they have, and their displays.
-use Rattle.std.specs.Prelude.{◌≡◌, ℕ, pos, negsuc, Bool, true, false, ◌&&◌, List, [], ◌∷◌, ◌++◌, codes, None, Some, nat_eq, if◌then◌else◌}
+use Rattle.std.specs.Prelude.{◌≡◌, ℕ, pos, negsuc, Bool, true, false, ◌&&◌, List, [], ◌∷◌, ◌++◌, codes, None, Some, nat_eq, if◌then◌else◌, encode_utf8_all}
 use Rattle.std.specs.List.{flat_map}
 use Rattle.pc_sheet.specs.Sheet.{listed, range, Sort, Family, Sheet}
 use Rattle.pc_sheet.specs.declared.ids.Entry.{Entry}
 use Rattle.pc_sheet.specs.declared.ids.Target.{Target}
 use Rattle.pc_display.specs.Supports.{Reasoning}
-use Rattle.std.specs.Prelude.{encode_utf8_all}
-use Rattle.pc_display.specs.Show.{ended, show_text}
+use Rattle.pc_display.specs.Show.{show_text}
+use Rattle.pc_writer.specs.SheetText.{ended}
 use Rattle.pc_display.specs.Grid.{grid_text}
 use Rattle.pc_display.specs.Json.{json_text}
 

@@ -3,7 +3,7 @@ use Rattle.std.specs.Prelude.{◌≡◌, ℕ, ◌-◌, max, Bool, true, false, L
 use Rattle.std.specs.List.{flat_map}
 use Rattle.unicode_width.specs.Width.{str_width}
 use Rattle.pc_sheet.specs.Sheet.{Universe, Sheet}
-use Rattle.pc_sheet.specs.Truth.{size_of}
+use Rattle.pc_sheet.specs.Sizes.{size_of}
 use Rattle.pc_sheet.specs.Cells.{cells, values_below}
 use Rattle.pc_sheet.specs.declared.ids.SortId.{SortId}
 use Rattle.pc_sheet.specs.declared.ids.CellId.{CellId}
@@ -11,7 +11,8 @@ use Rattle.pc_sheet.specs.declared.ids.ValueId.{ValueId}
 use Rattle.pc_sheet.specs.declared.ids.Entry.{Entry}
 use Rattle.pc_writer.specs.Spelling.{value_text, cell_text, sort_of, joined}
 use Rattle.pc_display.specs.Supports.{Reasoning, IsReasoning}
-use Rattle.pc_display.specs.Show.{ended, entry_of, entered_text, conflict_of, reason_of, cells_below}
+use Rattle.pc_display.specs.Show.{entry_of, entered_text, conflict_of, reason_of, cells_below}
+use Rattle.pc_writer.specs.SheetText.{ended}
 
 -- ---- columns
 

@@ -6,7 +6,7 @@ use Rattle.serde_json.specs.Data.{Data, null, string, array, object, member, no_
 use Rattle.serde_json.specs.View.{items_of}
 use Rattle.serde_json.specs.Written.{compact_text}
 use Rattle.pc_sheet.specs.Sheet.{Universe, Sheet}
-use Rattle.pc_sheet.specs.Truth.{size_of}
+use Rattle.pc_sheet.specs.Sizes.{size_of}
 use Rattle.pc_sheet.specs.Cells.{cells, values_below}
 use Rattle.pc_sheet.specs.declared.ids.SortId.{SortId}
 use Rattle.pc_sheet.specs.declared.ids.CellId.{CellId}

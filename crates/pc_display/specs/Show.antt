@@ -1,9 +1,10 @@
 -- The display line by line: each cell with its entry, its implied values with their reasons, and what its entry clashes with.
 use Rattle.std.specs.Prelude.{◌≡◌, ℕ, zero, suc, Bool, true, false, List, [], ◌∷◌, ◌++◌, codes, length, Option, Some, None, is_some, find, nat_eq}
 use Rattle.std.specs.List.{flat_map}
+use Rattle.pc_writer.specs.SheetText.{ended}
 use Rattle.pc_sheet.specs.Entailment.{opposite_of}
 use Rattle.pc_sheet.specs.Sheet.{Universe, Sheet}
-use Rattle.pc_sheet.specs.Truth.{size_of}
+use Rattle.pc_sheet.specs.Sizes.{size_of}
 use Rattle.pc_sheet.specs.Cells.{cells, values_below}
 use Rattle.pc_sheet.specs.declared.ids.SortId.{SortId}
 use Rattle.pc_sheet.specs.declared.ids.CellId.{CellId}
@@ -11,10 +12,6 @@ use Rattle.pc_sheet.specs.declared.ids.ValueId.{ValueId}
 use Rattle.pc_sheet.specs.declared.ids.Entry.{Entry}
 use Rattle.pc_writer.specs.Spelling.{value_text, cell_text, sort_of, entries_text}
 use Rattle.pc_display.specs.Supports.{Reasoning, IsSupportFor, IsReasoning}
-
--- the end of a line
-abbrev pub ended : List ℕ → List ℕ
-ended line = line ++ 10 ∷ []
 
 -- ---- what a cell has
 

@@ -6,7 +6,7 @@ ghost use Rattle.std.specs.Prelude.{◌≡◌, ◌<◌, ◌≤◌, IfSome, codes
 ghost use Rattle.std.specs.Fmt.{signed_decimal};
 ghost use Rattle.pc_sheet.specs.Cells.{cells};
 ghost use Rattle.pc_sheet.specs.Entailment.{cell_sizes};
-ghost use Rattle.pc_sheet.specs.Truth.{argument_sorts, size_of};
+ghost use Rattle.pc_sheet.specs.Sizes.{argument_sorts, size_of};
 ghost use Rattle.pc_sheet.specs.WellFormed.{IsWellFormed};
 ghost use Rattle.pc_writer.specs.Separator.{separator_at};
 ghost use Rattle.pc_writer.specs.Spelling.{application_of, arguments_text, cell_text, family_of, joined, sort_of, value_text, value_texts};

@@ -2,7 +2,7 @@
 ghost use Rattle.std.specs.Prelude.{ℕ, ◌<◌, List, IfSome, length};
 ghost use Rattle.std.specs.Option.{option_copied};
 ghost use Rattle.pc_sheet.specs.Entailment.{cell_sizes};
-ghost use Rattle.pc_sheet.specs.Truth.{size_of};
+ghost use Rattle.pc_sheet.specs.Sizes.{size_of};
 ghost use Rattle.pc_sheet.specs.WellFormed.{IsEntryOf, IsWellFormed};
 ghost use Rattle.pc_writer.specs.Spelling.{sort_of};
 ghost use Rattle.pc_writer.specs.Writes.{Writes};

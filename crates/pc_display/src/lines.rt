@@ -1,11 +1,12 @@
 // The lines of one cell.
 ghost use Rattle.std.specs.Prelude.{◌≡◌, ◌<◌, ◌++◌, All, IfSome, codes, length};
 ghost use Rattle.pc_sheet.specs.Entailment.{cell_sizes};
-ghost use Rattle.pc_sheet.specs.Truth.{size_of};
+ghost use Rattle.pc_sheet.specs.Sizes.{size_of};
 ghost use Rattle.pc_sheet.specs.WellFormed.{IsEntryOf};
 ghost use Rattle.pc_writer.specs.Spelling.{sort_of, value_text};
 ghost use Rattle.pc_writer.specs.Writes.{Writes};
-ghost use Rattle.pc_display.specs.Show.{against, because, ended, entered_text, entry_of, head_line, mark_of, value_line, conflict_line};
+ghost use Rattle.pc_display.specs.Show.{against, because, entered_text, entry_of, head_line, mark_of, value_line, conflict_line};
+ghost use Rattle.pc_writer.specs.SheetText.{ended};
 
 use pc_logic::Book;
 use pc_port::{Failed, Sink};

@@ -1,7 +1,7 @@
 // The display as a table.
 ghost use Rattle.std.specs.Prelude.{◌≡◌, ◌<◌, ◌++◌, ◌∷◌, [], ℕ, IfOk, IfSome, List, codes, length, replicate};
 ghost use Rattle.pc_sheet.specs.Entailment.{cell_sizes};
-ghost use Rattle.pc_sheet.specs.Truth.{size_of};
+ghost use Rattle.pc_sheet.specs.Sizes.{size_of};
 ghost use Rattle.pc_sheet.specs.WellFormed.{IsWellFormed};
 ghost use Rattle.pc_writer.specs.Spelling.{cell_text, sort_of, value_text};
 ghost use Rattle.pc_writer.specs.Writes.{Writes};

@@ -2,7 +2,7 @@
 ghost use Rattle.std.specs.Prelude.{◌≡◌, ◌<◌, IfOk, Some, [], length, string_bytes};
 ghost use Rattle.std.specs.Str.{IsUtf8};
 ghost use Rattle.pc_sheet.specs.Entailment.{cell_sizes};
-ghost use Rattle.pc_sheet.specs.Truth.{size_of};
+ghost use Rattle.pc_sheet.specs.Sizes.{size_of};
 ghost use Rattle.pc_sheet.specs.WellFormed.{IsEntryOf, IsWellFormed};
 ghost use Rattle.pc_writer.specs.Spelling.{cell_text, entry_text, value_text};
 

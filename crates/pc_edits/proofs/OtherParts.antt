@@ -1,7 +1,6 @@
 -- An edit of a cell's entry leaves the other parts' sheets, and so what they imply, as they are.
-use Rattle.std.proofs.Common.{◌≡◌, ◌≢◌, ℕ, ◌<◌, ◌⊎◌, inl, inr, Bool, true, false, cond, not, List, [], ◌∷◌, ◌++◌, filter, All, Contains, ap, refl, sym, ◌∙◌, subst}
+use Rattle.std.proofs.Common.{◌≡◌, ◌≢◌, ℕ, ◌<◌, ◌⊎◌, inl, inr, Bool, true, false, cond, not, List, [], ◌∷◌, ◌++◌, filter, All, Contains, ap, refl, sym, ◌∙◌, subst, arith}
 use Rattle.std.proofs.lemmas.Bool.{cases_Bool, true≢false, eqb-true}
-use Rattle.std.proofs.Common.{arith}
 use Rattle.std.proofs.lemmas.List.{append-nil}
 use Rattle.std.proofs.lemmas.List.Elements.{filter-append, filter_passes, All-contains}
 use Rattle.pc_sheet.specs.Sheet.{Universe, Sheet}
@@ -22,7 +21,7 @@ use Rattle.pc_laws.proofs.Elements.{all_from}
 use Rattle.pc_parts.proofs.Joining.{among_contains, contains_among}
 use Rattle.pc_parts.proofs.LawsHold.{answers_are_of_parts}
 use Rattle.pc_reason.specs.Reasons.{IsTargetOf}
-use Rattle.pc_edits.specs.Edits.{Lacks, IsAdded, edited}
+use Rattle.pc_edits.specs.Edits.{HasNoEntryOf, IsAdded, edited}
 use Rattle.pc_edits.specs.Laws.{OtherPartsStay}
 
 -- ---- entries on cells among which the edited one isn't
@@ -76,7 +75,7 @@ module _ (sheet : Sheet) (parts : List Part) (part q : Part) (c : CellId) (t : T
       let here = subst P (same_entries q.cells c outside sheet.entries added is_added) there in
       none (((answers_are_of_parts sheet parts division rules formed.entries).implied q q_in_parts t on_q).1 here)
 
-  support_lacks : IsWellFormed sheet → (s : List Entry) → IsLeastSupport sheet s t → Lacks s c
+  support_lacks : IsWellFormed sheet → (s : List Entry) → IsLeastSupport sheet s t → HasNoEntryOf s c
   support_lacks formed s least =
       let own = ((answers_are_of_parts sheet parts division rules formed.entries).least q q_in_parts t on_q s).0 least in
       all_from (λ e. e.cell.0 ≢ c.0) s (λ e in_s is.

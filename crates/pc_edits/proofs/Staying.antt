@@ -13,8 +13,8 @@ use Rattle.pc_sheet.specs.declared.ids.Target.{Target}
 use Rattle.pc_laws.proofs.Contained.{contains_first, contains_later, contains_cases, contains_none, all_contained, sub_contained, sub_of_sub, sub_itself}
 use Rattle.pc_laws.proofs.Least.{stays_with_newest, stays_without_others, support_here}
 use Rattle.pc_accept.specs.Literals.{Literal, Symbol, pair, node}
-use Rattle.pc_accept.specs.Axioms.{Axiom, some_value, not_both, true_rule, parts, by_reads, IsClauseOf}
-use Rattle.pc_accept.specs.Accepts.{Line, taken, derived, IsLineClause, Derives, Accepts}
+use Rattle.pc_accept.specs.Axioms.{Axiom, axiom_some, axiom_one, axiom_rule, axiom_node, axiom_atom, IsClauseOf}
+use Rattle.pc_accept.specs.Accepts.{Line, taken, derived, IsLineClause, DerivesClause, Accepts}
 use Rattle.pc_logic.specs.Edits.{is_of_cell, cleared}
 use Rattle.pc_logic.proofs.EntryLemmas.{pairs_filter}
 use Rattle.pc_accept.specs.Writable.{IsSymbolOf, IsAxiomOf, IsLineOf, AreLinesOf}
@@ -22,7 +22,7 @@ use Rattle.pc_ground.specs.Naming.{names_of}
 use Rattle.pc_reason.specs.Derivation.{line_named}
 use Rattle.pc_reason.specs.Reasons.{Justification}
 use Rattle.pc_edits.specs.Reasons.{IsJustified}
-use Rattle.pc_edits.specs.Edits.{Lacks, IsAdded, edited}
+use Rattle.pc_edits.specs.Edits.{HasNoEntryOf, IsAdded, edited}
 use Rattle.pc_edits.specs.Laws.{ReasonsStay, NoneStays}
 
 -- ---- the entries but that of a cell
@@ -67,17 +67,17 @@ module _ (sheet : Sheet) (xs : List Entry) where
   there = record sheet { entries = xs }
 
   clause_there : (a : Axiom) (clause : List Literal) → IsClauseOf sheet a clause → IsClauseOf there a clause
-  clause_there (some_value c) clause h = h
-  clause_there (not_both c v w) clause h = h
-  clause_there (true_rule r) clause h = h
-  clause_there (parts r path i) clause h = h
-  clause_there (by_reads r path reads) clause h = record { scope = h.scope; states = h.states; at = h.at; each = h.each; truth = h.truth; given = h.given; is = h.is }
+  clause_there (axiom_some c) clause h = h
+  clause_there (axiom_one c v w) clause h = h
+  clause_there (axiom_rule r) clause h = h
+  clause_there (axiom_node r path i) clause h = h
+  clause_there (axiom_atom r path reads) clause h = record { scope = h.scope; states = h.states; at = h.at; each = h.each; truth = h.truth; given = h.given; is = h.is }
 
   line_there : (clauses : List (List Literal)) (i : ℕ) (line : Line) (clause : List Literal) → IsLineClause sheet clauses i line clause → IsLineClause there clauses i line clause
   line_there clauses i (taken a) clause h = clause_there a clause h
   line_there clauses i (derived own hints) clause h = h
 
-  derives_there : (lines : List Line) (allowed : List Literal) → Derives sheet lines allowed → Derives there lines allowed
+  derives_there : (lines : List Line) (allowed : List Literal) → DerivesClause sheet lines allowed → DerivesClause there lines allowed
   derives_there lines allowed d = record { clauses = d.clauses; derivation = record { count = d.derivation.count; each = λ i line l. line_there d.clauses i (get_or lines i line) (get_or d.clauses i []) (d.derivation.each i line l) }; ends = d.ends }
 
   symbol_there : (x : Symbol) → IsSymbolOf sheet x → IsSymbolOf there x
@@ -85,11 +85,11 @@ module _ (sheet : Sheet) (xs : List Entry) where
   symbol_there (node r steps) h = record { leads = h.leads; small = h.small }
 
   axiom_there : (a : Axiom) → IsAxiomOf sheet a → IsAxiomOf there a
-  axiom_there (some_value c) h = h
-  axiom_there (not_both c v w) h = h
-  axiom_there (true_rule r) h = h
-  axiom_there (parts r steps i) h = (record { leads = h.0.leads; small = h.0.small }, h.1)
-  axiom_there (by_reads r steps reads) h = (record { leads = h.0.leads; small = h.0.small }, h.1)
+  axiom_there (axiom_some c) h = h
+  axiom_there (axiom_one c v w) h = h
+  axiom_there (axiom_rule r) h = h
+  axiom_there (axiom_node r steps i) h = (record { leads = h.0.leads; small = h.0.small }, h.1)
+  axiom_there (axiom_atom r steps reads) h = (record { leads = h.0.leads; small = h.0.small }, h.1)
 
   written_there : (place : ℕ) (line : Line) → IsLineOf sheet place line → IsLineOf there place line
   written_there place (taken a) h = axiom_there a h
@@ -129,7 +129,7 @@ module _ (sheet : Sheet) (c : CellId) (distinct : HaveDistinctCells sheet.entrie
   left_distinct : HaveDistinctCells left
   left_distinct = pairs_filter (λ e f. e.cell ≢ f.cell) (λ e. not (is_of_cell c e)) sheet.entries distinct
 
-  least_without : (t : Target) (s : List Entry) → Lacks s c → IsLeastSupport sheet s t → IsLeastSupport (record sheet { entries = left }) s t
+  least_without : (t : Target) (s : List Entry) → HasNoEntryOf s c → IsLeastSupport sheet s t → IsLeastSupport (record sheet { entries = left }) s t
   least_without t s lacks least =
       stays_without_others sheet left s t distinct (cleared_sub c sheet.entries)
       (λ e in_s. stays_there c sheet.entries e (sub_contained sheet.entries s least.supports.among e in_s) (All-contains (λ f. f.cell.0 ≢ c.0) s e lacks in_s)) least
@@ -139,7 +139,7 @@ module _ (sheet : Sheet) (c : CellId) (distinct : HaveDistinctCells sheet.entrie
       stays_with_newest (record sheet { entries = left }) e s t
       (all_pairs_push (λ f g. f.cell ≢ g.cell) left e left_distinct (subst (λ d. All (λ f. f.cell ≢ d) left) (sym of_cell) (cleared_lacks c sheet.entries))) least
 
-  least_edited : (added : List Entry) (t : Target) (s : List Entry) → IsAdded c added → Lacks s c → IsLeastSupport sheet s t → IsLeastSupport (edited sheet c added) s t
+  least_edited : (added : List Entry) (t : Target) (s : List Entry) → IsAdded c added → HasNoEntryOf s c → IsLeastSupport sheet s t → IsLeastSupport (edited sheet c added) s t
   least_edited added t s (inl none) lacks least =
       let P : List Entry → Type 0 = λ es. IsLeastSupport (record sheet { entries = es }) s t in
       subst P (sym (append-nil left) ∙ ap (λ more. left ++ more) (sym none)) (least_without t s lacks least)

@@ -8,8 +8,8 @@ use Rattle.pc_logic.specs.Edits.{cleared}
 use Rattle.pc_reason.specs.Reasons.{Justification}
 
 -- no entry is one of that cell
-abbrev pub Lacks : List Entry → CellId → Type 0
-Lacks es c = All (λ e. e.cell.0 ≢ c.0) es
+abbrev pub HasNoEntryOf : List Entry → CellId → Type 0
+HasNoEntryOf es c = All (λ e. e.cell.0 ≢ c.0) es
 
 -- none, or an entry of that cell
 abbrev pub IsAdded : CellId → List Entry → Type 0
@@ -23,4 +23,4 @@ edited sheet c added = record sheet { entries = cleared sheet.entries c ++ added
 -- the support lacks the cell's entry, and that there is none where nothing is added.
 abbrev pub MayStay : List ℕ → CellId → List Entry → Target → Option Justification → Type 0
 MayStay part c added t None = (added ≡ []) ⊎ (¬ Contains part t.cell.0)
-MayStay part c added t (Some j) = Lacks j.support c ⊎ (¬ Contains part t.cell.0)
+MayStay part c added t (Some j) = HasNoEntryOf j.support c ⊎ (¬ Contains part t.cell.0)

@@ -10,8 +10,8 @@ use Rattle.pc_sheet.specs.declared.ids.Target.{Target}
 use Rattle.pc_logic.specs.Edits.{entered, without_entry}
 use Rattle.pc_parts.specs.Parts.{Part, IsDivision}
 use Rattle.pc_reason.specs.Reasons.{IsTargetOf, Justification}
-use Rattle.pc_edits.specs.Reasons.{IsJustified, IsRowFor, Reasoning, IsReasoning}
-use Rattle.pc_edits.specs.Edits.{Lacks, IsAdded, edited, MayStay}
+use Rattle.pc_edits.specs.Reasons.{IsJustified, IsRowFor, Justifying, IsJustifying}
+use Rattle.pc_edits.specs.Edits.{HasNoEntryOf, IsAdded, edited, MayStay}
 
 -- entering another value than stands is such an edit
 abbrev pub EnteringEdits : Type 0
@@ -28,7 +28,7 @@ ClearingEdits = (sheet : Sheet) (c : CellId) → without_entry sheet c ≡ edite
 -- a reason whose support lacks the cell's entry stays right
 abbrev pub ReasonsStay : Type 0
 ReasonsStay = (sheet : Sheet) (c : CellId) (added : List Entry) (t : Target) (j : Justification) → IsAdded c added → HaveDistinctCells sheet.entries
-    → Lacks j.support c → IsJustified sheet t j → IsJustified (edited sheet c added) t j
+    → HasNoEntryOf j.support c → IsJustified sheet t j → IsJustified (edited sheet c added) t j
 
 -- what isn't implied isn't implied by fewer entries
 abbrev pub NoneStays : Type 0
@@ -40,12 +40,12 @@ abbrev pub OtherPartsStay : Type 0
 OtherPartsStay = (sheet : Sheet) (parts : List Part) (part : Part) (c : CellId) (added : List Entry) (t : Target)
     → IsDivision sheet parts → AreRulesConsistent sheet → IsWellFormed sheet → IsWellFormed (edited sheet c added) → IsAdded c added
     → Contains parts part → Contains part.cells c.0 → IsTargetOf sheet.universe t → ¬ Contains part.cells t.cell.0
-    → (¬ IsImplied sheet t → ¬ IsImplied (edited sheet c added) t) × ((j : Justification) → IsJustified sheet t j → Lacks j.support c)
+    → (¬ IsImplied sheet t → ¬ IsImplied (edited sheet c added) t) × ((j : Justification) → IsJustified sheet t j → HasNoEntryOf j.support c)
 
 -- After an edit of a cell's entry each target that isn't searched again keeps what it had, where that may stay.
 abbrev pub EditedReasonsAreRight : Type 0
-EditedReasonsAreRight = (sheet : Sheet) (parts : List Part) (part : Part) (c : CellId) (added : List Entry) (before after : Reasoning)
+EditedReasonsAreRight = (sheet : Sheet) (parts : List Part) (part : Part) (c : CellId) (added : List Entry) (before after : Justifying)
     → IsDivision sheet parts → AreRulesConsistent sheet → IsWellFormed sheet → IsWellFormed (edited sheet c added) → IsAdded c added
-    → Contains parts part → Contains part.cells c.0 → IsReasoning sheet before
+    → Contains parts part → Contains part.cells c.0 → IsJustifying sheet before
     → ((t : Target) → IsTargetOf sheet.universe t → IsRowFor (edited sheet c added) t (after t) ⊎ ((after t ≡ before t) × MayStay part.cells c added t (before t)))
-    → IsReasoning (edited sheet c added) after
+    → IsJustifying (edited sheet c added) after

@@ -1,13 +1,12 @@
 -- What is found of written values and cells, step by step.
-use Rattle.std.proofs.Common.{◌≡◌, ◌↔◌, ℕ, suc, ◌<◌, ◌≤◌, List, [], ◌∷◌, ◌++◌, Option, None, Some, slice_get, IsSomeAnd, length, map, take, drop, get_or, arith, ap, ◌∙◌, sym, subst, refl, inl, inr, Ok, Err, IfOk}
+use Rattle.std.proofs.Common.{◌≡◌, ◌↔◌, ℕ, suc, ◌<◌, ◌≤◌, List, [], ◌∷◌, ◌++◌, Option, None, Some, slice_get, IsSomeAnd, length, map, take, drop, get_or, arith, ap, ◌∙◌, sym, subst, refl, inl, inr, Ok, Err, IfOk, append-nil, Result}
 use Rattle.std.proofs.Math.Seq.{drop-cons}
-use Rattle.std.proofs.Common.{append-nil, Result}
 use Rattle.std.proofs.lemmas.List.{take_all, drop_all}
 use Rattle.pc_formula.specs.Tree as tree
 use Rattle.pc_formula.specs.Tree.{name_value, integer_value, value_of}
 use Rattle.pc_formula.specs.declared.tree.ValueTree.{ValueTree}
 use Rattle.pc_sheet.specs.Sheet.{Universe, Family}
-use Rattle.pc_sheet.specs.Truth.{size_of, cell_number, result_sort_of}
+use Rattle.pc_sheet.specs.Sizes.{size_of, cell_number, result_sort_of}
 use Rattle.pc_sheet.specs.Entailment.{AreWithin, cell_sizes}
 use Rattle.pc_sheet.specs.Cells.{IsApplication, CellsAreNumberedInOrder, cells}
 use Rattle.pc_sheet.specs.declared.ids.SortId.{SortId}
@@ -19,8 +18,8 @@ use Rattle.pc_logic.proofs.NamesLemmas.{name_is_declared}
 use Rattle.pc_elaborate.specs.declared.fault.SortFault.{SortFault}
 use Rattle.pc_elaborate.specs.declared.fault.SortFault.TheVariants.{WrongArity, WrongSort, Memory}
 use Rattle.pc_elaborate.specs.Tests.{test}
-use Rattle.pc_elaborate.specs.Outcome.{IsOutcome, Tells, TellsValues, HasOneOutcome, HasUniqueNames, IsApplicationTold, sort_of_cell, sort_of_application}
-use Rattle.pc_elaborate.specs.Elaboration.{IsFamilyNamed, TakesArguments, IsValueOf, AreValuesOf, IsCell}
+use Rattle.pc_elaborate.specs.Outcome.{IsFoundOrFault, TellsFound, TellsValues, HasOneOutcome, HasUniqueNames, IsApplicationTold, sort_of_cell, sort_of_application}
+use Rattle.pc_elaborate.specs.Elaboration.{IsFamilyNamed, TakesArguments, StandsForValue, AreValuesOf, IsCell}
 use Rattle.pc_elaborate.specs.FormulaFaults.{IsSomeFamily, IsSomeValue, IsValueFault, AreValuesFault, IsCellFault, IsNameFault}
 use Rattle.pc_elaborate.proofs.Values.{value_is_named, value_outcome, values_one, values_fault_one, values_fault_never, value_below, cell_outcome, some_at, get_below}
 use Rattle.pc_elaborate.proofs.Testing.{tells, tells_err}
@@ -66,14 +65,14 @@ values_ample u (s ∷ ss) (x ∷ xs) (inr h) = values_ample u ss xs h.1
 
 -- ---- what is told
 
-pub other_value : (u : Universe) (s t : SortId) (n : List ℕ) (w : ValueId) (o : Option (SortId × ValueId)) → ((r : SortId) (v : ValueId) → (o ≡ Some (r, v)) ↔ IsValueOf u r (name_value n) v) → o ≡ Some (t, w) → (t.0 ≡ s.0 → ⊥) → IsValueFault u s (name_value n) WrongSort
+pub other_value : (u : Universe) (s t : SortId) (n : List ℕ) (w : ValueId) (o : Option (SortId × ValueId)) → ((r : SortId) (v : ValueId) → (o ≡ Some (r, v)) ↔ StandsForValue u r (name_value n) v) → o ≡ Some (t, w) → (t.0 ≡ s.0 → ⊥) → IsValueFault u s (name_value n) WrongSort
 other_value u s t n w o told is differs =
     let lacks : ¬ IsSomeValue u s (name_value n) = λ h. let e = (told s h.0).1 h.1 in let p : ◌≡◌ {A = SortId × ValueId} (t, w) (s, h.0) = cc in differs (ap (λ q. q.0.0) p) in
     inr (name_is_declared u n (named.Value t w) (value_is_named u t n w ((told t w).0 is)), inl (lacks, refl))
 
 module _ (u : Universe) (unique : HasUniqueNames u) where
-  pub value_told : (s : SortId) (x y : tree.Value) (r : Result ValueId SortFault) → x ≡ y → IsOutcome (IsValueOf u s y) (IsValueFault u s y) r → Tells (IsValueOf u s x) (IsValueFault u s x) r
-  value_told s x y r same h = subst (λ z. Tells (IsValueOf u s z) (IsValueFault u s z) r) (sym same) (tells (IsValueOf u s y) (IsValueFault u s y) (value_outcome u unique s y) (value_ample u s y) r h)
+  pub value_told : (s : SortId) (x y : tree.Value) (r : Result ValueId SortFault) → x ≡ y → IsFoundOrFault (StandsForValue u s y) (IsValueFault u s y) r → TellsFound (StandsForValue u s x) (IsValueFault u s x) r
+  value_told s x y r same h = subst (λ z. TellsFound (StandsForValue u s z) (IsValueFault u s z) r) (sym same) (tells (StandsForValue u s y) (IsValueFault u s y) (value_outcome u unique s y) (value_ample u s y) r h)
 
   module _ {A : Type 0} (ss : List SortId) (xs : List tree.Value) where
     pub values_ok : (vs : List ValueId) (x : A) → AreValuesOf u ss xs vs → TellsValues (AreValuesOf u ss xs) (AreValuesFault u ss xs) vs (Ok x)
@@ -143,7 +142,7 @@ module _ (u : Universe) (unique : HasUniqueNames u) where
       cell_ample (inl (inr h)) = elim h.1 [ inl k ↦ (let e = k.1 in absurd (cc)) | inr k ↦ k.1 ]
       cell_ample (inr h) = elim h.1.4 [ inl k ↦ (let e = k.1 in absurd (cc)) | inr k ↦ values_ample u h.1.1 w.args k.1 ]
 
-      family_told : (f : FamilyId) (xs : List tree.Value) (r : Result CellId SortFault) → w.args ≡ xs → IsFamilyNamed u w.name f → IsApplicationTold u f xs r → IsOutcome IsThisCell (IsCellFault u w) r
+      family_told : (f : FamilyId) (xs : List tree.Value) (r : Result CellId SortFault) → w.args ≡ xs → IsFamilyNamed u w.name f → IsApplicationTold u f xs r → IsFoundOrFault IsThisCell (IsCellFault u w) r
       family_told f xs (Ok c) args is h =
           let family = some_at (slice_get u.families f.0) (λ (d : Family). d.name ≡ w.name) is in
           record {
@@ -158,12 +157,12 @@ module _ (u : Universe) (unique : HasUniqueNames u) where
           }
       family_told f xs (Err e) args is h = inr ((f, is), (f, h.0, is, h.1, subst (λ ys. test (length ys ≡ length h.0) WrongArity (AreValuesFault u h.0 ys) e) (sym args) h.2))
 
-      pub cell_told : (f : FamilyId) (xs : List tree.Value) (r : Result CellId SortFault) → w.args ≡ xs → IsFamilyNamed u w.name f → IsApplicationTold u f xs r → Tells IsThisCell (IsCellFault u w) r
+      pub cell_told : (f : FamilyId) (xs : List tree.Value) (r : Result CellId SortFault) → w.args ≡ xs → IsFamilyNamed u w.name f → IsApplicationTold u f xs r → TellsFound IsThisCell (IsCellFault u w) r
       cell_told f xs r args is h = tells IsThisCell (IsCellFault u w) this_outcome cell_ample r (family_told f xs r args is h)
 
-      pub no_family : (e : SortFault) → IsNameFault u w.name (IsSomeFamily u w.name) e → Tells IsThisCell (IsCellFault u w) (Err e)
+      pub no_family : (e : SortFault) → IsNameFault u w.name (IsSomeFamily u w.name) e → TellsFound IsThisCell (IsCellFault u w) (Err e)
       no_family e h = tells_err IsThisCell (IsCellFault u w) this_outcome e (inl h) cell_ample
 
-pub value_within : (u : Universe) (s : SortId) (x : tree.Value) (r : Result ValueId SortFault) → IsOutcome (IsValueOf u s x) (IsValueFault u s x) r → IfOk r (λ v. v.0 < size_of u s)
+pub value_within : (u : Universe) (s : SortId) (x : tree.Value) (r : Result ValueId SortFault) → IsFoundOrFault (StandsForValue u s x) (IsValueFault u s x) r → IfOk r (λ v. v.0 < size_of u s)
 value_within u s x (Ok v) h = value_below u s x v h
 value_within u s x (Err e) h = tt

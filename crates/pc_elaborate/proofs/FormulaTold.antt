@@ -12,7 +12,7 @@ use Rattle.pc_sheet.specs.Sheet as plain
 use Rattle.pc_sheet.specs.Sheet.{Universe}
 use Rattle.pc_sheet.specs.Nesting as built
 use Rattle.pc_sheet.specs.Views.{statement_of, statements_of}
-use Rattle.pc_sheet.specs.WellSorted.{Variables, IsWellSorted, AreWellSorted, AreParts, parts_in}
+use Rattle.pc_sheet.specs.WellSorted.{Variables, IsWellSorted, AreWellSorted, AreTwoOrMore, parts_in}
 use Rattle.pc_sheet.specs.declared.formula.Formula.{Formula, the_lemmas}
 use Rattle.pc_sheet.specs.declared.formula.Formula.TheVariants as formulas
 use Rattle.pc_sheet.specs.declared.ids.SortId.{SortId}
@@ -21,7 +21,7 @@ use Rattle.pc_elaborate.specs.declared.fault.SortFault.TheVariants as faults
 use Rattle.pc_elaborate.specs.declared.fault.SortFault.TheVariants.{DuplicateName, Limit}
 use Rattle.pc_elaborate.specs.declared.fault.Which.TheVariants.{Depth}
 use Rattle.pc_elaborate.specs.Tests.{no_test}
-use Rattle.pc_elaborate.specs.Outcome.{HasUniqueNames, IsOutcome}
+use Rattle.pc_elaborate.specs.Outcome.{HasUniqueNames, IsFoundOrFault}
 use Rattle.pc_elaborate.specs.inside.Scope.{IsScope}
 use Rattle.pc_elaborate.specs.Elaboration.{IsSortNamed, IsStatement, is_negation, is_conjunction, is_disjunction, is_implication, is_equivalence, is_universal, is_existential, AreStatements, no_statements_left, one_statement}
 use Rattle.pc_elaborate.specs.FormulaFaults.{IsDeclared, IsBound, IsSortNameFault, IsQuantifierFault, IsFormulaFault, AreFormulasFault}
@@ -102,7 +102,7 @@ module _ (u : Universe) (vs : Variables) where
       let rest = parts_counted fs p.1 p.4 in
       ap parts_in p.2 ∙ omega (arith, rest)
 
-  are_parts : (fs : tree.Formulas) (ss : plain.Statements) → AreStatements u vs fs ss → 2 ≤ count_parts fs → count_parts fs < 4194304 → AreParts ss
+  are_parts : (fs : tree.Formulas) (ss : plain.Statements) → AreStatements u vs fs ss → 2 ≤ count_parts fs → count_parts fs < 4194304 → AreTwoOrMore ss
   are_parts fs ss h low high = let n = parts_counted fs ss h in (omega (arith, n, low), omega (arith, n, high))
 
   module _ (whole : tree.Formula) (fs : tree.Formulas) where
@@ -173,7 +173,7 @@ module _ (u : Universe) (vs : Variables) where
     pub taken_fails : length vs < 16 → IsDeclared u n ⊎ IsBound vs n → IsVariableTold u vs n sort (Err DuplicateName)
     taken_fails room taken = inr (room, inl ((λ free. free taken), refl))
 
-    pub sort_told : IsName n → length vs < 16 → ¬ IsDeclared u n → ¬ IsBound vs n → (r : Result SortId SortFault) → IsOutcome (IsSortNamed u sort) (IsSortNameFault u sort) r → IsVariableTold u vs n sort r
+    pub sort_told : IsName n → length vs < 16 → ¬ IsDeclared u n → ¬ IsBound vs n → (r : Result SortId SortFault) → IsFoundOrFault (IsSortNamed u sort) (IsSortNameFault u sort) r → IsVariableTold u vs n sort r
     sort_told name room undeclared unbound (Ok s) h = (h, record { named = name; undeclared = undeclared; unbound = unbound; sort = sort_below u sort s h; depth = room })
     sort_told name room undeclared unbound (Err e) h = inr (room, inr ((λ t. elim t [ inl a ↦ undeclared a | inr b ↦ unbound b ]), inl h))
 

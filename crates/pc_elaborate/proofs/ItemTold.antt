@@ -29,7 +29,7 @@ use Rattle.pc_elaborate.specs.declared.fault.SortFault.TheVariants.{UnknownName,
 use Rattle.pc_elaborate.specs.Tests.{test}
 use Rattle.pc_elaborate.specs.Outcome.{HasUniqueNames}
 use Rattle.pc_elaborate.specs.inside.Scope.{IsScope}
-use Rattle.pc_elaborate.specs.Elaboration.{IsFamilyNamed, TakesArguments, IsValueOf, IsItem, is_variable, is_value, is_application, IsArgument, is_integer, is_item, AreArguments, no_arguments, one_argument}
+use Rattle.pc_elaborate.specs.Elaboration.{IsFamilyNamed, TakesArguments, StandsForValue, IsItem, is_variable, is_value, is_application, IsArgument, is_integer, is_item, AreArguments, no_arguments, one_argument}
 use Rattle.pc_elaborate.specs.FormulaFaults.{IsDeclared, IsBound, IsSomeSort, IsSomeTable, IsSomeFamily, IsSortedArgument, count_items, IsItemFault, IsArgumentFault, AreArgumentsFault}
 use Rattle.pc_elaborate.specs.Told.{IsFaultOf, IsItemTold, IsArgumentTold, AreArgumentsTold, IsAppliedTold}
 use Rattle.pc_elaborate.proofs.Values.{some_at, both_at, get_below, value_named, value_below, name_of_list, family_one}
@@ -214,7 +214,7 @@ module _ (u : Universe) (unique : HasUniqueNames u) (vs : Variables) where
 -- ---- arguments in a row
 
 module _ (u : Universe) (vs : Variables) where
-  pub integer_argument : (s : SortId) (a : tree.Item) (z : ℤ) (v : ValueId) → a ≡ integer z → IsValueOf u s (integer_value z) v → IsArgumentTold u vs s a (Ok (terms.Value s v))
+  pub integer_argument : (s : SortId) (a : tree.Item) (z : ℤ) (v : ValueId) → a ≡ integer z → StandsForValue u s (integer_value z) v → IsArgumentTold u vs s a (Ok (terms.Value s v))
   integer_argument s a z v is h =
       let P : tree.Item → plain.Item → Type 0 = λ b x. IsArgument u vs s b x × IsOfSort u vs x s in
       subst (λ b. P b (item_of (terms.Value s v))) (sym is) (subst (P (integer z)) (sym (item_of-Value s v)) (is_integer s z v h, (refl, value_below u s (integer_value z) v h)))

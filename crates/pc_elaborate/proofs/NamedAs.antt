@@ -11,7 +11,7 @@ use Rattle.pc_logic.specs.declared.names.Named.TheVariants as named
 use Rattle.pc_logic.proofs.NamesLemmas.{name_is_declared}
 use Rattle.pc_elaborate.specs.declared.fault.SortFault.{SortFault}
 use Rattle.pc_elaborate.specs.declared.fault.SortFault.TheVariants.{UnknownName, WrongSort, Memory}
-use Rattle.pc_elaborate.specs.Elaboration.{IsValueOf}
+use Rattle.pc_elaborate.specs.Elaboration.{StandsForValue}
 use Rattle.pc_elaborate.specs.FormulaFaults.{IsNameFault}
 use Rattle.pc_elaborate.specs.Outcome.{IsOtherName}
 use Rattle.pc_elaborate.proofs.Values.{value_named, value_is_named}
@@ -32,13 +32,13 @@ module _ (u : Universe) (n m : List ℕ) (same : m ≡ n) (o : Option Named) (to
   pub kind_none : {A : Type 0} (K : A → Named) → ((y : A) → o ≡ Some (K y) → ⊥) → (y : A) → (◌≡◌ {A = Option A} None (Some y)) ↔ IsNameOf u n (K y)
   kind_none K other y = ((λ e. absurd (cc)), (λ h. absurd (other y ((exact (K y)).1 h))))
 
-  pub value_some : (t : SortId) (w : ValueId) → o ≡ Some (named.Value t w) → (s : SortId) (v : ValueId) → (◌≡◌ {A = Option (SortId × ValueId)} (Some (t, w)) (Some (s, v))) ↔ IsValueOf u s (name_value n) v
+  pub value_some : (t : SortId) (w : ValueId) → o ≡ Some (named.Value t w) → (s : SortId) (v : ValueId) → (◌≡◌ {A = Option (SortId × ValueId)} (Some (t, w)) (Some (s, v))) ↔ StandsForValue u s (name_value n) v
   value_some t w is s v = (
     (λ e. let p = some_pair t s w v e in value_named u s n v ((exact (named.Value s v)).0 (is ∙ ap₂ (λ (a : SortId) (b : ValueId). Some (named.Value a b)) p.0 p.1))),
     (λ h. let e = (exact (named.Value s v)).1 (value_is_named u s n v h) in cc),
   )
 
-  pub value_none : ((s : SortId) (v : ValueId) → o ≡ Some (named.Value s v) → ⊥) → (s : SortId) (v : ValueId) → (◌≡◌ {A = Option (SortId × ValueId)} None (Some (s, v))) ↔ IsValueOf u s (name_value n) v
+  pub value_none : ((s : SortId) (v : ValueId) → o ≡ Some (named.Value s v) → ⊥) → (s : SortId) (v : ValueId) → (◌≡◌ {A = Option (SortId × ValueId)} None (Some (s, v))) ↔ StandsForValue u s (name_value n) v
   value_none other s v = ((λ e. absurd (cc)), (λ h. absurd (other s v ((exact (named.Value s v)).1 (value_is_named u s n v h)))))
 
   pub other_name : (k : Named) → o ≡ Some k → IsOtherName u n WrongSort

@@ -4,13 +4,13 @@ use Rattle.pc_formula.specs.Tree as tree
 use Rattle.pc_formula.specs.Tree.{for_all, exists, iff, implies, or, and, not, compare, in_table, no_part, part, integer, named, no_item, one_item, items_of, name_value, integer_value}
 use Rattle.pc_sheet.specs.Sheet as plain
 use Rattle.pc_sheet.specs.Sheet.{Universe}
-use Rattle.pc_sheet.specs.Truth.{values_at}
+use Rattle.pc_sheet.specs.Sizes.{values_at}
 use Rattle.pc_sheet.specs.WellSorted.{Variables, IsListed}
 use Rattle.pc_sheet.specs.declared.ids.SortId.{SortId}
 use Rattle.pc_sheet.specs.declared.ids.TableId.{TableId}
 use Rattle.pc_sheet.specs.declared.ids.FamilyId.{FamilyId}
 use Rattle.pc_sheet.specs.declared.ids.ValueId.{ValueId}
-use Rattle.pc_elaborate.specs.Elaboration.{IsSortNamed, IsTableNamed, IsFamilyNamed, TakesArguments, IsValueOf, IsItem, is_number, is_variable, is_value, is_application, IsArgument, is_integer, is_item, AreArguments, no_arguments, one_argument, IsSum, IsStatement, is_comparison, is_table_atom, is_negation, is_conjunction, is_disjunction, is_implication, is_equivalence, is_universal, is_existential, AreStatements, no_statements_left, one_statement}
+use Rattle.pc_elaborate.specs.Elaboration.{IsSortNamed, IsTableNamed, IsFamilyNamed, TakesArguments, StandsForValue, IsItem, is_number, is_variable, is_value, is_application, IsArgument, is_integer, is_item, AreArguments, no_arguments, one_argument, IsSum, IsStatement, is_comparison, is_table_atom, is_negation, is_conjunction, is_disjunction, is_implication, is_equivalence, is_universal, is_existential, AreStatements, no_statements_left, one_statement}
 
 module _ (u : Universe) (vs : Variables) where
   abbrev pub ArgumentsShape : List SortId → tree.Items → plain.Items → Type 0
@@ -23,7 +23,7 @@ module _ (u : Universe) (vs : Variables) where
   arguments_shape ss items xs (one_argument s ts a more x rest h k) = (s, ts, x, rest, refl, refl, h, k)
 
   abbrev pub ArgumentShape : SortId → tree.Item → plain.Item → Type 0
-  ArgumentShape s (integer z) x = (v : ValueId) × (x ≡ plain.constant s v) × IsValueOf u s (integer_value z) v
+  ArgumentShape s (integer z) x = (v : ValueId) × (x ≡ plain.constant s v) × StandsForValue u s (integer_value z) v
   ArgumentShape s (named n items) x = IsItem u vs (named n items) x
 
   pub argument_shape : (s : SortId) (a : tree.Item) (x : plain.Item) → IsArgument u vs s a x → ArgumentShape s a x
@@ -35,7 +35,7 @@ module _ (u : Universe) (vs : Variables) where
   IsVariableItem n x = (k : ℕ) × (s : SortId) × (x ≡ plain.variable k) × (slice_get vs k ≡ Some (n, s))
 
   abbrev pub IsValueItem : List ℕ → plain.Item → Type 0
-  IsValueItem n x = (s : SortId) × (v : ValueId) × (x ≡ plain.constant s v) × IsListed (values_at u s) × IsValueOf u s (name_value n) v
+  IsValueItem n x = (s : SortId) × (v : ValueId) × (x ≡ plain.constant s v) × IsListed (values_at u s) × StandsForValue u s (name_value n) v
 
   abbrev pub IsApplicationItem : List ℕ → tree.Items → plain.Item → Type 0
   IsApplicationItem n items x = (f : FamilyId) × (ss : List SortId) × (xs : plain.Items) × (x ≡ plain.cell f xs) × IsFamilyNamed u n f × TakesArguments u f ss × AreArguments u vs ss items xs

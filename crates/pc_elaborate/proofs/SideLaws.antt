@@ -7,7 +7,7 @@ use Rattle.pc_formula.specs.Tree as tree
 use Rattle.pc_formula.specs.Tree.{integer, named, no_item, one_item}
 use Rattle.pc_sheet.specs.Sheet as plain
 use Rattle.pc_sheet.specs.Sheet.{Universe, Table}
-use Rattle.pc_sheet.specs.Truth.{values_at}
+use Rattle.pc_sheet.specs.Sizes.{values_at}
 use Rattle.pc_sheet.specs.WellSorted.{Variables, IsRange, IsOfSort, AreOfSorts, IsInteger, IsSmallNumber, IsIntegerSum, IsValueOf, AreComparable, ReadsFew, reads_in_sum, reads_in_items}
 use Rattle.pc_sheet.specs.declared.ids.SortId.{SortId}
 use Rattle.pc_sheet.specs.declared.ids.TableId.{TableId}

@@ -1,9 +1,8 @@
 -- What is told of the sides of a comparison.
-use Rattle.std.proofs.Common.{◌≡◌, ℕ, suc, ◌+◌, ◌<◌, ◌≤◌, ℤ, List, [], ◌∷◌, ◌++◌, append_assoc, append-nil, Bool, true, false, All, Ok, Err, length, map, drop, get_or, arith, ap, ◌∙◌, sym, subst, refl, inl, inr, Vec, Global}
+use Rattle.std.proofs.Common.{◌≡◌, ℕ, suc, ◌+◌, ◌<◌, ◌≤◌, ℤ, List, [], ◌∷◌, ◌++◌, append_assoc, append-nil, Bool, true, false, All, Ok, Err, length, map, drop, get_or, arith, ap, ◌∙◌, sym, subst, refl, inl, inr, Vec, Global, vec_len, not, ◌==◌}
 use Rattle.std.proofs.Math.Seq.{drop-cons}
 use Rattle.std.proofs.lemmas.List.{drop_all, map-append}
 use Rattle.std.proofs.lemmas.List.Elements.{All-nil, All-push}
-use Rattle.std.proofs.Common.{vec_len, not, ◌==◌}
 use Rattle.std.proofs.lemmas.Bool.Decides.{nat_tests}
 use Rattle.pc_name.specs.declared.sign.Op.{Op}
 use Rattle.pc_name.specs.declared.sign.Sign.{Sign}
@@ -13,7 +12,7 @@ use Rattle.pc_formula.specs.Sized.{IsSizedSide}
 use Rattle.pc_formula.specs.declared.tree.ItemTree.{ItemTree}
 use Rattle.pc_sheet.specs.Sheet as plain
 use Rattle.pc_sheet.specs.Sheet.{Universe}
-use Rattle.pc_sheet.specs.Truth.{values_at}
+use Rattle.pc_sheet.specs.Sizes.{values_at}
 use Rattle.pc_sheet.specs.Views.{item_of, added_of}
 use Rattle.pc_sheet.specs.WellSorted.{Variables, IsListed, IsRange, IsOfSort, IsInteger, IsSmallNumber, IsIntegerSum, IsValueOf, AreComparable}
 use Rattle.pc_sheet.specs.declared.formula.Term.{Term}

@@ -3,7 +3,7 @@ use Rattle.std.proofs.Common.{◌≡◌, Result, Ok, Err, ap, ◌∙◌, sym, su
 use Rattle.pc_elaborate.specs.declared.fault.SortFault.{SortFault}
 use Rattle.pc_elaborate.specs.declared.fault.SortFault.TheVariants.{Memory}
 use Rattle.pc_elaborate.specs.Tests.{no_test, test, part}
-use Rattle.pc_elaborate.specs.Outcome.{IsOutcome, Tells, HasOneOutcome}
+use Rattle.pc_elaborate.specs.Outcome.{IsFoundOrFault, TellsFound, HasOneOutcome}
 
 abbrev pub IsOne : (SortFault → Type 0) → Type 0
 IsOne Fails = (e f : SortFault) → Fails e → Fails f → e ≡ f
@@ -40,7 +40,7 @@ module _ (Passes : Type 0) (Fails rest : SortFault → Type 0) where
   part_never first never e (inr h) = never e h.1
 
 module _ {A : Type 0} (IsFound : A → Type 0) (Fails : SortFault → Type 0) (law : HasOneOutcome IsFound Fails) where
-  pub tells_ok : (x : A) → IsFound x → Tells IsFound Fails (Ok x)
+  pub tells_ok : (x : A) → IsFound x → TellsFound IsFound Fails (Ok x)
   tells_ok x h = record {
     told = h;
     only = λ y k. ap Ok (law.one x y h k);
@@ -48,7 +48,7 @@ module _ {A : Type 0} (IsFound : A → Type 0) (Fails : SortFault → Type 0) (l
     ample = λ e. cc;
   }
 
-  pub tells_err : (e : SortFault) → Fails e → ¬ Fails Memory → Tells IsFound Fails (Err e)
+  pub tells_err : (e : SortFault) → Fails e → ¬ Fails Memory → TellsFound IsFound Fails (Err e)
   tells_err e h ample = record {
     told = h;
     only = λ y k. absurd (law.never y k e h);
@@ -59,7 +59,7 @@ module _ {A : Type 0} (IsFound : A → Type 0) (Fails : SortFault → Type 0) (l
       by : ◌≡◌ {A = Result A SortFault} (Err e) (Err Memory) → Fails Memory
       by same = let k : e ≡ Memory = cc in subst Fails k h
 
-  pub tells : ¬ Fails Memory → (r : Result A SortFault) → IsOutcome IsFound Fails r → Tells IsFound Fails r
+  pub tells : ¬ Fails Memory → (r : Result A SortFault) → IsFoundOrFault IsFound Fails r → TellsFound IsFound Fails r
   tells ample (Ok x) h = tells_ok x h
   tells ample (Err e) h = tells_err e h ample
 

@@ -4,7 +4,7 @@ use Rattle.std.proofs.lemmas.Int.{ints}
 use Rattle.pc_formula.specs.Tree as tree
 use Rattle.pc_formula.specs.Tree.{name_value, integer_value}
 use Rattle.pc_sheet.specs.Sheet.{Universe, Family, Sort, Values, listed, range}
-use Rattle.pc_sheet.specs.Truth.{size_of, cell_number, values_at, values_of_sort, count_of}
+use Rattle.pc_sheet.specs.Sizes.{size_of, cell_number, values_at, values_of_sort, count_of}
 use Rattle.pc_sheet.specs.WellSorted.{names_of_values, IsRange, IsListed}
 use Rattle.pc_sheet.specs.declared.ids.SortId.{SortId}
 use Rattle.pc_sheet.specs.declared.ids.TableId.{TableId}
@@ -18,7 +18,7 @@ use Rattle.pc_elaborate.specs.declared.fault.SortFault.{SortFault}
 use Rattle.pc_elaborate.specs.declared.fault.SortFault.TheVariants.{UnknownName, WrongArity, WrongSort, NotAValue}
 use Rattle.pc_elaborate.specs.Tests.{no_test, test}
 use Rattle.pc_elaborate.specs.Outcome.{HasUniqueNames, HasOneOutcome}
-use Rattle.pc_elaborate.specs.Elaboration.{IsSortNamed, IsTableNamed, IsFamilyNamed, TakesArguments, GivesValuesOf, IsValueOf, IsValueAmong, AreValuesOf, IsCell}
+use Rattle.pc_elaborate.specs.Elaboration.{IsSortNamed, IsTableNamed, IsFamilyNamed, TakesArguments, GivesValuesOf, StandsForValue, IsValueAmong, AreValuesOf, IsCell}
 use Rattle.pc_elaborate.specs.FormulaFaults.{IsDeclared, IsSomeSort, IsSomeTable, IsSomeFamily, IsNameFault, IsSortNameFault, IsSomeValue, IsValueFault, AreValuesFault, HasFamily, IsCellFault}
 use Rattle.pc_elaborate.proofs.Testing.{IsOne, IsNever, none_one, none_never, test_one, test_never, part_one, part_never}
 
@@ -47,7 +47,7 @@ offset_one low v w h = grind (arith, ints)
 module _ (u : Universe) where
   -- ---- values
 
-  pub value_named : (s : SortId) (n : List ℕ) (v : ValueId) → IsNameOf u n (named.Value s v) → IsValueOf u s (name_value n) v
+  pub value_named : (s : SortId) (n : List ℕ) (v : ValueId) → IsNameOf u n (named.Value s v) → StandsForValue u s (name_value n) v
   value_named s n v h = by (slice_get u.sorts s.0) h
     where
       among : (vs : Values) → slice_get (names_of_values vs) v.0 ≡ Some n → IsValueAmong vs (name_value n) v
@@ -58,7 +58,7 @@ module _ (u : Universe) where
       by None h = absurd h
       by (Some d) h = among d.values h
 
-  pub value_is_named : (s : SortId) (n : List ℕ) (v : ValueId) → IsValueOf u s (name_value n) v → IsNameOf u n (named.Value s v)
+  pub value_is_named : (s : SortId) (n : List ℕ) (v : ValueId) → StandsForValue u s (name_value n) v → IsNameOf u n (named.Value s v)
   value_is_named s n v h = by (slice_get u.sorts s.0) h
     where
       among : (vs : Values) → IsValueAmong vs (name_value n) v → slice_get (names_of_values vs) v.0 ≡ Some n
@@ -74,7 +74,7 @@ module _ (u : Universe) where
   get_below (y ∷ ys) zero x h = omega arith
   get_below (y ∷ ys) (suc k) x h = let r = get_below ys k x h in omega (arith, r)
 
-  pub value_below : (s : SortId) (x : tree.Value) (v : ValueId) → IsValueOf u s x v → v.0 < size_of u s
+  pub value_below : (s : SortId) (x : tree.Value) (v : ValueId) → StandsForValue u s x v → v.0 < size_of u s
   value_below s x v h = among (values_at u s) x h
     where
       among : (vs : Values) (x : tree.Value) → IsValueAmong vs x v → v.0 < count_of vs
@@ -83,21 +83,21 @@ module _ (u : Universe) where
       among (range low high) (name_value n) h = absurd h
       among (range low high) (integer_value z) h = h.1
 
-  pub integer_of_range : (s : SortId) (z : ℤ) (v : ValueId) → IsValueOf u s (integer_value z) v → IsRange (values_at u s)
+  pub integer_of_range : (s : SortId) (z : ℤ) (v : ValueId) → StandsForValue u s (integer_value z) v → IsRange (values_at u s)
   integer_of_range s z v h = among (values_at u s) h
     where
       among : (vs : Values) → IsValueAmong vs (integer_value z) v → IsRange vs
       among (listed ns) h = absurd h
       among (range low high) h = tt
 
-  pub name_of_list : (s : SortId) (n : List ℕ) (v : ValueId) → IsValueOf u s (name_value n) v → IsListed (values_at u s)
+  pub name_of_list : (s : SortId) (n : List ℕ) (v : ValueId) → StandsForValue u s (name_value n) v → IsListed (values_at u s)
   name_of_list s n v h = among (values_at u s) h
     where
       among : (vs : Values) → IsValueAmong vs (name_value n) v → IsListed vs
       among (listed ns) h = tt
       among (range low high) h = absurd h
 
-  pub integer_one : (s : SortId) (z : ℤ) (v w : ValueId) → IsValueOf u s (integer_value z) v → IsValueOf u s (integer_value z) w → v ≡ w
+  pub integer_one : (s : SortId) (z : ℤ) (v w : ValueId) → StandsForValue u s (integer_value z) v → StandsForValue u s (integer_value z) w → v ≡ w
   integer_one s z v w h k = among (values_at u s) h k
     where
       among : (vs : Values) → IsValueAmong vs (integer_value z) v → IsValueAmong vs (integer_value z) w → v ≡ w
@@ -105,7 +105,7 @@ module _ (u : Universe) where
       among (range low high) h k = ap (λ (n : ℕ). record { 0 = n }) (offset_one low v.0 w.0 (sym h.0 ∙ k.0))
 
   module _ (unique : HasUniqueNames u) where
-    pub value_one : (s : SortId) (x : tree.Value) (v w : ValueId) → IsValueOf u s x v → IsValueOf u s x w → v ≡ w
+    pub value_one : (s : SortId) (x : tree.Value) (v w : ValueId) → StandsForValue u s x v → StandsForValue u s x w → v ≡ w
     value_one s (name_value n) v w h k = let e = unique n (named.Value s v) (named.Value s w) (value_is_named s n v h) (value_is_named s n w k) in cc
     value_one s (integer_value z) v w h k = integer_one s z v w h k
 
@@ -130,7 +130,7 @@ module _ (u : Universe) where
   value_fault_one s (name_value n) = test_one (IsDeclared u n) UnknownName _ (test_one (IsSomeValue u s (name_value n)) WrongSort no_test none_one)
   value_fault_one s (integer_value z) = test_one (IsRange (values_at u s)) WrongSort _ (test_one (IsSomeValue u s (integer_value z)) NotAValue no_test none_one)
 
-  pub value_fault_never : (s : SortId) (x : tree.Value) (v : ValueId) → IsValueOf u s x v → IsNever (IsValueFault u s x)
+  pub value_fault_never : (s : SortId) (x : tree.Value) (v : ValueId) → StandsForValue u s x v → IsNever (IsValueFault u s x)
   value_fault_never s (name_value n) v h =
       test_never (IsDeclared u n) UnknownName _ (name_is_declared u n (named.Value s v) (value_is_named s n v h)) (test_never (IsSomeValue u s (name_value n)) WrongSort no_test (v, h) none_never)
   value_fault_never s (integer_value z) v h =
@@ -201,7 +201,7 @@ module _ (u : Universe) where
       same = name_fault_one n (IsSomeFamily u n);
     }
 
-    pub value_outcome : (s : SortId) (x : tree.Value) → HasOneOutcome (IsValueOf u s x) (IsValueFault u s x)
+    pub value_outcome : (s : SortId) (x : tree.Value) → HasOneOutcome (StandsForValue u s x) (IsValueFault u s x)
     value_outcome s x = record { one = value_one unique s x; never = value_fault_never s x; same = value_fault_one s x }
 
     pub values_outcome : (ss : List SortId) (xs : List tree.Value) → HasOneOutcome (AreValuesOf u ss xs) (AreValuesFault u ss xs)

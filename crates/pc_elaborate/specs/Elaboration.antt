@@ -6,7 +6,7 @@ use Rattle.pc_formula.specs.Tree as tree
 use Rattle.pc_formula.specs.Tree.{for_all, exists, iff, implies, or, and, not, compare, in_table, no_part, part, integer, named, no_item, one_item, name_value, integer_value}
 use Rattle.pc_sheet.specs.Sheet as plain
 use Rattle.pc_sheet.specs.Sheet.{Values, listed, range, Universe}
-use Rattle.pc_sheet.specs.Truth.{values_at, count_of, cell_number}
+use Rattle.pc_sheet.specs.Sizes.{values_at, count_of, cell_number}
 use Rattle.pc_sheet.specs.WellSorted.{Variables, IsListed}
 use Rattle.pc_sheet.specs.declared.ids.SortId.{SortId}
 use Rattle.pc_sheet.specs.declared.ids.TableId.{TableId}
@@ -42,8 +42,8 @@ IsValueAmong (listed names) (integer_value z) v = ⊥
 IsValueAmong (range low high) (name_value n) v = ⊥
 IsValueAmong (range low high) (integer_value z) v = (z ≡ low +ℤ pos v.0) × (v.0 < count_of (range low high))
 
-abbrev pub IsValueOf : Universe → SortId → tree.Value → ValueId → Type 0
-IsValueOf u s x v = IsValueAmong (values_at u s) x v
+abbrev pub StandsForValue : Universe → SortId → tree.Value → ValueId → Type 0
+StandsForValue u s x v = IsValueAmong (values_at u s) x v
 
 -- as many values as sorts, each of its sort
 abbrev pub AreValuesOf : Universe → List SortId → List tree.Value → List ValueId → Type 0
@@ -52,7 +52,7 @@ AreValuesOf u [] [] (v ∷ vs) = ⊥
 AreValuesOf u [] (x ∷ xs) vs = ⊥
 AreValuesOf u (s ∷ ss) [] vs = ⊥
 AreValuesOf u (s ∷ ss) (x ∷ xs) [] = ⊥
-AreValuesOf u (s ∷ ss) (x ∷ xs) (v ∷ vs) = IsValueOf u s x v × AreValuesOf u ss xs vs
+AreValuesOf u (s ∷ ss) (x ∷ xs) (v ∷ vs) = StandsForValue u s x v × AreValuesOf u ss xs vs
 
 -- a family's name with argument values stands for the cell, whose values are of the sort
 pub record IsCell (u : Universe) (written : tree.Cell) (c : CellId) (s : SortId) : Type 0 where
@@ -73,7 +73,7 @@ IsCellNamed u written c = (s : SortId) × IsCell u written c s
 pub record IsEntryNamed (u : Universe) (c : tree.Cell) (v : tree.Value) (e : Entry) : Type 0 where
   pub sort : SortId
   pub cell : IsCell u c e.cell sort
-  pub value : IsValueOf u sort v e.value
+  pub value : StandsForValue u sort v e.value
 
 -- ---- items
 
@@ -82,12 +82,12 @@ mutual
   pub data IsItem (u : Universe) (vs : Variables) : tree.Item → plain.Item → Type 0 where
     is_number : (z : ℤ) → IsItem u vs (integer z) (plain.number z)
     is_variable : (n : List ℕ) (k : ℕ) (s : SortId) → slice_get vs k ≡ Some (n, s) → IsItem u vs (named n no_item) (plain.variable k)
-    is_value : (n : List ℕ) (s : SortId) (v : ValueId) → IsListed (values_at u s) → IsValueOf u s (name_value n) v → IsItem u vs (named n no_item) (plain.constant s v)
+    is_value : (n : List ℕ) (s : SortId) (v : ValueId) → IsListed (values_at u s) → StandsForValue u s (name_value n) v → IsItem u vs (named n no_item) (plain.constant s v)
     is_application : (n : List ℕ) (f : FamilyId) (ss : List SortId) (items : tree.Items) (xs : plain.Items) → IsFamilyNamed u n f → TakesArguments u f ss → AreArguments u vs ss items xs → IsItem u vs (named n items) (plain.cell f xs)
 
   -- an argument is an item, but an integer is a value of the asked sort
   pub data IsArgument (u : Universe) (vs : Variables) : SortId → tree.Item → plain.Item → Type 0 where
-    is_integer : (s : SortId) (z : ℤ) (v : ValueId) → IsValueOf u s (integer_value z) v → IsArgument u vs s (integer z) (plain.constant s v)
+    is_integer : (s : SortId) (z : ℤ) (v : ValueId) → StandsForValue u s (integer_value z) v → IsArgument u vs s (integer z) (plain.constant s v)
     is_item : (s : SortId) (n : List ℕ) (items : tree.Items) (x : plain.Item) → IsItem u vs (named n items) x → IsArgument u vs s (named n items) x
 
   pub data AreArguments (u : Universe) (vs : Variables) : List SortId → tree.Items → plain.Items → Type 0 where

@@ -7,7 +7,7 @@ use Rattle.pc_formula.specs.Tree.{for_all, exists, iff, implies, or, and, not, c
 use Rattle.pc_sheet.specs.Limits.{most_depth}
 use Rattle.pc_sheet.specs.Sheet as plain
 use Rattle.pc_sheet.specs.Sheet.{Universe}
-use Rattle.pc_sheet.specs.Truth.{values_at}
+use Rattle.pc_sheet.specs.Sizes.{values_at}
 use Rattle.pc_sheet.specs.WellSorted.{Variables, variable_name, declared_names, IsRange, IsOfSort, IsInteger, IsSmallNumber, AreComparable, IsWellSorted, ReadsFew, reads_in_sum, reads_in_items}
 use Rattle.pc_sheet.specs.declared.ids.SortId.{SortId}
 use Rattle.pc_sheet.specs.declared.ids.TableId.{TableId}
@@ -16,7 +16,7 @@ use Rattle.pc_sheet.specs.declared.ids.ValueId.{ValueId}
 use Rattle.pc_elaborate.specs.declared.fault.SortFault.{SortFault}
 use Rattle.pc_elaborate.specs.declared.fault.SortFault.TheVariants.{UnknownName, DuplicateName, WrongArity, WrongSort, NotAValue, Limit}
 use Rattle.pc_elaborate.specs.declared.fault.Which.TheVariants.{Number, Depth, Reads}
-use Rattle.pc_elaborate.specs.Elaboration.{IsSortNamed, IsTableNamed, IsFamilyNamed, TakesArguments, IsValueOf, IsItem, IsArgument, AreArguments, IsSum, IsStatement}
+use Rattle.pc_elaborate.specs.Elaboration.{IsSortNamed, IsTableNamed, IsFamilyNamed, TakesArguments, StandsForValue, IsItem, IsArgument, AreArguments, IsSum, IsStatement}
 use Rattle.pc_elaborate.specs.Tests.{no_test, test, part}
 
 -- ---- names
@@ -44,7 +44,7 @@ IsSortNameFault u n = IsNameFault u n (IsSomeSort u n)
 -- ---- values and cells
 
 abbrev pub IsSomeValue : Universe → SortId → tree.Value → Type 0
-IsSomeValue u s x = (v : ValueId) × IsValueOf u s x v
+IsSomeValue u s x = (v : ValueId) × StandsForValue u s x v
 
 -- a value of the sort is asked for
 abbrev pub IsValueFault : Universe → SortId → tree.Value → SortFault → Type 0

@@ -6,7 +6,7 @@ use Rattle.pc_sheet.specs.WellFormed.{IsWellFormedUniverse}
 use Rattle.pc_sheet.specs.WellSorted.{IsWellSorted}
 use Rattle.pc_sheet.specs.declared.ids.SortId.{SortId}
 use Rattle.pc_sheet.specs.declared.ids.CellId.{CellId}
-use Rattle.pc_elaborate.specs.Elaboration.{IsSortNamed, IsValueOf, AreValuesOf, IsCell, IsStatement}
+use Rattle.pc_elaborate.specs.Elaboration.{IsSortNamed, StandsForValue, AreValuesOf, IsCell, IsStatement}
 use Rattle.pc_elaborate.specs.FormulaFaults.{IsSortNameFault, IsValueFault, AreValuesFault, IsCellFault, IsFormulaFault}
 use Rattle.pc_elaborate.specs.Outcome.{HasOneOutcome, HasUniqueNames}
 
@@ -22,7 +22,7 @@ IsClosedStatement u f s = IsStatement u [] f s × IsWellSorted u [] s
 pub record HaveOneOutcome (u : Universe) : Type 0 where
   pub names : HasUniqueNames u
   pub sorts : (n : List ℕ) → HasOneOutcome (IsSortNamed u n) (IsSortNameFault u n)
-  pub values : (s : SortId) (x : tree.Value) → HasOneOutcome (IsValueOf u s x) (IsValueFault u s x)
+  pub values : (s : SortId) (x : tree.Value) → HasOneOutcome (StandsForValue u s x) (IsValueFault u s x)
   pub rows : (ss : List SortId) (xs : List tree.Value) → HasOneOutcome (AreValuesOf u ss xs) (AreValuesFault u ss xs)
   pub cells : (c : tree.Cell) → HasOneOutcome (IsCellWithSort u c) (IsCellFault u c)
   pub formulas : (f : tree.Formula) → HasOneOutcome (IsClosedStatement u f) (IsFormulaFault u [] f)

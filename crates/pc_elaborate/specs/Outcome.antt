@@ -2,7 +2,7 @@
 use Rattle.std.specs.Prelude.{◌≡◌, ◌⊎◌, ℕ, List, Option, None, Some, slice_get, length, Contains, Result, Ok, Err}
 use Rattle.pc_sheet.specs.Sheet.{Universe}
 use Rattle.pc_formula.specs.Tree as tree
-use Rattle.pc_sheet.specs.Truth.{result_sort_of, cell_number}
+use Rattle.pc_sheet.specs.Sizes.{result_sort_of, cell_number}
 use Rattle.pc_sheet.specs.Cells.{Application, IsApplication, cells}
 use Rattle.pc_sheet.specs.WellSorted.{declared_names}
 use Rattle.pc_sheet.specs.declared.ids.SortId.{SortId}
@@ -18,26 +18,26 @@ use Rattle.pc_elaborate.specs.declared.fault.SortFault.{SortFault}
 use Rattle.pc_elaborate.specs.declared.fault.SortFault.TheVariants.{UnknownName, WrongArity, WrongSort, Memory}
 
 -- what is answered is found, or it is a fault
-abbrev pub IsOutcome : {A : Type 0} → (A → Type 0) → (SortFault → Type 0) → Result A SortFault → Type 0
-IsOutcome IsFound Fails (Ok x) = IsFound x
-IsOutcome IsFound Fails (Err e) = Fails e
+abbrev pub IsFoundOrFault : {A : Type 0} → (A → Type 0) → (SortFault → Type 0) → Result A SortFault → Type 0
+IsFoundOrFault IsFound Fails (Ok x) = IsFound x
+IsFoundOrFault IsFound Fails (Err e) = Fails e
 
 -- the answer is what is found, or the fault, and nothing else; memory is no reason
-pub record Tells {A : Type 0} (IsFound : A → Type 0) (Fails : SortFault → Type 0) (r : Result A SortFault) : Type 0 where
-  pub told : IsOutcome IsFound Fails r
+pub record TellsFound {A : Type 0} (IsFound : A → Type 0) (Fails : SortFault → Type 0) (r : Result A SortFault) : Type 0 where
+  pub told : IsFoundOrFault IsFound Fails r
   pub only : (x : A) → IsFound x → r ≡ Ok x
   pub fault : (e : SortFault) → Fails e → r ≡ Err e
   pub ample : ¬ (r ≡ Err Memory)
 
 -- the answer is that what was written is found, or the fault
-abbrev pub IsWritten : {A : Type 0} → List ValueId → List ValueId → Result A SortFault → Type 0
-IsWritten written vs (Ok x) = vs ≡ written
-IsWritten written vs (Err e) = ⊥
+abbrev pub IsWrittenOrFault : {A : Type 0} → List ValueId → List ValueId → Result A SortFault → Type 0
+IsWrittenOrFault written vs (Ok x) = vs ≡ written
+IsWrittenOrFault written vs (Err e) = ⊥
 
 -- the same where what is found is written, and not answered
 pub record TellsValues {A : Type 0} (AreFound : List ValueId → Type 0) (Fails : SortFault → Type 0) (written : List ValueId) (r : Result A SortFault) : Type 0 where
-  pub told : IsOutcome (λ x. AreFound written) Fails r
-  pub only : (vs : List ValueId) → AreFound vs → IsWritten written vs r
+  pub told : IsFoundOrFault (λ x. AreFound written) Fails r
+  pub only : (vs : List ValueId) → AreFound vs → IsWrittenOrFault written vs r
   pub fault : (e : SortFault) → Fails e → r ≡ Err e
   pub ample : ¬ (r ≡ Err Memory)
 

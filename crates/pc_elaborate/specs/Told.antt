@@ -7,7 +7,7 @@ use Rattle.pc_formula.specs.Tree as tree
 use Rattle.pc_formula.specs.Tree.{Formula, Formulas}
 use Rattle.pc_sheet.specs.Sheet as plain
 use Rattle.pc_sheet.specs.Sheet.{Universe, Statement, Values}
-use Rattle.pc_sheet.specs.Truth.{values_at}
+use Rattle.pc_sheet.specs.Sizes.{values_at}
 use Rattle.pc_sheet.specs.Views as views
 use Rattle.pc_sheet.specs.Views.{item_of, added_of, sum_of, statement_of}
 use Rattle.pc_sheet.specs.declared.ids.FamilyId.{FamilyId}

@@ -3,13 +3,13 @@ ghost use Rattle.std.specs.Prelude.{◌≡◌, ◌≤◌, ◌<◌, IfOk, All, le
 ghost use Rattle.pc_formula.specs.Tree.{cell_of, value_of, name_value, integer_value};
 ghost use Rattle.pc_sheet.specs.Limits.{most_arguments};
 ghost use Rattle.pc_sheet.specs.Entailment.{cell_sizes, AreWithin};
-ghost use Rattle.pc_sheet.specs.Truth.{size_of};
+ghost use Rattle.pc_sheet.specs.Sizes.{size_of};
 ghost use Rattle.pc_sheet.specs.WellFormed.{IsDeclaredSort, IsEntryOf};
 ghost use Rattle.pc_sheet.specs.declared.ids.SortId.{SortId};
 ghost use Rattle.pc_sheet.specs.declared.ids.CellId.{CellId};
-ghost use Rattle.pc_elaborate.specs.Elaboration.{AreValuesOf, IsCell, IsValueOf, TakesArguments};
+ghost use Rattle.pc_elaborate.specs.Elaboration.{AreValuesOf, IsCell, StandsForValue, TakesArguments};
 ghost use Rattle.pc_elaborate.specs.FormulaFaults.{AreValuesFault, IsCellFault, IsValueFault};
-ghost use Rattle.pc_elaborate.specs.Outcome.{IsApplicationTold, IsOutcome, Tells, TellsValues, sort_of_cell};
+ghost use Rattle.pc_elaborate.specs.Outcome.{IsApplicationTold, IsFoundOrFault, TellsFound, TellsValues, sort_of_cell};
 
 use crate::fault::SortFault;
 use crate::names::{find_family, name_fault, value_named};
@@ -19,7 +19,7 @@ use pc_sheet::cells_are_numbered_in_order;
 
 /// The listed value of the sort that a name stands for, or why there is none.
 fn find_listed(book: &Book, sort: SortId, name: &Name) -> Result<ValueId, SortFault>
-    ensures { IsOutcome (IsValueOf book.now.universe sort (name_value name.now)) (IsValueFault book.now.universe sort (name_value name.now)) result }
+    ensures { IsFoundOrFault (StandsForValue book.now.universe sort (name_value name.now)) (IsValueFault book.now.universe sort (name_value name.now)) result }
 {
     let Some((found, value)) = value_named(book, name) else {
         return Err(name_fault(book, name));
@@ -33,7 +33,7 @@ fn find_listed(book: &Book, sort: SortId, name: &Name) -> Result<ValueId, SortFa
 /// The value of the sort that a whole number stands for, or why there is none.
 pub(crate) fn find_integer(book: &Book, sort: SortId, n: i64) -> Result<ValueId, SortFault>
     requires { sort.0 < length book.now.universe.sorts }
-    ensures { IsOutcome (IsValueOf book.now.universe sort (integer_value n)) (IsValueFault book.now.universe sort (integer_value n)) result }
+    ensures { IsFoundOrFault (StandsForValue book.now.universe sort (integer_value n)) (IsValueFault book.now.universe sort (integer_value n)) result }
 {
     well_formed(book);
     let Some((low, high)) = book.range_of(sort) else {
@@ -48,7 +48,7 @@ pub(crate) fn find_integer(book: &Book, sort: SortId, n: i64) -> Result<ValueId,
 /// The value of the sort that is written, or why there is none.
 pub fn find_sort_value(book: &Book, sort: SortId, value: &ValueTree) -> Result<ValueId, SortFault>
     requires { sort.0 < length book.now.universe.sorts }
-    ensures exact { Tells (IsValueOf book.now.universe sort (value_of value.now)) (IsValueFault book.now.universe sort (value_of value.now)) result }
+    ensures exact { TellsFound (StandsForValue book.now.universe sort (value_of value.now)) (IsValueFault book.now.universe sort (value_of value.now)) result }
     ensures within { IfOk result (λ v. v.0 < size_of book.now.universe sort) }
 {
     well_formed(book);
@@ -108,7 +108,7 @@ fn find_application(book: &Book, family: FamilyId, args: &[ValueTree]) -> Result
 
 /// The cell that is written, or why there is none.
 pub fn find_cell(book: &Book, cell: &CellTree) -> Result<CellId, SortFault>
-    ensures exact { Tells (λ c. IsCell book.now.universe (cell_of cell.now) c (sort_of_cell book.now.universe c)) (IsCellFault book.now.universe (cell_of cell.now)) result }
+    ensures exact { TellsFound (λ c. IsCell book.now.universe (cell_of cell.now) c (sort_of_cell book.now.universe c)) (IsCellFault book.now.universe (cell_of cell.now)) result }
     ensures sort { (c : CellId) (s : SortId) → IsCell book.now.universe (cell_of cell.now) c s → s ≡ sort_of_cell book.now.universe c }
     ensures within { IfOk result (λ c. c.0 < length (cell_sizes book.now.universe)) }
 {
@@ -121,7 +121,7 @@ pub fn find_cell(book: &Book, cell: &CellTree) -> Result<CellId, SortFault>
 /// The value of the cell's sort that is written, or why there is none.
 pub fn find_value(book: &Book, cell: CellId, value: &ValueTree) -> Result<ValueId, SortFault>
     requires { cell.0 < length (cell_sizes book.now.universe) }
-    ensures exact { Tells (IsValueOf book.now.universe (sort_of_cell book.now.universe cell) (value_of value.now)) (IsValueFault book.now.universe (sort_of_cell book.now.universe cell) (value_of value.now)) result }
+    ensures exact { TellsFound (StandsForValue book.now.universe (sort_of_cell book.now.universe cell) (value_of value.now)) (IsValueFault book.now.universe (sort_of_cell book.now.universe cell) (value_of value.now)) result }
     ensures entry { IfOk result (λ v. IsEntryOf book.now.universe (record { cell = cell; value = v })) }
 {
     well_formed(book);

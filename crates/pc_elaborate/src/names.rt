@@ -5,9 +5,9 @@ ghost use Rattle.pc_sheet.specs.declared.ids.SortId.{SortId};
 ghost use Rattle.pc_sheet.specs.declared.ids.TableId.{TableId};
 ghost use Rattle.pc_sheet.specs.declared.ids.FamilyId.{FamilyId};
 ghost use Rattle.pc_sheet.specs.declared.ids.ValueId.{ValueId};
-ghost use Rattle.pc_elaborate.specs.Elaboration.{IsFamilyNamed, IsSortNamed, IsTableNamed, IsValueOf};
+ghost use Rattle.pc_elaborate.specs.Elaboration.{IsFamilyNamed, IsSortNamed, IsTableNamed, StandsForValue};
 ghost use Rattle.pc_elaborate.specs.FormulaFaults.{IsNameFault, IsSomeFamily, IsSomeTable, IsSortNameFault};
-ghost use Rattle.pc_elaborate.specs.Outcome.{IsOtherName, Tells};
+ghost use Rattle.pc_elaborate.specs.Outcome.{IsOtherName, TellsFound};
 
 use crate::fault::SortFault;
 use pc_logic::{Book, FamilyId, Name, Named, SortId, TableId, ValueId, well_formed};
@@ -53,7 +53,7 @@ pub fn family_named(book: &Book, name: &Name) -> Option<FamilyId>
 
 /// The listed value of that name, if it is declared.
 pub fn value_named(book: &Book, name: &Name) -> Option<(SortId, ValueId)>
-    ensures { (s : SortId) (v : ValueId) → (result ≡ Some (s, v)) ↔ IsValueOf book.now.universe s (name_value name.now) v }
+    ensures { (s : SortId) (v : ValueId) → (result ≡ Some (s, v)) ↔ StandsForValue book.now.universe s (name_value name.now) v }
 {
     match book.look_up(name.as_str()) {
         Some(Named::Value(sort, value)) => Some((sort, value)),
@@ -76,7 +76,7 @@ pub(crate) fn name_fault(book: &Book, name: &Name) -> SortFault
 
 /// The sort of that name, or why there is none.
 pub fn find_sort(book: &Book, name: &Name) -> Result<SortId, SortFault>
-    ensures { Tells (IsSortNamed book.now.universe name.now) (IsSortNameFault book.now.universe name.now) result }
+    ensures { TellsFound (IsSortNamed book.now.universe name.now) (IsSortNameFault book.now.universe name.now) result }
 {
     well_formed(book);
     match sort_named(book, name) {
@@ -87,7 +87,7 @@ pub fn find_sort(book: &Book, name: &Name) -> Result<SortId, SortFault>
 
 /// The table of that name, or why there is none.
 pub fn find_table(book: &Book, name: &Name) -> Result<TableId, SortFault>
-    ensures { Tells (IsTableNamed book.now.universe name.now) (IsNameFault book.now.universe name.now (IsSomeTable book.now.universe name.now)) result }
+    ensures { TellsFound (IsTableNamed book.now.universe name.now) (IsNameFault book.now.universe name.now (IsSomeTable book.now.universe name.now)) result }
 {
     well_formed(book);
     match table_named(book, name) {
@@ -98,7 +98,7 @@ pub fn find_table(book: &Book, name: &Name) -> Result<TableId, SortFault>
 
 /// The family of that name, or why there is none.
 pub fn find_family(book: &Book, name: &Name) -> Result<FamilyId, SortFault>
-    ensures { Tells (IsFamilyNamed book.now.universe name.now) (IsNameFault book.now.universe name.now (IsSomeFamily book.now.universe name.now)) result }
+    ensures { TellsFound (IsFamilyNamed book.now.universe name.now) (IsNameFault book.now.universe name.now (IsSomeFamily book.now.universe name.now)) result }
 {
     well_formed(book);
     match family_named(book, name) {

@@ -3,7 +3,7 @@ ghost use Rattle.std.specs.Prelude.{◌↔◌, ◌<◌, Bool, IsTrue, length, ma
 ghost use Rattle.pc_formula.specs.Sized.{IsSizedSide};
 ghost use Rattle.pc_formula.specs.Tree.{added_of, integer, item_of, items_of, named, side_of};
 ghost use Rattle.pc_sheet.specs.Sheet.{Universe};
-ghost use Rattle.pc_sheet.specs.Truth.{values_at};
+ghost use Rattle.pc_sheet.specs.Sizes.{values_at};
 ghost use Rattle.pc_sheet.specs.WellSorted.{IsEquality, Variables};
 ghost use Rattle.pc_elaborate.specs.inside.Scope.{IsScope};
 ghost use Rattle.pc_elaborate.specs.Told.{AreAddedTold, IsKindOf, IsSideItemTold, IsSideTold, MayCompare, MayStand, variables_of};

@@ -4,28 +4,28 @@ use Rattle.std.proofs.lemmas.List.{append-nil, append_assoc}
 use Rattle.pc_formula.specs.Word.{Word, sign, NotFirst}
 use Rattle.pc_formula.specs.Tree.{Formula}
 use Rattle.pc_formula.specs.Grammar.{Joint, by_or, by_and, joined, part_form, joint_sign, joint, of_parts, level, Derives, join, Goes_on, no_more, one_more}
-use Rattle.pc_formula.specs.Front.{StopsAt, Reads, ReadsNone}
+use Rattle.pc_formula.specs.Front.{StopsLevel, Reads, ReadsNone}
 use Rattle.pc_token.specs.declared.token.Kind.TheVariants.{And, Or}
 use Rattle.pc_formula.proofs.Stops.{weaken, not_first, stops_and, stops_or}
 
-part_stops : (j : Joint) (ws : List Word) → StopsAt (level (joined j)) ws → StopsAt (level (part_form j)) ws
+part_stops : (j : Joint) (ws : List Word) → StopsLevel (level (joined j)) ws → StopsLevel (level (part_form j)) ws
 part_stops by_or ws stops = weaken 4 5 ws (omega arith) stops
 part_stops by_and ws stops = weaken 3 4 ws (omega arith) stops
 
-sign_stops : (j : Joint) (ws : List Word) → StopsAt (level (part_form j)) (sign (joint_sign j) ∷ ws)
+sign_stops : (j : Joint) (ws : List Word) → StopsLevel (level (part_form j)) (sign (joint_sign j) ∷ ws)
 sign_stops by_or ws = omega arith
 sign_stops by_and ws = omega arith
 
-pub no_sign : (j : Joint) (ws : List Word) → StopsAt (level (joined j)) ws → NotFirst (joint_sign j) ws
+pub no_sign : (j : Joint) (ws : List Word) → StopsLevel (level (joined j)) ws → NotFirst (joint_sign j) ws
 no_sign by_or ws stops = not_first 5 Or ws stops (omega arith)
 no_sign by_and ws stops = not_first 4 And ws stops (omega arith)
 
-joined_stops : (j : Joint) (ws : List Word) → StopsAt (level (part_form j)) ws → NotFirst (joint_sign j) ws → StopsAt (level (joined j)) ws
+joined_stops : (j : Joint) (ws : List Word) → StopsLevel (level (part_form j)) ws → NotFirst (joint_sign j) ws → StopsLevel (level (joined j)) ws
 joined_stops by_or ws stops ends = stops_or ws stops ends
 joined_stops by_and ws stops ends = stops_and ws stops ends
 
 -- a part ends where further parts or the end follow
-pub mid_stops : (j : Joint) (mid : List Word) (fs : List Formula) (rest : List Word) → Goes_on j mid fs rest → StopsAt (level (joined j)) rest → StopsAt (level (part_form j)) mid
+pub mid_stops : (j : Joint) (mid : List Word) (fs : List Formula) (rest : List Word) → Goes_on j mid fs rest → StopsLevel (level (joined j)) rest → StopsLevel (level (part_form j)) mid
 mid_stops j mid fs rest no_more stops = part_stops j mid stops
 mid_stops j mid fs rest (one_more {ws = ws} d more) stops = sign_stops j ws
 
@@ -37,14 +37,14 @@ goes_on_push j mid fs now next new g (one_more {ws = ws} {mid = there} {fs = oth
 -- what of a joined form has been read: these parts, and whatever is derived goes on from here
 pub record Joins (j : Joint) (old : List Word) (fs : List Formula) (now : List Word) : Type 0 where
   pub parts : (f : Formula) × (others : List Formula) × (mid : List Word) × (fs ≡ f ∷ others) × Derives (part_form j) old f mid × Goes_on j mid others now
-  pub stops : StopsAt (level (part_form j)) now
-  pub only : (g : Formula) (rest : List Word) → Derives (joined j) old g rest → StopsAt (level (joined j)) rest → (gs : List Formula) × Goes_on j now gs rest × (g ≡ of_parts j (fs ++ gs))
+  pub stops : StopsLevel (level (part_form j)) now
+  pub only : (g : Formula) (rest : List Word) → Derives (joined j) old g rest → StopsLevel (level (joined j)) rest → (gs : List Formula) × Goes_on j now gs rest × (g ≡ of_parts j (fs ++ gs))
 
 module _ (j : Joint) (old : List Word) where
   pub joins_first : (f : Formula) (now : List Word) → Reads (Derives (part_form j)) (level (part_form j)) old f now → Joins j old (f ∷ []) now
   joins_first f now r = record { parts = (f, [], now, refl, r.derives, no_more); stops = r.stops; only = only old r }
     where
-      only : (ws : List Word) → Reads (Derives (part_form j)) (level (part_form j)) ws f now → (g : Formula) (rest : List Word) → Derives (joined j) ws g rest → StopsAt (level (joined j)) rest → (gs : List Formula) × Goes_on j now gs rest × (g ≡ of_parts j ((f ∷ []) ++ gs))
+      only : (ws : List Word) → Reads (Derives (part_form j)) (level (part_form j)) ws f now → (g : Formula) (rest : List Word) → Derives (joined j) ws g rest → StopsLevel (level (joined j)) rest → (gs : List Formula) × Goes_on j now gs rest × (g ≡ of_parts j ((f ∷ []) ++ gs))
       only ws r g rest (join {mid = mid} {f = f'} {fs = fs} d more) stops =
           let first = r.only f' mid d (mid_stops j mid fs rest more stops) in
           (fs, subst (λ m. Goes_on j m fs rest) first.1 more, ap (λ h. of_parts j (h ∷ fs)) first.0)
@@ -61,7 +61,7 @@ module _ (j : Joint) (old : List Word) where
             (after.0, after.2, before.2 ∙ ap (λ l. of_parts j (fs ++ l)) after.1 ∙ ap (of_parts j) (sym (append_assoc fs (g ∷ []) after.0)));
       }
     where
-      step : (ws rest : List Word) (gs : List Formula) → Goes_on j ws gs rest → ws ≡ sign (joint_sign j) ∷ next → StopsAt (level (joined j)) rest → (hs : List Formula) × (gs ≡ g ∷ hs) × Goes_on j new hs rest
+      step : (ws rest : List Word) (gs : List Formula) → Goes_on j ws gs rest → ws ≡ sign (joint_sign j) ∷ next → StopsLevel (level (joined j)) rest → (hs : List Formula) × (gs ≡ g ∷ hs) × Goes_on j new hs rest
       step ws rest gs no_more is stops = absurd (no_sign j ws stops next is)
       step ws rest gs (one_more {ws = there} {mid = mid} {f = f'} {fs = hs} d more) is stops =
           let same : there ≡ next = cc in
@@ -91,7 +91,7 @@ module _ (j : Joint) (old : List Word) where
         step now rest found.0 found.1 is stops;
   }
     where
-      step : (ws rest : List Word) (gs : List Formula) → Goes_on j ws gs rest → ws ≡ sign (joint_sign j) ∷ next → StopsAt (level (joined j)) rest → ⊥
+      step : (ws rest : List Word) (gs : List Formula) → Goes_on j ws gs rest → ws ≡ sign (joint_sign j) ∷ next → StopsLevel (level (joined j)) rest → ⊥
       step ws rest gs no_more is stops = no_sign j ws stops next is
       step ws rest gs (one_more {ws = there} {mid = mid} {f = f'} {fs = hs} d more) is stops =
           let same : there ≡ next = cc in
@@ -100,7 +100,7 @@ module _ (j : Joint) (old : List Word) where
   pub join_none : ReadsNone (Derives (part_form j)) (level (part_form j)) old → ReadsNone (Derives (joined j)) (level (joined j)) old
   join_none r = record { none = none old r }
     where
-      none : (ws : List Word) → ReadsNone (Derives (part_form j)) (level (part_form j)) ws → (g : Formula) (rest : List Word) → Derives (joined j) ws g rest → StopsAt (level (joined j)) rest → ⊥
+      none : (ws : List Word) → ReadsNone (Derives (part_form j)) (level (part_form j)) ws → (g : Formula) (rest : List Word) → Derives (joined j) ws g rest → StopsLevel (level (joined j)) rest → ⊥
       none ws r g rest (join {mid = mid} {f = f} {fs = fs} d more) stops = r.none f mid d (mid_stops j mid fs rest more stops)
 
   -- ---- the same at one part and at two

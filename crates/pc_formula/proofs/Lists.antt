@@ -3,7 +3,7 @@ use Rattle.std.proofs.Common.{◌≡◌, ℕ, ◌<◌, Bool, true, false, List, 
 use Rattle.std.proofs.lemmas.List.{append_assoc}
 use Rattle.pc_token.specs.declared.token.Kind.TheVariants.{Open, Close, Comma}
 use Rattle.pc_formula.specs.Word.{Word, sign, NotFirst}
-use Rattle.pc_formula.specs.Front.{StopsAt, Reads, ReadsNone}
+use Rattle.pc_formula.specs.Front.{StopsLevel, Reads, ReadsNone}
 use Rattle.pc_formula.specs.Value.{Listed, last, next, InParentheses, enclosed, Arguments, no_argument, arguments}
 use Rattle.pc_formula.proofs.Stops.{stops_at_zero, not_first, stops_item}
 
@@ -102,10 +102,10 @@ module _ {A : Type 0} (X : List Word → A → List Word → Type 0) where
       step ws all rest absent (arguments d) = absurd (opened ws all rest d absent)
 
   module _ (old ws : List Word) (is : old ≡ sign Open ∷ ws) where
-    from_arguments : (all : List A) (rest : List Word) → Arguments X old all rest → StopsAt 1 rest → Listed X ws all rest
+    from_arguments : (all : List A) (rest : List Word) → Arguments X old all rest → StopsLevel 1 rest → Listed X ws all rest
     from_arguments all rest d stops = step old all rest d is stops
       where
-        step : (there : List Word) (all : List A) (rest : List Word) → Arguments X there all rest → there ≡ sign Open ∷ ws → StopsAt 1 rest → Listed X ws all rest
+        step : (there : List Word) (all : List A) (rest : List Word) → Arguments X there all rest → there ≡ sign Open ∷ ws → StopsLevel 1 rest → Listed X ws all rest
         step there all rest no_argument is stops = absurd (not_first 1 Open there stops (omega arith) ws is)
         step there all rest (arguments d) is stops = from_enclosed there ws all rest is d
 
@@ -119,7 +119,7 @@ module _ {A : Type 0} (X : List Word → A → List Word → Type 0) where
     pub enclosed_none : ReadsNone (Listed X) 0 ws → ReadsNone (InParentheses X) 0 old
     enclosed_none r = record { none = λ other rest d stops. r.none other rest (from_enclosed old ws other rest is d) stops }
 
-    pub arguments_read : (all : List A) (new : List Word) → Reads (Listed X) 0 ws all new → StopsAt 1 new → Reads (Arguments X) 1 old all new
+    pub arguments_read : (all : List A) (new : List Word) → Reads (Listed X) 0 ws all new → StopsLevel 1 new → Reads (Arguments X) 1 old all new
     arguments_read all new r stop = record {
       derives = subst (λ l. Arguments X l all new) (sym is) (arguments (enclosed r.derives));
       stops = stop;
@@ -129,8 +129,8 @@ module _ {A : Type 0} (X : List Word → A → List Word → Type 0) where
     pub arguments_none : ReadsNone (Listed X) 0 ws → ReadsNone (Arguments X) 1 old
     arguments_none r = record { none = λ other rest d stops. r.none other rest (from_arguments other rest d stops) (stops_at_zero rest) }
 
-    pub arguments_again : (all : List A) (mid : List Word) → Reads (Listed X) 0 ws all mid → (StopsAt 1 mid → ⊥) → ReadsNone (Arguments X) 1 old
-    arguments_again all mid r goes_on = record { none = λ other rest d stops. goes_on (subst (StopsAt 1) (r.only other rest (from_arguments other rest d stops) (stops_at_zero rest)).1 stops) }
+    pub arguments_again : (all : List A) (mid : List Word) → Reads (Listed X) 0 ws all mid → (StopsLevel 1 mid → ⊥) → ReadsNone (Arguments X) 1 old
+    arguments_again all mid r goes_on = record { none = λ other rest d stops. goes_on (subst (StopsLevel 1) (r.only other rest (from_arguments other rest d stops) (stops_at_zero rest)).1 stops) }
 
 -- ---- a list is read once
 
@@ -155,7 +155,7 @@ module _ {A : Type 0} (X : List Word → A → List Word → Type 0) (once : (ws
   enclosed_once ws all others r s (enclosed {ws = there} d) e = listed_once there all others r s d (from_enclosed X ws there others s refl e)
 
   -- where no parenthesis follows
-  pub arguments_once : (ws : List Word) (all others : List A) (r s : List Word) → Arguments X ws all r → Arguments X ws others s → StopsAt 1 r → StopsAt 1 s → (all ≡ others) × (r ≡ s)
+  pub arguments_once : (ws : List Word) (all others : List A) (r s : List Word) → Arguments X ws all r → Arguments X ws others s → StopsLevel 1 r → StopsLevel 1 s → (all ≡ others) × (r ≡ s)
   arguments_once ws all others r s no_argument no_argument stop stops = (refl, refl)
   arguments_once ws all others r s no_argument (arguments e) stop stops = absurd (opened X ws others s e (not_first 1 Open ws stop (omega arith)))
   arguments_once ws all others r s (arguments d) no_argument stop stops = absurd (opened X ws all r d (not_first 1 Open ws stops (omega arith)))

@@ -6,7 +6,7 @@ use Rattle.pc_token.specs.declared.token.Kind.TheVariants.{Open}
 use Rattle.pc_formula.specs.Word.{Word, name, sign, NotFirst, NoName}
 use Rattle.pc_formula.specs.Tree.{Item, integer, named, no_item, items_of, Side}
 use Rattle.pc_formula.specs.Sign.{added_sign}
-use Rattle.pc_formula.specs.Front.{StopsAt, Reads, ReadsNone}
+use Rattle.pc_formula.specs.Front.{StopsLevel, Reads, ReadsNone}
 use Rattle.pc_formula.specs.Value.{DerivesInt, Listed, last, next}
 use Rattle.pc_formula.specs.Side.{DerivesItem, integer_item, bare_item, applied_item, DerivesItems, last_item, next_item, Adds, nothing_added, added, DerivesSide, a_side}
 use Rattle.pc_formula.proofs.Stops.{weaken, stops_at_zero, not_first, stops_item, stops_side, added_stops, added_first, same_added}
@@ -39,7 +39,7 @@ from_integer old i rest absent (integer_item {z = z} d) = (z, refl, d)
 from_integer old i rest absent (bare_item text) = absurd (absent text rest refl)
 from_integer old i rest absent (applied_item {ws = ws} text d) = absurd (absent text (sign Open ∷ ws) refl)
 
-pub item_integer : (old : List Word) (z : ℤ) (new : List Word) → NoName old → Reads DerivesInt 0 old z new → StopsAt 1 new → Reads DerivesItem 1 old (integer z) new
+pub item_integer : (old : List Word) (z : ℤ) (new : List Word) → NoName old → Reads DerivesInt 0 old z new → StopsLevel 1 new → Reads DerivesItem 1 old (integer z) new
 item_integer old z new absent r stop = record {
   derives = integer_item r.derives;
   stops = stop;
@@ -56,11 +56,11 @@ item_integer_none old absent r = record {
       r.none found.0 rest found.2 (stops_at_zero rest);
 }
 
-pub item_integer_applied : (old : List Word) (z : ℤ) (mid : List Word) → NoName old → Reads DerivesInt 0 old z mid → (StopsAt 1 mid → ⊥) → ReadsNone DerivesItem 1 old
+pub item_integer_applied : (old : List Word) (z : ℤ) (mid : List Word) → NoName old → Reads DerivesInt 0 old z mid → (StopsLevel 1 mid → ⊥) → ReadsNone DerivesItem 1 old
 item_integer_applied old z mid absent r goes_on = record {
   none = λ i rest d stops.
       let found = from_integer old i rest absent d in
-      goes_on (subst (StopsAt 1) (r.only found.0 rest found.2 (stops_at_zero rest)).1 stops);
+      goes_on (subst (StopsLevel 1) (r.only found.0 rest found.2 (stops_at_zero rest)).1 stops);
 }
 
 -- ---- an item that is a name
@@ -84,10 +84,10 @@ module _ (old : List Word) (text : List ℕ) (mid : List Word) (is : old ≡ nam
   }
 
   module _ (ws : List Word) (opens : mid ≡ sign Open ∷ ws) where
-    from_applied : (i : Item) (rest : List Word) → DerivesItem old i rest → StopsAt 1 rest → (args : List Item) × (i ≡ named text (items_of args)) × DerivesItems ws args rest
+    from_applied : (i : Item) (rest : List Word) → DerivesItem old i rest → StopsLevel 1 rest → (args : List Item) × (i ≡ named text (items_of args)) × DerivesItems ws args rest
     from_applied i rest d stops = step old i rest is d stops
       where
-        step : (there : List Word) (i : Item) (rest : List Word) → there ≡ name text ∷ mid → DerivesItem there i rest → StopsAt 1 rest → (args : List Item) × (i ≡ named text (items_of args)) × DerivesItems ws args rest
+        step : (there : List Word) (i : Item) (rest : List Word) → there ≡ name text ∷ mid → DerivesItem there i rest → StopsLevel 1 rest → (args : List Item) × (i ≡ named text (items_of args)) × DerivesItems ws args rest
         step there i rest is (integer_item {z = z} d) stops = absurd (int_no_name there z rest d text mid is)
         step there i rest is (bare_item t) stops =
             let same : rest ≡ sign Open ∷ ws = cc in
@@ -97,7 +97,7 @@ module _ (old : List Word) (text : List ℕ) (mid : List Word) (is : old ≡ nam
             let texts : t ≡ text = cc in
             (args, ap (λ n. named n (items_of args)) texts, subst (λ l. DerivesItems l args rest) same d)
 
-    pub item_applied : (args : List Item) (new : List Word) → Reads DerivesItems 0 ws args new → StopsAt 1 new → Reads DerivesItem 1 old (named text (items_of args)) new
+    pub item_applied : (args : List Item) (new : List Word) → Reads DerivesItems 0 ws args new → StopsLevel 1 new → Reads DerivesItem 1 old (named text (items_of args)) new
     item_applied args new r stop = record {
       derives = subst (λ l. DerivesItem l (named text (items_of args)) new) (sym (is ∙ ap (λ l. name text ∷ l) opens)) (applied_item text r.derives);
       stops = stop;
@@ -114,11 +114,11 @@ module _ (old : List Word) (text : List ℕ) (mid : List Word) (is : old ≡ nam
           r.none found.0 rest found.2 (stops_at_zero rest);
     }
 
-    pub item_again : (args : List Item) (new : List Word) → Reads DerivesItems 0 ws args new → (StopsAt 1 new → ⊥) → ReadsNone DerivesItem 1 old
+    pub item_again : (args : List Item) (new : List Word) → Reads DerivesItems 0 ws args new → (StopsLevel 1 new → ⊥) → ReadsNone DerivesItem 1 old
     item_again args new r goes_on = record {
       none = λ i rest d stops.
           let found = from_applied i rest d stops in
-          goes_on (subst (StopsAt 1) (r.only found.0 rest found.2 (stops_at_zero rest)).1 stops);
+          goes_on (subst (StopsLevel 1) (r.only found.0 rest found.2 (stops_at_zero rest)).1 stops);
     }
 
 -- ---- { + ITEM | - ITEM }
@@ -126,14 +126,14 @@ module _ (old : List Word) (text : List ℕ) (mid : List Word) (is : old ≡ nam
 -- what of a sum has been read: these items, and whatever is derived goes on from here
 pub record Sums (old : List Word) (seen : List (Sign × Item)) (now : List Word) : Type 0 where
   pub whole : (more : List (Sign × Item)) (rest : List Word) → Adds now more rest → Adds old (seen ++ more) rest
-  pub only : (all : List (Sign × Item)) (rest : List Word) → Adds old all rest → StopsAt 2 rest → (more : List (Sign × Item)) × (all ≡ seen ++ more) × Adds now more rest
-  pub stops : StopsAt 1 now
+  pub only : (all : List (Sign × Item)) (rest : List Word) → Adds old all rest → StopsLevel 2 rest → (more : List (Sign × Item)) × (all ≡ seen ++ more) × Adds now more rest
+  pub stops : StopsLevel 1 now
 
-pub sums_start : (old : List Word) → StopsAt 1 old → Sums old [] old
+pub sums_start : (old : List Word) → StopsLevel 1 old → Sums old [] old
 sums_start old stops = record { whole = λ more rest d. d; only = λ all rest d stops. (all, refl, d); stops = stops }
 
 -- an item ends where further items or the end follow
-pub adds_stop : (mid : List Word) (more : List (Sign × Item)) (rest : List Word) → Adds mid more rest → StopsAt 2 rest → StopsAt 1 mid
+pub adds_stop : (mid : List Word) (more : List (Sign × Item)) (rest : List Word) → Adds mid more rest → StopsLevel 2 rest → StopsLevel 1 mid
 adds_stop mid more rest nothing_added stops = weaken 1 2 mid (omega arith) stops
 adds_stop mid more rest (added {ws = ws} s d tail) stops = added_stops s ws
 
@@ -160,13 +160,13 @@ module _ (old : List Word) (seen : List (Sign × Item)) (now : List Word) (so_fa
       others : List (Sign × Item)
       parts : more ≡ (s, item) ∷ others
       derives : DerivesItem next item mid
-      stops : StopsAt 1 mid
+      stops : StopsLevel 1 mid
       tail : Adds mid others rest
 
-    nexts : (more : List (Sign × Item)) (rest : List Word) → Adds now more rest → StopsAt 2 rest → Nexts more rest
+    nexts : (more : List (Sign × Item)) (rest : List Word) → Adds now more rest → StopsLevel 2 rest → Nexts more rest
     nexts more rest d stops = step now more rest is d stops
       where
-        step : (ws : List Word) (more : List (Sign × Item)) (rest : List Word) → ws ≡ sign (added_sign s) ∷ next → Adds ws more rest → StopsAt 2 rest → Nexts more rest
+        step : (ws : List Word) (more : List (Sign × Item)) (rest : List Word) → ws ≡ sign (added_sign s) ∷ next → Adds ws more rest → StopsLevel 2 rest → Nexts more rest
         step ws more rest is nothing_added stops = absurd (added_first s ws next stops is)
         step ws more rest is (added {ws = there} {mid = mid} {i = i} {more = others} t d tail) stops =
             let same : there ≡ next = cc in
@@ -210,7 +210,7 @@ module _ (old : List Word) where
   pub side_reads : (i : Item) (mid : List Word) (more : List (Sign × Item)) (new : List Word) → Reads DerivesItem 1 old i mid → Reads Adds 2 mid more new → Reads DerivesSide 2 old (record { first = i; rest = more }) new
   side_reads i mid more new r s = record { derives = a_side r.derives s.derives; stops = s.stops; only = only old r }
     where
-      only : (ws : List Word) → Reads DerivesItem 1 ws i mid → (t : Side) (rest : List Word) → DerivesSide ws t rest → StopsAt 2 rest → (t ≡ record { first = i; rest = more }) × (rest ≡ new)
+      only : (ws : List Word) → Reads DerivesItem 1 ws i mid → (t : Side) (rest : List Word) → DerivesSide ws t rest → StopsLevel 2 rest → (t ≡ record { first = i; rest = more }) × (rest ≡ new)
       only ws r t rest (a_side {mid = there} {i = j} {more = others} d e) stops =
           let one = r.only j there d (adds_stop there others rest e stops) in
           let two = s.only others rest (subst (λ m. Adds m others rest) one.1 e) stops in
@@ -219,13 +219,13 @@ module _ (old : List Word) where
   pub side_none_first : ReadsNone DerivesItem 1 old → ReadsNone DerivesSide 2 old
   side_none_first r = record { none = only old r }
     where
-      only : (ws : List Word) → ReadsNone DerivesItem 1 ws → (t : Side) (rest : List Word) → DerivesSide ws t rest → StopsAt 2 rest → ⊥
+      only : (ws : List Word) → ReadsNone DerivesItem 1 ws → (t : Side) (rest : List Word) → DerivesSide ws t rest → StopsLevel 2 rest → ⊥
       only ws r t rest (a_side {mid = there} {i = j} {more = others} d e) stops = r.none j there d (adds_stop there others rest e stops)
 
   pub side_none_rest : (i : Item) (mid : List Word) → Reads DerivesItem 1 old i mid → ReadsNone Adds 2 mid → ReadsNone DerivesSide 2 old
   side_none_rest i mid r s = record { none = only old r }
     where
-      only : (ws : List Word) → Reads DerivesItem 1 ws i mid → (t : Side) (rest : List Word) → DerivesSide ws t rest → StopsAt 2 rest → ⊥
+      only : (ws : List Word) → Reads DerivesItem 1 ws i mid → (t : Side) (rest : List Word) → DerivesSide ws t rest → StopsLevel 2 rest → ⊥
       only ws r t rest (a_side {mid = there} {i = j} {more = others} d e) stops =
           let one = r.only j there d (adds_stop there others rest e stops) in
           s.none others rest (subst (λ m. Adds m others rest) one.1 e) stops

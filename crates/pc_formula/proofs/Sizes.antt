@@ -3,7 +3,7 @@ use Rattle.std.proofs.Common.{◌≡◌, ℕ, ◌+◌, ◌<◌, ◌≤◌, List,
 use Rattle.std.proofs.lemmas.List.{length-map}
 use Rattle.pc_name.specs.declared.sign.Sign.{Sign}
 use Rattle.pc_token.specs.declared.token.Token.{Token}
-use Rattle.pc_token.specs.Token.{Reads}
+use Rattle.pc_token.specs.Token.{ReadsTokens}
 use Rattle.pc_formula.specs.declared.words.Quantifier.{Quantifier}
 use Rattle.pc_formula.specs.declared.words.Quantifier.TheVariants.{ForAll, Exists}
 use Rattle.pc_formula.specs.Word.{Word, word_of, HasWords}
@@ -92,7 +92,7 @@ mutual
 
 -- ---- a line has no more words than bytes
 
-tokens_within : (line : List ℕ) (from : ℕ) (ts : List Token) (to : ℕ) → Reads line from ts to → from + length ts ≤ to
+tokens_within : (line : List ℕ) (from : ℕ) (ts : List Token) (to : ℕ) → ReadsTokens line from ts to → from + length ts ≤ to
 tokens_within line from [] to read = omega (arith, read.0)
 tokens_within line from (t ∷ ts) to read =
     let token = read.2 in

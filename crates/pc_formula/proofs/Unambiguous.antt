@@ -5,7 +5,7 @@ use Rattle.pc_name.specs.declared.sign.Sign.{Sign}
 use Rattle.pc_token.specs.declared.token.Kind.TheVariants.{Open, Close, Colon, Dot}
 use Rattle.pc_formula.specs.Word.{Word, name, sign}
 use Rattle.pc_formula.specs.Tree.{Item, named, items_of, Side, Formula, in_table}
-use Rattle.pc_formula.specs.Front.{StopsAt, Reads}
+use Rattle.pc_formula.specs.Front.{StopsLevel, Reads}
 use Rattle.pc_formula.specs.Value.{DerivesInt, Listed}
 use Rattle.pc_formula.specs.Side.{DerivesItem, integer_item, bare_item, applied_item, DerivesItems, last_item, next_item, Adds, nothing_added, added, DerivesSide, a_side}
 use Rattle.pc_formula.specs.Grammar.{Joint, by_or, Form, whole, iffs, imps, joined, unary, level, part_form, IsFormula, Derives, quantifier, no_quantifier, iff_one, iff_two, imp_one, imp_two, join, negation, group, comparison, table_atom, Goes_on, no_more, one_more}
@@ -24,7 +24,7 @@ reads_int : (ws : List Word) (z : ℤ) (rest : List Word) → DerivesInt ws z re
 reads_int ws z rest d = record { derives = d; stops = stops_at_zero rest; only = λ y there e stops. int_once ws y z there rest e d }
 
 mutual
-  reads_item : (ws : List Word) (i : Item) (rest : List Word) → DerivesItem ws i rest → StopsAt 1 rest → Reads DerivesItem 1 ws i rest
+  reads_item : (ws : List Word) (i : Item) (rest : List Word) → DerivesItem ws i rest → StopsLevel 1 rest → Reads DerivesItem 1 ws i rest
   reads_item ws i rest (integer_item {z = z} d) stops = item_integer ws z rest (int_no_name ws z rest d) (reads_int ws z rest d) stops
   reads_item ws i rest (bare_item text) stops = item_bare ws text rest refl (not_first 1 Open rest stops (omega arith))
   reads_item ws i rest (applied_item {ws = there} {args = args} text d) stops =
@@ -36,19 +36,19 @@ mutual
       subst (λ l. Reads (Listed DerivesItem) 0 old l rest) (append_assoc seen (i ∷ []) more)
       (reads_items old (seen ++ i ∷ []) mid more rest (lists_next DerivesItem 1 (omega arith) old seen now so_far i (sign _ ∷ mid) (reads_item now i (sign _ ∷ mid) d (omega arith)) mid refl) tail)
 
-sums : (old : List Word) (seen : List (Sign × Item)) (now : List Word) (more : List (Sign × Item)) (rest : List Word) → Sums old seen now → Adds now more rest → StopsAt 2 rest → Sums old (seen ++ more) rest
+sums : (old : List Word) (seen : List (Sign × Item)) (now : List Word) (more : List (Sign × Item)) (rest : List Word) → Sums old seen now → Adds now more rest → StopsLevel 2 rest → Sums old (seen ++ more) rest
 sums old seen now more rest so_far nothing_added stops = subst (λ l. Sums old l now) (sym (append-nil seen)) so_far
 sums old seen now more rest so_far (added {ws = there} {mid = mid} {i = i} {more = others} s d tail) stops =
     subst (λ l. Sums old l rest) (append_assoc seen ((s, i) ∷ []) others)
     (sums old (seen ++ (s, i) ∷ []) mid others rest (sums_next old seen now so_far s there refl i mid (reads_item there i mid d (adds_stop mid others rest tail stops))) tail stops)
 
-reads_side : (ws : List Word) (s : Side) (rest : List Word) → DerivesSide ws s rest → StopsAt 2 rest → Reads DerivesSide 2 ws s rest
+reads_side : (ws : List Word) (s : Side) (rest : List Word) → DerivesSide ws s rest → StopsLevel 2 rest → Reads DerivesSide 2 ws s rest
 reads_side ws s rest (a_side {mid = mid} {i = i} {more = more} d e) stops =
     let stop = adds_stop mid more rest e stops in
     side_reads ws i mid more rest (reads_item ws i mid d stop) (sums_end mid more rest (sums mid [] mid more rest (sums_start mid stop) e stops) (λ t there is. added_first t rest there stops is))
 
 mutual
-  pub reads : (form : Form) (ws : List Word) (f : Formula) (rest : List Word) → Derives form ws f rest → StopsAt (level form) rest → Reads (Derives form) (level form) ws f rest
+  pub reads : (form : Form) (ws : List Word) (f : Formula) (rest : List Word) → Derives form ws f rest → StopsLevel (level form) rest → Reads (Derives form) (level form) ws f rest
   reads form ws h rest (quantifier {ws = there} {f = f} q variable sort d) stops =
       quantified_reads ws (name variable ∷ sign Colon ∷ name sort ∷ sign Dot ∷ there) q refl variable sort there refl f rest (reads whole there f rest d stops)
   reads form ws f rest (no_quantifier d) stops = plain_reads ws (λ q more is. unreserved iffs ws f rest d (λ e. cc) _ more is) f rest (reads iffs ws f rest d stops)
@@ -67,7 +67,7 @@ mutual
   reads form ws h rest (table_atom {ws = there} {args = args} text d) stops =
       table_reads ws (λ more is. cc) (λ more is. cc) (record { first = named text (items_of args); rest = [] }) rest (reads_side ws (record { first = named text (items_of args); rest = [] }) rest (table_side there text args rest d) (weaken 2 3 rest (omega arith) stops)) (λ op more is. op_first op rest more stops is) (in_table text args) (is_table there text args rest d) stops
 
-  joins : (j : Joint) (old : List Word) (before : List Formula) (mid : List Word) (fs : List Formula) (rest : List Word) → Joins j old before mid → Goes_on j mid fs rest → StopsAt (level (joined j)) rest → Joins j old (before ++ fs) rest
+  joins : (j : Joint) (old : List Word) (before : List Formula) (mid : List Word) (fs : List Formula) (rest : List Word) → Joins j old before mid → Goes_on j mid fs rest → StopsLevel (level (joined j)) rest → Joins j old (before ++ fs) rest
   joins j old before mid fs rest so_far no_more stops = subst (λ l. Joins j old l mid) (sym (append-nil before)) so_far
   joins j old before mid fs rest so_far (one_more {ws = ws} {mid = next} {f = g} {fs = others} d more) stops =
       subst (λ l. Joins j old l rest) (append_assoc before (g ∷ []) others)

@@ -5,13 +5,13 @@ use Rattle.pc_token.specs.declared.token.Kind.TheVariants.{Not, Open, Close}
 use Rattle.pc_formula.specs.Word.{Word, name, sign, NotFirst}
 use Rattle.pc_formula.specs.Tree.{Item, named, items_of, Side, Formula, not, compare, in_table}
 use Rattle.pc_formula.specs.Sign.{op_sign}
-use Rattle.pc_formula.specs.Front.{StopsAt, Reads, ReadsNone}
+use Rattle.pc_formula.specs.Front.{StopsLevel, Reads, ReadsNone}
 use Rattle.pc_formula.specs.Value.{DerivesNumber, a_number, DerivesInt, natural, negative}
 use Rattle.pc_formula.specs.Side.{DerivesItem, integer_item, bare_item, applied_item, DerivesItems, last_item, next_item, Adds, nothing_added, DerivesSide, a_side}
 use Rattle.pc_formula.specs.Grammar.{whole, unary, IsTableAtom, Derives, negation, group, comparison, table_atom}
 use Rattle.pc_formula.proofs.Stops.{weaken, op_stops, op_first, same_op}
 
-pub close_stops : (ws : List Word) → StopsAt 7 (sign Close ∷ ws)
+pub close_stops : (ws : List Word) → StopsLevel 7 (sign Close ∷ ws)
 close_stops ws = omega arith
 
 -- ---- the first word of a side
@@ -83,15 +83,15 @@ module _ (old ws : List Word) (is : old ≡ sign Open ∷ ws) where
           let both : sign Close ∷ rest ≡ sign Close ∷ new = same.1 ∙ closed in
           (same.0, (cc))
 
-      pub group_reads : StopsAt 3 new → Reads (Derives unary) 3 old f new
+      pub group_reads : StopsLevel 3 new → Reads (Derives unary) 3 old f new
       group_reads stop = record {
         derives = subst (λ l. Derives unary l f new) (sym is) (group (subst (λ l. Derives whole ws f l) closed r.derives));
         stops = stop;
         only = λ g rest d stops. closes g rest d;
       }
 
-      pub group_goes_on : (StopsAt 3 new → ⊥) → ReadsNone (Derives unary) 3 old
-      group_goes_on goes_on = record { none = λ g rest d stops. goes_on (subst (StopsAt 3) (closes g rest d).1 stops) }
+      pub group_goes_on : (StopsLevel 3 new → ⊥) → ReadsNone (Derives unary) 3 old
+      group_goes_on goes_on = record { none = λ g rest d stops. goes_on (subst (StopsLevel 3) (closes g rest d).1 stops) }
 
 -- ---- a side that is one name with its arguments
 
@@ -172,20 +172,20 @@ module _ (old : List Word) (no_not : NotFirst Not old) (no_open : NotFirst Open 
   pub atom_none_left : ReadsNone DerivesSide 2 old → ReadsNone (Derives unary) 3 old
   atom_none_left r = record { none = λ g rest d stops. step g rest (from_atom old g rest no_not no_open d) stops }
     where
-      step : (g : Formula) (rest : List Word) → AtomOf old g rest → StopsAt 3 rest → ⊥
+      step : (g : Formula) (rest : List Word) → AtomOf old g rest → StopsLevel 3 rest → ⊥
       step g rest (by_comparison mid left op right d e is) stops = r.none left (sign (op_sign op) ∷ mid) d (op_stops op mid)
       step g rest (by_table s d t) stops = r.none s rest d (weaken 2 3 rest (omega arith) stops)
 
   module _ (left : Side) (mid : List Word) (r : Reads DerivesSide 2 old left mid) where
     -- where no comparison's sign follows
     module _ (none : (op : Op) → NotFirst (op_sign op) mid) where
-      from_table : (g : Formula) (rest : List Word) → AtomOf old g rest → StopsAt 3 rest → IsTableAtom left g × (rest ≡ mid)
+      from_table : (g : Formula) (rest : List Word) → AtomOf old g rest → StopsLevel 3 rest → IsTableAtom left g × (rest ≡ mid)
       from_table g rest (by_comparison there s op t d e is) stops = absurd (none op there (sym (r.only s (sign (op_sign op) ∷ there) d (op_stops op there)).1))
       from_table g rest (by_table s d t) stops =
           let one = r.only s rest d (weaken 2 3 rest (omega arith) stops) in
           (subst (λ x. IsTableAtom x g) one.0 t, one.1)
 
-      pub table_reads : (f : Formula) → IsTableAtom left f → StopsAt 3 mid → Reads (Derives unary) 3 old f mid
+      pub table_reads : (f : Formula) → IsTableAtom left f → StopsLevel 3 mid → Reads (Derives unary) 3 old f mid
       table_reads f t stop = record {
         derives = to_table old left mid f r.derives t;
         stops = stop;
@@ -206,7 +206,7 @@ module _ (old : List Word) (no_not : NotFirst Not old) (no_open : NotFirst Open 
         derives : DerivesSide next right rest
         formula : g ≡ compare left op right
 
-      from_comparison : (g : Formula) (rest : List Word) → AtomOf old g rest → StopsAt 3 rest → Right g rest
+      from_comparison : (g : Formula) (rest : List Word) → AtomOf old g rest → StopsLevel 3 rest → Right g rest
       from_comparison g rest (by_comparison there s o t d e is) stops =
           let one = r.only s (sign (op_sign o) ∷ there) d (op_stops o there) in
           let both : sign (op_sign o) ∷ there ≡ sign (op_sign op) ∷ next = one.1 ∙ signs in
@@ -225,7 +225,7 @@ module _ (old : List Word) (no_not : NotFirst Not old) (no_open : NotFirst Open 
       }
 
       module _ (right : Side) (new : List Word) (s : Reads DerivesSide 2 next right new) where
-        pub comparison_reads : StopsAt 3 new → Reads (Derives unary) 3 old (compare left op right) new
+        pub comparison_reads : StopsLevel 3 new → Reads (Derives unary) 3 old (compare left op right) new
         comparison_reads stop = record {
           derives = comparison op (subst (DerivesSide old left) signs r.derives) s.derives;
           stops = stop;
@@ -235,9 +235,9 @@ module _ (old : List Word) (no_not : NotFirst Not old) (no_open : NotFirst Open 
               (found.formula ∙ ap (compare left op) one.0, one.1);
         }
 
-        pub comparison_goes_on : (StopsAt 3 new → ⊥) → ReadsNone (Derives unary) 3 old
+        pub comparison_goes_on : (StopsLevel 3 new → ⊥) → ReadsNone (Derives unary) 3 old
         comparison_goes_on goes_on = record {
           none = λ g rest d stops.
               let found = from_comparison g rest (from_atom old g rest no_not no_open d) stops in
-              goes_on (subst (StopsAt 3) (s.only found.right rest found.derives (weaken 2 3 rest (omega arith) stops)).1 stops);
+              goes_on (subst (StopsLevel 3) (s.only found.right rest found.derives (weaken 2 3 rest (omega arith) stops)).1 stops);
         }

@@ -4,7 +4,7 @@ use Rattle.std.specs.Str.Parse.{digits_value}
 use Rattle.pc_token.specs.declared.token.Kind.TheVariants.{Minus}
 use Rattle.pc_formula.specs.Word.{Word, name, number, sign, NotFirst, NoName, NoNumber}
 use Rattle.pc_formula.specs.Tree.{Value, name_value, integer_value, Cell}
-use Rattle.pc_formula.specs.Front.{StopsAt, Reads, ReadsNone}
+use Rattle.pc_formula.specs.Front.{StopsLevel, Reads, ReadsNone}
 use Rattle.pc_formula.specs.Value.{DerivesName, a_name, DerivesNumber, a_number, DerivesInt, natural, negative, DerivesValue, by_name, by_integer, Arguments, DerivesCell, a_cell}
 use Rattle.pc_formula.proofs.Stops.{stops_at_zero}
 use Rattle.pc_formula.proofs.Lists.{arguments_once}
@@ -187,7 +187,7 @@ cell_unnamed old absent = record { none = λ c rest d stops. step old c rest d a
     step : (ws : List Word) (c : Cell) (rest : List Word) → DerivesCell ws c rest → NoName ws → ⊥
     step ws c rest (a_cell {ws = there} t d) absent = absent t there refl
 
-pub cell_once : (ws : List Word) (c d : Cell) (r s : List Word) → DerivesCell ws c r → DerivesCell ws d s → StopsAt 1 r → StopsAt 1 s → (c ≡ d) × (r ≡ s)
+pub cell_once : (ws : List Word) (c d : Cell) (r s : List Word) → DerivesCell ws c r → DerivesCell ws d s → StopsLevel 1 r → StopsLevel 1 s → (c ≡ d) × (r ≡ s)
 cell_once ws c d r s (a_cell {ws = there} {values = values} text a) e stop stops =
     let found = from_cell ws there text d s refl e in
     let one = arguments_once DerivesValue value_once there values found.0 r s a found.2 stop stops in

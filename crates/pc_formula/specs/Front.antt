@@ -23,16 +23,16 @@ reach DoubleArrow = 7
 reach k = 8
 
 -- no sign comes first by which a form of the level would go on
-abbrev pub StopsAt : ℕ → List Word → Type 0
-StopsAt level (sign k ∷ ws) = level < reach k
-StopsAt level ws = Unit {0}
+abbrev pub StopsLevel : ℕ → List Word → Type 0
+StopsLevel level (sign k ∷ ws) = level < reach k
+StopsLevel level ws = Unit {0}
 
 -- the longest front of the old words that is derived is this, and the new words are left; no other such front is derived
 pub record Reads {A : Type 0} (D : List Word → A → List Word → Type 0) (level : ℕ) (old : List Word) (a : A) (new : List Word) : Type 0 where
   pub derives : D old a new
-  pub stops : StopsAt level new
-  pub only : (b : A) (rest : List Word) → D old b rest → StopsAt level rest → (b ≡ a) × (rest ≡ new)
+  pub stops : StopsLevel level new
+  pub only : (b : A) (rest : List Word) → D old b rest → StopsLevel level rest → (b ≡ a) × (rest ≡ new)
 
 -- no such front of the words is derived
 pub record ReadsNone {A : Type 0} (D : List Word → A → List Word → Type 0) (level : ℕ) (old : List Word) : Type 0 where
-  pub none : (b : A) (rest : List Word) → D old b rest → StopsAt level rest → ⊥
+  pub none : (b : A) (rest : List Word) → D old b rest → StopsLevel level rest → ⊥

@@ -4,7 +4,7 @@
 // are read by loops.
 ghost use Rattle.std.specs.Prelude.{◌≡◌, ◌<◌, ◌≤◌, map, length, IfOk, OnOk};
 ghost use Rattle.pc_formula.specs.Word.{NoName};
-ghost use Rattle.pc_formula.specs.Front.{StopsAt, Reads, ReadsNone};
+ghost use Rattle.pc_formula.specs.Front.{StopsLevel, Reads, ReadsNone};
 ghost use Rattle.pc_formula.specs.Tree.{item_of, side_of, added_of};
 ghost use Rattle.pc_formula.specs.Side.{DerivesItem, DerivesItems, Adds, DerivesSide};
 
@@ -75,7 +75,7 @@ fn integer_item(words: &mut Words<'_>) -> Result<ItemTree, Refusal>
 
 // Reads { + ITEM | - ITEM }, behind an item.
 fn added_items(alloc: Global, words: &mut Words<'_>) -> Result<Vec<(Sign, ItemTree)>, Refusal>
-    requires { StopsAt 1 words.old }
+    requires { StopsLevel 1 words.old }
     ensures ok { IfOk result (λ v. Reads Adds 2 words.old (map added_of v.items) words.new) }
     ensures shorter { OnOk result (length words.new ≤ length words.old) }
     ensures err { result ≡ Err Refusal.Syntax → ReadsNone Adds 2 words.old }

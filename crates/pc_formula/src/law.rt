@@ -3,7 +3,7 @@ ghost use Rattle.std.specs.Prelude.{◌≡◌, ◌<◌, ◌≤◌, ℕ, ℤ, Lis
 ghost use Rattle.pc_name.specs.Names.{most_name_bytes};
 ghost use Rattle.pc_formula.specs.Word.{Word, HasWords, HasShortNames, nesting};
 ghost use Rattle.pc_formula.specs.Tree.{Value, Cell, Formula};
-ghost use Rattle.pc_formula.specs.Front.{StopsAt};
+ghost use Rattle.pc_formula.specs.Front.{StopsLevel};
 ghost use Rattle.pc_formula.specs.Value.{DerivesName, DerivesNumber, DerivesInt, DerivesValue, InParentheses, Arguments, DerivesCell};
 ghost use Rattle.pc_formula.specs.Grammar.{IsFormula};
 ghost use Rattle.pc_formula.specs.Sized.{IsSized, too_many};
@@ -28,6 +28,6 @@ pub fn one_value()
     ensures value { (ws : List Word) (v w : Value) (r s : List Word) → DerivesValue ws v r → DerivesValue ws w s → (v ≡ w) × (r ≡ s) }
     ensures names { (ws : List Word) (a b : List (List ℕ)) (r s : List Word) → InParentheses DerivesName ws a r → InParentheses DerivesName ws b s → (a ≡ b) × (r ≡ s) }
     ensures values { (ws : List Word) (a b : List Value) (r s : List Word) → InParentheses DerivesValue ws a r → InParentheses DerivesValue ws b s → (a ≡ b) × (r ≡ s) }
-    ensures arguments { (ws : List Word) (a b : List (List ℕ)) (r s : List Word) → Arguments DerivesName ws a r → Arguments DerivesName ws b s → StopsAt 1 r → StopsAt 1 s → (a ≡ b) × (r ≡ s) }
-    ensures cell { (ws : List Word) (c d : Cell) (r s : List Word) → DerivesCell ws c r → DerivesCell ws d s → StopsAt 1 r → StopsAt 1 s → (c ≡ d) × (r ≡ s) }
+    ensures arguments { (ws : List Word) (a b : List (List ℕ)) (r s : List Word) → Arguments DerivesName ws a r → Arguments DerivesName ws b s → StopsLevel 1 r → StopsLevel 1 s → (a ≡ b) × (r ≡ s) }
+    ensures cell { (ws : List Word) (c d : Cell) (r s : List Word) → DerivesCell ws c r → DerivesCell ws d s → StopsLevel 1 r → StopsLevel 1 s → (c ≡ d) × (r ≡ s) }
 {}

@@ -5,7 +5,7 @@ ghost use Rattle.std.specs.Str.Parse.{IsNumeral};
 ghost use Rattle.pc_name.specs.Names.{IsName};
 ghost use Rattle.pc_token.specs.Token.{IsTokenOf};
 ghost use Rattle.pc_formula.specs.Word.{name, reserved, number, sign, word_of, words_of, IsShort, HasShortNames, nests, nesting, IsSign, TakesSign, NotFirst, HasNoName, HasNoNumber};
-ghost use Rattle.pc_formula.specs.Front.{reach, StopsAt};
+ghost use Rattle.pc_formula.specs.Front.{reach, StopsLevel};
 ghost use Rattle.pc_formula.specs.Sign.{op_sign, added_sign, quantifier_word, NotQuantified};
 
 use pc_name::{Op, Sign, is_reserved};
@@ -120,7 +120,7 @@ impl<'a> Words<'a> {
     /// Whether the first word is no sign by which a form of the level would go on.
     pub fn stops_at(&self, level: u8) -> bool
         requires { level < 8 }
-        ensures { IsTrue result ↔ StopsAt level self.now }
+        ensures { IsTrue result ↔ StopsLevel level self.now }
     {
         match self.tokens.first() {
             None => true,

@@ -3,8 +3,8 @@ use Rattle.std.specs.Prelude.{◌≡◌, [], ◌∷◌, codes}
 use Rattle.std.specs.List.{flat_map}
 use Rattle.pc_gen.specs.Text.{block_lines, up_to}
 
-abbrev pub LinesAreWorked : Type 0
-LinesAreWorked =
+abbrev pub GeneratedLinesAreWorked : Type 0
+GeneratedLinesAreWorked =
     flat_map block_lines (up_to 3)
     ≡ codes "enter x(1, 1) = green"
     ∷ codes "enter x(1, 3) = green"

@@ -1,7 +1,7 @@
 // Worked examples, as the contract of a function that does nothing.
-ghost use Rattle.pc_gen.specs.Examples.{LinesAreWorked};
+ghost use Rattle.pc_gen.specs.Examples.{GeneratedLinesAreWorked};
 
 /// The lines of the entries of three blocks.
 pub fn lines_are_worked()
-    ensures { LinesAreWorked }
+    ensures { GeneratedLinesAreWorked }
 {}

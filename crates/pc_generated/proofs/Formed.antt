@@ -11,7 +11,7 @@ use Rattle.pc_name.specs.Names.{IsName}
 use Rattle.pc_name.specs.declared.sign.Op.{Op}
 use Rattle.pc_name.specs.declared.sign.Op.TheVariants.{Eq, Ne}
 use Rattle.pc_sheet.specs.Sheet.{listed, range, Sort, compare}
-use Rattle.pc_sheet.specs.Truth.{size_of}
+use Rattle.pc_sheet.specs.Sizes.{size_of}
 use Rattle.pc_sheet.specs.Entailment.{cell_sizes, HaveDistinctCells}
 use Rattle.pc_sheet.specs.WellSorted.{Variables, IsNewVariable, IsValueOf, IsWellSorted, IsSmallNumber, IsEquality}
 use Rattle.pc_sheet.specs.WellFormed.{AreDifferent, AreWellFormedValues, IsDeclaredSort, IsWellFormedTable, IsWellFormedFamily, IsWellFormedUniverse, IsWellFormedRule, AreWellFormedRules, IsEntryOf, IsWellFormed}

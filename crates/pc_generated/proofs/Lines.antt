@@ -5,7 +5,7 @@ use Rattle.std.proofs.lemmas.List.Concat.{flat_map-append}
 use Rattle.std.specs.Fmt.{digits, signed_decimal}
 use Rattle.std.specs.List.{flat_map}
 use Rattle.std.specs.Prelude.{unwrap_or}
-use Rattle.pc_sheet.specs.Truth.{cell_number}
+use Rattle.pc_sheet.specs.Sizes.{cell_number}
 use Rattle.pc_sheet.specs.Cells.{Application, cells, CellsAreNumberedInOrder}
 use Rattle.pc_gen.specs.Text.{up_to, color_name, head_lines, enter_line, block_lines, generated_text, ended}
 use Rattle.pc_writer.specs.SheetText as writer

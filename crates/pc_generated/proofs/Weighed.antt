@@ -6,7 +6,8 @@ use Rattle.std.proofs.lemmas.List.Sums.{sum_by-append}
 use Rattle.pc_name.specs.declared.sign.Op.{Op}
 use Rattle.pc_name.specs.declared.sign.Op.TheVariants.{Eq, Ne}
 use Rattle.pc_sheet.specs.Sheet.{no_statements, statement, compare, all_of}
-use Rattle.pc_sheet.specs.Truth.{Scope, size_of}
+use Rattle.pc_sheet.specs.Truth.{Scope}
+use Rattle.pc_sheet.specs.Sizes.{size_of}
 use Rattle.pc_sheet.specs.Entailment.{cell_sizes}
 use Rattle.pc_sheet.specs.Cells.{values_below}
 use Rattle.pc_sheet.specs.Readings.{known, ask, compares, leaves_from}

@@ -8,16 +8,17 @@ use Rattle.std.proofs.lemmas.List.FromFn.{length-map-range_with_len}
 use Rattle.std.proofs.lemmas.List.Sums.{sum_by-cons, sum_by-append}
 use Rattle.pc_lits.specs.declared.literal.Lit.{Lit}
 use Rattle.pc_sheet.specs.Sheet.{Universe, Sheet, NamedStatement, Statement, Statements, no_statements, statement, compare, in_table, negation, all_of, some_of, implies, iff, for_all, exists}
-use Rattle.pc_sheet.specs.Truth.{Scope, size_of}
+use Rattle.pc_sheet.specs.Truth.{Scope}
+use Rattle.pc_sheet.specs.Sizes.{size_of}
 use Rattle.pc_sheet.specs.Cells.{values_below}
 use Rattle.pc_sheet.specs.Entailment.{cell_sizes}
 use Rattle.pc_sheet.specs.Readings.{Leaf, leaves_of}
 use Rattle.pc_sheet.specs.Weight.{weight}
 use Rattle.pc_sheet.specs.declared.ids.ValueId.{ValueId}
 use Rattle.pc_accept.specs.Literals.{Symbol, Literal, node}
-use Rattle.pc_accept.specs.Axioms.{parts, how_many, each_below, clauses_of_all, clauses_of_some, clauses_of_node, child_of}
+use Rattle.pc_accept.specs.Axioms.{axiom_node, how_many, each_below, clauses_of_all, clauses_of_some, clauses_of_node, child_of}
 use Rattle.pc_ground.specs.Variables.{variables, variable_count, number}
-use Rattle.pc_ground.specs.Ground.{GroundAxiom, some_axiom, one_axiom, one_axioms, cell_axioms, cells_axioms, leaf_axiom, numbered_axioms, own_axioms, node_axioms, parts_axioms, root_axiom, rule_axioms, rules_axioms, axioms, lit_of, clause_of, clauses}
+use Rattle.pc_ground.specs.Ground.{GroundAxiom, some_axiom, one_axiom, one_axioms, cell_axioms, cells_axioms, leaf_axiom, numbered_axioms, own_axioms, node_axioms, parts_axioms, root_axiom, rule_axioms, rules_axioms, axioms, lit_of, clause_of_axiom, clauses}
 use Rattle.pc_ground.proofs.Lists.{flat_push, range_each}
 use Rattle.pc_ground.proofs.Numbers.{numbered_up}
 use Rattle.pc_ground.proofs.Symbols.{symbols_are_variables}
@@ -133,7 +134,7 @@ clauses_few sheet =
     let a = length-append xs ys in
     let b = sum_by-append literals_in xs ys in
     let all = axioms_weigh sheet in
-    let many = length-map (axioms sheet) (clause_of sheet) in
+    let many = length-map (axioms sheet) (clause_of_axiom sheet) in
     omega (arith, first, second, a, b, all, many)
 
 -- ---- the variables of the literals
@@ -153,7 +154,7 @@ pub clauses_of_variables : (sheet : Sheet) → All (AreOfVariables (variable_cou
 clauses_of_variables sheet =
     let n = variable_count sheet in
     let Is : Lit → Type 0 = λ l. l.variable.0 < n in
-    All-map (AreOfVariables n) (clause_of sheet) (axioms sheet)
-    (All-weaker (Contains (axioms sheet)) (λ g. AreOfVariables n (clause_of sheet g))
+    All-map (AreOfVariables n) (clause_of_axiom sheet) (axioms sheet)
+    (All-weaker (Contains (axioms sheet)) (λ g. AreOfVariables n (clause_of_axiom sheet g))
     (λ g there. All-map Is (lit_of sheet) g.clause (All-weaker (Contains g.clause) (λ l. Is (lit_of sheet l)) (λ l has. number_within sheet l.what (symbols_are_variables sheet g there l has)) g.clause (All-contains_itself g.clause)))
     (axioms sheet) (All-contains_itself (axioms sheet)))

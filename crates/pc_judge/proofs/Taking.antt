@@ -9,7 +9,7 @@ use Rattle.pc_cert.specs.declared.TheConstants.{CERT_LIMIT}
 use Rattle.pc_judge.specs.declared.input.TheConstants.{CHUNK}
 use Rattle.pc_judge.specs.declared.input.InputStop.{InputStop}
 use Rattle.pc_judge.specs.declared.input.InputStop.TheVariants.{Failed, TooLong, Memory}
-use Rattle.pc_judge.specs.Input.{TakesAll, TakesSome, PassesLimit, InputGives}
+use Rattle.pc_judge.specs.Input.{TakesAll, TakesSome, InputPassesLimit, InputGives}
 
 module _ (source mid rest : Option (List ℕ)) (text : List ℕ) (so_far : Consumes source mid text) (small : length text ≤ CERT_LIMIT) where
   -- a read that failed took nothing
@@ -25,7 +25,7 @@ module _ (source mid rest : Option (List ℕ)) (text : List ℕ) (so_far : Consu
       small = small;
     }
 
-    pub passes : (count : ℕ) → length piece ≡ count → count ≤ CHUNK → CERT_LIMIT - length text < count → PassesLimit source rest
+    pub passes : (count : ℕ) → length piece ≡ count → count ≤ CHUNK → CERT_LIMIT - length text < count → InputPassesLimit source rest
     passes count size few long = record {
       text = text ++ piece;
       taken = Consumes-trans source mid rest text piece so_far taken;

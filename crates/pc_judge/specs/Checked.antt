@@ -12,17 +12,17 @@ use Rattle.pc_run.specs.Refusals.{sheet_refusal_text}
 use Rattle.pc_run.specs.Answer.{Printing, printed}
 use Rattle.pc_run.specs.Transcript.{too_long_text}
 use Rattle.pc_run.specs.Files.{TakesFile, LacksFile, LacksMemoryForFile, HasLongFile}
-use Rattle.pc_run.specs.Run.{IsWritten, memory_text}
+use Rattle.pc_run.specs.Run.{IsPrinted, memory_text}
 use Rattle.pc_load.specs.Outcome.{HasFault}
 use Rattle.pc_judge.specs.declared.told.Told.{Told}
-use Rattle.pc_judge.specs.Judged.{IsJudged, told_text, status_of}
-use Rattle.pc_judge.specs.Input.{TakesAll, TakesSome, PassesLimit}
+use Rattle.pc_judge.specs.Judged.{IsJudged, told_text, status_of_told}
+use Rattle.pc_judge.specs.Input.{TakesAll, TakesSome, InputPassesLimit}
 use Rattle.pc_sortcheck.specs.Declaring.{ReadsAs}
 
 -- ---- what ends it before the certificate: the input stays as it was
 
 -- the file is refused, and no sheet is read from it
-pub record RefusesSheet (kept : Option Files) (file : List ℕ) (text : Printing) (asked asked' : List (List ℕ)) (source source' : Option (List ℕ)) : Type 0 where
+pub record FileIsRefused (kept : Option Files) (file : List ℕ) (text : Printing) (asked asked' : List (List ℕ)) (source source' : Option (List ℕ)) : Type 0 where
   pub sheet : List ℕ
   pub takes : TakesFile kept file asked asked' sheet
   pub small : length sheet ≤ SHEET_LIMIT
@@ -34,12 +34,12 @@ pub record RefusesSheet (kept : Option Files) (file : List ℕ) (text : Printing
 
 -- what ended it at the sheet, by the status
 abbrev pub StopsAtSheet : Option Files → List ℕ → Status → Printing → List (List ℕ) → List (List ℕ) → Option (List ℕ) → Option (List ℕ) → Type 0
-StopsAtSheet kept file SheetRefused text asked asked' source source' = RefusesSheet kept file text asked asked' source source'
+StopsAtSheet kept file SheetRefused text asked asked' source source' = FileIsRefused kept file text asked asked' source source'
 StopsAtSheet kept file ReadFault text asked asked' source source' = LacksFile file text asked asked' source source'
 StopsAtSheet kept file Memory text asked asked' source source' = LacksMemoryForFile file text asked asked' source source'
 StopsAtSheet kept file TooLong text asked asked' source source' = HasLongFile kept file text asked asked' source source'
 StopsAtSheet kept file WriteFault text asked asked' source source' =
-    RefusesSheet kept file text asked asked' source source' ⊎ LacksMemoryForFile file text asked asked' source source' ⊎ HasLongFile kept file text asked asked' source source'
+    FileIsRefused kept file text asked asked' source source' ⊎ LacksMemoryForFile file text asked asked' source source' ⊎ HasLongFile kept file text asked asked' source source'
 StopsAtSheet kept file status text asked asked' source source' = ⊥
 
 -- ---- how it goes on from a sheet
@@ -50,13 +50,13 @@ pub record FailsInCertificate (text : Printing) (source source' : Option (List �
   pub text_is : text ≡ printed [] []
 
 -- there was no memory for the certificate or for its check
-pub record LacksMemory (text : Printing) (source source' : Option (List ℕ)) : Type 0 where
+pub record LacksMemoryForCheck (text : Printing) (source source' : Option (List ℕ)) : Type 0 where
   pub some : TakesSome source source'
   pub text_is : text ≡ printed [] memory_text
 
 -- the certificate is too long, and this is told
 pub record HasLongCertificate (text : Printing) (source source' : Option (List ℕ)) : Type 0 where
-  pub passes : PassesLimit source source'
+  pub passes : InputPassesLimit source source'
   pub text_is : text ≡ printed [] too_long_text
 
 -- The input was taken to its end. All of it is the certificate, and this is told of it.
@@ -65,7 +65,7 @@ pub record Judges (sheet : Sheet) (status : Status) (text : Printing) (source so
   pub takes : TakesAll certificate source source'
   pub told : Told
   pub judged : IsJudged sheet certificate told
-  pub status_is : status ≡ status_of told
+  pub status_is : status ≡ status_of_told told
   pub text_is : text ≡ printed [] (told_text sheet told)
 
 -- what ended it at the certificate, by the status
@@ -73,10 +73,10 @@ abbrev pub StopsAtCertificate : Sheet → Status → Printing → Option (List �
 StopsAtCertificate sheet Done text source source' = Judges sheet Done text source source'
 StopsAtCertificate sheet CertRefused text source source' = Judges sheet CertRefused text source source'
 StopsAtCertificate sheet ReadFault text source source' = FailsInCertificate text source source'
-StopsAtCertificate sheet Memory text source source' = LacksMemory text source source'
+StopsAtCertificate sheet Memory text source source' = LacksMemoryForCheck text source source'
 StopsAtCertificate sheet TooLong text source source' = HasLongCertificate text source source'
 StopsAtCertificate sheet WriteFault text source source' =
-    ((status : Status) × Judges sheet status text source source') ⊎ LacksMemory text source source' ⊎ HasLongCertificate text source source'
+    ((status : Status) × Judges sheet status text source source') ⊎ LacksMemoryForCheck text source source' ⊎ HasLongCertificate text source source'
 StopsAtCertificate sheet status text source source' = ⊥
 
 -- a sheet is read from the file, and the certificate is one for it
@@ -99,10 +99,10 @@ Checks kept file status text asked asked' source source' =
 pub record CheckedFor (sheet : Sheet) (status : Status) (source source' sink sink' : Option (List ℕ)) : Type 0 where
   pub text : Printing
   pub course : StopsAtCertificate sheet status text source source'
-  pub written : IsWritten status sink sink' text
+  pub written : IsPrinted status sink sink' text
 
 -- what was to be printed, and how much of it was
 pub record Checked (kept : Option Files) (file : List ℕ) (status : Status) (asked asked' : List (List ℕ)) (source source' sink sink' : Option (List ℕ)) : Type 0 where
   pub text : Printing
   pub course : Checks kept file status text asked asked' source source'
-  pub written : IsWritten status sink sink' text
+  pub written : IsPrinted status sink sink' text

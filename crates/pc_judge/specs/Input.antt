@@ -21,7 +21,7 @@ pub record TakesSome (source source' : Option (List ℕ)) : Type 0 where
   pub small : length text ≤ CERT_LIMIT
 
 -- more than the limit was taken, by no more than one read gives
-pub record PassesLimit (source source' : Option (List ℕ)) : Type 0 where
+pub record InputPassesLimit (source source' : Option (List ℕ)) : Type 0 where
   pub text : List ℕ
   pub taken : Consumes source source' text
   pub long : CERT_LIMIT < length text
@@ -30,7 +30,7 @@ pub record PassesLimit (source source' : Option (List ℕ)) : Type 0 where
 -- what was taken where it was not all
 abbrev pub StopsInput : InputStop → Option (List ℕ) → Option (List ℕ) → Type 0
 StopsInput Failed source source' = TakesSome source source'
-StopsInput TooLong source source' = PassesLimit source source'
+StopsInput TooLong source source' = InputPassesLimit source source'
 StopsInput Memory source source' = TakesSome source source'
 
 abbrev pub InputGives : Result (Vec ℕ Global) InputStop → Option (List ℕ) → Option (List ℕ) → Type 0

@@ -1,6 +1,6 @@
 //! Laws of judgements. Each function is a law: its contract holds for every value, and it does nothing.
 ghost use Rattle.pc_judge.specs.Examples.{LinesAreWorked};
-ghost use Rattle.pc_judge.specs.Laws.{AcceptedIsAccepts, JudgementsAreOne};
+ghost use Rattle.pc_judge.specs.Laws.{AcceptedTextIsAccepts, JudgementsAreOne};
 
 use pc_checker::{accepted_is_accepts, verdicts_are_one};
 use pc_one_reading::{certificates_have_one_reading, what_is_read_is_for_the_sheet};
@@ -12,7 +12,7 @@ pub fn lines_are_worked()
 
 /// A text is told to be accepted exactly where it is a certificate that the sheet accepts.
 pub fn told_accepted_is_accepts()
-    ensures { AcceptedIsAccepts }
+    ensures { AcceptedTextIsAccepts }
 {
     what_is_read_is_for_the_sheet();
     accepted_is_accepts();

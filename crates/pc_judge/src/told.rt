@@ -1,7 +1,7 @@
 //! What is told of a certificate's text.
 ghost use Rattle.std.specs.Prelude.{◌≡◌, ◌<◌, ◌++◌, codes, length};
 ghost use Rattle.pc_writer.specs.Writes.{Writes};
-ghost use Rattle.pc_judge.specs.Judged.{IsToldOf, IsVerdictIn, at_line, judgement_text, name_of_rule, status_of, told_text, verdict_text};
+ghost use Rattle.pc_judge.specs.Judged.{IsToldOf, IsVerdictIn, at_line, judgement_text, rule_name_at, status_of_told, told_text, verdict_text};
 
 use pc_checker::Verdict;
 use pc_logic::Book;
@@ -23,7 +23,7 @@ pub enum Told {
 impl Told {
     /// How a run ends with it: `Done` where the certificate is accepted.
     pub fn status(self) -> Status
-        ensures { result ≡ status_of self }
+        ensures { result ≡ status_of_told self }
     {
         match self {
             Told::Verdict(Verdict::Accepted) => Status::Done,
@@ -46,7 +46,7 @@ fn write_at_line<O: Sink>(word: &[u8], line: u32, out: &mut O) -> Result<(), Fai
 // Writes that a rule is broken, by its name.
 fn write_broken<O: Sink>(book: &Book, rule: u32, out: &mut O) -> Result<(), Failed>
     requires { rule < length book.now.rules }
-    ensures { Writes O.given O.faults out.old out.new result (codes "refused rule-broken " ++ name_of_rule book.now rule) }
+    ensures { Writes O.given O.faults out.old out.new result (codes "refused rule-broken " ++ rule_name_at book.now rule) }
 {
     write_text(b"refused rule-broken ", out)?;
     write_text(book.rules()[rule as usize].name.as_str().as_bytes(), out)

@@ -1,14 +1,13 @@
 -- Trimmed lines make accepted certificates.
 use Rattle.std.proofs.Common.{◌≡◌, inl, inr, ℕ, zero, suc, ◌+◌, ◌-◌, ◌<◌, List, [], ◌∷◌, ◌++◌, map, length, get_or, Contains, refl, ap, sym, ◌∙◌, subst, arith}
 use Rattle.std.proofs.lemmas.List.{length-map, get_or-map}
-use Rattle.std.proofs.lemmas.List.Elements.{All-contains, Contains-append_left, Contains-append_right}
+use Rattle.std.proofs.lemmas.List.Elements.{All-contains, Contains-append_left, Contains-append_right, All-contains_itself}
 use Rattle.pc_lits.specs.declared.literal.Lit.{Lit}
 use Rattle.pc_lits.proofs.Elements.{contains_first, contains_map, contains_mapped}
 use Rattle.pc_laws.proofs.Contained.{all_contained, sub_contained}
-use Rattle.std.proofs.lemmas.List.Elements.{All-contains_itself}
 use Rattle.pc_log.specs.Lines.{LogLine}
 use Rattle.pc_log.specs.Trimmed.{IsTrimmed}
-use Rattle.pc_log.specs.Derivations.{clause_of, IsDerivation}
+use Rattle.pc_log.specs.Derivations.{clause_of_line, IsDerivation}
 use Rattle.pc_log.specs.Laws.{TrimmingKeepsDerivations}
 use Rattle.pc_sheet.specs.Sheet.{Sheet}
 use Rattle.pc_sheet.specs.Entailment.{IsAssignment, Fits, HasAll}
@@ -18,7 +17,7 @@ use Rattle.pc_sheet.specs.declared.ids.Entry.{Entry}
 use Rattle.pc_sheet.specs.declared.ids.Target.{Target}
 use Rattle.pc_accept.specs.Literals.{Literal}
 use Rattle.pc_accept.specs.Axioms.{negated_entry}
-use Rattle.pc_accept.specs.Accepts.{Derives, literal_of_target, value_of_entry, AreInCellOrder}
+use Rattle.pc_accept.specs.Accepts.{DerivesClause, literal_of_target, value_of_entry, AreInCellOrder, Accepts}
 use Rattle.pc_ground.specs.Ground.{clauses, lit_of}
 use Rattle.pc_ground.specs.Naming.{names_of}
 use Rattle.pc_ground.specs.Laws.{ClausesAreOfAxioms, SymbolsAreVariables, VariablesHaveTheirPlaces, PairsAreVariables}
@@ -26,8 +25,7 @@ use Rattle.pc_reason.specs.Derivation.{literal_named, line_named, AreLinesNamed,
 use Rattle.pc_reason.specs.Reasons.{IsTargetOf, Justification, certificate_of}
 use Rattle.pc_reason.specs.Refutations.{certificate_against}
 use Rattle.pc_reason.specs.Written.{AcceptedReasonsAreWritable, AcceptedRefutationsAreWritable}
-use Rattle.pc_accept.specs.Accepts.{Accepts}
-use Rattle.pc_justify.specs.Found.{clause_on, IsDerivedAt, IsOfTarget}
+use Rattle.pc_justify.specs.Found.{clause_at_place, IsDerivedAt, IsOfTarget}
 use Rattle.pc_justify.specs.Laws.{clauses_named, TrimmedLinesJustify, TrimmedLinesRefute}
 use Rattle.pc_justify.proofs.Named.{literal_back, named_derivation}
 use Rattle.pc_justify.proofs.Moved.{trimmed_named, some_lines, last_clause, no_longer}
@@ -54,7 +52,7 @@ module _ (of_axioms : ClausesAreOfAxioms) (symbols : SymbolsAreVariables) (place
   name = literal_named (names_of sheet)
 
   abbrev found_clause : List Lit
-  found_clause = clause_on (clauses sheet) log last
+  found_clause = clause_at_place (clauses sheet) log last
 
   pub are_named : AreLinesNamed (names_of sheet) lines
   are_named = trimmed_named log lines last trimmed (names_of sheet) found.named
@@ -64,20 +62,20 @@ module _ (of_axioms : ClausesAreOfAxioms) (symbols : SymbolsAreVariables) (place
 
   ends : get_or (clauses_named sheet lines) (length (clauses_named sheet lines) - 1) [] ≡ map name found_clause
   ends =
-      let own = map (clause_of (clauses sheet)) lines in
-      let many : length (clauses_named sheet lines) ≡ length lines = length-map own (map name) ∙ length-map lines (clause_of (clauses sheet)) in
+      let own = map (clause_of_line (clauses sheet)) lines in
+      let many : length (clauses_named sheet lines) ≡ length lines = length-map own (map name) ∙ length-map lines (clause_of_line (clauses sheet)) in
       let some = some_lines log lines last trimmed in
       ap (λ n. get_or (clauses_named sheet lines) (n - 1) []) many
-      ∙ get_or-map (map name) own (length lines - 1) [] [] (omega (arith, some, length-map lines (clause_of (clauses sheet))))
+      ∙ get_or-map (map name) own (length lines - 1) [] [] (omega (arith, some, length-map lines (clause_of_line (clauses sheet))))
       ∙ ap (map name) (last_clause log lines last trimmed (clauses sheet) found.stands)
 
   -- the lines derive a clause of these literals, where each of the line's clause is one by name
-  pub derives : (allowed : List Literal) → ((m : Lit) → Contains found_clause m → Contains allowed (name m)) → Derives sheet (map (line_named (names_of sheet)) lines) allowed
+  pub derives : (allowed : List Literal) → ((m : Lit) → Contains found_clause m → Contains allowed (name m)) → DerivesClause sheet (map (line_named (names_of sheet)) lines) allowed
   derives allowed within = record {
     clauses = clauses_named sheet lines;
     derivation = named_derivation of_axioms symbols places sheet lines derived are_named;
     ends = record {
-      some_line = omega (arith, some_lines log lines last trimmed, length-map (map (clause_of (clauses sheet)) lines) (map name), length-map lines (clause_of (clauses sheet)));
+      some_line = omega (arith, some_lines log lines last trimmed, length-map (map (clause_of_line (clauses sheet)) lines) (map name), length-map lines (clause_of_line (clauses sheet)));
       within = λ l has. let m = contains_mapped name found_clause l (subst (λ c. Contains c l) ends has) in subst (Contains allowed) m.2 (within m.0 m.1);
     };
   }
@@ -118,7 +116,7 @@ trimmed_lines_justify of_axioms symbols pairs places trims writable sheet t supp
       has = subst (λ a. HasAll a support) (sym back) shows.has;
       fits = subst (Fits sheet) (sym back) shows.fits;
       derives = derives of_axioms symbols places trims sheet log lines last found trimmed (map negated_entry support ++ literal_of_target t ∷ [])
-          (allowed places pairs sheet t support is_target entries (clause_on (clauses sheet) log last) of);
+          (allowed places pairs sheet t support is_target entries (clause_at_place (clauses sheet) log last) of);
     } in
     record {
       least = least;

@@ -9,7 +9,7 @@ use Rattle.pc_lits.specs.declared.literal.Lit.{Lit}
 use Rattle.pc_log.specs.Lines.{LogLine, AxiomLine, BlockLine, StepLine}
 use Rattle.pc_log.specs.Rests.{Rests, on_itself}
 use Rattle.pc_log.specs.Trimmed.{moved, IsTrimmed}
-use Rattle.pc_log.specs.Derivations.{clause_of, IsDerivation}
+use Rattle.pc_log.specs.Derivations.{clause_of_line, IsDerivation}
 use Rattle.pc_sheet.specs.Sheet.{Sheet}
 use Rattle.pc_names.specs.Listed.{NameLists}
 use Rattle.pc_ground.specs.Variables.{variable_count}
@@ -18,7 +18,7 @@ use Rattle.pc_ground.specs.Ground as ground
 use Rattle.pc_ground.specs.Naming.{name_of, names_of}
 use Rattle.pc_ground.specs.Laws.{VariablesHaveTheirPlaces}
 use Rattle.pc_reason.specs.Derivation.{IsLineNamed, AreLinesNamed}
-use Rattle.pc_justify.specs.Found.{clause_on, RestsOnNamed, HasNoBlock, AreStepsOver}
+use Rattle.pc_justify.specs.Found.{clause_at_place, RestsOnNamed, HasNoBlock, StepsAreOver}
 use Rattle.pc_justify.specs.Laws.{OwnLinesAreNamed}
 
 -- names and clauses don't depend on where a line stands
@@ -27,7 +27,7 @@ moved_named names to (AxiomLine n) named = named
 moved_named names to (BlockLine n c) named = named
 moved_named names to (StepLine c hints learned) named = named
 
-moved_clause : (given : List (List Lit)) (to : ℕ → ℕ) (line : LogLine) → clause_of given (moved to line) ≡ clause_of given line
+moved_clause : (given : List (List Lit)) (to : ℕ → ℕ) (line : LogLine) → clause_of_line given (moved to line) ≡ clause_of_line given line
 moved_clause given to (AxiomLine n) = refl
 moved_clause given to (BlockLine n c) = refl
 moved_clause given to (StepLine c hints learned) = refl
@@ -45,7 +45,7 @@ module _ (log lines : List LogLine) (last : ℕ) (trimmed : IsTrimmed log last [
   pub some_lines : 0 < length lines
   some_lines = omega (arith, trimmed.ends)
 
-  pub last_clause : (given : List (List Lit)) → last < length log → get_or (map (clause_of given) lines) (length lines - 1) [] ≡ clause_on given log last
+  pub last_clause : (given : List (List Lit)) → last < length log → get_or (map (clause_of_line given) lines) (length lines - 1) [] ≡ clause_at_place given log last
   last_clause given stands =
       let line : LogLine = get_or log last (AxiomLine 0) in
       let at : slice_get log last ≡ Some line = slice_get-get_or log last (AxiomLine 0) stands in
@@ -53,8 +53,8 @@ module _ (log lines : List LogLine) (last : ℕ) (trimmed : IsTrimmed log last [
       let end : length lines - 1 ≡ trimmed.to last = omega (arith, trimmed.ends) in
       let is_last : get_or lines (length lines - 1) (AxiomLine 0) ≡ moved trimmed.to line =
       ap (λ n. get_or lines n (AxiomLine 0)) end ∙ get_or_from_slice_get lines (trimmed.to last) (moved trimmed.to line) (AxiomLine 0) there in
-      get_or-map (clause_of given) lines (length lines - 1) (AxiomLine 0) [] (omega (arith, trimmed.ends))
-      ∙ ap (clause_of given) is_last ∙ moved_clause given trimmed.to line ∙ sym (get_or-map (clause_of given) log last (AxiomLine 0) [] stands)
+      get_or-map (clause_of_line given) lines (length lines - 1) (AxiomLine 0) [] (omega (arith, trimmed.ends))
+      ∙ ap (clause_of_line given) is_last ∙ moved_clause given trimmed.to line ∙ sym (get_or-map (clause_of_line given) log last (AxiomLine 0) [] stands)
 
   -- where the line at this place was
   from : (p : ℕ) → p < length lines → (i : ℕ) × (i < length log) × Rests log last i × (trimmed.to i ≡ p)
@@ -88,11 +88,11 @@ module _ (log lines : List LogLine) (last : ℕ) (trimmed : IsTrimmed log last [
 -- ---- the log of a solver
 
 module _ (places : VariablesHaveTheirPlaces) (sheet : Sheet) (own : List Var) (log : List LogLine) (derived : IsDerivation (clauses sheet) log) (no_block : HasNoBlock log)
-    (few : All (λ v. v.0 < variable_count sheet) own) (over : AreStepsOver own log) where
+    (few : All (λ v. v.0 < variable_count sheet) own) (over : StepsAreOver own log) where
   own_named : (i : ℕ) (line : LogLine) → slice_get log i ≡ Some line → IsLineNamed (names_of sheet) line
   own_named i (AxiomLine n) at =
       let below : n < length (clauses sheet) = derived.good i (AxiomLine n) at in
-      omega (arith, below, length-map (axioms sheet) (ground.clause_of sheet), length-map (axioms sheet) name_of)
+      omega (arith, below, length-map (axioms sheet) (ground.clause_of_axiom sheet), length-map (axioms sheet) name_of)
   own_named i (BlockLine n c) at = no_block i n c at
   own_named i (StepLine c hints learned) at = λ k d below.
       let has : Contains own (get_or c k d).variable = over i c hints learned at k d below in

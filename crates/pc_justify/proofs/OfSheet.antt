@@ -7,7 +7,8 @@ use Rattle.std.proofs.lemmas.List.FromFn.{length-map-range_with_len}
 use Rattle.std.proofs.lemmas.List.Elements.{All-nil, All-cons, All-append, All-map, All-weaker}
 use Rattle.std.proofs.lemmas.Option.{slice_get_within}
 use Rattle.pc_sheet.specs.Sheet.{Universe, Sheet, NamedStatement, Statement, Statements, no_statements, statement, compare, in_table, negation, all_of, some_of, implies, iff, for_all, exists}
-use Rattle.pc_sheet.specs.Truth.{Scope, size_of}
+use Rattle.pc_sheet.specs.Truth.{Scope}
+use Rattle.pc_sheet.specs.Sizes.{size_of}
 use Rattle.pc_sheet.specs.Entailment.{cell_sizes}
 use Rattle.pc_sheet.specs.Nodes.{Node, part_at, one_of_two, child, node_from, root_of, node_at}
 use Rattle.pc_sheet.specs.WellFormed.{IsEntryOf, IsWellFormed, IsWellFormedRule}
@@ -15,7 +16,7 @@ use Rattle.pc_sheet.specs.WellSorted.{Variables, parts_in, IsWellSorted, AreWell
 use Rattle.pc_sheet.specs.declared.ids.CellId.{CellId}
 use Rattle.pc_sheet.specs.declared.ids.ValueId.{ValueId}
 use Rattle.pc_accept.specs.Literals.{Symbol, pair, node, Literal, negative}
-use Rattle.pc_accept.specs.Axioms.{Axiom, some_value, not_both, true_rule, parts, by_reads, IsClauseOf, IsNumbered, how_many, each_below, clauses_of_node, child_of}
+use Rattle.pc_accept.specs.Axioms.{Axiom, axiom_some, axiom_one, axiom_rule, axiom_node, axiom_atom, IsClauseOf, IsAtNumber, how_many, each_below, clauses_of_node, child_of}
 use Rattle.pc_accept.specs.Writable.{IsPathOf, IsSymbolOf, IsAxiomOf}
 use Rattle.pc_ground.specs.Variables.{pair_at, pairs_from, nodes_below, parts_below, nodes_from, variables}
 use Rattle.pc_ground.specs.Ground.{GroundAxiom, axioms}
@@ -218,26 +219,26 @@ module _ (sheet : Sheet) (formed : IsWellFormed sheet) where
       few : (n : ℕ) (f : ℕ → List Literal) (last : List Literal) → n < 4194304 → length (each_below n f ++ last ∷ []) < 2 ^ 32
       few n f last small = omega (arith, length-append (each_below n f) (last ∷ []), length-map-range_with_len f 0 n, small)
 
-  number_small : (clauses : List (List Literal)) (i : ℕ) (clause : List Literal) → length clauses < 2 ^ 32 → IsNumbered clauses i clause → i < 2 ^ 32
+  number_small : (clauses : List (List Literal)) (i : ℕ) (clause : List Literal) → length clauses < 2 ^ 32 → IsAtNumber clauses i clause → i < 2 ^ 32
   number_small clauses zero clause few h = absurd h
   number_small clauses (suc i) clause few h = omega (arith, slice_get_within clauses i clause h, few)
 
   axiom_of : (a : Axiom) (clause : List Literal) → IsClauseOf sheet a clause → IsAxiomOf sheet a
-  axiom_of (some_value c) clause h = some_within (cell_sizes u) c.0 _ h
-  axiom_of (not_both c v w) clause h = both (slice_get (cell_sizes u) c.0) refl h
+  axiom_of (axiom_some c) clause h = some_within (cell_sizes u) c.0 _ h
+  axiom_of (axiom_one c v w) clause h = both (slice_get (cell_sizes u) c.0) refl h
     where
-      both : (o : Option ℕ) → slice_get (cell_sizes u) c.0 ≡ o → IsSomeAnd o (λ n. (v.0 < n) × (w.0 < n) × (v ≢ w) × (clause ≡ negative (pair c v) ∷ negative (pair c w) ∷ [])) → IsAxiomOf sheet (not_both c v w)
+      both : (o : Option ℕ) → slice_get (cell_sizes u) c.0 ≡ o → IsSomeAnd o (λ n. (v.0 < n) × (w.0 < n) × (v ≢ w) × (clause ≡ negative (pair c v) ∷ negative (pair c w) ∷ [])) → IsAxiomOf sheet (axiom_one c v w)
       both None at h = absurd h
       both (Some n) at h =
           let P : ValueId → Option ℕ → Type 0 = λ x o. IsSomeAnd o (λ m. x.0 < m) in
           (subst (P v) (sym at) h.0, subst (P w) (sym at) h.1)
-  axiom_of (true_rule r) clause h = some_within sheet.rules r _ h
-  axiom_of (parts r path i) clause h = by (node_at sheet r path) refl h
+  axiom_of (axiom_rule r) clause h = some_within sheet.rules r _ h
+  axiom_of (axiom_node r path i) clause h = by (node_at sheet r path) refl h
     where
-      by : (o : Option Node) → node_at sheet r path ≡ o → IsSomeAnd o (λ n. IsNumbered (clauses_of_node (node r path) (child_of r path) u n.1) i clause) → IsAxiomOf sheet (parts r path i)
+      by : (o : Option Node) → node_at sheet r path ≡ o → IsSomeAnd o (λ n. IsAtNumber (clauses_of_node (node r path) (child_of r path) u n.1) i clause) → IsAxiomOf sheet (axiom_node r path i)
       by None at h = absurd h
       by (Some n) at h = (path_of r path n at, number_small _ i clause (many_clauses (node r path) (child_of r path) n (at_small r path n at).1) h)
-  axiom_of (by_reads r path reads) clause h = (path_of r path (h.scope, h.states) h.at, h.each)
+  axiom_of (axiom_atom r path reads) clause h = (path_of r path (h.scope, h.states) h.at, h.each)
 
 pub names_are_of_their_sheet : ClausesAreOfAxioms → NamesAreOfTheirSheet
 names_are_of_their_sheet of sheet formed = record {

@@ -10,7 +10,7 @@ use Rattle.pc_sheet.specs.Entailment.{HaveDistinctCells, IsSublist}
 use Rattle.pc_sheet.specs.declared.ids.CellId.{CellId}
 use Rattle.pc_sheet.specs.declared.ids.Entry.{Entry}
 use Rattle.pc_sheet.specs.declared.ids.Target.{Target}
-use Rattle.pc_laws.specs.Examples.{IsShown, AreShown}
+use Rattle.pc_laws.specs.Examples.{IsShownFor, AreShown}
 use Rattle.pc_laws.proofs.Contained.{distinct_first, distinct_rest}
 use Rattle.pc_laws.proofs.Assignments.{Supports}
 use Rattle.pc_laws.proofs.Least.{IsLeastOf, without_oldest, with_oldest, least_supports}
@@ -57,12 +57,12 @@ found (x ∷ xs) p P d distinct =
 abbrev pub find : Sheet → Target → Option (List Entry)
 find sheet t = least_of sheet.entries (supports sheet t)
 
-shown_from_found : (sheet : Sheet) (t : Target) (o : Option (List Entry)) → IsFound sheet.entries (Supports sheet t) o → IsShown sheet t o
+shown_from_found : (sheet : Sheet) (t : Target) (o : Option (List Entry)) → IsFound sheet.entries (Supports sheet t) o → IsShownFor sheet t o
 shown_from_found sheet t None none = λ h. none h.0 h.1.among (h.1.consistent, h.1.entails)
 shown_from_found sheet t (Some s) l = least_supports sheet t s l
 
-pub shown : (sheet : Sheet) (t : Target) (o : Option (List Entry)) → HaveDistinctCells sheet.entries → find sheet t ≡ o → IsShown sheet t o
-shown sheet t o distinct is = subst (IsShown sheet t) is (shown_from_found sheet t (find sheet t) (found sheet.entries (supports sheet t) (Supports sheet t) (supports_decides sheet t) distinct))
+pub shown : (sheet : Sheet) (t : Target) (o : Option (List Entry)) → HaveDistinctCells sheet.entries → find sheet t ≡ o → IsShownFor sheet t o
+shown sheet t o distinct is = subst (IsShownFor sheet t) is (shown_from_found sheet t (find sheet t) (found sheet.entries (supports sheet t) (Supports sheet t) (supports_decides sheet t) distinct))
 
 -- ---- tests of what a sheet shows
 
@@ -125,10 +125,10 @@ are_found sheet [] = true
 are_found sheet (p ∷ ps) = same_answer (find sheet p.0) p.1 && are_found sheet ps
 
 all_shown : (sheet : Sheet) → HaveDistinctCells sheet.entries → (ps : List (Target × Option (List Entry))) → are_found sheet ps ≡ true → AreShown sheet ps
-all_shown sheet d [] e = All-nil (λ p. IsShown sheet p.0 p.1)
+all_shown sheet d [] e = All-nil (λ p. IsShownFor sheet p.0 p.1)
 all_shown sheet d (p ∷ ps) e =
     let parts = both (same_answer (find sheet p.0) p.1) (are_found sheet ps) e in
-    All-cons (λ p. IsShown sheet p.0 p.1) p ps (shown sheet p.0 p.1 d (same_answer_same (find sheet p.0) p.1 parts.0)) (all_shown sheet d ps parts.1)
+    All-cons (λ p. IsShownFor sheet p.0 p.1) p ps (shown sheet p.0 p.1 d (same_answer_same (find sheet p.0) p.1 parts.0)) (all_shown sheet d ps parts.1)
 
 abbrev pub is_display : Sheet → List (Target × Option (List Entry)) → Bool
 is_display sheet ps = are_distinct sheet.entries && are_found sheet ps

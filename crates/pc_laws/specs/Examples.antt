@@ -57,12 +57,12 @@ pub record ConflictingEntriesCarry : Type 0 where
 -- ---- what a sheet shows
 
 -- of a target: its least support, or that it isn't implied
-abbrev pub IsShown : Sheet → Target → Option (List Entry) → Type 0
-IsShown sheet t None = ¬ IsImplied sheet t
-IsShown sheet t (Some s) = IsLeastSupport sheet s t
+abbrev pub IsShownFor : Sheet → Target → Option (List Entry) → Type 0
+IsShownFor sheet t None = ¬ IsImplied sheet t
+IsShownFor sheet t (Some s) = IsLeastSupport sheet s t
 
 abbrev pub AreShown : Sheet → List (Target × Option (List Entry)) → Type 0
-AreShown sheet shown = All (λ p. IsShown sheet p.0 p.1) shown
+AreShown sheet shown = All (λ p. IsShownFor sheet p.0 p.1) shown
 
 -- a sheet with what it shows of some targets
 pub record Display : Type 0 where

@@ -1,7 +1,8 @@
 -- What holds of consistency, supports and least supports in every sheet.
 use Rattle.std.specs.Prelude.{◌≡◌, ◌⊎◌, ◌↔◌, ◌^◌, List, ◌∷◌, length, All, Contains}
 use Rattle.pc_sheet.specs.Sheet.{Universe, Statement, Sheet, with_newest}
-use Rattle.pc_sheet.specs.Truth.{Scope, Holds, product}
+use Rattle.pc_sheet.specs.Truth.{Scope, Holds}
+use Rattle.pc_sheet.specs.Sizes.{product}
 use Rattle.pc_sheet.specs.Entailment.{cell_sizes, IsAssignment, IsConsistent, Entails, HaveDistinctCells, IsSublist, IsSupport, IsImplied, IsLess, IsLeastSupport, opposite_of}
 use Rattle.pc_sheet.specs.MaximalSets.{ListsExactly, IsContained, IsMaximalSet, IsMinimalInconsistent}
 use Rattle.pc_sheet.specs.declared.ids.ValueId.{ValueId}

@@ -5,7 +5,7 @@ use Rattle.std.proofs.lemmas.Bool.{ne_eqb, eq-eqb, cond_below, cond_above, cond_
 use Rattle.std.proofs.lemmas.List.Elements.{recursion_from_All, All-append, All-take}
 use Rattle.std.proofs.lemmas.List.{append-nil, length_push, length-take, take_at, take-take, get_or-take}
 use Rattle.std.specs.Str.Lines.{strip_carriage_return}
-use Rattle.pc_lines.specs.Lines.{before_end, length_of, HasNoEnd, IsOpenLine, IsWholeLine, IsLongStart, text_of}
+use Rattle.pc_lines.specs.Lines.{before_end, length_of, HasNoEnd, IsOpenLine, IsWholeLine, IsLongStart, line_text_of}
 
 one_more : (b : ℕ) (bs : List ℕ) → b ≢ 10 → before_end (b ∷ bs) ≡ b ∷ before_end bs
 one_more b bs ne = rw (ne_eqb b 10 ne) refl
@@ -70,13 +70,13 @@ long_front room bytes end none lt some = record {
 }
 
 -- a line without a line feed is its own text
-pub text_of-open : (line : List ℕ) → HasNoEnd line → text_of line ≡ line
+pub text_of-open : (line : List ℕ) → HasNoEnd line → line_text_of line ≡ line
 text_of-open line none =
     let same : length_of line ≡ length line = ap length (before_end-none line none) in
     sym (cond_above (length_of line) (length line) (strip_carriage_return (before_end line)) line line (omega arith) refl)
 
 -- the text of a line whose first line feed stands at a place
-pub text_of-at : (line : List ℕ) (end : ℕ) → line ≡ (take end line ++ 10 ∷ []) ++ drop (end + 1) line → HasNoEnd (take end line) → end < length line → text_of line ≡ strip_carriage_return (take end line)
+pub text_of-at : (line : List ℕ) (end : ℕ) → line ≡ (take end line ++ 10 ∷ []) ++ drop (end + 1) line → HasNoEnd (take end line) → end < length line → line_text_of line ≡ strip_carriage_return (take end line)
 text_of-at line end found none lt =
     let before : before_end line ≡ take end line = ap before_end found ∙ before_end-feed (take end line) (drop (end + 1) line) none in
     let shorter : length_of line < length line = omega (arith, ap length before, length-take end line) in
@@ -110,6 +110,6 @@ strip_shorter : (l : List ℕ) → length (strip_carriage_return l) ≤ length l
 strip_shorter l = cond_both (slice_index l (length l - 1) == 13) (take (length l - 1) l) l (λ x. length x ≤ length l) (λ is. omega (arith, length-take (length l - 1) l)) (λ is. omega arith)
 
 -- a text is no longer than its line
-pub text_of-short : (line : List ℕ) → length (text_of line) ≤ length_of line
+pub text_of-short : (line : List ℕ) → length (line_text_of line) ≤ length_of line
 text_of-short line =
     cond_both (nat_lt (length_of line) (length line)) (strip_carriage_return (before_end line)) line (λ x. length x ≤ length_of line) (λ is. strip_shorter (before_end line)) (λ is. ltb-false (length_of line) (length line) is)

@@ -6,7 +6,7 @@ use Rattle.std.specs.Io.KnownBytes.{Consumes, Keeps}
 use Rattle.std.proofs.lemmas.List.Elements.{All-contains, Contains-append_right}
 use Rattle.std.proofs.KnownBytes.{Consumes-trans, Consumes-kept}
 use Rattle.pc_lines.specs.Lines.{HasNoEnd, IsOpenLine, IsWholeLine, IsLongStart}
-use Rattle.pc_lines.specs.Reader.{ReaderState, coming, Moves, IsCut, IsPart}
+use Rattle.pc_lines.specs.Reader.{ReaderState, coming, Moves, IsTakenUpTo, IsTakenPart}
 use Rattle.pc_lines.specs.declared.reader.Part.{Part}
 use Rattle.pc_lines.specs.declared.reader.Part.TheVariants.{Ended, Open, Long}
 use Rattle.pc_lines.proofs.Ends.{open_then_whole, open_then_open, open_then_long}
@@ -57,7 +57,7 @@ end_is_held before after has m all none =
 
 -- bytes that a cut took the line to
 pub after_cut : (p : Part) (limit room : ℕ) (before after : ReaderState) (count : ℕ) → room ≡ limit - length before.line → count ≤ length before.held → IsOpenLine limit before.line
-    → IsCut p room before.held count → after.line ≡ before.line ++ take count before.held → before.held ≡ take count before.held ++ after.held → IsPart p limit after
+    → IsTakenUpTo p room before.held count → after.line ≡ before.line ++ take count before.held → before.held ≡ take count before.held ++ after.held → IsTakenPart p limit after
 after_cut Ended limit room before after count rest le start cut line held =
     subst (λ (l : List ℕ). IsWholeLine limit l) (sym line) (open_then_whole limit room before.line (take count before.held) rest start cut)
 after_cut Open limit room before after count rest le start cut line held =

@@ -22,8 +22,8 @@ abbrev pub length_of : List ℕ → ℕ
 length_of line = length (before_end line)
 
 -- the text of a line: without its line feed and one carriage return before that; a line without a line feed is its own text
-abbrev pub text_of : List ℕ → List ℕ
-text_of line = if nat_lt (length_of line) (length line) then strip_carriage_return (before_end line) else line
+abbrev pub line_text_of : List ℕ → List ℕ
+line_text_of line = if nat_lt (length_of line) (length line) then strip_carriage_return (before_end line) else line
 
 -- bytes without a line feed
 abbrev pub HasNoEnd : List ℕ → Type 0

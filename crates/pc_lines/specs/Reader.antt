@@ -32,16 +32,16 @@ pub record Moves (before after : ReaderState) : Type 0 where
   pub longest : after.longest ≡ before.longest
 
 -- how far so many bytes take a line, as a line of their own: to its line feed, to the end of the bytes, or past the room
-abbrev pub IsCut : Part → ℕ → List ℕ → ℕ → Type 0
-IsCut Ended room bytes count = IsWholeLine room (take count bytes)
-IsCut Open room bytes count = IsOpenLine room bytes × (count ≡ length bytes)
-IsCut Long room bytes count = IsLongStart room (take count bytes)
+abbrev pub IsTakenUpTo : Part → ℕ → List ℕ → ℕ → Type 0
+IsTakenUpTo Ended room bytes count = IsWholeLine room (take count bytes)
+IsTakenUpTo Open room bytes count = IsOpenLine room bytes × (count ≡ length bytes)
+IsTakenUpTo Long room bytes count = IsLongStart room (take count bytes)
 
 -- how far that took the line: to its line feed, to the end of what is held, or past the limit
-abbrev pub IsPart : Part → ℕ → ReaderState → Type 0
-IsPart Ended limit r = IsWholeLine limit r.line
-IsPart Open limit r = IsOpenLine limit r.line × (r.held ≡ [])
-IsPart Long limit r = IsLongStart limit r.line
+abbrev pub IsTakenPart : Part → ℕ → ReaderState → Type 0
+IsTakenPart Ended limit r = IsWholeLine limit r.line
+IsTakenPart Open limit r = IsOpenLine limit r.line × (r.held ≡ [])
+IsTakenPart Long limit r = IsLongStart limit r.line
 
 -- what stands in the line after a call, and whether anything is still to come
 abbrev pub IsTaken : Taken → ℕ → List ℕ → Option (List ℕ) → Type 0

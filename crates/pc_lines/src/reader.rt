@@ -3,8 +3,8 @@ ghost use Rattle.std.specs.Prelude.{◌≡◌, ◌+◌, ◌-◌, ◌^◌, ◌<�
 ghost use Rattle.std.specs.Io.KnownBytes.{Keeps, IsAtEnd, Consumes};
 ghost use Rattle.pc_port.specs.Port.{HasCause};
 ghost use Rattle.pc_lines.specs.declared.TheConstants.{CHUNK};
-ghost use Rattle.pc_lines.specs.Lines.{HasNoEnd, IsOpenLine, text_of, length_of};
-ghost use Rattle.pc_lines.specs.Reader.{ReaderState, IsNewReader, coming, Moves, IsPart, IsCut, IsTaken, IsNextLine};
+ghost use Rattle.pc_lines.specs.Lines.{HasNoEnd, IsOpenLine, line_text_of, length_of};
+ghost use Rattle.pc_lines.specs.Reader.{ReaderState, IsNewReader, coming, Moves, IsTakenPart, IsTakenUpTo, IsTaken, IsNextLine};
 
 use crate::CHUNK;
 use pc_port::{Failed, Source};
@@ -66,7 +66,7 @@ fn line_end(bytes: &[u8]) -> Option<usize>
 // How many of the bytes go on a line that has so much room left, and how far they take it.
 fn cut(bytes: &[u8], room: usize) -> (usize, Part)
     ensures within { result.0 ≤ length bytes.now }
-    ensures part { IsCut result.1 room bytes.now result.0 }
+    ensures part { IsTakenUpTo result.1 room bytes.now result.0 }
 {
     match line_end(bytes) {
         Some(end) if end <= room => (end + 1, Part::Ended),
@@ -101,7 +101,7 @@ impl LineReader {
 
     /// The line that was taken last, without its line feed and one carriage return before that.
     pub fn text(&self) -> &[u8]
-        ensures text { result.now ≡ text_of self.now.line }
+        ensures text { result.now ≡ line_text_of self.now.line }
         ensures short { length result.now ≤ length_of self.now.line }
     {
         text(&self.line)
@@ -112,7 +112,7 @@ impl LineReader {
         requires room { limit ≤ self.old.longest }
         requires open_line { IsOpenLine limit self.old.line }
         ensures moves { Moves self.old self.new }
-        ensures part { IsPart result limit self.new }
+        ensures part { IsTakenPart result limit self.new }
     {
         let (count, part) = cut(&self.chunk[self.from..self.to], limit - self.line.len());
         self.line
@@ -176,7 +176,7 @@ impl LineReader {
 
 // A line without its line feed and one carriage return before that.
 fn text(line: &[u8]) -> &[u8]
-    ensures { result.now ≡ text_of line.now }
+    ensures { result.now ≡ line_text_of line.now }
 {
     match line_end(line) {
         None => line,

@@ -3,7 +3,7 @@ ghost use Rattle.std.specs.Prelude.{◌≡◌, ◌↔◌, ◌<◌, ◌≤◌, Al
 ghost use Rattle.std.specs.Option.{SomeIff};
 ghost use Rattle.pc_sheet.specs.Limits.{most_cells, most_values};
 ghost use Rattle.pc_sheet.specs.Cells.{IsApplication};
-ghost use Rattle.pc_sheet.specs.Truth.{cell_number};
+ghost use Rattle.pc_sheet.specs.Sizes.{cell_number};
 ghost use Rattle.pc_sheet.specs.Entailment.{cell_sizes, Fits, HaveDistinctCells, RuleHolds};
 ghost use Rattle.pc_sheet.specs.Nodes.{kind_at};
 ghost use Rattle.pc_sheet.specs.Sheet.{empty_sheet, with_rule};
@@ -54,11 +54,11 @@ impl Model for Book {
 
     ghost coded = { coded_sheet };
 
-    ghost use Rattle.pc_logic.specs.BookView.{sheet_of, IsKept};
+    ghost use Rattle.pc_logic.specs.BookView.{sheet_of, IsKeptBook};
 
     ghost view = { sheet_of };
 
-    ghost invariant = { IsKept };
+    ghost invariant = { IsKeptBook };
 }
 
 impl Book {

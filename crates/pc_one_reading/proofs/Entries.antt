@@ -4,7 +4,7 @@ use Rattle.std.specs.List.{AllByRecursion}
 use Rattle.pc_formula.specs.Tree as tree
 use Rattle.pc_formula.specs.Tree.{name_value, integer_value}
 use Rattle.pc_sheet.specs.Sheet.{Universe, Family, Values, listed, range}
-use Rattle.pc_sheet.specs.Truth.{values_at, count_of, size_of, result_sort_of}
+use Rattle.pc_sheet.specs.Sizes.{values_at, count_of, size_of, result_sort_of}
 use Rattle.pc_sheet.specs.Entailment.{AreWithin, cell_sizes}
 use Rattle.pc_sheet.specs.Cells.{Application, IsApplication, size_of_cell, cells, CellsAreNumberedInOrder}
 use Rattle.pc_sheet.specs.WellFormed.{IsEntryOf}
@@ -13,9 +13,9 @@ use Rattle.pc_sheet.specs.declared.ids.CellId.{CellId}
 use Rattle.pc_sheet.specs.declared.ids.FamilyId.{FamilyId}
 use Rattle.pc_sheet.specs.declared.ids.ValueId.{ValueId}
 use Rattle.pc_sheet.specs.declared.ids.Entry.{Entry}
-use Rattle.pc_elaborate.specs.Elaboration.{IsValueOf, IsValueAmong, AreValuesOf, TakesArguments, IsCell, IsCellNamed}
+use Rattle.pc_elaborate.specs.Elaboration.{StandsForValue, IsValueAmong, AreValuesOf, TakesArguments, IsCell, IsCellNamed}
 use Rattle.pc_cert.specs.Written.{WrittenPair}
-use Rattle.pc_cert.specs.Meaning.{IsPairNamed, AreNamed}
+use Rattle.pc_cert.specs.Meaning.{IsPairNamed, AreNamedEach}
 
 -- ---- what a list has at a place
 
@@ -43,7 +43,7 @@ each_image f P (x ∷ xs) all = (all.0, each_image f P xs all.1)
 -- ---- values and cells
 
 module _ (u : Universe) where
-  value_below : (s : SortId) (x : tree.Value) (v : ValueId) → IsValueOf u s x v → v.0 < size_of u s
+  value_below : (s : SortId) (x : tree.Value) (v : ValueId) → StandsForValue u s x v → v.0 < size_of u s
   value_below s x v h = among (values_at u s) x h
     where
       among : (vs : Values) (x : tree.Value) → IsValueAmong vs x v → v.0 < count_of vs
@@ -84,13 +84,13 @@ module _ (u : Universe) where
     cell_below w c h = get_below (cell_sizes u) c.0 _ (cell_size w c h.0 h.1)
 
     -- a value of the cell's sort makes an entry
-    pub entry_of : (w : tree.Cell) (x : tree.Value) (s : SortId) (e : Entry) → IsCell u w e.cell s → IsValueOf u s x e.value → IsEntryOf u e
+    pub entry_of : (w : tree.Cell) (x : tree.Value) (s : SortId) (e : Entry) → IsCell u w e.cell s → StandsForValue u s x e.value → IsEntryOf u e
     entry_of w x s e cell value = subst (λ o. IsSomeAnd o (λ n. e.value.0 < n)) (sym (cell_size w e.cell s cell)) (value_below s x e.value value)
 
     pub entry_named : (p : WrittenPair) (e : Entry) → IsPairNamed u p e → IsEntryOf u e
     entry_named p e h = entry_of p.cell p.value h.sort e h.cell h.value
 
-    pub entries_named : (ps : List WrittenPair) (es : List Entry) → AreNamed (IsPairNamed u) ps es → AllByRecursion (IsEntryOf u) es
+    pub entries_named : (ps : List WrittenPair) (es : List Entry) → AreNamedEach (IsPairNamed u) ps es → AllByRecursion (IsEntryOf u) es
     entries_named [] [] h = tt
     entries_named [] (e ∷ es) h = absurd h
     entries_named (p ∷ ps) [] h = tt

@@ -6,7 +6,7 @@ use Rattle.pc_sheet.specs.Entailment.{cell_sizes}
 use Rattle.pc_sheet.specs.Cells.{CellsAreNumberedInOrder}
 use Rattle.pc_sheet.specs.WellFormed.{IsEntryOf}
 use Rattle.pc_accept.specs.Literals.{Symbol}
-use Rattle.pc_accept.specs.Axioms.{Axiom, some_value, not_both, true_rule, parts, by_reads}
+use Rattle.pc_accept.specs.Axioms.{Axiom, axiom_some, axiom_one, axiom_rule, axiom_node, axiom_atom}
 use Rattle.pc_accept.specs.Accepts as accepts
 use Rattle.pc_names.specs.declared.axiom_name.AxiomName.{AxiomName}
 use Rattle.pc_names.specs.declared.axiom_name.AxiomName.TheVariants as name
@@ -15,12 +15,12 @@ use Rattle.pc_cert.specs.declared.cert.Cert.{Cert}
 use Rattle.pc_cert.specs.declared.cert.CertLine.{CertLine}
 use Rattle.pc_cert.specs.declared.cert.CertPart.{CertPart}
 use Rattle.pc_cert.specs.declared.cert.CertPart.TheVariants as part
-use Rattle.pc_cert.specs.Written.{nothing, heading, claims, claims_inconsistent, uses, assigns, derives, ends, WrittenLine, WrittenPart, written_some, written_one, written_atom, Part, taken, derived, SaidLine}
+use Rattle.pc_cert.specs.Written.{nothing, heading, claims, claims_inconsistent, uses, assigns, derives, ends, WrittenLine, WrittenPart, written_some, written_one, written_atom, CertificatePart, taken, derived, SaidLine}
 use Rattle.pc_cert.specs.Order.{LineKind, kind_of}
-use Rattle.pc_cert.specs.Meaning.{IsPartNamed, IsLineNamed}
-use Rattle.pc_cert.specs.Text.{Reading, certificate, IsTextReading, whole, AllSay, SayTogether, uses_from, values_from, parts_from, claim_in}
-use Rattle.pc_cert.specs.Views.{IsCertTold, symbols_of, reading_of, said_of, part_of, numbered_part_of, place_of, places_in, places_of, AppearInOrder, IsNumbered}
-use Rattle.pc_cert.specs.ReadFor.{IsSaidOf, IsNamedIn, IsOver, IsPartOver, IsBare, IsReadFor}
+use Rattle.pc_cert.specs.Meaning.{IsPartNamed, IsSaidLine}
+use Rattle.pc_cert.specs.Text.{CertificateReading, certificate, IsTextReading, whole, AllSay, SayTogether, uses_from, values_from, parts_from, claim_in}
+use Rattle.pc_cert.specs.Views.{IsCertTold, symbols_of, reading_of, said_of, part_of, numbered_part_of, place_of, places_in, places_of, AppearInOrder, AreInFirstOrder}
+use Rattle.pc_cert.specs.ReadFor.{IsSaidOf, IsNamedIn, IsOverSheet, IsPartOver, IsBare, IsReadFor}
 use Rattle.pc_one_reading.proofs.Entries.{each_at, each_image, cell_below, entry_of, entry_named, entries_named}
 use Rattle.pc_one_reading.proofs.Standing.{bare_beside}
 
@@ -57,13 +57,13 @@ module _ (sheet : Sheet) where
   -- ---- what a line says
 
   abbrev IsAxiomOver : Axiom → Type 0
-  IsAxiomOver (some_value c) = c.0 < length (cell_sizes sheet.universe)
-  IsAxiomOver (not_both c v w) = IsEntryOf sheet.universe (record { cell = c; value = v }) × IsEntryOf sheet.universe (record { cell = c; value = w })
-  IsAxiomOver (true_rule r) = Unit {0}
-  IsAxiomOver (parts r p i) = Unit {0}
-  IsAxiomOver (by_reads r p es) = AllByRecursion (IsEntryOf sheet.universe) es
+  IsAxiomOver (axiom_some c) = c.0 < length (cell_sizes sheet.universe)
+  IsAxiomOver (axiom_one c v w) = IsEntryOf sheet.universe (record { cell = c; value = v }) × IsEntryOf sheet.universe (record { cell = c; value = w })
+  IsAxiomOver (axiom_rule r) = Unit {0}
+  IsAxiomOver (axiom_node r p i) = Unit {0}
+  IsAxiomOver (axiom_atom r p es) = AllByRecursion (IsEntryOf sheet.universe) es
 
-  abbrev IsSaidPartOver : Part → Type 0
+  abbrev IsSaidPartOver : CertificatePart → Type 0
   IsSaidPartOver (taken a) = IsAxiomOver a
   IsSaidPartOver (derived ls hints) = Unit {0}
 
@@ -92,7 +92,7 @@ module _ (sheet : Sheet) where
 
   -- ---- the certificate
 
-  axiom_over : (a : AxiomName) → IsAxiomOver (axiom_of a) → IsOver sheet a
+  axiom_over : (a : AxiomName) → IsAxiomOver (axiom_of a) → IsOverSheet sheet a
   axiom_over (name.Any c) is = is
   axiom_over (name.One c v w) is = is
   axiom_over (name.Rule r) is = tt
@@ -111,27 +111,27 @@ module _ (sheet : Sheet) where
     lines_over [] all below = tt
     lines_over (l ∷ ls) all below = (part_over l.part all.0 (front_all IsBelow (places_in l.part) (places_of ls) below), lines_over ls all.1 (back_all IsBelow (places_in l.part) (places_of ls) below))
 
-  bare_for : (r : Reading) (ls : List SaidLine) (lines : List (List ℕ)) (c : accepts.Claim) → AllSay sheet [] lines ls → claim_in ls ≡ Some c → r.uses ≡ uses_from 1 ls → r.values ≡ values_from 1 ls → IsBare r c
+  bare_for : (r : CertificateReading) (ls : List SaidLine) (lines : List (List ℕ)) (c : accepts.Claim) → AllSay sheet [] lines ls → claim_in ls ≡ Some c → r.uses ≡ uses_from 1 ls → r.values ≡ values_from 1 ls → IsBare r c
   bare_for r ls lines (accepts.implied t) all claimed used valued = tt
   bare_for r ls lines accepts.inconsistent all claimed used valued = let none = bare_beside sheet lines ls 1 all claimed in (used ∙ none.0, valued ∙ none.1)
 
   module _ (ordered : CellsAreNumberedInOrder) where
     taken_over : (w : WrittenPart) (a : Axiom) → IsPartNamed sheet w (taken a) → IsAxiomOver a
-    taken_over (written_some c) (some_value id) is = cell_below sheet.universe ordered c id is
-    taken_over (written_one c v w) (not_both id first second) is = (
+    taken_over (written_some c) (axiom_some id) is = cell_below sheet.universe ordered c id is
+    taken_over (written_one c v w) (axiom_one id first second) is = (
       entry_of sheet.universe ordered c v is.sort (record { cell = id; value = first }) is.cell is.first_value,
       entry_of sheet.universe ordered c w is.sort (record { cell = id; value = second }) is.cell is.second_value,
     )
-    taken_over w (true_rule r) is = tt
-    taken_over w (parts r p i) is = tt
-    taken_over (written_atom p reads) (by_reads r steps es) is = entries_named sheet.universe ordered reads es is.1
+    taken_over w (axiom_rule r) is = tt
+    taken_over w (axiom_node r p i) is = tt
+    taken_over (written_atom p reads) (axiom_atom r steps es) is = entries_named sheet.universe ordered reads es is.1
     taken_over w a is = absurd is
 
-    said_part_over : (w : WrittenPart) (p : Part) → IsPartNamed sheet w p → IsSaidPartOver p
+    said_part_over : (w : WrittenPart) (p : CertificatePart) → IsPartNamed sheet w p → IsSaidPartOver p
     said_part_over w (taken a) is = taken_over w a is
     said_part_over w (derived clause hints) is = tt
 
-    line_over : (f : WrittenLine) (l : SaidLine) → IsLineNamed sheet f l → IsLineOver l
+    line_over : (f : WrittenLine) (l : SaidLine) → IsSaidLine sheet f l → IsLineOver l
     line_over f nothing is = tt
     line_over f heading is = tt
     line_over f (claims e holds) is = tt
@@ -148,7 +148,7 @@ module _ (sheet : Sheet) where
     all_over before (line ∷ lines) [] all = tt
     all_over before (line ∷ lines) (l ∷ ls) all = (line_over all.0.form l all.0.named, all_over (before ++ kind_of l ∷ []) lines ls all.1)
 
-    read_for : (c : Cert) (lines : List (List ℕ)) (ls : List SaidLine) → AllSay sheet [] lines ls → SayTogether ls (reading_of c) → IsNumbered (symbols_of c) (places_of c.lines.items) → IsReadFor sheet c
+    read_for : (c : Cert) (lines : List (List ℕ)) (ls : List SaidLine) → AllSay sheet [] lines ls → SayTogether ls (reading_of c) → AreInFirstOrder (symbols_of c) (places_of c.lines.items) → IsReadFor sheet c
     read_for c lines ls all together numbered =
         let over = all_over [] lines ls all in
         let used = subst (λ ps. AllByRecursion (λ p. IsEntryOf sheet.universe p.1) ps) (sym together.uses) (uses_over 1 ls over) in
@@ -163,11 +163,11 @@ module _ (sheet : Sheet) where
           bare = bare_for (reading_of c) ls lines (reading_of c).claim all together.claim together.uses together.values;
         }
 
-    by_text : (text : List ℕ) (c : Cert) → IsTextReading sheet text (certificate (reading_of c)) → IsNumbered (symbols_of c) (places_of c.lines.items) → IsReadFor sheet c
+    by_text : (text : List ℕ) (c : Cert) → IsTextReading sheet text (certificate (reading_of c)) → AreInFirstOrder (symbols_of c) (places_of c.lines.items) → IsReadFor sheet c
     by_text text c (whole ls all closed together) numbered = read_for c _ ls all together numbered
 
 pub what_is_read : CellsAreNumberedInOrder → (sheet : Sheet) (text : List ℕ) (c : Cert) → IsCertTold sheet text (Ok c) → IsReadFor sheet c
 what_is_read ordered sheet text c told = by_text sheet ordered text c told.0 told.1
 
-pub bare_text : (sheet : Sheet) (text : List ℕ) (r : Reading) → IsTextReading sheet text (certificate r) → IsBare r r.claim
+pub bare_text : (sheet : Sheet) (text : List ℕ) (r : CertificateReading) → IsTextReading sheet text (certificate r) → IsBare r r.claim
 bare_text sheet text r (whole ls all closed together) = bare_for sheet r ls _ r.claim all together.claim together.uses together.values

@@ -5,10 +5,10 @@ use Rattle.std.specs.Char.{digit_value}
 use Rattle.std.proofs.lemmas.Slice.Eq.{bytes_eq-Decides}
 use Rattle.pc_token.specs.declared.token.Kind.TheVariants.{Equal}
 use Rattle.pc_formula.specs.Word.{Word, name, sign}
-use Rattle.pc_formula.specs.Front.{StopsAt}
+use Rattle.pc_formula.specs.Front.{StopsLevel}
 use Rattle.pc_cert.specs.Written.{nothing, heading, claims, claims_inconsistent, uses, assigns, derives, ends, WrittenPair, WrittenLine}
 use Rattle.pc_cert.specs.Texts.{texts_of, IsWholePair, SpellsThis, IsNumberText}
-use Rattle.pc_cert.specs.Line.{equality, IsWordPair, IsClaim, SpellsPair, IsForm, IsLine}
+use Rattle.pc_cert.specs.Line.{equality, IsWordPair, IsClaim, SpellsPair, IsCertificateForm, IsCertificateLine}
 use Rattle.pc_one_reading.proofs.Words.{tails}
 use Rattle.pc_one_reading.proofs.Texts.{IsUnambiguous, equal_stops, pair_once, spelled_once}
 use Rattle.pc_one_reading.proofs.Parts.{derivation_once}
@@ -77,7 +77,7 @@ number_starts text n is =
     (number_no_word text n 118 (codes "alue") (omega arith) is)
     (number_no_word text n 101 (codes "nd") (omega arith) is)
 
-form_starts : (line : List ℕ) (texts : List (List ℕ)) (f : WrittenLine) → IsForm line texts f → start_of_texts texts ≡ start_of f
+form_starts : (line : List ℕ) (texts : List (List ℕ)) (f : WrittenLine) → IsCertificateForm line texts f → start_of_texts texts ≡ start_of f
 form_starts line texts nothing is = ap start_of_texts is
 form_starts line texts heading is = ap start_of_texts is.are
 form_starts line texts (claims p holds) is = ap start_of_texts is.0.is
@@ -89,7 +89,7 @@ form_starts line texts ends is = ap start_of_texts is
 
 -- ---- a word, and then a cell, a sign and a value
 
-claim_stops : (holds : Bool) (rest : List Word) → StopsAt 1 (sign (equality holds) ∷ rest)
+claim_stops : (holds : Bool) (rest : List Word) → StopsLevel 1 (sign (equality holds) ∷ rest)
 claim_stops true rest = omega arith
 claim_stops false rest = omega arith
 
@@ -127,7 +127,7 @@ module _ (laws : IsUnambiguous) where
       let same = spelled_once laws IsClaim claim_once line (p, g) (q, h) a b in
       ap₂ claim_line (ap (λ r. r.0) same) (ap (λ r. r.1) same)
 
-  form_once : (line : List ℕ) (f g : WrittenLine) → start_of f ≡ start_of g → IsLine line f → IsLine line g → f ≡ g
+  form_once : (line : List ℕ) (f g : WrittenLine) → start_of f ≡ start_of g → IsCertificateLine line f → IsCertificateLine line g → f ≡ g
   form_once line nothing nothing e a b = refl
   form_once line heading heading e a b = refl
   form_once line (claims p g) (claims q h) e a b = claims_once line p q g h a.1 b.1
@@ -140,5 +140,5 @@ module _ (laws : IsUnambiguous) where
   form_once line ends ends e a b = refl
   form_once line f g e a b = absurd (cc)
 
-  pub line_once : (line : List ℕ) (f g : WrittenLine) → IsLine line f → IsLine line g → f ≡ g
+  pub line_once : (line : List ℕ) (f g : WrittenLine) → IsCertificateLine line f → IsCertificateLine line g → f ≡ g
   line_once line f g a b = form_once line f g (sym (form_starts line (texts_of line) f a) ∙ form_starts line (texts_of line) g b) a b

@@ -10,16 +10,16 @@ use Rattle.pc_sheet.specs.declared.ids.CellId.{CellId}
 use Rattle.pc_sheet.specs.declared.ids.ValueId.{ValueId}
 use Rattle.pc_sheet.specs.declared.ids.Entry.{Entry}
 use Rattle.pc_accept.specs.Literals.{Symbol, pair, node, Literal}
-use Rattle.pc_accept.specs.Axioms.{some_value, not_both, true_rule, parts, by_reads}
-use Rattle.pc_elaborate.specs.Elaboration.{IsCell, IsValueOf, IsCellNamed}
+use Rattle.pc_accept.specs.Axioms.{axiom_some, axiom_one, axiom_rule, axiom_node, axiom_atom}
+use Rattle.pc_elaborate.specs.Elaboration.{IsCell, StandsForValue, IsCellNamed}
 use Rattle.pc_elaborate.specs.Laws.{HaveOneOutcome}
-use Rattle.pc_cert.specs.Written.{nothing, heading, claims, claims_inconsistent, uses, assigns, derives, ends, WrittenPair, WrittenPath, WrittenSymbol, written_pair, written_node, WrittenLiteral, WrittenPart, written_some, written_one, written_rule, written_node_clause, written_atom, written_step, WrittenLine, Part, taken, derived, SaidLine}
-use Rattle.pc_cert.specs.Meaning.{IsPairNamed, AreValuesNamed, IsRuleNamed, IsNodeNamed, IsSymbolNamed, IsLiteralNamed, AreNamed, IsPartNamed, IsLineNamed}
+use Rattle.pc_cert.specs.Written.{nothing, heading, claims, claims_inconsistent, uses, assigns, derives, ends, WrittenPair, WrittenPath, WrittenSymbol, written_pair, written_node, WrittenLiteral, WrittenPart, written_some, written_one, written_rule, written_node_clause, written_atom, written_step, WrittenLine, CertificatePart, taken, derived, SaidLine}
+use Rattle.pc_cert.specs.Meaning.{IsPairNamed, AreValuesNamed, IsRuleNamed, IsNodeNamed, IsSymbolNamed, IsLiteralNamed, AreNamedEach, IsPartNamed, IsSaidLine}
 
 -- ---- lists
 
 module _ {A B : Type 0} (Names : A → B → Type 0) (once : (x : A) (y z : B) → Names x y → Names x z → y ≡ z) where
-  named_once : (xs : List A) (ys zs : List B) → AreNamed Names xs ys → AreNamed Names xs zs → ys ≡ zs
+  named_once : (xs : List A) (ys zs : List B) → AreNamedEach Names xs ys → AreNamedEach Names xs zs → ys ≡ zs
   named_once [] [] [] a b = refl
   named_once [] [] (z ∷ zs) a b = absurd b
   named_once [] (y ∷ ys) zs a b = absurd a
@@ -66,8 +66,8 @@ module _ (sheet : Sheet) (outcomes : HaveOneOutcome sheet.universe) (different :
       let same = (outcomes.cells c).one (i, s) (j, t) a b in
       (ap (λ k. k.0) same, ap (λ k. k.1) same)
 
-  value_once : (v : Value) (s t : SortId) (x y : ValueId) → s ≡ t → IsValueOf sheet.universe s v x → IsValueOf sheet.universe t v y → x ≡ y
-  value_once v s t x y same a b = (outcomes.values t v).one x y (subst (λ r. IsValueOf sheet.universe r v x) same a) b
+  value_once : (v : Value) (s t : SortId) (x y : ValueId) → s ≡ t → StandsForValue sheet.universe s v x → StandsForValue sheet.universe t v y → x ≡ y
+  value_once v s t x y same a b = (outcomes.values t v).one x y (subst (λ r. StandsForValue sheet.universe r v x) same a) b
 
   cell_once : (c : Cell) (i j : CellId) → IsCellNamed sheet.universe c i → IsCellNamed sheet.universe c j → i ≡ j
   cell_once c i j a b = (cells_once c i j a.0 b.0 a.1 b.1).0
@@ -77,12 +77,12 @@ module _ (sheet : Sheet) (outcomes : HaveOneOutcome sheet.universe) (different :
       let cells = cells_once p.cell d.cell e.cell a.sort b.sort a.cell b.cell in
       ap₂ entry cells.0 (value_once p.value a.sort b.sort d.value e.value cells.1 a.value b.value)
 
-  values_once : (c : Cell) (v w : Value) (i j : CellId) (x y k l : ValueId) → AreValuesNamed sheet.universe c v w i x y → AreValuesNamed sheet.universe c v w j k l → taken (not_both i x y) ≡ taken (not_both j k l)
+  values_once : (c : Cell) (v w : Value) (i j : CellId) (x y k l : ValueId) → AreValuesNamed sheet.universe c v w i x y → AreValuesNamed sheet.universe c v w j k l → taken (axiom_one i x y) ≡ taken (axiom_one j k l)
   values_once c v w i j x y k l a b =
       let cells = cells_once c i j a.sort b.sort a.cell b.cell in
-      ap (λ o. taken (not_both o x y)) cells.0
-      ∙ ap (λ z. taken (not_both j z y)) (value_once v a.sort b.sort x k cells.1 a.first_value b.first_value)
-      ∙ ap (λ z. taken (not_both j k z)) (value_once w a.sort b.sort y l cells.1 a.second_value b.second_value)
+      ap (λ o. taken (axiom_one o x y)) cells.0
+      ∙ ap (λ z. taken (axiom_one j z y)) (value_once v a.sort b.sort x k cells.1 a.first_value b.first_value)
+      ∙ ap (λ z. taken (axiom_one j k z)) (value_once w a.sort b.sort y l cells.1 a.second_value b.second_value)
 
   -- ---- nodes and literals
 
@@ -104,36 +104,36 @@ module _ (sheet : Sheet) (outcomes : HaveOneOutcome sheet.universe) (different :
 
   -- ---- parts, by the form of what is written
 
-  data NamedPart : WrittenPart → Part → Type 0 where
-    a_cell : (c : Cell) (i : CellId) → IsCellNamed sheet.universe c i → NamedPart (written_some c) (taken (some_value i))
-    a_cell_twice : (c : Cell) (v w : Value) (i : CellId) (x y : ValueId) → AreValuesNamed sheet.universe c v w i x y → NamedPart (written_one c v w) (taken (not_both i x y))
-    a_rule : (n : List ℕ) (r : ℕ) → IsRuleNamed sheet n r → NamedPart (written_rule n) (taken (true_rule r))
-    a_node : (p : WrittenPath) (i : ℕ) (r : ℕ) (steps : List ℕ) (j : ℕ) → IsNodeNamed sheet p r steps → j ≡ i → NamedPart (written_node_clause p i) (taken (parts r steps j))
-    an_atom : (p : WrittenPath) (reads : List WrittenPair) (r : ℕ) (steps : List ℕ) (es : List Entry) → IsNodeNamed sheet p r steps → AreNamed (IsPairNamed sheet.universe) reads es → NamedPart (written_atom p reads) (taken (by_reads r steps es))
-    a_step : (ls : List WrittenLiteral) (hints : List ℕ) (clause : List Literal) (numbers : List ℕ) → AreNamed (IsLiteralNamed sheet) ls clause → numbers ≡ hints → NamedPart (written_step ls hints) (derived clause numbers)
+  data NamedPart : WrittenPart → CertificatePart → Type 0 where
+    a_cell : (c : Cell) (i : CellId) → IsCellNamed sheet.universe c i → NamedPart (written_some c) (taken (axiom_some i))
+    a_cell_twice : (c : Cell) (v w : Value) (i : CellId) (x y : ValueId) → AreValuesNamed sheet.universe c v w i x y → NamedPart (written_one c v w) (taken (axiom_one i x y))
+    a_rule : (n : List ℕ) (r : ℕ) → IsRuleNamed sheet n r → NamedPart (written_rule n) (taken (axiom_rule r))
+    a_node : (p : WrittenPath) (i : ℕ) (r : ℕ) (steps : List ℕ) (j : ℕ) → IsNodeNamed sheet p r steps → j ≡ i → NamedPart (written_node_clause p i) (taken (axiom_node r steps j))
+    an_atom : (p : WrittenPath) (reads : List WrittenPair) (r : ℕ) (steps : List ℕ) (es : List Entry) → IsNodeNamed sheet p r steps → AreNamedEach (IsPairNamed sheet.universe) reads es → NamedPart (written_atom p reads) (taken (axiom_atom r steps es))
+    a_step : (ls : List WrittenLiteral) (hints : List ℕ) (clause : List Literal) (numbers : List ℕ) → AreNamedEach (IsLiteralNamed sheet) ls clause → numbers ≡ hints → NamedPart (written_step ls hints) (derived clause numbers)
 
-  named_part : (w : WrittenPart) (p : Part) → IsPartNamed sheet w p → NamedPart w p
-  named_part (written_some c) (taken (some_value i)) is = a_cell c i is
-  named_part (written_one c v w) (taken (not_both i x y)) is = a_cell_twice c v w i x y is
-  named_part (written_rule n) (taken (true_rule r)) is = a_rule n r is
-  named_part (written_node_clause p i) (taken (parts r steps j)) is = a_node p i r steps j is.0 is.1
-  named_part (written_atom p reads) (taken (by_reads r steps es)) is = an_atom p reads r steps es is.0 is.1
+  named_part : (w : WrittenPart) (p : CertificatePart) → IsPartNamed sheet w p → NamedPart w p
+  named_part (written_some c) (taken (axiom_some i)) is = a_cell c i is
+  named_part (written_one c v w) (taken (axiom_one i x y)) is = a_cell_twice c v w i x y is
+  named_part (written_rule n) (taken (axiom_rule r)) is = a_rule n r is
+  named_part (written_node_clause p i) (taken (axiom_node r steps j)) is = a_node p i r steps j is.0 is.1
+  named_part (written_atom p reads) (taken (axiom_atom r steps es)) is = an_atom p reads r steps es is.0 is.1
   named_part (written_step ls hints) (derived clause numbers) is = a_step ls hints clause numbers is.0 is.1
   named_part w p is = absurd is
 
-  same_parts : (w : WrittenPart) (p q : Part) → NamedPart w p → NamedPart w q → p ≡ q
-  same_parts w p q (a_cell c i a) (a_cell d j b) = ap (λ o. taken (some_value o)) (cell_once c i j a b)
+  same_parts : (w : WrittenPart) (p q : CertificatePart) → NamedPart w p → NamedPart w q → p ≡ q
+  same_parts w p q (a_cell c i a) (a_cell d j b) = ap (λ o. taken (axiom_some o)) (cell_once c i j a b)
   same_parts w p q (a_cell_twice c v z i x y a) (a_cell_twice d s t j k l b) = values_once c v z i j x y k l a b
-  same_parts w p q (a_rule n r a) (a_rule m s b) = ap (λ o. taken (true_rule o)) (rule_once n r s a b)
+  same_parts w p q (a_rule n r a) (a_rule m s b) = ap (λ o. taken (axiom_rule o)) (rule_once n r s a b)
   same_parts w p q (a_node x i r steps j a e) (a_node y k s others l b f) =
       let same = node_once x r s steps others a b in
-      ap (λ o. taken (parts o steps j)) same.0 ∙ ap (λ o. taken (parts s o j)) same.1 ∙ ap (λ o. taken (parts s others o)) (e ∙ sym f)
+      ap (λ o. taken (axiom_node o steps j)) same.0 ∙ ap (λ o. taken (axiom_node s o j)) same.1 ∙ ap (λ o. taken (axiom_node s others o)) (e ∙ sym f)
   same_parts w p q (an_atom x reads r steps es a all) (an_atom y again s others fs b both) =
       let same = node_once x r s steps others a b in
-      ap (λ o. taken (by_reads o steps es)) same.0 ∙ ap (λ o. taken (by_reads s o es)) same.1 ∙ ap (λ o. taken (by_reads s others o)) (named_once (IsPairNamed sheet.universe) entry_once reads es fs all both)
+      ap (λ o. taken (axiom_atom o steps es)) same.0 ∙ ap (λ o. taken (axiom_atom s o es)) same.1 ∙ ap (λ o. taken (axiom_atom s others o)) (named_once (IsPairNamed sheet.universe) entry_once reads es fs all both)
   same_parts w p q (a_step ls hints clause numbers a e) (a_step ms again other ns b f) = ap₂ derived (named_once (IsLiteralNamed sheet) literal_once ls clause other a b) (e ∙ sym f)
 
-  part_once : (w : WrittenPart) (p q : Part) → IsPartNamed sheet w p → IsPartNamed sheet w q → p ≡ q
+  part_once : (w : WrittenPart) (p q : CertificatePart) → IsPartNamed sheet w p → IsPartNamed sheet w q → p ≡ q
   part_once w p q a b = same_parts w p q (named_part w p a) (named_part w q b)
 
   -- ---- lines
@@ -145,10 +145,10 @@ module _ (sheet : Sheet) (outcomes : HaveOneOutcome sheet.universe) (different :
     a_claim_of_inconsistency : NamedLine claims_inconsistent claims_inconsistent
     a_use : (p : WrittenPair) (e : Entry) → IsPairNamed sheet.universe p e → NamedLine (uses p) (uses e)
     a_value : (p : WrittenPair) (e : Entry) → IsPairNamed sheet.universe p e → NamedLine (assigns p) (assigns e)
-    a_part : (n : ℕ) (w : WrittenPart) (m : ℕ) (p : Part) → m ≡ n → IsPartNamed sheet w p → NamedLine (derives n w) (derives m p)
+    a_part : (n : ℕ) (w : WrittenPart) (m : ℕ) (p : CertificatePart) → m ≡ n → IsPartNamed sheet w p → NamedLine (derives n w) (derives m p)
     an_end : NamedLine ends ends
 
-  named_line : (f : WrittenLine) (l : SaidLine) → IsLineNamed sheet f l → NamedLine f l
+  named_line : (f : WrittenLine) (l : SaidLine) → IsSaidLine sheet f l → NamedLine f l
   named_line nothing nothing is = a_blank
   named_line heading heading is = a_heading
   named_line (claims p holds) (claims e truth) is = a_claim p holds e truth is.0 is.1
@@ -169,5 +169,5 @@ module _ (sheet : Sheet) (outcomes : HaveOneOutcome sheet.universe) (different :
   same_lines w l m (a_part n x k p e a) (a_part o y j q f b) = ap₂ (λ i r. derives i r) (e ∙ sym f) (part_once x p q a b)
   same_lines w l m an_end an_end = refl
 
-  pub line_named_once : (f : WrittenLine) (l m : SaidLine) → IsLineNamed sheet f l → IsLineNamed sheet f m → l ≡ m
+  pub line_named_once : (f : WrittenLine) (l m : SaidLine) → IsSaidLine sheet f l → IsSaidLine sheet f m → l ≡ m
   line_named_once f l m a b = same_lines f l m (named_line f l a) (named_line f m b)

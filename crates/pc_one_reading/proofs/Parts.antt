@@ -5,7 +5,7 @@ use Rattle.std.specs.List.{AllByRecursion}
 use Rattle.pc_formula.specs.Tree.{Cell, Value}
 use Rattle.pc_cert.specs.Written.{WrittenPair, WrittenPath, WrittenLiteral, WrittenPart, written_some, written_one, written_rule, written_node_clause, written_atom, written_step}
 use Rattle.pc_cert.specs.Texts.{IsCellText, IsValueText, IsReadText, IsNumberText, IsPathText, IsLiteralText, AreAll}
-use Rattle.pc_cert.specs.Line.{IsSomeForm, IsOneForm, IsNodeForm, IsAtomForm, IsStep, part_word, FollowsPart, IsPart, IsDerivation}
+use Rattle.pc_cert.specs.Line.{IsSomeForm, IsOneForm, IsNodeForm, IsAtomForm, IsStep, part_word, FollowsPart, IsPartForm, IsDerivationForm}
 use Rattle.pc_one_reading.proofs.Words.{heads, tails, differ}
 use Rattle.pc_one_reading.proofs.Texts.{IsUnambiguous, are_all_once, number_once, path_once, cell_once, value_once, read_once, literal_once}
 
@@ -68,16 +68,16 @@ module _ (laws : IsUnambiguous) where
   follows_once texts (written_step ls hs) (written_step ms is) e a b = step_once texts ls ms hs is a b
   follows_once texts p q e a b = absurd (differ (part_word p) (part_word q) refl e)
 
-  part_once : (texts : List (List ℕ)) (p q : WrittenPart) → IsPart texts p → IsPart texts q → p ≡ q
+  part_once : (texts : List (List ℕ)) (p q : WrittenPart) → IsPartForm texts p → IsPartForm texts q → p ≡ q
   part_once texts p q a b =
       let all = sym a.are ∙ b.are in
       let words = heads (part_word p) (part_word q) a.more b.more all in
       let rest = tails (part_word p) (part_word q) a.more b.more all in
       follows_once b.more p q words (subst (λ ts. FollowsPart p ts) rest a.follows) b.follows
 
-  pub derivation_once : (texts : List (List ℕ)) (m n : ℕ) (p q : WrittenPart) → IsDerivation texts m p → IsDerivation texts n q → (m ≡ n) × (p ≡ q)
+  pub derivation_once : (texts : List (List ℕ)) (m n : ℕ) (p q : WrittenPart) → IsDerivationForm texts m p → IsDerivationForm texts n q → (m ≡ n) × (p ≡ q)
   derivation_once texts m n p q a b =
       let all = sym a.are ∙ b.are in
       let numbers = heads a.number b.number a.more b.more all in
       let rest = tails a.number b.number a.more b.more all in
-      (number_once b.number m n (subst (λ t. IsNumberText t m) numbers a.counts) b.counts, part_once b.more p q (subst (λ ts. IsPart ts p) rest a.is) b.is)
+      (number_once b.number m n (subst (λ t. IsNumberText t m) numbers a.counts) b.counts, part_once b.more p q (subst (λ ts. IsPartForm ts p) rest a.is) b.is)

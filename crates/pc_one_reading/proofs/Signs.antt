@@ -6,7 +6,7 @@ use Rattle.std.proofs.lemmas.Bool.Decides.{nat_tests}
 use Rattle.pc_token.specs.declared.token.Kind.{Kind}
 use Rattle.pc_token.specs.declared.token.Kind.TheVariants.{Name, Number, Comma, Close, Open, Minus}
 use Rattle.pc_token.specs.declared.token.Token.{Token}
-use Rattle.pc_token.specs.Token.{is_blank, IsOfKind, IsTokenOf, Reads}
+use Rattle.pc_token.specs.Token.{is_blank, IsOfKind, IsTokenOf, ReadsTokens}
 use Rattle.pc_name.specs.Names.{is_reserved}
 use Rattle.pc_formula.specs.Word.{Word, name, reserved, number, sign, word, word_of}
 use Rattle.pc_formula.specs.Tree.{Cell, Value}
@@ -89,7 +89,7 @@ record HasToken (line : List ℕ) (k : Kind) : Type 0 where
   is : IsTokenOf line token
   kind : token.kind ≡ k
 
-sign_stands : (line : List ℕ) (ts : List Token) (from to : ℕ) (k : Kind) (front rest : List Word) → Reads line from ts to → map (word_of line) ts ≡ front ++ sign k ∷ rest → HasToken line k
+sign_stands : (line : List ℕ) (ts : List Token) (from to : ℕ) (k : Kind) (front rest : List Word) → ReadsTokens line from ts to → map (word_of line) ts ≡ front ++ sign k ∷ rest → HasToken line k
 sign_stands line [] from to k [] rest reads e = absurd (cc)
 sign_stands line [] from to k (f ∷ fs) rest reads e = absurd (cc)
 sign_stands line (t ∷ ts) from to k [] rest reads e =

@@ -5,7 +5,7 @@ use Rattle.pc_sheet.specs.Sheet.{Sheet}
 use Rattle.pc_accept.specs.Accepts.{inconsistent}
 use Rattle.pc_cert.specs.Written.{nothing, heading, claims, claims_inconsistent, uses, assigns, derives, ends, WrittenLine, SaidLine}
 use Rattle.pc_cert.specs.Order.{LineKind, inconsistent_line, kind_of, is_target, is_claim, is_value, is_numbered, is_end, is_heading, has, lacks, may_stand, all_may_stand}
-use Rattle.pc_cert.specs.Meaning.{IsLineNamed}
+use Rattle.pc_cert.specs.Meaning.{IsSaidLine}
 use Rattle.pc_cert.specs.Text.{AllSay, uses_from, values_from, claim_in}
 use Rattle.pc_one_reading.proofs.Words.{false_no_true, both_first, both_second}
 
@@ -32,7 +32,7 @@ has_now test before k is = list_any-append test before (k ∷ []) ∙ either (ha
 
 -- ---- lines that say something stand
 
-pub same_kind : (sheet : Sheet) (f : WrittenLine) (l : SaidLine) → IsLineNamed sheet f l → kind_of f ≡ kind_of l
+pub same_kind : (sheet : Sheet) (f : WrittenLine) (l : SaidLine) → IsSaidLine sheet f l → kind_of f ≡ kind_of l
 same_kind sheet nothing nothing is = refl
 same_kind sheet heading heading is = refl
 same_kind sheet (claims p holds) (claims e truth) is = refl

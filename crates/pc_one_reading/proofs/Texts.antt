@@ -4,10 +4,10 @@ use Rattle.std.specs.Prelude.{◌==◌}
 use Rattle.std.specs.List.{slice_split, onto_first}
 use Rattle.pc_token.specs.declared.token.Kind.{Kind}
 use Rattle.pc_token.specs.declared.token.Kind.TheVariants.{Equal}
-use Rattle.pc_token.specs.Token.{Reading, split, IsReadingOf}
+use Rattle.pc_token.specs.Token.{LineReading, split, IsReadingOf}
 use Rattle.pc_formula.specs.Word.{Word, sign, words_of, HasWords}
 use Rattle.pc_formula.specs.Tree.{Cell, Value}
-use Rattle.pc_formula.specs.Front.{StopsAt}
+use Rattle.pc_formula.specs.Front.{StopsLevel}
 use Rattle.pc_formula.specs.Value.{DerivesCell, DerivesValue}
 use Rattle.pc_cert.specs.Written.{WrittenPair, WrittenPath, WrittenSymbol, written_pair, written_node, WrittenLiteral}
 use Rattle.pc_cert.specs.Texts.{IsWholeCell, IsWholeValue, IsWholePair, SpellsThis, IsCellText, IsValueText, IsReadText, IsNumberText, AreAll, pieces_of, IsPathText, without_negation, is_path, IsSymbolText, IsLiteralText}
@@ -15,9 +15,9 @@ use Rattle.pc_one_reading.proofs.Words.{heads, tails, false_no_true}
 
 -- a line has one reading, and words start with one value and one cell at most
 pub record IsUnambiguous : Type 0 where
-  pub reading : (line : List ℕ) (q r : Reading) → IsReadingOf line q → IsReadingOf line r → q ≡ r
+  pub reading : (line : List ℕ) (q r : LineReading) → IsReadingOf line q → IsReadingOf line r → q ≡ r
   pub value : (ws : List Word) (v w : Value) (r s : List Word) → DerivesValue ws v r → DerivesValue ws w s → (v ≡ w) × (r ≡ s)
-  pub cell : (ws : List Word) (c d : Cell) (r s : List Word) → DerivesCell ws c r → DerivesCell ws d s → StopsAt 1 r → StopsAt 1 s → (c ≡ d) × (r ≡ s)
+  pub cell : (ws : List Word) (c d : Cell) (r s : List Word) → DerivesCell ws c r → DerivesCell ws d s → StopsLevel 1 r → StopsLevel 1 s → (c ≡ d) × (r ≡ s)
 
 -- ---- one text after another
 
@@ -61,7 +61,7 @@ path_starts text p is = starts_path text p.rule is.numbers is.pieces
 
 -- ---- the signs of pairs
 
-pub equal_stops : (rest : List Word) → StopsAt 1 (sign Equal ∷ rest)
+pub equal_stops : (rest : List Word) → StopsLevel 1 (sign Equal ∷ rest)
 equal_stops rest = omega arith
 
 abbrev pair : Cell → Value → WrittenPair
@@ -91,7 +91,7 @@ module _ (laws : IsUnambiguous) where
   same_signs : (k j : Kind) (r s : List Word) → sign k ∷ r ≡ sign j ∷ s → (k ≡ j) × (r ≡ s)
   same_signs k j r s e = ((cc), (cc))
 
-  pub pair_once : (k j : Kind) (ws : List Word) (p q : WrittenPair) → ((rest : List Word) → StopsAt 1 (sign k ∷ rest)) → ((rest : List Word) → StopsAt 1 (sign j ∷ rest)) → IsWholePair k ws p → IsWholePair j ws q → (k ≡ j) × (p ≡ q)
+  pub pair_once : (k j : Kind) (ws : List Word) (p q : WrittenPair) → ((rest : List Word) → StopsLevel 1 (sign k ∷ rest)) → ((rest : List Word) → StopsLevel 1 (sign j ∷ rest)) → IsWholePair k ws p → IsWholePair j ws q → (k ≡ j) × (p ≡ q)
   pair_once k j ws p q stops also a b =
       let cells = laws.cell ws p.cell q.cell (sign k ∷ a.rest) (sign j ∷ b.rest) a.cell b.cell (stops a.rest) (also b.rest) in
       let signs = same_signs k j a.rest b.rest cells.1 in

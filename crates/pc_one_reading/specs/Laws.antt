@@ -5,13 +5,13 @@ use Rattle.pc_sheet.specs.Entailment.{cell_sizes}
 use Rattle.pc_sheet.specs.Nodes.{node_at}
 use Rattle.pc_sheet.specs.WellFormed.{IsEntryOf, IsWellFormed}
 use Rattle.pc_accept.specs.Literals.{Symbol, pair, node}
-use Rattle.pc_accept.specs.Axioms.{Axiom, some_value, not_both, true_rule, parts, by_reads}
+use Rattle.pc_accept.specs.Axioms.{Axiom, axiom_some, axiom_one, axiom_rule, axiom_node, axiom_atom}
 use Rattle.pc_accept.specs.Accepts.{Claim, implied, inconsistent}
 use Rattle.pc_cert.specs.declared.cert.Cert.{Cert}
-use Rattle.pc_cert.specs.Written.{WrittenLine, Part, taken, derived, SaidLine}
-use Rattle.pc_cert.specs.Line.{IsLine}
-use Rattle.pc_cert.specs.Meaning.{IsLineNamed}
-use Rattle.pc_cert.specs.Text.{Reading, TextReading, IsTextReading, certificate}
+use Rattle.pc_cert.specs.Written.{WrittenLine, CertificatePart, taken, derived, SaidLine}
+use Rattle.pc_cert.specs.Line.{IsCertificateLine}
+use Rattle.pc_cert.specs.Meaning.{IsSaidLine}
+use Rattle.pc_cert.specs.Text.{CertificateReading, TextReading, IsTextReading, certificate}
 use Rattle.pc_cert.specs.Views.{IsCertTold}
 use Rattle.pc_cert.specs.ReadFor.{IsBare, IsReadFor}
 
@@ -19,11 +19,11 @@ use Rattle.pc_cert.specs.ReadFor.{IsBare, IsReadFor}
 
 -- a line has at most one form
 abbrev pub LinesHaveOneForm : Type 0
-LinesHaveOneForm = (line : List ℕ) (f g : WrittenLine) → IsLine line f → IsLine line g → f ≡ g
+LinesHaveOneForm = (line : List ℕ) (f g : WrittenLine) → IsCertificateLine line f → IsCertificateLine line g → f ≡ g
 
 -- in a well-formed sheet a form says at most one thing
 abbrev pub FormsSayOneThing : Type 0
-FormsSayOneThing = (sheet : Sheet) → IsWellFormed sheet → (form : WrittenLine) (k l : SaidLine) → IsLineNamed sheet form k → IsLineNamed sheet form l → k ≡ l
+FormsSayOneThing = (sheet : Sheet) → IsWellFormed sheet → (form : WrittenLine) (k l : SaidLine) → IsSaidLine sheet form k → IsSaidLine sheet form l → k ≡ l
 
 -- in a well-formed sheet a text has at most one reading
 abbrev pub TextsHaveOneReading : Type 0
@@ -38,37 +38,37 @@ WhatIsReadIsForTheSheet = (sheet : Sheet) (text : List ℕ) (c : Cert) → IsCer
 -- ---- what it speaks of
 
 -- a cell of the sheet with a value of its sort, or a node of one of its rules
-abbrev pub IsSymbolOf : Sheet → Symbol → Type 0
-IsSymbolOf sheet (pair c v) = IsEntryOf sheet.universe (record { cell = c; value = v })
-IsSymbolOf sheet (node rule steps) = IsSome (node_at sheet rule steps)
+abbrev pub IsSheetSymbol : Sheet → Symbol → Type 0
+IsSheetSymbol sheet (pair c v) = IsEntryOf sheet.universe (record { cell = c; value = v })
+IsSheetSymbol sheet (node rule steps) = IsSome (node_at sheet rule steps)
 
 -- its cells, values, rules and paths are the sheet's
-abbrev pub IsAxiomOf : Sheet → Axiom → Type 0
-IsAxiomOf sheet (some_value c) = c.0 < length (cell_sizes sheet.universe)
-IsAxiomOf sheet (not_both c v w) = IsSymbolOf sheet (pair c v) × IsSymbolOf sheet (pair c w)
-IsAxiomOf sheet (true_rule rule) = rule < length sheet.rules
-IsAxiomOf sheet (parts rule steps i) = IsSymbolOf sheet (node rule steps)
-IsAxiomOf sheet (by_reads rule steps reads) = IsSymbolOf sheet (node rule steps) × All (IsEntryOf sheet.universe) reads
+abbrev pub IsSheetAxiom : Sheet → Axiom → Type 0
+IsSheetAxiom sheet (axiom_some c) = c.0 < length (cell_sizes sheet.universe)
+IsSheetAxiom sheet (axiom_one c v w) = IsSheetSymbol sheet (pair c v) × IsSheetSymbol sheet (pair c w)
+IsSheetAxiom sheet (axiom_rule rule) = rule < length sheet.rules
+IsSheetAxiom sheet (axiom_node rule steps i) = IsSheetSymbol sheet (node rule steps)
+IsSheetAxiom sheet (axiom_atom rule steps reads) = IsSheetSymbol sheet (node rule steps) × All (IsEntryOf sheet.universe) reads
 
 -- an axiom of the sheet, or a step over symbols of the sheet
-abbrev pub IsPartOf : Sheet → Part → Type 0
-IsPartOf sheet (taken a) = IsAxiomOf sheet a
-IsPartOf sheet (derived clause hints) = All (λ l. IsSymbolOf sheet l.what) clause
+abbrev pub IsPartOverSheet : Sheet → CertificatePart → Type 0
+IsPartOverSheet sheet (taken a) = IsSheetAxiom sheet a
+IsPartOverSheet sheet (derived clause hints) = All (λ l. IsSheetSymbol sheet l.what) clause
 
-abbrev pub IsClaimOf : Sheet → Claim → Type 0
-IsClaimOf sheet (implied t) = IsSymbolOf sheet (pair t.cell t.value)
-IsClaimOf sheet inconsistent = Unit {0}
+abbrev pub IsSheetClaim : Sheet → Claim → Type 0
+IsSheetClaim sheet (implied t) = IsSheetSymbol sheet (pair t.cell t.value)
+IsSheetClaim sheet inconsistent = Unit {0}
 
-pub record SpeaksOf (sheet : Sheet) (r : Reading) : Type 0 where
-  pub claim : IsClaimOf sheet r.claim
+pub record SpeaksOf (sheet : Sheet) (r : CertificateReading) : Type 0 where
+  pub claim : IsSheetClaim sheet r.claim
   pub uses : All (λ e. IsEntryOf sheet.universe e.1) r.uses
   pub values : All (λ e. IsEntryOf sheet.universe e.1) r.values
-  pub parts : All (λ p. IsPartOf sheet p.1) r.parts
+  pub parts : All (λ p. IsPartOverSheet sheet p.1) r.parts
 
 -- what a text is read as in a sheet speaks of that sheet alone
 abbrev pub WhatIsReadSpeaksOfTheSheet : Type 0
-WhatIsReadSpeaksOfTheSheet = (sheet : Sheet) (text : List ℕ) (r : Reading) → IsTextReading sheet text (certificate r) → SpeaksOf sheet r
+WhatIsReadSpeaksOfTheSheet = (sheet : Sheet) (text : List ℕ) (r : CertificateReading) → IsTextReading sheet text (certificate r) → SpeaksOf sheet r
 
 -- what is read as a claim of inconsistency has neither used entries nor values
 abbrev pub InconsistencyIsBare : Type 0
-InconsistencyIsBare = (sheet : Sheet) (text : List ℕ) (r : Reading) → IsTextReading sheet text (certificate r) → IsBare r r.claim
+InconsistencyIsBare = (sheet : Sheet) (text : List ℕ) (r : CertificateReading) → IsTextReading sheet text (certificate r) → IsBare r r.claim

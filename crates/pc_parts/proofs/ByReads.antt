@@ -3,7 +3,8 @@ use Rattle.std.proofs.Common.{◌≡◌, ℕ, ◌<◌, ◌↔◌, List, [], ◌�
 use Rattle.std.specs.List.{flat_map}
 use Rattle.std.proofs.lemmas.List.Elements.{Contains-append_left, Contains-append_right, Contains-push}
 use Rattle.pc_sheet.specs.Sheet.{Universe, Item, Items, no_items, item, variable, constant, number, cell, Sum, Statement, Statements, no_statements, statement, compare, in_table, negation, all_of, some_of, implies, iff, for_all, exists}
-use Rattle.pc_sheet.specs.Truth.{Scope, size_of, meaning, places, place_of, settled, number_of, added, total, sum_meaning, value_or_first, result_sort_of, cell_number, rows_of, Compares, Holds, AllHold, SomeHolds}
+use Rattle.pc_sheet.specs.Truth.{Scope, meaning, places, place_of, settled, number_of, added, total, sum_meaning, value_or_first, Compares, Holds, AllHold, SomeHolds}
+use Rattle.pc_sheet.specs.Sizes.{size_of, result_sort_of, cell_number, rows_of}
 use Rattle.pc_sheet.specs.Reads.{looked_up, all_looked_up, looked_up_later, looked_up_in_sum}
 use Rattle.pc_sheet.specs.Cells.{values_below}
 use Rattle.pc_sheet.specs.declared.ids.SortId.{SortId}

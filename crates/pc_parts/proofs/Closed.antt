@@ -1,7 +1,8 @@
 -- A closed statement is true exactly where the statement is under its scope.
 use Rattle.std.proofs.Common.{◌≡◌, ℕ, zero, suc, ◌-◌, ◌↔◌, List, [], ◌∷◌, ◌++◌, append_assoc, map, length, Contains, slice_get, arith, ap, refl, sym, ◌∙◌, subst}
 use Rattle.pc_sheet.specs.Sheet.{Universe, Item, Items, no_items, item, variable, constant, number, cell, Sum, Statement, Statements, no_statements, statement, compare, in_table, negation, all_of, some_of, implies, iff, for_all, exists}
-use Rattle.pc_sheet.specs.Truth.{Scope, meaning, meaning_of_variable, places, place_of, settled, number_of, added, total, sum_meaning, value_or_first, result_sort_of, cell_number, rows_of, Compares, Holds, AllHold, SomeHolds}
+use Rattle.pc_sheet.specs.Truth.{Scope, meaning, meaning_of_variable, places, place_of, settled, number_of, added, total, sum_meaning, value_or_first, Compares, Holds, AllHold, SomeHolds}
+use Rattle.pc_sheet.specs.Sizes.{result_sort_of, cell_number, rows_of}
 use Rattle.pc_sheet.specs.declared.ids.SortId.{SortId}
 use Rattle.pc_sheet.specs.declared.ids.ValueId.{ValueId}
 use Rattle.pc_name.specs.declared.sign.Sign.{Sign}

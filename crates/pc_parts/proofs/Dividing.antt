@@ -4,14 +4,14 @@ use Rattle.std.proofs.lemmas.List.Elements.{All-head, All-tail, All-append, All-
 use Rattle.std.proofs.lemmas.List.Kept.{AllPairs-cons}
 use Rattle.pc_sheet.specs.Sheet.{Sheet}
 use Rattle.pc_parts.specs.Pieces.{Piece, pieces, ReadsCell}
-use Rattle.pc_parts.specs.Parts.{Part, cell_count, AreNeighbours, IsChain, AreJoined, IsKept, IsComponent, IsBefore, ReadsNone, part_without_cells, AreApart}
+use Rattle.pc_parts.specs.Parts.{Part, cell_count, AreNeighbours, IsChain, AreJoined, IsFiltered, IsComponent, IsBefore, ReadsNoCell, part_without_cells, AreApart}
 use Rattle.pc_parts.specs.Laws.{PartsAreADivision}
 use Rattle.pc_laws.proofs.Elements.{contains_first, contains_later, contains_cases, contains_none, all_from}
 use Rattle.pc_parts.proofs.ReadWithin.{reads_cells, reads_decided}
 
 -- ---- what is kept
 
-pub kept_of : {X : Type 0} (P : X → Type 0) (xs ys : List X) → IsKept P xs ys → (y : X) → Contains ys y → Contains xs y × P y
+pub kept_of : {X : Type 0} (P : X → Type 0) (xs ys : List X) → IsFiltered P xs ys → (y : X) → Contains ys y → Contains xs y × P y
 kept_of P [] ys h y c = absurd (contains_none y (subst (λ zs. Contains zs y) h c))
 kept_of P (x ∷ xs) ys (inl h) y c = let rest = kept_of P xs ys h.1 y c in (contains_later x xs y rest.0, rest.1)
 kept_of P (x ∷ xs) ys (inr (p, rest, is, h)) y c = elim (contains_cases x rest y (subst (λ zs. Contains zs y) is c)) [
@@ -19,7 +19,7 @@ kept_of P (x ∷ xs) ys (inr (p, rest, is, h)) y c = elim (contains_cases x rest
   | inr later ↦ let more = kept_of P xs rest h y later in (contains_later x xs y more.0, more.1)
 ]
 
-pub of_kept : {X : Type 0} (P : X → Type 0) (xs ys : List X) → IsKept P xs ys → (x : X) → Contains xs x → P x → Contains ys x
+pub of_kept : {X : Type 0} (P : X → Type 0) (xs ys : List X) → IsFiltered P xs ys → (x : X) → Contains xs x → P x → Contains ys x
 of_kept P [] ys h y c p = absurd (contains_none y c)
 of_kept P (x ∷ xs) ys (inl h) y c p = elim (contains_cases x xs y c) [
   | inl same ↦ absurd (h.0 (subst P (sym same) p))
@@ -121,18 +121,18 @@ parts_are_a_division sheet parts formed are =
               of_kept (λ q. (c : ℕ) × Contains found.0.cells c × ReadsCell u q c) (pieces sheet) found.0.pieces k.pieces p there (reads.0, found.2, reads.1),
             )
         | inr none ↦
-            let found = without_has sheet are.read_none p (of_kept (ReadsNone sheet) (pieces sheet) are.read_none are.others p there none) in
+            let found = without_has sheet are.read_none p (of_kept (ReadsNoCell sheet) (pieces sheet) are.read_none are.others p there none) in
             (found.0, in_parts found.0 (Contains-append_right are.components last found.0 found.1), found.2)
       ];
       pieces = λ part there p has. elim (cases part there) [
         | inl c ↦ (kept_of (λ q. (c : ℕ) × Contains part.cells c × ReadsCell u q c) (pieces sheet) part.pieces (component part c).pieces p has).0
-        | inr l ↦ (kept_of (ReadsNone sheet) (pieces sheet) are.read_none are.others p (subst (λ ps. Contains ps p) (without_is sheet are.read_none part l).1 has)).0
+        | inr l ↦ (kept_of (ReadsNoCell sheet) (pieces sheet) are.read_none are.others p (subst (λ ps. Contains ps p) (without_is sheet are.read_none part l).1 has)).0
       ];
       reads = λ part there p has c reads. elim (cases part there) [
         | inl k ↦
             let is = component part k in
             let kept = kept_of (λ q. (d : ℕ) × Contains part.cells d × ReadsCell u q d) (pieces sheet) part.pieces is.pieces p has in
             (is.joined c).1 (joined_through sheet is.first kept.1.0 c ((is.joined kept.1.0).0 kept.1.1) (joined_by sheet kept.1.0 c (p, kept.0, kept.1.2, reads)))
-        | inr l ↦ absurd ((kept_of (ReadsNone sheet) (pieces sheet) are.read_none are.others p (subst (λ ps. Contains ps p) (without_is sheet are.read_none part l).1 has)).1 c reads)
+        | inr l ↦ absurd ((kept_of (ReadsNoCell sheet) (pieces sheet) are.read_none are.others p (subst (λ ps. Contains ps p) (without_is sheet are.read_none part l).1 has)).1 c reads)
       ];
     }

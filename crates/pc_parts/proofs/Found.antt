@@ -8,7 +8,7 @@ use Rattle.std.proofs.lemmas.List.Kept.{AllPairs-cons, AllPairs-filter}
 use Rattle.pc_sheet.specs.Sheet.{Universe, Sheet}
 use Rattle.pc_sheet.specs.WellFormed.{IsWellFormed}
 use Rattle.pc_parts.specs.Pieces.{Piece, pieces, ReadsCell}
-use Rattle.pc_parts.specs.Parts.{Part, cell_count, AreJoined, IsKept, IsComponent, IsBefore, ReadsNone, AreParts}
+use Rattle.pc_parts.specs.Parts.{Part, cell_count, AreJoined, IsFiltered, IsComponent, IsBefore, ReadsNoCell, AreParts}
 use Rattle.pc_parts.specs.Leaves.{cells_of}
 use Rattle.pc_parts.specs.Components.{label_of, all_cells, labels_of, is_labeled, are_labeled, are_no_cells, part_of_first, parts_of, PartsAreFound}
 use Rattle.pc_laws.proofs.Elements.{contains_first, contains_later, contains_cases, contains_none, contains_map, all_from, kept, kept_is}
@@ -53,11 +53,11 @@ begins f (x ∷ xs) order has least = elim (contains_cases x xs f has) [
 
 -- ---- a filter by a test that decides
 
-filter_keeps : {X : Type 0} (P : X → Type 0) (test : X → Bool) (xs : List X) → ((x : X) → Contains xs x → (test x ≡ true → P x) × (P x → test x ≡ true)) → IsKept P xs (filter test xs)
+filter_keeps : {X : Type 0} (P : X → Type 0) (test : X → Bool) (xs : List X) → ((x : X) → Contains xs x → (test x ≡ true → P x) × (P x → test x ≡ true)) → IsFiltered P xs (filter test xs)
 filter_keeps P test [] h = refl
 filter_keeps {X = X} P test (x ∷ xs) h = by (test x) refl (filter_keeps P test xs (λ y c. h y (contains_later x xs y c)))
   where
-    by : (b : Bool) → test x ≡ b → IsKept P xs (filter test xs) → IsKept P (x ∷ xs) (cond b (x ∷ filter test xs) (filter test xs))
+    by : (b : Bool) → test x ≡ b → IsFiltered P xs (filter test xs) → IsFiltered P (x ∷ xs) (cond b (x ∷ filter test xs) (filter test xs))
     by true e rest = inr ((h x (contains_first x xs)).0 e, filter test xs, refl, rest)
     by false e rest = inl (λ p. false≢true (sym e ∙ (h x (contains_first x xs)).1 p), rest)
 
@@ -142,10 +142,10 @@ module _ (sheet : Sheet) (formed : IsWellFormed sheet) where
   unfolding firsts
   all_first = all_from IsFirst firsts (λ f c. let k = kept_is (λ c. is_labeled (labels_of sheet) c c) (all_cells u) f c in (omega (arith, (range_below 0 n f k.0).1), eqb-true (label f) f k.1))
 
-  none_decided : (p : Piece) → Contains (pieces sheet) p → (are_no_cells (cells_of u p) ≡ true → ReadsNone sheet p) × (ReadsNone sheet p → are_no_cells (cells_of u p) ≡ true)
+  none_decided : (p : Piece) → Contains (pieces sheet) p → (are_no_cells (cells_of u p) ≡ true → ReadsNoCell sheet p) × (ReadsNoCell sheet p → are_no_cells (cells_of u p) ≡ true)
   none_decided p there = by (cells_of u p) (λ c h. (leaves_read_the_cells sheet formed p there c).0 h) (λ c h. (leaves_read_the_cells sheet formed p there c).1 h)
     where
-      by : (cs : List ℕ) → ((c : ℕ) → Contains cs c → ReadsCell u p c) → ((c : ℕ) → ReadsCell u p c → Contains cs c) → (are_no_cells cs ≡ true → ReadsNone sheet p) × (ReadsNone sheet p → are_no_cells cs ≡ true)
+      by : (cs : List ℕ) → ((c : ℕ) → Contains cs c → ReadsCell u p c) → ((c : ℕ) → ReadsCell u p c → Contains cs c) → (are_no_cells cs ≡ true → ReadsNoCell sheet p) × (ReadsNoCell sheet p → are_no_cells cs ≡ true)
       by [] reads has = (λ e c h. contains_none c (has c h), λ h. refl)
       by (d ∷ ds) reads has = (λ e. absurd (false≢true e), λ h. absurd (h d (reads d (contains_first d ds))))
 
@@ -162,7 +162,7 @@ module _ (sheet : Sheet) (formed : IsWellFormed sheet) where
         let below = label_there sheet formed c l in
         let is : label f ≡ f = sym (joined_label sheet formed c f (label_joined sheet formed c l)) in
         (part f, contains_map part firsts f (kept (λ d. is_labeled (labels_of sheet) d d) (all_cells u) f (range_has n f below) (eq-eqb (label f) f is)), in_part f c l refl);
-    others = filter_keeps (ReadsNone sheet) (λ p. are_no_cells (cells_of u p)) (pieces sheet) none_decided;
+    others = filter_keeps (ReadsNoCell sheet) (λ p. are_no_cells (cells_of u p)) (pieces sheet) none_decided;
   }
 
 pub parts_are_found : PartsAreFound

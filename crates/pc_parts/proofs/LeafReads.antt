@@ -4,7 +4,8 @@ use Rattle.std.specs.List.{flat_map}
 use Rattle.std.proofs.lemmas.List.{map-append}
 use Rattle.std.proofs.lemmas.List.Elements.{All-nil, All-cons, All-head, All-tail, All-push, All-contains, Contains-append_cases, Contains-append_left, Contains-append_right}
 use Rattle.pc_sheet.specs.Sheet.{Universe, Statement, Statements, no_statements, statement, compare, in_table, negation, all_of, some_of, implies, iff, for_all, exists}
-use Rattle.pc_sheet.specs.Truth.{Scope, size_of, value_or_first}
+use Rattle.pc_sheet.specs.Truth.{Scope, value_or_first}
+use Rattle.pc_sheet.specs.Sizes.{size_of}
 use Rattle.pc_sheet.specs.Entailment.{cell_sizes, IsAssignment, HasEntry, HasAll}
 use Rattle.pc_sheet.specs.Meanings.{GivesValues}
 use Rattle.pc_sheet.specs.Reads.{IsAtom, number_of_cell, value_in, looked_up_in_atom}

@@ -5,7 +5,7 @@ use Rattle.pc_sheet.specs.Sheet.{Sheet}
 use Rattle.pc_sheet.specs.WellFormed.{IsWellFormed}
 use Rattle.pc_laws.proofs.Elements.{contains_first, contains_later, contains_cases, contains_none}
 use Rattle.pc_parts.specs.Pieces.{Piece, pieces, ReadsCell}
-use Rattle.pc_parts.specs.Parts.{Part, cell_count, AreJoined, IsKept, IsComponent, IsBefore, ReadsNone, part_without_cells, AreParts}
+use Rattle.pc_parts.specs.Parts.{Part, cell_count, AreJoined, IsFiltered, IsComponent, IsBefore, ReadsNoCell, part_without_cells, AreParts}
 use Rattle.pc_parts.specs.Laws.{PartsAreOfItsCells, PartsAreDetermined}
 use Rattle.pc_parts.proofs.Dividing.{without_is, joined_through, joined_back}
 use Rattle.pc_parts.proofs.Labels.{joined_within}
@@ -20,7 +20,7 @@ parts_are_of_its_cells sheet parts formed are part there c has =
 
 -- ---- what is kept of a list
 
-kept_same : {X : Type 0} (P Q : X → Type 0) → ((x : X) → P x ↔ Q x) → (xs ys zs : List X) → IsKept P xs ys → IsKept Q xs zs → ys ≡ zs
+kept_same : {X : Type 0} (P Q : X → Type 0) → ((x : X) → P x ↔ Q x) → (xs ys zs : List X) → IsFiltered P xs ys → IsFiltered Q xs zs → ys ≡ zs
 kept_same P Q same [] ys zs h k = h ∙ sym k
 kept_same P Q same (x ∷ xs) ys zs (inl (lacks, h)) (inl (none, k)) = kept_same P Q same xs ys zs h k
 kept_same P Q same (x ∷ xs) ys zs (inl (lacks, h)) (inr k) = absurd (lacks ((same x).1 k.0))
@@ -135,5 +135,5 @@ pub parts_are_determined : PartsAreDetermined
 parts_are_determined sheet parts others are so =
     are.are
     ∙ ap (λ cs. cs ++ part_without_cells are.read_none) (components_same sheet are.components so.components are.each so.each are.order so.order (in_other sheet parts others are so) (in_other sheet others parts so are))
-    ∙ ap (λ ps. so.components ++ part_without_cells ps) (kept_same (ReadsNone sheet) (ReadsNone sheet) (λ p. (λ h. h, λ h. h)) (pieces sheet) are.read_none so.read_none are.others so.others)
+    ∙ ap (λ ps. so.components ++ part_without_cells ps) (kept_same (ReadsNoCell sheet) (ReadsNoCell sheet) (λ p. (λ h. h, λ h. h)) (pieces sheet) are.read_none so.read_none are.others so.others)
     ∙ sym so.are

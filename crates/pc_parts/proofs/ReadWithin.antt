@@ -2,7 +2,8 @@
 use Rattle.std.proofs.Common.{ℕ, ◌+◌, ◌<◌, ◌⊎◌, inl, inr, List, [], ◌∷◌, ◌++◌, length, All, Contains, refl}
 use Rattle.std.proofs.lemmas.List.Elements.{All-nil, All-cons, All-append, All-head, All-tail, All-contains}
 use Rattle.pc_sheet.specs.Sheet.{Universe, Sheet, NamedStatement, Statement, Statements, no_statements, statement, compare, in_table, negation, all_of, some_of, implies, iff, for_all, exists}
-use Rattle.pc_sheet.specs.Truth.{Scope, size_of}
+use Rattle.pc_sheet.specs.Truth.{Scope}
+use Rattle.pc_sheet.specs.Sizes.{size_of}
 use Rattle.pc_sheet.specs.Entailment.{cell_sizes, IsAssignment}
 use Rattle.pc_sheet.specs.Meanings.{GivesValues}
 use Rattle.pc_sheet.specs.WellFormed.{IsWellFormed, IsWellFormedRule}

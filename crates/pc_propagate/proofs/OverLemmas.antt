@@ -6,7 +6,7 @@ use Rattle.std.proofs.lemmas.List.Elements.{All-contains, All-push, Contains-app
 use Rattle.pc_lits.specs.declared.literal.Lit.{Lit}
 use Rattle.pc_lits.specs.Literals.{negated}
 use Rattle.pc_lits.specs.Steps.{IsLastOpen}
-use Rattle.pc_propagate.specs.declared.trail.Entry.{Entry}
+use Rattle.pc_propagate.specs.declared.trail.TrailEntry.{TrailEntry}
 use Rattle.pc_propagate.specs.declared.trail.Placed.{Placed}
 use Rattle.pc_propagate.specs.declared.trail.Placed.TheVariants.{Done, Spent}
 use Rattle.pc_propagate.specs.declared.clauses.ClauseRef.{ClauseRef}
@@ -17,16 +17,16 @@ use Rattle.pc_propagate.specs.Entries.{falses}
 use Rattle.pc_propagate.specs.TrailView.{TrailView}
 use Rattle.pc_propagate.specs.Counts.{PlacesEntry}
 use Rattle.pc_propagate.specs.Levels.{IsBackTo}
-use Rattle.pc_propagate.specs.Over.{AreInRange, IsJustified, AreJustified, IsBased, IsOver}
+use Rattle.pc_propagate.specs.Over.{AreInRange, IsForcedByReason, AreJustified, IsBased, IsOver}
 use Rattle.pc_propagate.specs.inside.Lists.{ListsView}
 use Rattle.pc_propagate.specs.Attached.{IsAttached, IsBlank}
 use Rattle.pc_propagate.specs.Watching.{Watching, pending, partner, no_literal, literal_at, list_at}
-use Rattle.pc_propagate.specs.Watched.{IsPair, IsKept, AreWatched, clause_of}
+use Rattle.pc_propagate.specs.Watched.{GuardEachOther, IsGuarded, AreWatched, clause_of_place}
 use Rattle.pc_propagate.proofs.GuardLemmas.{pair-back}
 use Rattle.pc_propagate.proofs.WatchLemmas.{place_map, kept_map, clause_of-same, but_grown, partner_within}
 use Rattle.pc_propagate.specs.Laws.{ClausesMayBeAdded}
 
-AreJustified-push : (axioms more : List (List Lit)) (attached : List ClauseRef) (entries : List Entry) (e : Entry) → AreJustified axioms more attached entries → IsJustified axioms more attached entries e
+AreJustified-push : (axioms more : List (List Lit)) (attached : List ClauseRef) (entries : List TrailEntry) (e : TrailEntry) → AreJustified axioms more attached entries → IsForcedByReason axioms more attached entries e
     → AreJustified axioms more attached (entries ++ e ∷ [])
 AreJustified-push axioms more attached entries e justified here i d below =
     ⊎_elim
@@ -36,7 +36,7 @@ AreJustified-push axioms more attached entries e justified here i d below =
     rw (take_at entries (e ∷ []) i at, get_or_push entries e d i at) here)
     (cases_lt i (length entries))
 
-AreJustified-take : (axioms more : List (List Lit)) (attached : List ClauseRef) (entries : List Entry) (n : ℕ) → AreJustified axioms more attached entries → AreJustified axioms more attached (take n entries)
+AreJustified-take : (axioms more : List (List Lit)) (attached : List ClauseRef) (entries : List TrailEntry) (n : ℕ) → AreJustified axioms more attached entries → AreJustified axioms more attached (take n entries)
 AreJustified-take axioms more attached entries n h i d below =
     let early : i < n = omega (arith, length-take n entries, below) in
     rw (take-take i n entries (omega arith), get_or-take n entries i d early) (h i d (omega (arith, length-take n entries)))
@@ -49,24 +49,24 @@ pub over_from : (axioms more : List (List Lit)) (trail : TrailView) → IsBased 
 over_from axioms more trail h watched = record { stand = h.stand; in_range = h.in_range; justified = h.justified; watched = watched }
 
 -- an entry more
-pub based_push : (axioms more : List (List Lit)) (old new : TrailView) (e : Entry) → new ≡ record old { entries = old.entries ++ e ∷ [] } → IsBased axioms more old → IsJustified axioms more old.attached old.entries e
+pub based_push : (axioms more : List (List Lit)) (old new : TrailView) (e : TrailEntry) → new ≡ record old { entries = old.entries ++ e ∷ [] } → IsBased axioms more old → IsForcedByReason axioms more old.attached old.entries e
     → IsBased axioms more new
 based_push axioms more old new e is h here =
     subst (IsBased axioms more) (sym is) (record { stand = h.stand; in_range = h.in_range; justified = AreJustified-push axioms more old.attached old.entries e h.justified here })
 
-pub over_push : (axioms more : List (List Lit)) (old new : TrailView) (e : Entry) → new ≡ record old { entries = old.entries ++ e ∷ [] } → IsOver axioms more old → IsJustified axioms more old.attached old.entries e
+pub over_push : (axioms more : List (List Lit)) (old new : TrailView) (e : TrailEntry) → new ≡ record old { entries = old.entries ++ e ∷ [] } → IsOver axioms more old → IsForcedByReason axioms more old.attached old.entries e
     → IsOver axioms more new
 over_push axioms more old new e is h here =
     over_from axioms more new (based_push axioms more old new e is (based axioms more old h) here)
     (but_grown (λ p. ⊥) axioms more old new (e ∷ []) (ap (λ (t : TrailView). t.entries) is) (ap (λ (t : TrailView). t.variables) is) (ap (λ (t : TrailView). t.attached) is) (ap (λ (t : TrailView). t.watching) is) h.watched)
 
-pub based_placed : (axioms more : List (List Lit)) (old new : TrailView) (before after : Tally) (e : Entry) (placed : Placed) → PlacesEntry e old new before after placed → IsBased axioms more old
-    → IsJustified axioms more old.attached old.entries e → IsBased axioms more new
+pub based_placed : (axioms more : List (List Lit)) (old new : TrailView) (before after : Tally) (e : TrailEntry) (placed : Placed) → PlacesEntry e old new before after placed → IsBased axioms more old
+    → IsForcedByReason axioms more old.attached old.entries e → IsBased axioms more new
 based_placed axioms more old new before after e Done is h here = based_push axioms more old new e is.0 h here
 based_placed axioms more old new before after e Spent is h here = subst (IsBased axioms more) (sym is.0) h
 
-pub over_placed : (axioms more : List (List Lit)) (old new : TrailView) (before after : Tally) (e : Entry) (placed : Placed) → PlacesEntry e old new before after placed → IsOver axioms more old
-    → IsJustified axioms more old.attached old.entries e → IsOver axioms more new
+pub over_placed : (axioms more : List (List Lit)) (old new : TrailView) (before after : Tally) (e : TrailEntry) (placed : Placed) → PlacesEntry e old new before after placed → IsOver axioms more old
+    → IsForcedByReason axioms more old.attached old.entries e → IsOver axioms more new
 over_placed axioms more old new before after e Done is h here = over_push axioms more old new e is.0 h here
 over_placed axioms more old new before after e Spent is h here = subst (IsOver axioms more) (sym is.0) h
 
@@ -89,9 +89,9 @@ watched_attached axioms more old new reference l is head literals lists h = reco
   kept = λ p below. inr (⊎_elim
       (λ before.
       let other : partner p < length old.watching.lists = omega (arith, partner_within p (length old.attached) (omega (arith, before, h.lists)), h.lists) in
-      subst (λ (n : ℕ). IsKept new n p) (sym head)
+      subst (λ (n : ℕ). IsGuarded new n p) (sym head)
       (kept_map old new old.watching.head old.watching.head p (list p before) (list (partner p) other) (literal p before) (literal (partner p) other) is.variables
-      (λ a b pair. subst (λ (es : List Entry). IsPair es old.watching.head a b) (sym is.entries) pair) (⊎_elim (λ b. absurd b) (λ kept. kept) (h.kept p before))))
+      (λ a b pair. subst (λ (es : List TrailEntry). GuardEachOther es old.watching.head a b) (sym is.entries) pair) (⊎_elim (λ b. absurd b) (λ kept. kept) (h.kept p before))))
       (λ after. ⊎_elim
       (λ here. inl (inl (first p here)))
       (λ there. inr (inl (inl (first (partner p) (other_of p there after below)))))
@@ -113,7 +113,7 @@ watched_attached axioms more old new reference l is head literals lists h = reco
     literal : (p : ℕ) → p < length old.watching.lists → literal_at new.watching p ≡ literal_at old.watching p
     literal p before = ap (λ (xs : List Lit). get_or xs p no_literal) literals ∙ get_or_append_left old.watching.literals (l ∷ l ∷ []) no_literal p (omega (arith, before, h.lists, h.literals))
 
-    clause : (p : ℕ) → p < length old.watching.lists → clause_of axioms more new p ≡ clause_of axioms more old p
+    clause : (p : ℕ) → p < length old.watching.lists → clause_of_place axioms more new p ≡ clause_of_place axioms more old p
     clause p before = ap (clause_at axioms more) (ap (λ (rs : List ClauseRef). get_or rs (p / 2) (Axiom 0)) is.attached ∙ get_or_append_left old.attached (reference ∷ []) (Axiom 0) (p / 2) (omega (arith, before, h.lists)))
 
     first : (p : ℕ) → p ≡ length old.watching.lists → list_at new.watching p ≡ Some (pending new.variables)
@@ -133,7 +133,7 @@ watched_attached axioms more old new reference l is head literals lists h = reco
         omega (arith, is_last, h.lists)
 
 -- a reason stays attached
-justified_attached : (axioms more : List (List Lit)) (attached : List ClauseRef) (clause : ClauseRef) (earlier : List Entry) (l : Lit) (reason : Option ClauseRef)
+justified_attached : (axioms more : List (List Lit)) (attached : List ClauseRef) (clause : ClauseRef) (earlier : List TrailEntry) (l : Lit) (reason : Option ClauseRef)
     → IfSome reason (λ r. Contains attached r × IsLastOpen negated (falses earlier) (clause_at axioms more r) l)
     → IfSome reason (λ r. Contains (attached ++ clause ∷ []) r × IsLastOpen negated (falses earlier) (clause_at axioms more r) l)
 justified_attached axioms more attached clause earlier l None h = tt
@@ -245,7 +245,7 @@ pub clause_more : (axioms more : List (List Lit)) (clause : List Lit) (reference
 clause_more axioms more clause (Axiom number) is = refl
 clause_more axioms more clause (More number) is = get_or_append_left more (clause ∷ []) [] number is
 
-justified_more : (axioms more : List (List Lit)) (attached : List ClauseRef) (clause : List Lit) (earlier : List Entry) (l : Lit) (reason : Option ClauseRef) → All (IsRef axioms more) attached
+justified_more : (axioms more : List (List Lit)) (attached : List ClauseRef) (clause : List Lit) (earlier : List TrailEntry) (l : Lit) (reason : Option ClauseRef) → All (IsRef axioms more) attached
     → IfSome reason (λ r. Contains attached r × IsLastOpen negated (falses earlier) (clause_at axioms more r) l)
     → IfSome reason (λ r. Contains attached r × IsLastOpen negated (falses earlier) (clause_at axioms (more ++ clause ∷ []) r) l)
 justified_more axioms more attached clause earlier l None stand h = tt

@@ -6,14 +6,14 @@ use Rattle.pc_propagate.specs.declared.clauses.ClauseRef.TheVariants.{Axiom}
 use Rattle.pc_propagate.specs.TrailView.{TrailView}
 use Rattle.pc_propagate.specs.Over.{IsBased}
 use Rattle.pc_propagate.specs.Watching.{resting, pending, partner, literal_at, list_at}
-use Rattle.pc_propagate.specs.Watched.{IsPair, IsListed, IsPending, IsPlace, IsKept, AreWatchedBut, IsOf, clause_of}
+use Rattle.pc_propagate.specs.Watched.{GuardEachOther, IsInItsList, IsPending, IsPlace, IsGuarded, AreWatchedBut, IsOf, clause_of_place}
 use Rattle.pc_propagate.specs.inside.Steady.{IsSameBut, IsRewatched}
 use Rattle.pc_propagate.proofs.WatchLemmas.{same_but_put, same_but_watch, list_put, list_watch, literal_watch, steady_same_but, steady_trans, but_changed, but_all, clause_of-same, clause_of-partner, partner_apart, partner_within}
 
 -- a literal of a place's clause is in range
-pub clause_in_range : (axioms more : List (List Lit)) (trail : TrailView) (p : ℕ) (l : Lit) → IsBased axioms more trail → p < 2 * length trail.attached → Contains (clause_of axioms more trail p) l → l.variable.0 < trail.variables
+pub clause_in_range : (axioms more : List (List Lit)) (trail : TrailView) (p : ℕ) (l : Lit) → IsBased axioms more trail → p < 2 * length trail.attached → Contains (clause_of_place axioms more trail p) l → l.variable.0 < trail.variables
 clause_in_range axioms more trail p l h below has =
-    All-contains (λ (m : Lit). m.variable.0 < trail.variables) (clause_of axioms more trail p) l (h.in_range (p / 2) (Axiom 0) (omega (arith, below))) has
+    All-contains (λ (m : Lit). m.variable.0 < trail.variables) (clause_of_place axioms more trail p) l (h.in_range (p / 2) (Axiom 0) (omega (arith, below))) has
 
 -- the list of a literal is none of those at which each propagation looks
 pub resting_below : (l : Lit) (variables : ℕ) → l.variable.0 < variables → resting l + 1 < pending variables
@@ -35,7 +35,7 @@ some_of a b same = cc
 
 -- a place in a list of a literal watches one of its clause
 pub listed_says : (but : ℕ → Type 0) (axioms more : List (List Lit)) (trail : TrailView) (p list : ℕ) → AreWatchedBut but axioms more trail → p < length trail.watching.lists → list_at trail.watching p ≡ Some list
-    → list < pending trail.variables → IsListed trail p × Contains (clause_of axioms more trail p) (literal_at trail.watching p)
+    → list < pending trail.variables → IsInItsList trail p × Contains (clause_of_place axioms more trail p) (literal_at trail.watching p)
 listed_says but axioms more trail p list h below at low = ⊎_elim
     (λ none. absurd (cc (none, at)))
     (λ rest. ⊎_elim
@@ -62,7 +62,7 @@ pending_says but axioms more trail p list based h below at high = ⊎_elim
 pub partner_inside : (but : ℕ → Type 0) (axioms more : List (List Lit)) (trail : TrailView) (p : ℕ) → AreWatchedBut but axioms more trail → p < length trail.watching.lists → partner p < length trail.watching.lists
 partner_inside but axioms more trail p h below = omega (arith, partner_within p (length trail.attached) (omega (arith, below, h.lists)), h.lists)
 
-rewatched : (axioms more : List (List Lit)) (old new : TrailView) (place : ℕ) → IsSameBut place old new → IsPlace axioms more new place → ((h : ℕ) → IsKept new h place)
+rewatched : (axioms more : List (List Lit)) (old new : TrailView) (place : ℕ) → IsSameBut place old new → IsPlace axioms more new place → ((h : ℕ) → IsGuarded new h place)
     → ((list : ℕ) → list_at new.watching place ≡ Some list → list % 2 ≡ 1 → ⊥) → AreWatchedBut (IsOf place) axioms more old → IsRewatched axioms more place old new
 rewatched axioms more old new place same is sure calm h = record {
   variables = same.variables;
@@ -97,14 +97,14 @@ left_to_partner axioms more old place list based at high within free h =
 -- the place watches the literal
 pub now_watched : (axioms more : List (List Lit)) (old new : TrailView) (place : ℕ) (l : Lit)
     → new ≡ record old { watching = record old.watching { literals = set old.watching.literals place l; lists = set old.watching.lists place (Some (resting l)) } }
-    → place < length old.watching.lists → IsListed old (partner place) → Contains (clause_of axioms more old place) l → ((h : ℕ) → IsPair old.entries h l (literal_at old.watching (partner place)))
+    → place < length old.watching.lists → IsInItsList old (partner place) → Contains (clause_of_place axioms more old place) l → ((h : ℕ) → GuardEachOther old.entries h l (literal_at old.watching (partner place)))
     → AreWatchedBut (IsOf place) axioms more old → IsRewatched axioms more place old new
 now_watched axioms more old new place l is within other has pair h =
     let same = same_but_watch old new place (Some (resting l)) l is in
     let here : list_at new.watching place ≡ Some (resting l) = list_watch old new place (Some (resting l)) l is within in
     let literal : literal_at new.watching place ≡ l = literal_watch old new place (Some (resting l)) l is (omega (arith, within, h.lists, h.literals)) in
-    let listed : IsListed new place = inl (here ∙ ap (λ (m : Lit). Some (resting m)) (sym literal)) in
-    let other_listed : IsListed new (partner place) = rw (same.lists (partner place) (partner_apart place), same.literals (partner place) (partner_apart place)) other in
+    let listed : IsInItsList new place = inl (here ∙ ap (λ (m : Lit). Some (resting m)) (sym literal)) in
+    let other_listed : IsInItsList new (partner place) = rw (same.lists (partner place) (partner_apart place), same.literals (partner place) (partner_apart place)) other in
     rewatched axioms more old new place same
     (inr (inr (listed, rw (clause_of-same axioms more old new place same.attached, literal) has)))
     (λ n. inr (inr (listed, other_listed, rw (same.entries, literal, same.literals (partner place) (partner_apart place)) (pair n))))
@@ -113,15 +113,15 @@ now_watched axioms more old new place l is within other has pair h =
 -- the other place, which was in no list, watches the literal
 pub other_watched : (axioms more : List (List Lit)) (old mid : TrailView) (place : ℕ) (l : Lit)
     → mid ≡ record old { watching = record old.watching { literals = set old.watching.literals (partner place) l; lists = set old.watching.lists (partner place) (Some (resting l)) } }
-    → place < length old.watching.lists → Contains (clause_of axioms more old place) l → AreWatchedBut (IsOf place) axioms more old
-    → AreWatchedBut (IsOf place) axioms more mid × IsListed mid (partner place) × Contains (clause_of axioms more mid place) (literal_at mid.watching (partner place))
+    → place < length old.watching.lists → Contains (clause_of_place axioms more old place) l → AreWatchedBut (IsOf place) axioms more old
+    → AreWatchedBut (IsOf place) axioms more mid × IsInItsList mid (partner place) × Contains (clause_of_place axioms more mid place) (literal_at mid.watching (partner place))
 other_watched axioms more old mid place l is within has h =
     let at = partner place in
     let inside = partner_inside (IsOf place) axioms more old place h within in
     let same = same_but_watch old mid at (Some (resting l)) l is in
     let literal : literal_at mid.watching at ≡ l = literal_watch old mid at (Some (resting l)) l is (omega (arith, inside, h.lists, h.literals)) in
-    let listed : IsListed mid at = inl (list_watch old mid at (Some (resting l)) l is inside ∙ ap (λ (m : Lit). Some (resting m)) (sym literal)) in
-    let stands : Contains (clause_of axioms more mid place) (literal_at mid.watching at) = rw (clause_of-same axioms more old mid place same.attached, literal) has in
+    let listed : IsInItsList mid at = inl (list_watch old mid at (Some (resting l)) l is inside ∙ ap (λ (m : Lit). Some (resting m)) (sym literal)) in
+    let stands : Contains (clause_of_place axioms more mid place) (literal_at mid.watching at) = rw (clause_of-same axioms more old mid place same.attached, literal) has in
     (but_changed axioms more old mid place at (inr refl) same (inr (inr (listed, rw (clause_of-partner axioms more mid place) stands))) h, listed, stands)
 
 pub other_steady : (axioms more : List (List Lit)) (old mid new : TrailView) (place : ℕ) (l : Lit)

@@ -3,13 +3,13 @@ use Rattle.std.proofs.Common.{◌≡◌, ◌≢◌, ℕ, ◌+◌, ◌*◌, ◌/�
 use Rattle.std.proofs.lemmas.Bool.{cases_eq}
 use Rattle.std.proofs.lemmas.List.{length-set, get_or-set_same, get_or-set_other}
 use Rattle.pc_lits.specs.declared.literal.Lit.{Lit}
-use Rattle.pc_propagate.specs.declared.trail.Entry.{Entry}
+use Rattle.pc_propagate.specs.declared.trail.TrailEntry.{TrailEntry}
 use Rattle.pc_propagate.specs.declared.clauses.ClauseRef.{ClauseRef}
 use Rattle.pc_propagate.specs.declared.clauses.ClauseRef.TheVariants.{Axiom}
 use Rattle.pc_propagate.specs.Refs.{clause_at}
 use Rattle.pc_propagate.specs.TrailView.{TrailView}
 use Rattle.pc_propagate.specs.Watching.{Watching, resting, pending, partner, no_literal, literal_at, list_at}
-use Rattle.pc_propagate.specs.Watched.{IsTrueFromStart, IsPair, IsListed, IsPending, IsPlace, IsKept, AreWatchedBut, AreWatched, IsOf, clause_of}
+use Rattle.pc_propagate.specs.Watched.{IsTrueFromStart, GuardEachOther, IsInItsList, IsPending, IsPlace, IsGuarded, AreWatchedBut, AreWatched, IsOf, clause_of_place}
 use Rattle.pc_propagate.specs.inside.Steady.{IsSameBut, IsSteady, IsWoken}
 use Rattle.pc_propagate.proofs.GuardLemmas.{pair-append}
 
@@ -28,29 +28,29 @@ partner_apart p same = omega arith
 -- a kept clause stays so, where its places are as they were
 pub kept_map : (old new : TrailView) (h less p : ℕ) → list_at new.watching p ≡ list_at old.watching p → list_at new.watching (partner p) ≡ list_at old.watching (partner p)
     → literal_at new.watching p ≡ literal_at old.watching p → literal_at new.watching (partner p) ≡ literal_at old.watching (partner p) → new.variables ≡ old.variables
-    → ((l m : Lit) → IsPair old.entries h l m → IsPair new.entries less l m) → IsKept old h p → IsKept new less p
+    → ((l m : Lit) → GuardEachOther old.entries h l m → GuardEachOther new.entries less l m) → IsGuarded old h p → IsGuarded new less p
 kept_map old new h less p list other_list literal other_literal variables pair kept =
     rw (list, other_list, literal, other_literal, variables)
     (⊎_elim (λ a. inl a) (λ rest. inr (⊎_elim (λ b. inl b) (λ w. inr (w.0, w.1, pair _ _ w.2)) rest)) kept)
 
 pub place_map : (axioms more axioms2 more2 : List (List Lit)) (old new : TrailView) (p : ℕ) → list_at new.watching p ≡ list_at old.watching p → literal_at new.watching p ≡ literal_at old.watching p
-    → new.variables ≡ old.variables → clause_of axioms2 more2 new p ≡ clause_of axioms more old p → IsPlace axioms more old p → IsPlace axioms2 more2 new p
+    → new.variables ≡ old.variables → clause_of_place axioms2 more2 new p ≡ clause_of_place axioms more old p → IsPlace axioms more old p → IsPlace axioms2 more2 new p
 place_map axioms more axioms2 more2 old new p list literal variables clause place = rw (list, literal, variables, clause) place
 
 -- the clause of the other place is the same
-pub clause_of-partner : (axioms more : List (List Lit)) (trail : TrailView) (p : ℕ) → clause_of axioms more trail (partner p) ≡ clause_of axioms more trail p
+pub clause_of-partner : (axioms more : List (List Lit)) (trail : TrailView) (p : ℕ) → clause_of_place axioms more trail (partner p) ≡ clause_of_place axioms more trail p
 clause_of-partner axioms more trail p = ap (λ (n : ℕ). clause_at axioms more (get_or trail.attached n (Axiom 0))) (partner_half p)
 
-pub clause_of-same : (axioms more : List (List Lit)) (old new : TrailView) (p : ℕ) → new.attached ≡ old.attached → clause_of axioms more new p ≡ clause_of axioms more old p
+pub clause_of-same : (axioms more : List (List Lit)) (old new : TrailView) (p : ℕ) → new.attached ≡ old.attached → clause_of_place axioms more new p ≡ clause_of_place axioms more old p
 clause_of-same axioms more old new p same = ap (λ (rs : List ClauseRef). clause_at axioms more (get_or rs (p / 2) (Axiom 0))) same
 
 -- what is kept by one place is so by the other
-pub kept_partner : (trail : TrailView) (h p : ℕ) → IsKept trail h p → IsKept trail h (partner p)
+pub kept_partner : (trail : TrailView) (h p : ℕ) → IsGuarded trail h p → IsGuarded trail h (partner p)
 kept_partner trail h p kept =
     rw (partner_twice p)
     (⊎_elim (λ a. inr (inl a)) (λ rest. ⊎_elim (λ b. inl b) (λ w. inr (inr (w.1, w.0, turned w.2))) rest) kept)
   where
-    turned : {l m : Lit} → IsPair trail.entries h l m → IsPair trail.entries h m l
+    turned : {l m : Lit} → GuardEachOther trail.entries h l m → GuardEachOther trail.entries h m l
     turned pair = record { same = λ equal. subst (IsTrueFromStart trail.entries) (sym equal) (pair.same (sym equal)); first = pair.second; second = pair.first }
 
 -- a place in another list
@@ -139,7 +139,7 @@ cases_of place p = ⊎_elim
     (cases_eq p place)
 
 -- more entries, and nothing else
-pub but_grown : (but : ℕ → Type 0) (axioms more : List (List Lit)) (old new : TrailView) (added : List Entry) → new.entries ≡ old.entries ++ added → new.variables ≡ old.variables → new.attached ≡ old.attached
+pub but_grown : (but : ℕ → Type 0) (axioms more : List (List Lit)) (old new : TrailView) (added : List TrailEntry) → new.entries ≡ old.entries ++ added → new.variables ≡ old.variables → new.attached ≡ old.attached
     → new.watching ≡ old.watching → AreWatchedBut but axioms more old → AreWatchedBut but axioms more new
 but_grown but axioms more old new added entries variables attached watching h = record {
   literals = omega (arith, ap (λ (w : Watching). length w.literals) watching, ap length attached, h.literals);
@@ -147,7 +147,7 @@ but_grown but axioms more old new added entries variables attached watching h = 
   propagated = omega (arith, ap (λ (w : Watching). w.head) watching, ap length entries, length-append old.entries added, h.propagated);
   places = λ p below. place_map axioms more axioms more old new p (list p) (literal p) variables (clause_of-same axioms more old new p attached) (h.places p (omega (arith, below, size)));
   kept = λ p below. ⊎_elim (λ b. inl b)
-      (λ kept. inr (subst (λ (n : ℕ). IsKept new n p) (sym (ap (λ (w : Watching). w.head) watching))
+      (λ kept. inr (subst (λ (n : ℕ). IsGuarded new n p) (sym (ap (λ (w : Watching). w.head) watching))
       (kept_map old new old.watching.head old.watching.head p (list p) (list (partner p)) (literal p) (literal (partner p)) variables grown kept)))
       (h.kept p (omega (arith, below, size)));
 }
@@ -161,8 +161,8 @@ but_grown but axioms more old new added entries variables attached watching h = 
     literal : (p : ℕ) → literal_at new.watching p ≡ literal_at old.watching p
     literal p = ap (λ (w : Watching). literal_at w p) watching
 
-    grown : (l m : Lit) → IsPair old.entries old.watching.head l m → IsPair new.entries old.watching.head l m
-    grown l m pair = subst (λ (es : List Entry). IsPair es old.watching.head l m) (sym entries) (pair-append old.entries added old.watching.head l m h.propagated pair)
+    grown : (l m : Lit) → GuardEachOther old.entries old.watching.head l m → GuardEachOther new.entries old.watching.head l m
+    grown l m pair = subst (λ (es : List TrailEntry). GuardEachOther es old.watching.head l m) (sym entries) (pair-append old.entries added old.watching.head l m h.propagated pair)
 
 -- one place of a clause changes
 pub but_changed : (axioms more : List (List Lit)) (old new : TrailView) (place at : ℕ) → IsOf place at → IsSameBut at old new → IsPlace axioms more new at → AreWatchedBut (IsOf place) axioms more old
@@ -177,9 +177,9 @@ but_changed axioms more old new place at of same is h = record {
       (cases_eq p at);
   kept = λ p below. ⊎_elim (λ b. inl b)
       (λ out. ⊎_elim (λ b. absurd (out b))
-      (λ kept. inr (subst (λ (n : ℕ). IsKept new n p) (sym same.head)
+      (λ kept. inr (subst (λ (n : ℕ). IsGuarded new n p) (sym same.head)
       (kept_map old new old.watching.head old.watching.head p (same.lists p (away p out)) (same.lists (partner p) (away (partner p) (out_partner place p out))) (same.literals p (away p out))
-      (same.literals (partner p) (away (partner p) (out_partner place p out))) same.variables (λ l m pair. subst (λ (es : List Entry). IsPair es old.watching.head l m) (sym same.entries) pair) kept)))
+      (same.literals (partner p) (away (partner p) (out_partner place p out))) same.variables (λ l m pair. subst (λ (es : List TrailEntry). GuardEachOther es old.watching.head l m) (sym same.entries) pair) kept)))
       (h.kept p (omega (arith, below, same.lists_size))))
       (cases_of place p);
 }
@@ -188,7 +188,7 @@ but_changed axioms more old new place at of same is h = record {
     away p out is = out (subst (IsOf place) (sym is) of)
 
 -- once the clause is kept, all are
-pub but_all : (axioms more : List (List Lit)) (trail : TrailView) (place : ℕ) → IsKept trail trail.watching.head place → AreWatchedBut (IsOf place) axioms more trail → AreWatched axioms more trail
+pub but_all : (axioms more : List (List Lit)) (trail : TrailView) (place : ℕ) → IsGuarded trail trail.watching.head place → AreWatchedBut (IsOf place) axioms more trail → AreWatched axioms more trail
 but_all axioms more trail place sure h = record {
   literals = h.literals;
   lists = h.lists;
@@ -196,8 +196,8 @@ but_all axioms more trail place sure h = record {
   places = h.places;
   kept = λ p below. inr (⊎_elim
       (λ of. ⊎_elim
-      (λ here. subst (IsKept trail trail.watching.head) (sym here) sure)
-      (λ here. subst (IsKept trail trail.watching.head) (sym here) (kept_partner trail trail.watching.head place sure))
+      (λ here. subst (IsGuarded trail trail.watching.head) (sym here) sure)
+      (λ here. subst (IsGuarded trail trail.watching.head) (sym here) (kept_partner trail trail.watching.head place sure))
       of)
       (λ kept. kept)
       (h.kept p below));
@@ -213,11 +213,11 @@ all_but but axioms more trail h = record {
 }
 
 -- a clause that is kept where a pair counts for all entries is kept at any
-pub kept_still : (old new : TrailView) (place h p : ℕ) (added : List Entry) → IsSteady place old new → new.variables ≡ old.variables → new.entries ≡ old.entries ++ added → h ≤ length old.entries → (IsOf place p → ⊥)
-    → IsKept old h p → IsKept new h p
+pub kept_still : (old new : TrailView) (place h p : ℕ) (added : List TrailEntry) → IsSteady place old new → new.variables ≡ old.variables → new.entries ≡ old.entries ++ added → h ≤ length old.entries → (IsOf place p → ⊥)
+    → IsGuarded old h p → IsGuarded new h p
 kept_still old new place h p added steady variables entries within out kept =
     kept_map old new h h p (steady.lists p out) (steady.lists (partner p) (out_partner place p out)) (steady.literals p out) (steady.literals (partner p) (out_partner place p out)) variables
-    (λ l m pair. subst (λ (es : List Entry). IsPair es h l m) (sym entries) (pair-append old.entries added h l m within pair)) kept
+    (λ l m pair. subst (λ (es : List TrailEntry). GuardEachOther es h l m) (sym entries) (pair-append old.entries added h l m within pair)) kept
 
 -- waking changes nothing of what is kept
 pub woken_over : (axioms more : List (List Lit)) (old new : TrailView) (list : ℕ) → ((l : Lit) × (list ≡ resting l)) ⊎ (list ≡ pending old.variables) → IsWoken list old new → AreWatched axioms more old → AreWatched axioms more new
@@ -253,7 +253,7 @@ woken_over axioms more old new list kind woken h = record {
             odd true n v e = omega arith
             odd false n v e = omega arith
 
-    lists : (p : ℕ) → IsListed old p → IsListed new p
+    lists : (p : ℕ) → IsInItsList old p → IsInItsList new p
     lists p is = rw (literal p) (⊎_elim
         (λ same. rw same is)
         (λ moved. ⊎_elim (λ at. inr (moved.1 ∙ ap (λ (n : ℕ). Some (n + 1)) (one list (resting (literal_at old.watching p)) (sym moved.0 ∙ at)))) (λ at. absurd (apart_listed (literal_at old.watching p) (one list (resting (literal_at old.watching p) + 1) (sym moved.0 ∙ at)))) is)

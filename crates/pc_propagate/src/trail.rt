@@ -9,7 +9,7 @@ ghost use Rattle.pc_lits.specs.declared.literal.Lit.{Lit};
 ghost use Rattle.pc_lits.specs.Literals.{negated};
 ghost use Rattle.pc_lits.specs.Steps.{IsLastOpen};
 ghost use Rattle.pc_propagate.specs.Entries.{literals, falses, HasValue, starts_level, AreEntries};
-ghost use Rattle.pc_propagate.specs.Levels.{IsPlaceOf, IsLevelOf, IsReasonOf, IsBackTo};
+ghost use Rattle.pc_propagate.specs.Levels.{IsEntryOfVariable, IsLevelOf, IsReasonOf, IsBackTo};
 ghost use Rattle.pc_propagate.specs.Refs.{clause_at, IsRef};
 ghost use Rattle.pc_propagate.specs.Over.{IsOver, AreInRange};
 ghost use Rattle.pc_propagate.specs.TrailView.{TrailView};
@@ -30,13 +30,13 @@ use std::marker::Model;
 
 /// A literal that is true, and the clause that made it so.
 #[derive(Clone, Copy)]
-pub struct Entry {
+pub struct TrailEntry {
     pub literal: Lit,
     /// None for a decision, which starts a level.
     pub reason: Option<ClauseRef>,
 }
 
-impl Entry {
+impl TrailEntry {
     // How many levels it starts.
     fn levels(self) -> u32
         ensures { result ≡ (if starts_level self then 1 else 0) }
@@ -73,7 +73,7 @@ const NO_LITERAL: Lit = Lit {
 #[derive(Drop)]
 pub struct Trail {
     values: Values,
-    entries: Vec<Entry>,
+    entries: Vec<TrailEntry>,
     level: u32,
     slots: Vec<Slot>,
     attached: Vec<ClauseRef>,
@@ -185,7 +185,7 @@ impl Trail {
     /// The place of the variable's literal.
     pub fn place_of(&self, variable: Var) -> usize
         requires { HasValue self.now.entries variable }
-        ensures { IsPlaceOf self.now.entries variable result }
+        ensures { IsEntryOfVariable self.now.entries variable result }
     {
         self.slot_of(variable).place
     }
@@ -261,7 +261,7 @@ impl Trail {
         ensures placed { PlacesEntry (record { literal = lit; reason = None }) self.old self.new tally.old tally.new result }
         ensures over { (axioms more : List (List Lit)) → IsOver axioms more self.old → IsOver axioms more self.new }
     {
-        let entry = Entry {
+        let entry = TrailEntry {
             literal: lit,
             reason: None,
         };
@@ -276,7 +276,7 @@ impl Trail {
         ensures over { (axioms more : List (List Lit)) → IsOver axioms more self.old
             → Contains self.old.attached reason → IsLastOpen negated (falses self.old.entries) (clause_at axioms more reason) lit → IsOver axioms more self.new }
     {
-        let entry = Entry {
+        let entry = TrailEntry {
             literal: lit,
             reason: Some(reason),
         };
@@ -284,7 +284,7 @@ impl Trail {
     }
 
     // Adds an entry as the last one, unless the limit is reached.
-    fn place_entry(&mut self, entry: Entry, tally: &mut Tally) -> Placed
+    fn place_entry(&mut self, entry: TrailEntry, tally: &mut Tally) -> Placed
         requires in_range { entry.literal.variable.0 < self.old.variables }
         requires unset { ¬ HasValue self.old.entries entry.literal.variable }
         ensures placed { PlacesEntry entry self.old self.new tally.old tally.new result }
@@ -298,7 +298,7 @@ impl Trail {
     }
 
     // Adds an entry as the last one.
-    fn push(&mut self, entry: Entry)
+    fn push(&mut self, entry: TrailEntry)
         requires in_range { entry.literal.variable.0 < self.old.variables }
         requires unset { ¬ HasValue self.old.entries entry.literal.variable }
         ensures pushed { self.new ≡ record self.old { entries = self.old.entries ++ entry ∷ [] } }

@@ -10,7 +10,7 @@ ghost use Rattle.std.specs.Prelude.{◌≡◌, ◌<◌, ◌*◌, ◌⊎◌, ℕ,
 ghost use Rattle.std.specs.Bool.{OnTrue};
 ghost use Rattle.pc_propagate.specs.Over.{AreInRange, IsBased};
 ghost use Rattle.pc_propagate.specs.Watching.{partner, list_at, literal_at};
-ghost use Rattle.pc_propagate.specs.Watched.{AreWatchedBut, GuardsAt, IsListed, IsOf, IsPair, IsTrueFromStart, clause_of};
+ghost use Rattle.pc_propagate.specs.Watched.{AreWatchedBut, GuardsAt, IsInItsList, IsOf, GuardEachOther, IsTrueFromStart, clause_of_place};
 ghost use Rattle.pc_propagate.specs.inside.Steady.{IsRewatched};
 
 use crate::trail::Trail;
@@ -60,7 +60,7 @@ impl Trail {
     pub(crate) fn fits(&self, lit: Lit, other: Lit) -> bool
         requires lit { lit.variable.0 < self.now.variables }
         requires other { other.variable.0 < self.now.variables }
-        ensures { OnTrue result ((head : ℕ) → IsPair self.now.entries head lit other) }
+        ensures { OnTrue result ((head : ℕ) → GuardEachOther self.now.entries head lit other) }
     {
         if lit == other {
             if !self.is_true_from_start(lit) {
@@ -83,7 +83,7 @@ impl Trail {
         requires lit { lit.variable.0 < self.now.variables }
         requires other { other.variable.0 < self.now.variables }
         ensures which { IfSome result (λ l. (l ≡ lit) ⊎ (l ≡ other)) }
-        ensures pair { IfSome result (λ l. (head : ℕ) → IsPair self.now.entries head l other) }
+        ensures pair { IfSome result (λ l. (head : ℕ) → GuardEachOther self.now.entries head l other) }
     {
         if self.is_true_from_start(other) {
             return Some(other);
@@ -155,7 +155,7 @@ impl Trail {
     ) -> &'a [Lit]
         requires based { IsBased axioms.now more.now self.now }
         requires within { place < 2 * length self.now.attached }
-        ensures is { result.now ≡ clause_of axioms.now more.now self.now place }
+        ensures is { result.now ≡ clause_of_place axioms.now more.now self.now place }
         ensures in_range { AreInRange self.now.variables result.now }
     {
         self.attached_at(place / 2).clause(axioms, more)
@@ -186,8 +186,8 @@ impl Trail {
         requires others { AreWatchedBut (IsOf place) axioms.now more.now self.old }
         requires within { place < length self.old.watching.lists }
         requires free { list_at self.old.watching place ≡ None }
-        requires listed { IsListed self.old (partner place) }
-        requires stands { Contains (clause_of axioms.now more.now self.old place) (literal_at self.old.watching (partner place)) }
+        requires listed { IsInItsList self.old (partner place) }
+        requires stands { Contains (clause_of_place axioms.now more.now self.old place) (literal_at self.old.watching (partner place)) }
         ensures { IsRewatched axioms.now more.now place self.old self.new }
     {
         let other = self.literal_at(partner_of(place));

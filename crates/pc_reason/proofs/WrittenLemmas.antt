@@ -11,8 +11,8 @@ use Rattle.pc_sheet.specs.declared.ids.Entry.{Entry}
 use Rattle.pc_log.specs.Lines.{LogLine, AxiomLine, BlockLine, StepLine}
 use Rattle.pc_log.proofs.SpanLemmas.{get_behind}
 use Rattle.pc_accept.specs.Literals.{Literal, node}
-use Rattle.pc_accept.specs.Axioms.{true_rule}
-use Rattle.pc_accept.specs.Accepts.{Line, IsLineClause, Derives, value_of_entry}
+use Rattle.pc_accept.specs.Axioms.{axiom_rule}
+use Rattle.pc_accept.specs.Accepts.{Line, IsLineClause, DerivesClause, value_of_entry}
 use Rattle.pc_accept.specs.Writable.{IsSymbolOf, IsLineOf, AreLinesOf}
 use Rattle.pc_names.specs.Listed.{NameLists}
 use Rattle.pc_reason.specs.Derivation.{AreLinesNamed, IsLineNamed, line_named, literal_named, entries_from}
@@ -70,14 +70,14 @@ within_map f (x ∷ xs) (suc i) y at = within_map f xs i y at
 
 module _ (sheet : Sheet) (names : NameLists) (of : AreOfSheet sheet names) where
   line_of_sheet : (k : ℕ) (line : LogLine) (clauses : List (List Literal)) (clause : List Literal) → IsLineNamed names line → IsLineClause sheet clauses k (line_named names line) clause → IsLineOf sheet k (line_named names line)
-  line_of_sheet k (AxiomLine a) clauses clause named is = of.axioms a (true_rule 0) named
+  line_of_sheet k (AxiomLine a) clauses clause named is = of.axioms a (axiom_rule 0) named
   line_of_sheet k (BlockLine number c) clauses clause named is = absurd named
   line_of_sheet k (StepLine c hints learned) clauses clause named is = (
     All-map (λ (l : Literal). IsSymbolOf sheet l.what) (literal_named names) c (λ i d below. of.variables (slice_index_or c i d).variable.0 (node 0 []) (named i d below)),
     is.1,
   )
 
-  lines_of_sheet : (lines : List LogLine) (allowed : List Literal) → AreLinesNamed names lines → Derives sheet (map (line_named names) lines) allowed → AreLinesOf sheet 0 (map (line_named names) lines)
+  lines_of_sheet : (lines : List LogLine) (allowed : List Literal) → AreLinesNamed names lines → DerivesClause sheet (map (line_named names) lines) allowed → AreLinesOf sheet 0 (map (line_named names) lines)
   lines_of_sheet lines allowed named derives =
       lines_by_place sheet 0 (map (line_named names) lines) (λ k l at.
       let found = within_map (line_named names) lines k l at in

@@ -1,6 +1,6 @@
 //! A book whose rules are inconsistent, with the derivation that shows it: what a refused load or a refused rule answers.
 ghost use Rattle.std.specs.Prelude.{◌≡◌};
-ghost use Rattle.pc_reason.specs.Refutations.{Refutes};
+ghost use Rattle.pc_reason.specs.Refutations.{RefutesRules};
 
 use pc_log::{Log, Span};
 use pc_logic::Book;
@@ -20,7 +20,7 @@ pub struct Refutation {
 impl Model for Refutation {
     ghost use Rattle.pc_sheet.specs.Sheet.{Sheet};
     ghost use Rattle.pc_sheet.specs.Codes.{coded_sheet};
-    ghost use Rattle.pc_reason.specs.Refutations.{Refutes};
+    ghost use Rattle.pc_reason.specs.Refutations.{RefutesRules};
 
     ghost Value = { Sheet };
 
@@ -28,13 +28,13 @@ impl Model for Refutation {
 
     ghost view = { λ r. r.book };
 
-    ghost invariant = { λ r. Refutes r.book r.names r.log r.span };
+    ghost invariant = { λ r. RefutesRules r.book r.names r.log r.span };
 }
 
 impl Refutation {
     /// Keeps a book with the span of the log that refutes its rules.
     pub fn new(book: Book, names: Names, log: Log, span: Span) -> Refutation
-        requires { Refutes book names log span }
+        requires { RefutesRules book names log span }
         ensures { result ≡ book }
     {
         Refutation {
@@ -54,7 +54,7 @@ impl Refutation {
 
     /// The derivation. It ends in the empty clause, and a certificate of inconsistency that holds it is accepted.
     pub fn proof(&self) -> Proof<'_>
-        ensures { Refutes self.now result.names.now result.log.now result.span }
+        ensures { RefutesRules self.now result.names.now result.log.now result.span }
     {
         Proof {
             log: &self.log,

@@ -3,13 +3,13 @@ use Rattle.std.specs.Prelude.{◌≡◌, ℕ, ◌≤◌, ◌⊎◌, List, codes}
 use Rattle.std.specs.declared.option.Option.{Option}
 use Rattle.pc_port.specs.Port.{Rose}
 use Rattle.pc_port.specs.Shelf.{Files}
-use Rattle.pc_words.specs.Words.{Mode, replays, edits, checks, demonstrates, Request, Fits, FitNothing}
+use Rattle.pc_words.specs.Words.{Mode, replays, edits, checks, demonstrates, Request, FitsWords, FitNothing}
 use Rattle.pc_run.specs.declared.status.Status.{Status}
 use Rattle.pc_run.specs.declared.status.Status.TheVariants.{Usage, Memory}
-use Rattle.pc_run.specs.Answer.{ended}
+use Rattle.pc_writer.specs.SheetText.{ended}
 use Rattle.pc_run.specs.Edit.{Edited}
 use Rattle.pc_run.specs.Files.{AsksOnce}
-use Rattle.pc_run.specs.Run.{Replayed, Tells, memory_text}
+use Rattle.pc_run.specs.Run.{Replayed, TellsAtEnd, memory_text}
 use Rattle.pc_judge.specs.Checked.{Checked}
 use Rattle.pc_demo.specs.Demonstration.{Demonstrated}
 use Rattle.pc_spreadsheet.specs.Judgement.{Starts}
@@ -32,11 +32,11 @@ pub record TellsAlone {I H : Type 0} (at : Status) (line : List ℕ) (status : S
   pub unread : input' ≡ input
   pub unasked : shelf' ≡ shelf
   pub none_noted : notes' ≡ notes
-  pub told : Tells at line status sink sink'
+  pub told : TellsAtEnd at line status sink sink'
 
 -- What the words ask for, and what the run did: as they ask; or it told that they don't fit, or that memory was wanted to read words that do.
 pub data Runs {I H : Type 0} (left : I → Option (List ℕ)) (kept : H → Option Files) (asked : H → List (List ℕ)) (words : List (List ℕ)) (status : Status) (input input' : I) (shelf shelf' : H) (notes notes' : Notes) (sink sink' : Option (List ℕ)) : Type 0 where
-  as_asked : (request : Request) → Fits words request → RunsIn request.mode request.budget (kept shelf) (asked shelf) (asked shelf') status notes notes' (left input) (left input') sink sink' → Runs left kept asked words status input input' shelf shelf' notes notes' sink sink'
+  as_asked : (request : Request) → FitsWords words request → RunsIn request.mode request.budget (kept shelf) (asked shelf) (asked shelf') status notes notes' (left input) (left input') sink sink' → Runs left kept asked words status input input' shelf shelf' notes notes' sink sink'
   without_fit : FitNothing words → TellsAlone Usage usage_text status input input' shelf shelf' notes notes' sink sink' → Runs left kept asked words status input input' shelf shelf' notes notes' sink sink'
   without_memory : ¬ FitNothing words → TellsAlone Memory memory_text status input input' shelf shelf' notes notes' sink sink' → Runs left kept asked words status input input' shelf shelf' notes notes' sink sink'
 
@@ -60,11 +60,11 @@ ReadsInput mode = Unit {0}
 
 -- the words ask for a file
 abbrev pub AskForFile : List (List ℕ) → Type 0
-AskForFile words = (request : Request) × Fits words request × HasFile request.mode
+AskForFile words = (request : Request) × FitsWords words request × HasFile request.mode
 
 -- the words ask for the input
 abbrev pub AskForInput : List (List ℕ) → Type 0
-AskForInput words = (request : Request) × Fits words request × ReadsInput request.mode
+AskForInput words = (request : Request) × FitsWords words request × ReadsInput request.mode
 
 -- the source was at fault and the shelf wasn't; or, with the name of a file, the shelf was, and the source was left as it was
 abbrev pub ReadsAtFault : {I : Type 0} → List (List ℕ) → (I → ℕ) → I → I → ℕ → ℕ → Type 0

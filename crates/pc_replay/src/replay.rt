@@ -1,7 +1,7 @@
 // The top call.
 ghost use Rattle.std.specs.Prelude.{◌≡◌, ◌≢◌, ◌≤◌, ◌⊎◌, map, string_bytes};
 ghost use Rattle.pc_port.specs.Port.{Rose};
-ghost use Rattle.pc_run.specs.Run.{Tells};
+ghost use Rattle.pc_run.specs.Run.{TellsAtEnd};
 ghost use Rattle.pc_words.specs.View.{mode_of};
 ghost use Rattle.pc_replay.specs.Run.{AskForFile, AskForInput, HasBlocks, HasFile, ReadsAtFault, ReadsInput, Runs, RunsIn, usage_text};
 
@@ -17,7 +17,7 @@ const USAGE: &[u8] = b"usage: predicalc replay / edit FILE / check FILE / demo N
 
 // Ends a run whose words don't fit.
 fn tell_usage<O: Sink>(out: &mut O) -> Status
-    ensures told { Tells Status.Usage usage_text result (O.given out.old) (O.given out.new) }
+    ensures told { TellsAtEnd Status.Usage usage_text result (O.given out.old) (O.given out.new) }
     ensures fault { result ≡ Status.WriteFault → Rose (O.faults out.old) (O.faults out.new) }
     ensures no_fault { result ≢ Status.WriteFault → O.faults out.new ≡ O.faults out.old }
 {

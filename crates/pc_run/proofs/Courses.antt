@@ -13,7 +13,7 @@ use Rattle.pc_run.specs.declared.machine.LoadStop.TheVariants as load_stop
 use Rattle.pc_run.specs.Answer.{Answer, Printing, printed, StopsBy}
 use Rattle.pc_run.specs.Transcript.{too_long_text}
 use Rattle.pc_run.specs.SheetPart.{TakesSheet, StopsInSheet, PassesSheetLimit, HasTaken}
-use Rattle.pc_run.specs.Run.{Answers, AnswersBy, IsWritten, LacksRoom, LacksMemoryForSheet, RefusesSheet, HasLongSheet, IsCut, at_memory, at_sheet_memory, at_sheet, at_long_sheet, at_limit, at_answer, Replays, Replayed, Tells, TellsStop, GoesOn, by_refusal, by_want, by_answers, AppendsPart, memory_text, sheet_memory_text}
+use Rattle.pc_run.specs.Run.{Answers, AnswersBy, IsPrinted, LacksRoom, LacksMemoryForSheet, RefusesSheet, HasLongSheet, IsCutOff, at_memory, at_sheet_memory, at_sheet, at_long_sheet, at_limit, at_answer, Replays, Replayed, TellsAtEnd, TellsStop, GoesOn, by_refusal, by_want, by_answers, AppendsPart, memory_text, sheet_memory_text}
 use Rattle.pc_run.proofs.Ends.{read_ahead}
 use Rattle.pc_run.proofs.SheetLines.{has_taken}
 
@@ -23,7 +23,7 @@ cut_short part = record { count = part.count; written = part.front }
 
 -- a text was told at a status, or a front of it where a write failed
 told : {S N : Type 0} (IsSheet : List ℕ → S → Type 0) (Refuses : List ℕ → SheetRefusal → List ℕ → N → N → Type 0) (Allows : S × N → List ℕ → Answer → S × N → Type 0) (status result : Status) (notes notes' : N) (text : List ℕ) (source source' sink sink' : Option (List ℕ))
-    → Replays IsSheet Refuses Allows status notes notes' (printed [] text) source source' → IsCut IsSheet Refuses Allows notes notes' (printed [] text) source source' → (Appends sink sink' text → IsWritten status sink sink' (printed [] text)) → Tells status text result sink sink'
+    → Replays IsSheet Refuses Allows status notes notes' (printed [] text) source source' → IsCutOff IsSheet Refuses Allows notes notes' (printed [] text) source source' → (Appends sink sink' text → IsPrinted status sink sink' (printed [] text)) → TellsAtEnd status text result sink sink'
     → Replayed IsSheet Refuses Allows result notes notes' source source' sink sink'
 told IsSheet Refuses Allows status result notes notes' text source source' sink sink' course cut written tells =
     elim tells [
@@ -32,19 +32,19 @@ told IsSheet Refuses Allows status result notes notes' text source source' sink 
     ]
 
 pub lacks_room : {S N : Type 0} (IsSheet : List ℕ → S → Type 0) (Refuses : List ℕ → SheetRefusal → List ℕ → N → N → Type 0) (Allows : S × N → List ℕ → Answer → S × N → Type 0) (result : Status) (notes : N) (source sink sink' : Option (List ℕ))
-    → Tells Memory memory_text result sink sink' → Replayed IsSheet Refuses Allows result notes notes source source sink sink'
+    → TellsAtEnd Memory memory_text result sink sink' → Replayed IsSheet Refuses Allows result notes notes source source sink sink'
 lacks_room IsSheet Refuses Allows result notes source sink sink' tells =
     let lacks : LacksRoom notes notes (printed [] memory_text) source source = record { unread = refl; none_noted = refl; text_is = refl } in
     told IsSheet Refuses Allows Memory result notes notes memory_text source source sink sink' (inl lacks) (at_memory lacks) (λ w. w) tells
 
 pub lacks_memory : {S N : Type 0} (IsSheet : List ℕ → S → Type 0) (Refuses : List ℕ → SheetRefusal → List ℕ → N → N → Type 0) (Allows : S × N → List ℕ → Answer → S × N → Type 0) (result : Status) (notes notes' : N) (source source' sink sink' : Option (List ℕ))
-    → notes' ≡ notes → HasTaken source source' → Tells Memory sheet_memory_text result sink sink' → Replayed IsSheet Refuses Allows result notes notes' source source' sink sink'
+    → notes' ≡ notes → HasTaken source source' → TellsAtEnd Memory sheet_memory_text result sink sink' → Replayed IsSheet Refuses Allows result notes notes' source source' sink sink'
 lacks_memory IsSheet Refuses Allows result notes notes' source source' sink sink' none taken tells =
     let lacks : LacksMemoryForSheet notes notes' (printed [] sheet_memory_text) source source' = record { taken = taken; none_noted = none; text_is = refl } in
     told IsSheet Refuses Allows Memory result notes notes' sheet_memory_text source source' sink sink' (inr (inl lacks)) (at_sheet_memory lacks) (λ w. w) tells
 
 pub long_sheet : {S N : Type 0} (IsSheet : List ℕ → S → Type 0) (Refuses : List ℕ → SheetRefusal → List ℕ → N → N → Type 0) (Allows : S × N → List ℕ → Answer → S × N → Type 0) (result : Status) (notes : N) (source source' sink sink' : Option (List ℕ))
-    → PassesSheetLimit source source' → Tells TooLong too_long_text result sink sink' → Replayed IsSheet Refuses Allows result notes notes source source' sink sink'
+    → PassesSheetLimit source source' → TellsAtEnd TooLong too_long_text result sink sink' → Replayed IsSheet Refuses Allows result notes notes source source' sink sink'
 long_sheet IsSheet Refuses Allows result notes source source' sink sink' passes tells =
     let long : HasLongSheet notes notes (printed [] too_long_text) source source' = record { passes = passes; none_noted = refl; text_is = refl } in
     told IsSheet Refuses Allows TooLong result notes notes too_long_text source source' sink sink' (inl long) (at_long_sheet long) (λ w. w) tells
@@ -53,12 +53,12 @@ pub fails_in_sheet : {S N : Type 0} (IsSheet : List ℕ → S → Type 0) (Refus
 fails_in_sheet IsSheet Refuses Allows notes source source' sink fails = record { text = printed [] []; course = inl record { stops = fails; none_noted = refl; text_is = refl }; written = Appends-nil sink }
 
 memory_for_sheet : {S N : Type 0} (IsSheet : List ℕ → S → Type 0) (Refuses : List ℕ → SheetRefusal → List ℕ → N → N → Type 0) (Allows : S × N → List ℕ → Answer → S × N → Type 0) (result : Status) (notes notes' : N) (sheet : List ℕ) (source : Option (List ℕ)) (held : List ℕ) (left sink sink' : Option (List ℕ))
-    → notes' ≡ notes → TakesSheet sheet source (prepend_known held left) → length held ≤ CHUNK → Tells Memory sheet_memory_text result sink sink' → Replayed IsSheet Refuses Allows result notes notes' source left sink sink'
+    → notes' ≡ notes → TakesSheet sheet source (prepend_known held left) → length held ≤ CHUNK → TellsAtEnd Memory sheet_memory_text result sink sink' → Replayed IsSheet Refuses Allows result notes notes' source left sink sink'
 memory_for_sheet IsSheet Refuses Allows result notes notes' sheet source held left sink sink' none takes few tells =
     lacks_memory IsSheet Refuses Allows result notes notes' source left sink sink' none (has_taken sheet source held left takes few) tells
 
 refuses : {S N : Type 0} (IsSheet : List ℕ → S → Type 0) (Refuses : List ℕ → SheetRefusal → List ℕ → N → N → Type 0) (Allows : S × N → List ℕ → Answer → S × N → Type 0) (result : Status) (notes notes' : N) (refusal : SheetRefusal) (more : List ℕ) (sheet : List ℕ) (source : Option (List ℕ)) (held : List ℕ) (left sink sink' : Option (List ℕ))
-    → Refuses sheet refusal more notes notes' → TakesSheet sheet source (prepend_known held left) → length held ≤ CHUNK → Tells SheetRefused (sheet_refusal_text refusal ++ more) result sink sink'
+    → Refuses sheet refusal more notes notes' → TakesSheet sheet source (prepend_known held left) → length held ≤ CHUNK → TellsAtEnd SheetRefused (sheet_refusal_text refusal ++ more) result sink sink'
     → Replayed IsSheet Refuses Allows result notes notes' source left sink sink'
 refuses IsSheet Refuses Allows result notes notes' refusal more sheet source held left sink sink' has takes few tells =
     let refused : RefusesSheet Refuses notes notes' (printed [] (sheet_refusal_text refusal ++ more)) source left =

@@ -10,7 +10,7 @@ use Rattle.pc_run.specs.declared.status.Status.TheVariants.{SheetRefused, ReadFa
 use Rattle.pc_run.specs.Refusals.{sheet_refusal_text}
 use Rattle.pc_run.specs.Answer.{Answer, printed}
 use Rattle.pc_run.specs.Transcript.{too_long_text}
-use Rattle.pc_run.specs.Run.{Answers, GoesOn, by_refusal, by_want, by_answers, IsWritten, Tells, memory_text, sheet_memory_text}
+use Rattle.pc_run.specs.Run.{Answers, GoesOn, by_refusal, by_want, by_answers, IsPrinted, TellsAtEnd, memory_text, sheet_memory_text}
 use Rattle.pc_run.specs.Files.{AsksOnce, TakesFile, TakesLongFile, HasLongFile}
 use Rattle.pc_run.specs.Edit.{RefusesFile, LacksMemoryToEdit, StopsAtFile, Edited}
 use Rattle.pc_run.proofs.Courses.{cut_short, holds_nothing}
@@ -19,7 +19,7 @@ module _ {S N : Type 0} (IsSheet : List ℕ → S → Type 0) (Refuses : List �
   -- a text was told at a status, or a front of it where a write failed
   told : (status result : Status) (text : List ℕ) → StopsAtFile Refuses kept file status asked asked' notes notes' (printed [] text) source source
       → StopsAtFile Refuses kept file WriteFault asked asked' notes notes' (printed [] text) source source
-      → (Appends sink sink' text → IsWritten status sink sink' (printed [] text)) → Tells status text result sink sink'
+      → (Appends sink sink' text → IsPrinted status sink sink' (printed [] text)) → TellsAtEnd status text result sink sink'
       → Edited IsSheet Refuses Allows kept file result asked asked' notes notes' source source sink sink'
   told status result text course cut written tells =
       elim tells [
@@ -27,23 +27,23 @@ module _ {S N : Type 0} (IsSheet : List ℕ → S → Type 0) (Refuses : List �
         | inr w ↦ subst (λ (s : Status). Edited IsSheet Refuses Allows kept file s asked asked' notes notes' source source sink sink') (sym w.0) record { text = printed [] text; course = inl cut; written = cut_short w.1 }
       ]
 
-  pub lacks_room : (result : Status) → notes' ≡ notes → asked' ≡ asked → Tells Memory memory_text result sink sink' → Edited IsSheet Refuses Allows kept file result asked asked' notes notes' source source sink sink'
+  pub lacks_room : (result : Status) → notes' ≡ notes → asked' ≡ asked → TellsAtEnd Memory memory_text result sink sink' → Edited IsSheet Refuses Allows kept file result asked asked' notes notes' source source sink sink'
   lacks_room result none unasked tells =
       let lacks : LacksMemoryToEdit file asked asked' notes notes' (printed [] memory_text) source source = inl (record { unread = refl; none_noted = none; text_is = refl }, unasked) in
       told Memory result memory_text lacks (inr (inl lacks)) (λ w. w) tells
 
-  pub lacks_memory : (result : Status) → notes' ≡ notes → AsksOnce file asked asked' → Tells Memory sheet_memory_text result sink sink' → Edited IsSheet Refuses Allows kept file result asked asked' notes notes' source source sink sink'
+  pub lacks_memory : (result : Status) → notes' ≡ notes → AsksOnce file asked asked' → TellsAtEnd Memory sheet_memory_text result sink sink' → Edited IsSheet Refuses Allows kept file result asked asked' notes notes' source source sink sink'
   lacks_memory result none asks tells =
       let lacks : LacksMemoryToEdit file asked asked' notes notes' (printed [] sheet_memory_text) source source = inr (record { asks = asks; unread = refl; text_is = refl }, none) in
       told Memory result sheet_memory_text lacks (inr (inl lacks)) (λ w. w) tells
 
-  pub long_file : (result : Status) → notes' ≡ notes → TakesLongFile kept file asked asked' → Tells TooLong too_long_text result sink sink' → Edited IsSheet Refuses Allows kept file result asked asked' notes notes' source source sink sink'
+  pub long_file : (result : Status) → notes' ≡ notes → TakesLongFile kept file asked asked' → TellsAtEnd TooLong too_long_text result sink sink' → Edited IsSheet Refuses Allows kept file result asked asked' notes notes' source source sink sink'
   long_file result none takes tells =
       let long : HasLongFile kept file (printed [] too_long_text) asked asked' source source = record { takes = takes; unread = refl; text_is = refl } in
       told TooLong result too_long_text (long, none) (inr (inr (long, none))) (λ w. w) tells
 
   refuses : (result : Status) (sheet : List ℕ) (refusal : SheetRefusal) (more : List ℕ) → TakesFile kept file asked asked' sheet → length sheet ≤ SHEET_LIMIT → Refuses sheet refusal more notes notes'
-      → Tells SheetRefused (sheet_refusal_text refusal ++ more) result sink sink' → Edited IsSheet Refuses Allows kept file result asked asked' notes notes' source source sink sink'
+      → TellsAtEnd SheetRefused (sheet_refusal_text refusal ++ more) result sink sink' → Edited IsSheet Refuses Allows kept file result asked asked' notes notes' source source sink sink'
   refuses result sheet refusal more takes small has tells =
       let refused : RefusesFile Refuses kept file asked asked' notes notes' (printed [] (sheet_refusal_text refusal ++ more)) source source =
       record { sheet = sheet; takes = takes; small = small; refusal = refusal; more = more; refused = has; unread = refl; text_is = refl }

@@ -15,9 +15,9 @@ use Rattle.pc_run.specs.declared.serve.Marks.{Marks}
 use Rattle.pc_run.specs.declared.status.Status.{Status}
 use Rattle.pc_run.specs.declared.status.Status.TheVariants.{ReadFault, WriteFault, TooLong}
 use Rattle.pc_run.specs.SheetPart.{IsReadAhead}
-use Rattle.pc_run.specs.Answer.{Answer, Printing, printed, Serves, ServesInPart, text_of, is_refused, is_no_memory}
-use Rattle.pc_run.specs.Transcript.{Transcript, lines, input_of, output_of, worse_of, too_long_text, IsLine, PassesLimit, IsCompleteLine, AnswersAll, StopsAtLimit}
-use Rattle.pc_run.specs.Run.{Answers, AnswersBy, Tells, IsWritten, AppendsPart}
+use Rattle.pc_run.specs.Answer.{Answer, Printing, printed, Serves, ServesInPart, answer_text, is_refused, is_no_memory}
+use Rattle.pc_run.specs.Transcript.{Transcript, lines, input_of, output_of, worse_of, too_long_text, IsCommandLine, PassesLimit, IsCompleteLine, AnswersAll, StopsAtLimit}
+use Rattle.pc_run.specs.Run.{Answers, AnswersBy, TellsAtEnd, IsPrinted, AppendsPart}
 use Rattle.pc_run.proofs.Progress.{Progress, Legal-push, any-push, output_of-push, lines-push}
 
 -- ---- what a reader holds
@@ -60,12 +60,12 @@ lines_of-input (pair ∷ more) rest whole =
     ∙ lines_of-whole LINE_LIMIT pair.0 (input_of more ++ rest) whole.0
     ∙ ap (λ (ls : List (List ℕ)). pair.0 ∷ ls) (lines_of-input more rest whole.1)
 
-each_line : (t : Transcript) → All (IsWholeLine LINE_LIMIT) (lines t) → All IsLine (lines t)
-each_line t whole = All-weaker (IsWholeLine LINE_LIMIT) IsLine (λ line is. inl is) (lines t) whole
+each_line : (t : Transcript) → All (IsWholeLine LINE_LIMIT) (lines t) → All IsCommandLine (lines t)
+each_line t whole = All-weaker (IsWholeLine LINE_LIMIT) IsCommandLine (λ line is. inl is) (lines t) whole
 
 -- ---- at the end of the input
 
-written_all : (no_memory refused : Bool) (sink sink' : Option (List ℕ)) (text : Printing) → Appends sink sink' (text.before ++ text.last) → IsWritten (worse_of no_memory refused) sink sink' text
+written_all : (no_memory refused : Bool) (sink sink' : Option (List ℕ)) (text : Printing) → Appends sink sink' (text.before ++ text.last) → IsPrinted (worse_of no_memory refused) sink sink' text
 written_all true refused sink sink' text written = written
 written_all false true sink sink' text written = written
 written_all false false sink sink' text written = written
@@ -111,7 +111,7 @@ ends Allows start state marks source mid sink sink' count held left line status 
 -- at a last line without a line feed
 pub ends_last : {S : Type 0} (Allows : S → List ℕ → Answer → S → Type 0) (start old new : S) (marks marks' : Marks) (source mid sink sink' sink'' : Option (List ℕ)) (count : ℕ) (held : List ℕ) (left : Option (List ℕ)) (line : List ℕ) (status : Status)
     → Progress Allows start old marks source mid sink sink' count → count < MAX_LINES → IsOpenLine LINE_LIMIT line → 0 < length line → Consumes mid (prepend_known held left) line → IsAtEnd (prepend_known held left)
-    → Serves Allows old new (a_line.text_of line) marks marks' sink' sink'' → status ≡ worse_of marks'.no_memory marks'.refused → Answers Allows start new status source left sink sink''
+    → Serves Allows old new (a_line.line_text_of line) marks marks' sink' sink'' → status ≡ worse_of marks'.no_memory marks'.refused → Answers Allows start new status source left sink sink''
 ends_last Allows start old new marks marks' source mid sink sink' sink'' count held left line status p few open_line some taken at_end serves is =
     let t = p.transcript in
     let both = Consumes-trans source mid (prepend_known held left) (input_of t) line p.taken taken in
@@ -124,12 +124,12 @@ ends_last Allows start old new marks marks' source mid sink sink' sink'' count h
       taken = taken_to_end source held left (input_of t ++ line) both at_end;
       at_end = left_at_end held left at_end;
       all = lines-push t line serves.answer ∙ sym (lines_of-input t line (recursion_from_All (IsWholeLine LINE_LIMIT) (lines t) p.whole) ∙ ap (λ (ls : List (List ℕ)). lines t ++ ls) (lines_of-open line open_line.no_end some));
-      each = rw lines-push (All-push IsLine (lines t) line (each_line t p.whole) (inr open_line));
+      each = rw lines-push (All-push IsCommandLine (lines t) line (each_line t p.whole) (inr open_line));
       count = omega (arith, p.count_is, length_push t (line, serves.answer));
       text_is = refl;
       status_is = ap (λ (b : Bool). worse_of b marks'.refused) no_memory
           ∙ ap (λ (b : Bool). worse_of (list_any (λ pair. is_no_memory pair.1) (t ++ (line, serves.answer) ∷ [])) b) refused;
-    } (rw output_of-push (Appends-trans sink sink' sink'' (output_of t) (text_of serves.answer) p.written serves.written))
+    } (rw output_of-push (Appends-trans sink sink' sink'' (output_of t) (answer_text serves.answer) p.written serves.written))
 
 -- ---- at a fault of the source
 
@@ -161,11 +161,11 @@ cut_at a b c before last written part = record { count = part.count; written = A
 
 pub write_fails : {S : Type 0} (Allows : S → List ℕ → Answer → S → Type 0) (start old new : S) (marks : Marks) (source mid sink sink' sink'' : Option (List ℕ)) (count : ℕ) (held : List ℕ) (left : Option (List ℕ)) (line : List ℕ)
     → Progress Allows start old marks source mid sink sink' count → count < MAX_LINES → IsCompleteLine line (prepend_known held left) → Consumes mid (prepend_known held left) line → length held ≤ CHUNK
-    → ServesInPart Allows old new (a_line.text_of line) sink' sink'' → Answers Allows start new WriteFault source left sink sink''
+    → ServesInPart Allows old new (a_line.line_text_of line) sink' sink'' → Answers Allows start new WriteFault source left sink sink''
 write_fails Allows start old new marks source mid sink sink' sink'' count held left line p few complete taken small serves =
     let t = p.transcript in
     record {
-      text = printed (output_of t) (text_of serves.answer);
+      text = printed (output_of t) (answer_text serves.answer);
       course = inr record {
         transcript = t;
         state = old;
@@ -181,14 +181,14 @@ write_fails Allows start old new marks source mid sink sink' sink'' count held l
         ahead = read_ahead held left small;
         text_is = refl;
       };
-      written = cut_at sink sink' sink'' (output_of t) (text_of serves.answer) p.written serves.written;
+      written = cut_at sink sink' sink'' (output_of t) (answer_text serves.answer) p.written serves.written;
     }
 
 -- ---- at a line past a limit
 
 pub past_limit : {S : Type 0} (Allows : S → List ℕ → Answer → S → Type 0) (start state : S) (marks : Marks) (source mid sink sink' sink'' : Option (List ℕ)) (count : ℕ) (held : List ℕ) (left : Option (List ℕ)) (line : List ℕ) (status : Status)
     → Progress Allows start state marks source mid sink sink' count → count ≤ MAX_LINES → Consumes mid (prepend_known held left) line → PassesLimit count line → length held ≤ CHUNK
-    → Tells TooLong too_long_text status sink' sink'' → Answers Allows start state status source left sink sink''
+    → TellsAtEnd TooLong too_long_text status sink' sink'' → Answers Allows start state status source left sink sink''
 past_limit Allows start state marks source mid sink sink' sink'' count held left line status p few taken passes small told =
     let t = p.transcript in
     let stops : StopsAtLimit Allows start state (printed (output_of t) too_long_text) source left = record {

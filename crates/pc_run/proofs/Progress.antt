@@ -11,7 +11,7 @@ use Rattle.pc_lines.specs.Lines.{IsWholeLine}
 use Rattle.pc_lines.specs.Lines as a_line
 use Rattle.pc_run.specs.declared.TheConstants.{LINE_LIMIT}
 use Rattle.pc_run.specs.declared.serve.Marks.{Marks}
-use Rattle.pc_run.specs.Answer.{Answer, Serves, text_of, is_refused, is_no_memory}
+use Rattle.pc_run.specs.Answer.{Answer, Serves, answer_text, is_refused, is_no_memory}
 use Rattle.pc_run.specs.Transcript.{Transcript, Legal, lines, input_of, output_of}
 
 -- So many lines were taken and answered. Of the source, mid is still to come.
@@ -39,8 +39,8 @@ starts Allows state marks source sink refused no_memory = record {
 }
 
 pub Legal-push : {S : Type 0} (Allows : S → List ℕ → Answer → S → Type 0) (old mid new : S) (transcript : Transcript) (line : List ℕ) (answer : Answer)
-    → Legal Allows old transcript mid → Allows mid (a_line.text_of line) answer new → Legal Allows old (transcript ++ (line, answer) ∷ []) new
-Legal-push Allows old mid new [] line answer legal allowed = (new, subst (λ n. Allows n (a_line.text_of line) answer new) legal allowed, refl)
+    → Legal Allows old transcript mid → Allows mid (a_line.line_text_of line) answer new → Legal Allows old (transcript ++ (line, answer) ∷ []) new
+Legal-push Allows old mid new [] line answer legal allowed = (new, subst (λ n. Allows n (a_line.line_text_of line) answer new) legal allowed, refl)
 Legal-push Allows old mid new (pair ∷ more) line answer legal allowed = (legal.0, legal.1, Legal-push Allows legal.0 mid new more line answer legal.2 allowed)
 
 or-false : (a : Bool) → (a || false) ≡ a
@@ -60,15 +60,15 @@ any-push p xs x before after was is =
 pub input_of-push : (transcript : Transcript) (line : List ℕ) (answer : Answer) → input_of (transcript ++ (line, answer) ∷ []) ≡ input_of transcript ++ line
 input_of-push transcript line answer = flat_map-append (λ (pair : List ℕ × Answer). pair.0) transcript ((line, answer) ∷ []) ∙ ap (λ (l : List ℕ). input_of transcript ++ l) (append-nil line)
 
-pub output_of-push : (transcript : Transcript) (line : List ℕ) (answer : Answer) → output_of (transcript ++ (line, answer) ∷ []) ≡ output_of transcript ++ text_of answer
-output_of-push transcript line answer = flat_map-append (λ (pair : List ℕ × Answer). text_of pair.1) transcript ((line, answer) ∷ []) ∙ ap (λ (l : List ℕ). output_of transcript ++ l) (append-nil (text_of answer))
+pub output_of-push : (transcript : Transcript) (line : List ℕ) (answer : Answer) → output_of (transcript ++ (line, answer) ∷ []) ≡ output_of transcript ++ answer_text answer
+output_of-push transcript line answer = flat_map-append (λ (pair : List ℕ × Answer). answer_text pair.1) transcript ((line, answer) ∷ []) ∙ ap (λ (l : List ℕ). output_of transcript ++ l) (append-nil (answer_text answer))
 
 pub lines-push : (transcript : Transcript) (line : List ℕ) (answer : Answer) → lines (transcript ++ (line, answer) ∷ []) ≡ lines transcript ++ line ∷ []
 lines-push transcript line answer = map_push (λ (pair : List ℕ × Answer). pair.0) transcript (line, answer)
 
 -- one more line
 pub goes_on : {S : Type 0} (Allows : S → List ℕ → Answer → S → Type 0) (start old new : S) (marks marks' : Marks) (source mid mid' sink sink' sink'' : Option (List ℕ)) (count : ℕ) (line : List ℕ)
-    → Progress Allows start old marks source mid sink sink' count → IsWholeLine LINE_LIMIT line → Consumes mid mid' line → Serves Allows old new (a_line.text_of line) marks marks' sink' sink''
+    → Progress Allows start old marks source mid sink sink' count → IsWholeLine LINE_LIMIT line → Consumes mid mid' line → Serves Allows old new (a_line.line_text_of line) marks marks' sink' sink''
     → Progress Allows start new marks' source mid' sink sink'' (count + 1)
 goes_on Allows start old new marks marks' source mid mid' sink sink' sink'' count line p whole taken serves =
     let t = p.transcript in
@@ -77,7 +77,7 @@ goes_on Allows start old new marks marks' source mid mid' sink sink' sink'' coun
       legal = Legal-push Allows start old new t line serves.answer p.legal serves.allowed;
       whole = rw lines-push (All-push (IsWholeLine LINE_LIMIT) (lines t) line p.whole whole);
       taken = rw input_of-push (Consumes-trans source mid mid' (input_of t) line p.taken taken);
-      written = rw output_of-push (Appends-trans sink sink' sink'' (output_of t) (text_of serves.answer) p.written serves.written);
+      written = rw output_of-push (Appends-trans sink sink' sink'' (output_of t) (answer_text serves.answer) p.written serves.written);
       refused = any-push (λ (pair : List ℕ × Answer). is_refused pair.1) t (line, serves.answer) marks.refused marks'.refused p.refused serves.marked.refused;
       no_memory = any-push (λ (pair : List ℕ × Answer). is_no_memory pair.1) t (line, serves.answer) marks.no_memory marks'.no_memory p.no_memory serves.marked.no_memory;
       count_is = length_push t (line, serves.answer) ∙ ap (λ (n : ℕ). n + 1) p.count_is;

@@ -11,7 +11,7 @@ use Rattle.pc_run.specs.declared.sheet.Step.TheVariants.{Complete}
 use Rattle.pc_run.specs.declared.sheet.SheetStop.{SheetStop}
 use Rattle.pc_run.specs.declared.sheet.SheetStop.TheVariants.{Failed, TooLong, Memory}
 use Rattle.pc_lines.specs.declared.TheConstants.{CHUNK}
-use Rattle.pc_run.specs.SheetPart.{IsEarlier, EndsSheet, joined, TakesSheet, TakesLine, StepGives, StopsSheet, IsNotAppended, IsLineFront, IsSheetFront, HasTaken}
+use Rattle.pc_run.specs.SheetPart.{IsEarlier, EndsSheet, joined_lines, TakesSheet, TakesLine, StepGives, StopsSheet, IsNotAppended, IsLineFront, IsSheetFront, HasTaken}
 use Rattle.pc_run.proofs.Ends.{read_ahead, taken_with_none}
 
 -- ---- one line
@@ -72,7 +72,7 @@ appended P old new line put source rest is same holds taken = record { line = li
 -- The text is lines before `begin`. Of the source, mid is still to come.
 pub record Collected (text : List ℕ) (source mid : Option (List ℕ)) : Type 0 where
   pub earlier : List (List ℕ)
-  pub is : text ≡ joined earlier
+  pub is : text ≡ joined_lines earlier
   pub others : All IsEarlier earlier
   pub taken : Consumes source mid text
   pub small : length text ≤ SHEET_LIMIT
@@ -80,8 +80,8 @@ pub record Collected (text : List ℕ) (source mid : Option (List ℕ)) : Type 0
 pub collects_none : (source : Option (List ℕ)) → Collected [] source source
 collects_none source = record { earlier = []; is = refl; others = All-nil IsEarlier; taken = Consumes-nil source; small = omega arith }
 
-joined-push : (earlier : List (List ℕ)) (line : List ℕ) → joined (earlier ++ line ∷ []) ≡ joined earlier ++ line
-joined-push earlier line = flat_map-append (λ (l : List ℕ). l) earlier (line ∷ []) ∙ ap (λ (l : List ℕ). joined earlier ++ l) (append-nil line)
+joined-push : (earlier : List (List ℕ)) (line : List ℕ) → joined_lines (earlier ++ line ∷ []) ≡ joined_lines earlier ++ line
+joined-push earlier line = flat_map-append (λ (l : List ℕ). l) earlier (line ∷ []) ∙ ap (λ (l : List ℕ). joined_lines earlier ++ l) (append-nil line)
 
 pub collects_more : (text text' : List ℕ) (source mid mid' : Option (List ℕ)) → Collected text source mid → TakesLine text text' mid mid' IsEarlier → Collected text' source mid'
 collects_more text text' source mid mid' old step = record {

@@ -3,6 +3,7 @@ use Rattle.std.specs.Prelude.{◌≡◌, ℕ, Bool, true, false, ◌||◌, List,
 use Rattle.std.specs.declared.option.Option.{Option}
 use Rattle.std.specs.declared.option.Option.TheVariants.{Some, None}
 use Rattle.std.specs.Io.KnownBytes.{Appends}
+use Rattle.pc_writer.specs.SheetText.{ended}
 use Rattle.pc_port.specs.Port.{AppendsFront}
 use Rattle.pc_run.specs.declared.refusal.Refusal.{Refusal}
 use Rattle.pc_run.specs.declared.refusal.SheetRefusal.{SheetRefusal}
@@ -31,17 +32,13 @@ pub record Printing : Type 0 where
 abbrev pub printed : List ℕ → List ℕ → Printing
 printed before last = record { before = before; last = last }
 
--- a line with its line feed
-abbrev pub ended : List ℕ → List ℕ
-ended line = line ++ 10 ∷ []
-
 -- how an answer is written
-abbrev pub text_of : Answer → List ℕ
-text_of silent = []
-text_of accepted = ended (codes "ok")
-text_of (shown text) = text
-text_of (refused refusal more) = refusal_text refusal ++ more
-text_of no_memory = ended (codes "refused 15 memory")
+abbrev pub answer_text : Answer → List ℕ
+answer_text silent = []
+answer_text accepted = ended (codes "ok")
+answer_text (shown text) = text
+answer_text (refused refusal more) = refusal_text refusal ++ more
+answer_text no_memory = ended (codes "refused 15 memory")
 
 abbrev pub is_refused : Answer → Bool
 is_refused (refused refusal more) = true
@@ -52,16 +49,16 @@ is_no_memory no_memory = true
 is_no_memory answer = false
 
 -- what is told after a refusal: nothing, or the text of what shows that it is right
-abbrev pub Follows : {Q : Type 0} → (Q → List ℕ → Type 0) → Option Q → List ℕ → Type 0
-Follows IsProof None more = more ≡ []
-Follows IsProof (Some proof) more = IsProof proof more
+abbrev pub IsToldBehind : {Q : Type 0} → (Q → List ℕ → Type 0) → Option Q → List ℕ → Type 0
+IsToldBehind IsProof None more = more ≡ []
+IsToldBehind IsProof (Some proof) more = IsProof proof more
 
 -- the answer that a reply stands for in a state, of which these are the pages, where refusals are shown to be right so
 abbrev pub IsAnswer : {S P Q : Type 0} → (P → S → List ℕ → Type 0) → (Q → List ℕ → Type 0) → S → Reply P Q → Answer → Type 0
 IsAnswer IsPage IsProof state Silent answer = answer ≡ silent
 IsAnswer IsPage IsProof state Accepted answer = answer ≡ accepted
 IsAnswer IsPage IsProof state (Shown page) answer = (text : List ℕ) × IsPage page state text × (answer ≡ shown text)
-IsAnswer IsPage IsProof state (Refused refusal proof) answer = (more : List ℕ) × Follows IsProof proof more × (answer ≡ refused refusal more)
+IsAnswer IsPage IsProof state (Refused refusal proof) answer = (more : List ℕ) × IsToldBehind IsProof proof more × (answer ≡ refused refusal more)
 IsAnswer IsPage IsProof state Memory answer = answer ≡ no_memory
 
 -- the page of a reply is one that the state can be shown as
@@ -76,7 +73,7 @@ RefusesBy Has load_fault.Memory = Unit {0}
 
 -- why no state is made of a text: a refusal with what is told after it, or want of memory, and then the notes stay
 abbrev pub StopsBy : {Q N : Type 0} → (Q → List ℕ → Type 0) → (SheetRefusal → List ℕ → Type 0) → N → N → LoadStop Q → Type 0
-StopsBy IsProof Has notes notes' (load_stop.Refused why proof) = (more : List ℕ) → Follows IsProof proof more → Has why more
+StopsBy IsProof Has notes notes' (load_stop.Refused why proof) = (more : List ℕ) → IsToldBehind IsProof proof more → Has why more
 StopsBy IsProof Has notes notes' load_stop.Memory = notes' ≡ notes
 
 -- whether some line was refused and some wanted memory, after one answer more
@@ -89,10 +86,10 @@ pub record Serves {S : Type 0} (Allows : S → List ℕ → Answer → S → Typ
   pub answer : Answer
   pub allowed : Allows old line answer new
   pub marked : IsMarked marks answer marks'
-  pub written : Appends sink sink' (text_of answer)
+  pub written : Appends sink sink' (answer_text answer)
 
 -- the line has an answer, a front of which was written
 pub record ServesInPart {S : Type 0} (Allows : S → List ℕ → Answer → S → Type 0) (old new : S) (line : List ℕ) (sink sink' : Option (List ℕ)) : Type 0 where
   pub answer : Answer
   pub allowed : Allows old line answer new
-  pub written : AppendsFront sink sink' (text_of answer)
+  pub written : AppendsFront sink sink' (answer_text answer)

@@ -10,7 +10,7 @@ use Rattle.pc_run.specs.declared.status.Status.TheVariants.{SheetRefused, ReadFa
 use Rattle.pc_run.specs.Refusals.{sheet_refusal_text}
 use Rattle.pc_run.specs.Answer.{Answer, Printing, printed}
 use Rattle.pc_run.specs.Files.{TakesFile, LacksFile, LacksMemoryForFile, HasLongFile}
-use Rattle.pc_run.specs.Run.{AnswersBy, IsWritten, LacksRoom}
+use Rattle.pc_run.specs.Run.{AnswersBy, IsPrinted, LacksRoom}
 
 -- ---- what ends it before the commands: the input stays as it was
 
@@ -60,4 +60,4 @@ pub record OpensFile {S N : Type 0} (IsSheet : List ℕ → S → Type 0) (Allow
 pub record Edited {S N : Type 0} (IsSheet : List ℕ → S → Type 0) (Refuses : List ℕ → SheetRefusal → List ℕ → N → N → Type 0) (Allows : S × N → List ℕ → Answer → S × N → Type 0) (kept : Option Files) (file : List ℕ) (status : Status) (asked asked' : List (List ℕ)) (notes notes' : N) (source source' sink sink' : Option (List ℕ)) : Type 0 where
   pub text : Printing
   pub course : StopsAtFile Refuses kept file status asked asked' notes notes' text source source' ⊎ OpensFile IsSheet Allows kept file status asked asked' notes notes' text source source'
-  pub written : IsWritten status sink sink' text
+  pub written : IsPrinted status sink sink' text

@@ -56,13 +56,13 @@ further_text (Spent counts) = counts_text counts
 further_text refusal = []
 
 -- the line that a sheet's refusal is for, where it is for one
-abbrev pub line_text : Option ℕ → List ℕ
-line_text None = []
-line_text (Some number) = codes " line " ++ decimal number
+abbrev pub refused_line_text : Option ℕ → List ℕ
+refused_line_text None = []
+refused_line_text (Some number) = codes " line " ++ decimal number
 
 -- how a refusal is told in a line that begins so, with the line of the sheet that it is for, where it is for one
 abbrev pub told_text : List ℕ → Refusal → Option ℕ → List ℕ
-told_text beginning refusal line = beginning ++ (words_of refusal ++ (line_text line ++ (further_text refusal ++ codes "\n")))
+told_text beginning refusal line = beginning ++ (words_of refusal ++ (refused_line_text line ++ (further_text refusal ++ codes "\n")))
 
 -- how a refused command is told
 abbrev pub refusal_text : Refusal → List ℕ

@@ -9,7 +9,8 @@ use Rattle.pc_run.specs.declared.refusal.SheetRefusal.{SheetRefusal}
 use Rattle.pc_run.specs.declared.machine.LoadStop.{LoadStop}
 use Rattle.pc_run.specs.declared.machine.LoadStop.TheVariants as load_stop
 use Rattle.pc_run.specs.Refusals.{sheet_refusal_text}
-use Rattle.pc_run.specs.Answer.{Answer, Printing, printed, ended, Follows}
+use Rattle.pc_run.specs.Answer.{Answer, Printing, printed, IsToldBehind}
+use Rattle.pc_writer.specs.SheetText.{ended}
 use Rattle.pc_run.specs.Transcript.{AnswersAll, AnswersTaken, StopsAtLimit, AnswersSome, too_long_text}
 use Rattle.pc_run.specs.SheetPart.{IsReadAhead, TakesSheet, StopsInSheet, PassesSheetLimit, HasTaken}
 
@@ -65,13 +66,13 @@ pub record FailsInSheet {N : Type 0} (notes notes' : N) (text : Printing) (sourc
   pub text_is : text ≡ printed [] []
 
 -- what was to be printed where a write failed
-pub data IsCut {S N : Type 0} (IsSheet : List ℕ → S → Type 0) (Refuses : List ℕ → SheetRefusal → List ℕ → N → N → Type 0) (Allows : S × N → List ℕ → Answer → S × N → Type 0) (notes notes' : N) (text : Printing) (source source' : Option (List ℕ)) : Type 0 where
-  at_memory : LacksRoom notes notes' text source source' → IsCut IsSheet Refuses Allows notes notes' text source source'
-  at_sheet_memory : LacksMemoryForSheet notes notes' text source source' → IsCut IsSheet Refuses Allows notes notes' text source source'
-  at_sheet : RefusesSheet Refuses notes notes' text source source' → IsCut IsSheet Refuses Allows notes notes' text source source'
-  at_long_sheet : HasLongSheet notes notes' text source source' → IsCut IsSheet Refuses Allows notes notes' text source source'
-  at_limit : Opens IsSheet notes notes' (λ start end rest. StopsAtLimit Allows start end text rest source') source → IsCut IsSheet Refuses Allows notes notes' text source source'
-  at_answer : Opens IsSheet notes notes' (λ start end rest. AnswersSome Allows start end text rest source') source → IsCut IsSheet Refuses Allows notes notes' text source source'
+pub data IsCutOff {S N : Type 0} (IsSheet : List ℕ → S → Type 0) (Refuses : List ℕ → SheetRefusal → List ℕ → N → N → Type 0) (Allows : S × N → List ℕ → Answer → S × N → Type 0) (notes notes' : N) (text : Printing) (source source' : Option (List ℕ)) : Type 0 where
+  at_memory : LacksRoom notes notes' text source source' → IsCutOff IsSheet Refuses Allows notes notes' text source source'
+  at_sheet_memory : LacksMemoryForSheet notes notes' text source source' → IsCutOff IsSheet Refuses Allows notes notes' text source source'
+  at_sheet : RefusesSheet Refuses notes notes' text source source' → IsCutOff IsSheet Refuses Allows notes notes' text source source'
+  at_long_sheet : HasLongSheet notes notes' text source source' → IsCutOff IsSheet Refuses Allows notes notes' text source source'
+  at_limit : Opens IsSheet notes notes' (λ start end rest. StopsAtLimit Allows start end text rest source') source → IsCutOff IsSheet Refuses Allows notes notes' text source source'
+  at_answer : Opens IsSheet notes notes' (λ start end rest. AnswersSome Allows start end text rest source') source → IsCutOff IsSheet Refuses Allows notes notes' text source source'
 
 -- What was taken from the input at this status, the text that was to be printed, and what was noted.
 abbrev pub Replays : {S N : Type 0} → (List ℕ → S → Type 0) → (List ℕ → SheetRefusal → List ℕ → N → N → Type 0) → (S × N → List ℕ → Answer → S × N → Type 0) → Status → N → N → Printing → Option (List ℕ) → Option (List ℕ) → Type 0
@@ -81,7 +82,7 @@ Replays IsSheet Refuses Allows Usage notes notes' text source source' = ⊥
 Replays IsSheet Refuses Allows SheetRefused notes notes' text source source' = RefusesSheet Refuses notes notes' text source source'
 Replays IsSheet Refuses Allows ReadFault notes notes' text source source' =
     FailsInSheet notes notes' text source source' ⊎ Opens IsSheet notes notes' (λ start end rest. AnswersTaken Allows start end text rest source') source
-Replays IsSheet Refuses Allows WriteFault notes notes' text source source' = IsCut IsSheet Refuses Allows notes notes' text source source'
+Replays IsSheet Refuses Allows WriteFault notes notes' text source source' = IsCutOff IsSheet Refuses Allows notes notes' text source source'
 Replays IsSheet Refuses Allows Memory notes notes' text source source' =
     LacksRoom notes notes' text source source' ⊎ LacksMemoryForSheet notes notes' text source source' ⊎ Opens IsSheet notes notes' (λ start end rest. AnswersAll Allows start end Memory text rest source') source
 Replays IsSheet Refuses Allows TooLong notes notes' text source source' =
@@ -94,15 +95,15 @@ pub record AppendsPart (sink sink' : Option (List ℕ)) (text : Printing) : Type
   pub written : Appends sink sink' (text.before ++ take count text.last)
 
 -- all of the text was written, but where a write failed a front of its last piece
-abbrev pub IsWritten : Status → Option (List ℕ) → Option (List ℕ) → Printing → Type 0
-IsWritten WriteFault sink sink' text = AppendsPart sink sink' text
-IsWritten status sink sink' text = Appends sink sink' (text.before ++ text.last)
+abbrev pub IsPrinted : Status → Option (List ℕ) → Option (List ℕ) → Printing → Type 0
+IsPrinted WriteFault sink sink' text = AppendsPart sink sink' text
+IsPrinted status sink sink' text = Appends sink sink' (text.before ++ text.last)
 
 -- what was to be printed for the sheet and its commands, how much of it was, and what was noted
 pub record Replayed {S N : Type 0} (IsSheet : List ℕ → S → Type 0) (Refuses : List ℕ → SheetRefusal → List ℕ → N → N → Type 0) (Allows : S × N → List ℕ → Answer → S × N → Type 0) (status : Status) (notes notes' : N) (source source' sink sink' : Option (List ℕ)) : Type 0 where
   pub text : Printing
   pub course : Replays IsSheet Refuses Allows status notes notes' text source source'
-  pub written : IsWritten status sink sink' text
+  pub written : IsPrinted status sink sink' text
 
 -- how the command lines were answered at this status, and the text that was to be printed
 abbrev pub AnswersBy : {S : Type 0} → (S → List ℕ → Answer → S → Type 0) → S → S → Status → Printing → Option (List ℕ) → Option (List ℕ) → Type 0
@@ -118,22 +119,22 @@ AnswersBy Allows start end status text source source' = ⊥
 pub record Answers {S : Type 0} (Allows : S → List ℕ → Answer → S → Type 0) (start end : S) (status : Status) (source source' sink sink' : Option (List ℕ)) : Type 0 where
   pub text : Printing
   pub course : AnswersBy Allows start end status text source source'
-  pub written : IsWritten status sink sink' text
+  pub written : IsPrinted status sink sink' text
 
 -- the text was written and this is the status, or a front of it was and a write failed
-abbrev pub Tells : Status → List ℕ → Status → Option (List ℕ) → Option (List ℕ) → Type 0
-Tells status text result sink sink' = ((result ≡ status) × Appends sink sink' text) ⊎ ((result ≡ WriteFault) × AppendsFront sink sink' text)
+abbrev pub TellsAtEnd : Status → List ℕ → Status → Option (List ℕ) → Option (List ℕ) → Type 0
+TellsAtEnd status text result sink sink' = ((result ≡ status) × Appends sink sink' text) ⊎ ((result ≡ WriteFault) × AppendsFront sink sink' text)
 
 -- a sheet's refusal was told, with what shows that it is right, or that memory was wanted for it
 abbrev pub TellsStop : {Q : Type 0} → (Q → List ℕ → Type 0) → LoadStop Q → Status → Option (List ℕ) → Option (List ℕ) → Type 0
-TellsStop IsProof (load_stop.Refused why proof) result sink sink' = (more : List ℕ) × Follows IsProof proof more × Tells SheetRefused (sheet_refusal_text why ++ more) result sink sink'
-TellsStop IsProof load_stop.Memory result sink sink' = Tells Memory sheet_memory_text result sink sink'
+TellsStop IsProof (load_stop.Refused why proof) result sink sink' = (more : List ℕ) × IsToldBehind IsProof proof more × TellsAtEnd SheetRefused (sheet_refusal_text why ++ more) result sink sink'
+TellsStop IsProof load_stop.Memory result sink sink' = TellsAtEnd Memory sheet_memory_text result sink sink'
 
 -- How a run goes on from a sheet's text, where the rest is still to come, of which the source has some: no state is made of the text, this
 -- is told, and the source is left as it was; or from the text's state and these notes the rest was answered so.
 pub data GoesOn {S N : Type 0} (IsSheet : List ℕ → S → Type 0) (Refuses : List ℕ → SheetRefusal → List ℕ → N → N → Type 0) (Allows : S × N → List ℕ → Answer → S × N → Type 0) (sheet : List ℕ) (status : Status) (notes notes' : N) (rest source source' sink sink' : Option (List ℕ)) : Type 0 where
-  by_refusal : (refusal : SheetRefusal) (more : List ℕ) → Refuses sheet refusal more notes notes' → source' ≡ source → Tells SheetRefused (sheet_refusal_text refusal ++ more) status sink sink' → GoesOn IsSheet Refuses Allows sheet status notes notes' rest source source' sink sink'
-  by_want : notes' ≡ notes → source' ≡ source → Tells Memory sheet_memory_text status sink sink' → GoesOn IsSheet Refuses Allows sheet status notes notes' rest source source' sink sink'
+  by_refusal : (refusal : SheetRefusal) (more : List ℕ) → Refuses sheet refusal more notes notes' → source' ≡ source → TellsAtEnd SheetRefused (sheet_refusal_text refusal ++ more) status sink sink' → GoesOn IsSheet Refuses Allows sheet status notes notes' rest source source' sink sink'
+  by_want : notes' ≡ notes → source' ≡ source → TellsAtEnd Memory sheet_memory_text status sink sink' → GoesOn IsSheet Refuses Allows sheet status notes notes' rest source source' sink sink'
   by_answers : (start end : S) → IsSheet sheet start → Answers Allows (start, notes) (end, notes') status rest source' sink sink' → GoesOn IsSheet Refuses Allows sheet status notes notes' rest source source' sink sink'
 
 -- the number that a process ends with

@@ -5,7 +5,7 @@ use Rattle.std.specs.declared.option.Option.{Option}
 use Rattle.std.specs.List.{flat_map}
 use Rattle.std.specs.Str.{IsUtf8}
 use Rattle.std.specs.Io.KnownBytes.{Consumes, IsAtEnd}
-use Rattle.pc_lines.specs.Lines.{HasNoEnd, IsWholeLine, text_of}
+use Rattle.pc_lines.specs.Lines.{HasNoEnd, IsWholeLine, line_text_of}
 use Rattle.pc_lines.specs.declared.TheConstants.{CHUNK}
 use Rattle.pc_token.specs.Line.{IsOneName}
 use Rattle.pc_run.specs.declared.TheConstants.{SHEET_LIMIT}
@@ -15,28 +15,28 @@ use Rattle.pc_run.specs.declared.sheet.SheetStop.{SheetStop}
 use Rattle.pc_run.specs.declared.sheet.SheetStop.TheVariants.{Failed, TooLong, Memory}
 
 -- the line's one token is `begin`
-pub record IsBegin (line : List ℕ) : Type 0 where
-  pub utf8 : IsUtf8 (text_of line)
-  pub name : IsOneName (text_of line) (codes "begin")
+pub record IsBeginLine (line : List ℕ) : Type 0 where
+  pub utf8 : IsUtf8 (line_text_of line)
+  pub name : IsOneName (line_text_of line) (codes "begin")
 
 -- a complete line that isn't `begin`
 pub record IsEarlier (line : List ℕ) : Type 0 where
   pub whole : IsWholeLine SHEET_LIMIT line
-  pub other : ¬ IsBegin line
+  pub other : ¬ IsBeginLine line
 
 -- the lines one behind another
-abbrev pub joined : List (List ℕ) → List ℕ
-joined lines = flat_map (λ line. line) lines
+abbrev pub joined_lines : List (List ℕ) → List ℕ
+joined_lines lines = flat_map (λ line. line) lines
 
 -- the last line is `begin`, or the input ends behind it, and then it may be empty
 abbrev pub EndsSheet : List ℕ → Option (List ℕ) → Type 0
-EndsSheet last rest = (IsWholeLine SHEET_LIMIT last × IsBegin last) ⊎ (HasNoEnd last × IsAtEnd rest)
+EndsSheet last rest = (IsWholeLine SHEET_LIMIT last × IsBeginLine last) ⊎ (HasNoEnd last × IsAtEnd rest)
 
 -- the text is a sheet's part of an input, of which this is the rest
 pub record IsSheetPart (text : List ℕ) (rest : Option (List ℕ)) : Type 0 where
   pub earlier : List (List ℕ)
   pub last : List ℕ
-  pub is : text ≡ joined earlier ++ last
+  pub is : text ≡ joined_lines earlier ++ last
   pub others : All IsEarlier earlier
   pub ends : EndsSheet last rest
 
@@ -60,7 +60,7 @@ IsLineFront line = HasNoEnd line ⊎ IsWholeLine SHEET_LIMIT line
 pub record IsSheetFront (text : List ℕ) : Type 0 where
   pub earlier : List (List ℕ)
   pub last : List ℕ
-  pub is : text ≡ joined earlier ++ last
+  pub is : text ≡ joined_lines earlier ++ last
   pub others : All IsEarlier earlier
   pub one_line : IsLineFront last
 
@@ -70,8 +70,8 @@ pub record StopsInSheet (source source' : Option (List ℕ)) : Type 0 where
   pub others : All IsEarlier earlier
   pub begun : List ℕ
   pub no_end : HasNoEnd begun
-  pub small : length (joined earlier ++ begun) ≤ SHEET_LIMIT
-  pub taken : Consumes source source' (joined earlier ++ begun)
+  pub small : length (joined_lines earlier ++ begun) ≤ SHEET_LIMIT
+  pub taken : Consumes source source' (joined_lines earlier ++ begun)
 
 -- what was taken of the sheet's part is one byte longer than it may be
 pub record PassesSheetLimit (source source' : Option (List ℕ)) : Type 0 where

@@ -8,7 +8,8 @@ use Rattle.pc_lines.specs.Lines as a_line
 use Rattle.pc_run.specs.declared.TheConstants.{LINE_LIMIT, MAX_LINES}
 use Rattle.pc_run.specs.declared.status.Status.{Status}
 use Rattle.pc_run.specs.declared.status.Status.TheVariants.{Done, SomeRefused, Memory}
-use Rattle.pc_run.specs.Answer.{Answer, Printing, printed, ended, text_of, is_refused, is_no_memory}
+use Rattle.pc_run.specs.Answer.{Answer, Printing, printed, answer_text, is_refused, is_no_memory}
+use Rattle.pc_writer.specs.SheetText.{ended}
 use Rattle.pc_run.specs.SheetPart.{IsReadAhead}
 
 -- command lines as they stand in the input, each with its end and with its answer
@@ -18,7 +19,7 @@ Transcript = List (List ℕ × Answer)
 -- Each line is answered by its text, in the state that the lines before it leave. What is noted on the way is part of the state.
 abbrev pub Legal : {S : Type 0} → (S → List ℕ → Answer → S → Type 0) → S → Transcript → S → Type 0
 Legal Allows old [] new = new ≡ old
-Legal {S = S} Allows old (pair ∷ more) new = (mid : S) × Allows old (a_line.text_of pair.0) pair.1 mid × Legal Allows mid more new
+Legal {S = S} Allows old (pair ∷ more) new = (mid : S) × Allows old (a_line.line_text_of pair.0) pair.1 mid × Legal Allows mid more new
 
 abbrev pub lines : Transcript → List (List ℕ)
 lines transcript = map (λ pair. pair.0) transcript
@@ -28,7 +29,7 @@ input_of transcript = flat_map (λ pair. pair.0) transcript
 
 -- the text of a transcript
 abbrev pub output_of : Transcript → List ℕ
-output_of transcript = flat_map (λ pair. text_of pair.1) transcript
+output_of transcript = flat_map (λ pair. answer_text pair.1) transcript
 
 -- want of memory tells more than a refusal
 abbrev pub worse_of : Bool → Bool → Status
@@ -41,8 +42,8 @@ abbrev pub too_long_text : List ℕ
 too_long_text = ended (codes "refused 19 too-long")
 
 -- a command line within the limit, the last of the input perhaps without its line feed
-abbrev pub IsLine : List ℕ → Type 0
-IsLine line = IsWholeLine LINE_LIMIT line ⊎ IsOpenLine LINE_LIMIT line
+abbrev pub IsCommandLine : List ℕ → Type 0
+IsCommandLine line = IsWholeLine LINE_LIMIT line ⊎ IsOpenLine LINE_LIMIT line
 
 -- Each line up to the end of the input was answered, and this was to be printed.
 pub record AnswersAll {S : Type 0} (Allows : S → List ℕ → Answer → S → Type 0) (start end : S) (status : Status) (text : Printing) (source source' : Option (List ℕ)) : Type 0 where
@@ -52,7 +53,7 @@ pub record AnswersAll {S : Type 0} (Allows : S → List ℕ → Answer → S →
   pub taken : Consumes source source' commands
   pub at_end : IsAtEnd source'
   pub all : lines transcript ≡ lines_of commands
-  pub each : All IsLine (lines transcript)
+  pub each : All IsCommandLine (lines transcript)
   pub count : length transcript ≤ MAX_LINES
   pub text_is : text ≡ printed (output_of transcript) []
   pub status_is : status ≡ status_of transcript
@@ -70,7 +71,7 @@ pub record AnswersTaken {S : Type 0} (Allows : S → List ℕ → Answer → S �
 
 -- the next line is longer than a line may be, or is one line more than there may be
 abbrev pub PassesLimit : ℕ → List ℕ → Type 0
-PassesLimit count begun = IsLongStart LINE_LIMIT begun ⊎ ((count ≡ MAX_LINES) × IsLine begun × (0 < length begun))
+PassesLimit count begun = IsLongStart LINE_LIMIT begun ⊎ ((count ≡ MAX_LINES) × IsCommandLine begun × (0 < length begun))
 
 -- The lines before one that passes a limit were answered, and then that it does.
 pub record StopsAtLimit {S : Type 0} (Allows : S → List ℕ → Answer → S → Type 0) (start end : S) (text : Printing) (source source' : Option (List ℕ)) : Type 0 where
@@ -100,7 +101,7 @@ pub record AnswersSome {S : Type 0} (Allows : S → List ℕ → Answer → S �
   pub rest : Option (List ℕ)
   pub complete : IsCompleteLine line rest
   pub answer : Answer
-  pub allowed : Allows state (a_line.text_of line) answer end
+  pub allowed : Allows state (a_line.line_text_of line) answer end
   pub taken : Consumes source rest (input_of transcript ++ line)
   pub ahead : IsReadAhead rest source'
-  pub text_is : text ≡ printed (output_of transcript) (text_of answer)
+  pub text_is : text ≡ printed (output_of transcript) (answer_text answer)

@@ -1,7 +1,7 @@
 // What is told in many pieces, gathered in room that is taken once, and written in one.
 ghost use Rattle.std.specs.Prelude.{◌≡◌, ◌++◌, [], ℕ, List};
 ghost use Rattle.pc_port.specs.Port.{HasCause, WriteGives};
-ghost use Rattle.pc_run.specs.Answer.{Answer, CanBeTold, Follows, IsAnswer, text_of};
+ghost use Rattle.pc_run.specs.Answer.{Answer, CanBeTold, IsToldBehind, IsAnswer, answer_text};
 ghost use Rattle.pc_run.specs.Refusals.{sheet_refusal_text};
 ghost use Rattle.pc_writer.specs.Writes.{Writes};
 
@@ -34,7 +34,7 @@ pub(crate) fn print_gathered<M: Machine, O: Sink>(
     out: &mut O,
 ) -> Result<(), Failed>
     requires { CanBeTold M.CanShow machine.now reply.now }
-    ensures bytes { (answer : Answer) × IsAnswer M.IsPage M.IsProof machine.now reply.now answer × WriteGives (O.given out.old) (O.given out.new) result (text_of answer) }
+    ensures bytes { (answer : Answer) × IsAnswer M.IsPage M.IsProof machine.now reply.now answer × WriteGives (O.given out.old) (O.given out.new) result (answer_text answer) }
     ensures cause { HasCause (O.faults out.old) (O.faults out.new) result }
 {
     room.clear();
@@ -52,7 +52,7 @@ pub(crate) fn print_sheet_refusal_gathered<M: Machine, O: Sink>(
     room: &mut Gathering,
     out: &mut O,
 ) -> Result<(), Failed>
-    ensures { (more : List ℕ) × Follows M.IsProof proof.now more × Writes O.given O.faults out.old out.new result (sheet_refusal_text refused ++ more) }
+    ensures { (more : List ℕ) × IsToldBehind M.IsProof proof.now more × Writes O.given O.faults out.old out.new result (sheet_refusal_text refused ++ more) }
 {
     room.clear();
     match print_refusal::<M, Gathering>(SHEET, refused.refusal, refused.line, proof, room) {

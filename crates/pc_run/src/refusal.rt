@@ -1,7 +1,7 @@
 // Why texts are refused, and how that is told.
 ghost use Rattle.std.specs.Prelude.{◌≡◌, ◌++◌, codes};
 ghost use Rattle.pc_writer.specs.Writes.{Writes};
-ghost use Rattle.pc_run.specs.Refusals.{counts_text, further_text, limit_word_of, line_text, told_text, words_of};
+ghost use Rattle.pc_run.specs.Refusals.{counts_text, further_text, limit_word_of, refused_line_text, told_text, words_of};
 
 use itoa::{Buffer, Integer};
 use pc_port::{Failed, Sink};
@@ -152,7 +152,7 @@ impl Refusal {
 
 // Writes where a sheet's refusal stands.
 fn write_line<O: Sink>(line: Option<u32>, out: &mut O) -> Result<(), Failed>
-    ensures { Writes O.given O.faults out.old out.new result (line_text line) }
+    ensures { Writes O.given O.faults out.old out.new result (refused_line_text line) }
 {
     let Some(number) = line else {
         return Ok(());

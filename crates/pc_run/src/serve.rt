@@ -1,7 +1,7 @@
 // The answer to one line.
 ghost use Rattle.std.specs.Prelude.{◌≡◌, ◌≤◌, length, false, OnOk, OnErr};
 ghost use Rattle.pc_port.specs.Port.{HasCause, WriteGives};
-ghost use Rattle.pc_run.specs.Answer.{Answer, CanBeTold, IsAnswer, IsMarked, Serves, ServesInPart, text_of};
+ghost use Rattle.pc_run.specs.Answer.{Answer, CanBeTold, IsAnswer, IsMarked, Serves, ServesInPart, answer_text};
 ghost use Rattle.pc_run.specs.Transcript.{worse_of};
 
 use crate::gathered::{print_gathered, take_room};
@@ -74,7 +74,7 @@ pub fn print<M: Machine, O: Sink>(
     out: &mut O,
 ) -> Result<(), Failed>
     requires { CanBeTold M.CanShow machine.now reply.now }
-    ensures bytes { (answer : Answer) × IsAnswer M.IsPage M.IsProof machine.now reply.now answer × WriteGives (O.given out.old) (O.given out.new) result (text_of answer) }
+    ensures bytes { (answer : Answer) × IsAnswer M.IsPage M.IsProof machine.now reply.now answer × WriteGives (O.given out.old) (O.given out.new) result (answer_text answer) }
     ensures cause { HasCause (O.faults out.old) (O.faults out.new) result }
 {
     match reply {

@@ -3,7 +3,7 @@ ghost use Rattle.std.specs.Prelude.{◌≡◌, ◌≢◌, ◌≤◌, ◌↔◌, 
 ghost use Rattle.pc_port.specs.Port.{Rose};
 ghost use Rattle.pc_lines.specs.Reader.{coming};
 ghost use Rattle.pc_lines.specs.declared.TheConstants.{CHUNK};
-ghost use Rattle.pc_run.specs.SheetPart.{IsBegin, IsNotAppended, SheetGives, StepGives};
+ghost use Rattle.pc_run.specs.SheetPart.{IsBeginLine, IsNotAppended, SheetGives, StepGives};
 
 use crate::SHEET_LIMIT;
 use pc_lines::{LineReader, Taken};
@@ -42,7 +42,7 @@ impl From<AllocError> for SheetStop {
 
 // Whether the line's one token is `begin`.
 fn is_begin(reader: &LineReader) -> bool
-    ensures { IsTrue result ↔ IsBegin reader.now.line }
+    ensures { IsTrue result ↔ IsBeginLine reader.now.line }
 {
     match str::from_utf8(reader.text()) {
         Ok(text) => is_one_name(text, "begin"),

@@ -1,9 +1,9 @@
 // Refusals, each followed by what shows that it is right, if anything does.
 ghost use Rattle.std.specs.Prelude.{◌≡◌, ◌≢◌, ◌++◌, ℕ, List};
 ghost use Rattle.pc_port.specs.Port.{Rose};
-ghost use Rattle.pc_run.specs.Answer.{Follows};
+ghost use Rattle.pc_run.specs.Answer.{IsToldBehind};
 ghost use Rattle.pc_run.specs.Refusals.{sheet_refusal_text, told_text};
-ghost use Rattle.pc_run.specs.Run.{Tells, TellsStop};
+ghost use Rattle.pc_run.specs.Run.{TellsAtEnd, TellsStop};
 ghost use Rattle.pc_writer.specs.Writes.{Writes};
 
 use crate::Status;
@@ -16,7 +16,7 @@ use std::alloc::Global;
 
 // What follows a refusal has a text. Nothing is done.
 fn has_text<M: Machine>(proof: &Option<M::Proof>)
-    ensures { (more : List ℕ) × Follows M.IsProof proof.now more }
+    ensures { (more : List ℕ) × IsToldBehind M.IsProof proof.now more }
 {
     match proof {
         None => {}
@@ -26,7 +26,7 @@ fn has_text<M: Machine>(proof: &Option<M::Proof>)
 
 // Writes what shows that a refusal is right, if anything does.
 fn write_proof<M: Machine, O: Sink>(proof: &Option<M::Proof>, out: &mut O) -> Result<(), Failed>
-    ensures { (more : List ℕ) × Follows M.IsProof proof.now more × Writes O.given O.faults out.old out.new result more }
+    ensures { (more : List ℕ) × IsToldBehind M.IsProof proof.now more × Writes O.given O.faults out.old out.new result more }
 {
     match proof {
         None => Ok(()),
@@ -42,7 +42,7 @@ pub(crate) fn print_refusal<M: Machine, O: Sink>(
     proof: &Option<M::Proof>,
     out: &mut O,
 ) -> Result<(), Failed>
-    ensures { (more : List ℕ) × Follows M.IsProof proof.now more × Writes O.given O.faults out.old out.new result (told_text beginning.now refusal line ++ more) }
+    ensures { (more : List ℕ) × IsToldBehind M.IsProof proof.now more × Writes O.given O.faults out.old out.new result (told_text beginning.now refusal line ++ more) }
 {
     has_text::<M>(proof);
     write_refusal(beginning, refusal, line, out)?;
@@ -56,7 +56,7 @@ fn refuse_showing<M: Machine, O: Sink>(
     proof: &Option<M::Proof>,
     out: &mut O,
 ) -> Status
-    ensures told { (more : List ℕ) × Follows M.IsProof proof.now more × Tells Status.SheetRefused (sheet_refusal_text refused ++ more) result (O.given out.old) (O.given out.new) }
+    ensures told { (more : List ℕ) × IsToldBehind M.IsProof proof.now more × TellsAtEnd Status.SheetRefused (sheet_refusal_text refused ++ more) result (O.given out.old) (O.given out.new) }
     ensures fault { result ≡ Status.WriteFault → Rose (O.faults out.old) (O.faults out.new) }
     ensures no_fault { result ≢ Status.WriteFault → O.faults out.new ≡ O.faults out.old }
 {

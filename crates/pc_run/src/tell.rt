@@ -2,7 +2,7 @@
 ghost use Rattle.std.specs.Prelude.{◌≡◌, ◌≢◌};
 ghost use Rattle.pc_port.specs.Port.{Rose};
 ghost use Rattle.pc_run.specs.Refusals.{sheet_refusal_text};
-ghost use Rattle.pc_run.specs.Run.{Tells, memory_text, sheet_memory_text};
+ghost use Rattle.pc_run.specs.Run.{TellsAtEnd, memory_text, sheet_memory_text};
 ghost use Rattle.pc_run.specs.Transcript.{too_long_text};
 
 use crate::Status;
@@ -12,7 +12,7 @@ use pc_port::{Failed, Sink};
 /// Ends a run by a line, at the status, or at a failed write.
 pub fn end_with<O: Sink>(status: Status, line: &[u8], out: &mut O) -> Status
     requires { status ≢ Status.WriteFault }
-    ensures told { Tells status line.now result (O.given out.old) (O.given out.new) }
+    ensures told { TellsAtEnd status line.now result (O.given out.old) (O.given out.new) }
     ensures fault { result ≡ Status.WriteFault → Rose (O.faults out.old) (O.faults out.new) }
     ensures no_fault { result ≢ Status.WriteFault → O.faults out.new ≡ O.faults out.old }
 {
@@ -24,7 +24,7 @@ pub fn end_with<O: Sink>(status: Status, line: &[u8], out: &mut O) -> Status
 
 /// Ends a run by the refusal of its sheet.
 pub fn refuse<O: Sink>(refused: SheetRefusal, out: &mut O) -> Status
-    ensures told { Tells Status.SheetRefused (sheet_refusal_text refused) result (O.given out.old) (O.given out.new) }
+    ensures told { TellsAtEnd Status.SheetRefused (sheet_refusal_text refused) result (O.given out.old) (O.given out.new) }
     ensures fault { result ≡ Status.WriteFault → Rose (O.faults out.old) (O.faults out.new) }
     ensures no_fault { result ≢ Status.WriteFault → O.faults out.new ≡ O.faults out.old }
 {
@@ -36,7 +36,7 @@ pub fn refuse<O: Sink>(refused: SheetRefusal, out: &mut O) -> Status
 
 /// Ends a run that passed a limit.
 pub fn tell_too_long<O: Sink>(out: &mut O) -> Status
-    ensures told { Tells Status.TooLong too_long_text result (O.given out.old) (O.given out.new) }
+    ensures told { TellsAtEnd Status.TooLong too_long_text result (O.given out.old) (O.given out.new) }
     ensures fault { result ≡ Status.WriteFault → Rose (O.faults out.old) (O.faults out.new) }
     ensures no_fault { result ≢ Status.WriteFault → O.faults out.new ≡ O.faults out.old }
 {
@@ -45,7 +45,7 @@ pub fn tell_too_long<O: Sink>(out: &mut O) -> Status
 
 /// Ends a run that wanted memory where no sheet is read.
 pub fn tell_no_memory<O: Sink>(out: &mut O) -> Status
-    ensures told { Tells Status.Memory memory_text result (O.given out.old) (O.given out.new) }
+    ensures told { TellsAtEnd Status.Memory memory_text result (O.given out.old) (O.given out.new) }
     ensures fault { result ≡ Status.WriteFault → Rose (O.faults out.old) (O.faults out.new) }
     ensures no_fault { result ≢ Status.WriteFault → O.faults out.new ≡ O.faults out.old }
 {
@@ -54,7 +54,7 @@ pub fn tell_no_memory<O: Sink>(out: &mut O) -> Status
 
 /// Ends a run that wanted memory for its sheet.
 pub fn tell_no_memory_for_sheet<O: Sink>(out: &mut O) -> Status
-    ensures told { Tells Status.Memory sheet_memory_text result (O.given out.old) (O.given out.new) }
+    ensures told { TellsAtEnd Status.Memory sheet_memory_text result (O.given out.old) (O.given out.new) }
     ensures fault { result ≡ Status.WriteFault → Rose (O.faults out.old) (O.faults out.new) }
     ensures no_fault { result ≢ Status.WriteFault → O.faults out.new ≡ O.faults out.old }
 {

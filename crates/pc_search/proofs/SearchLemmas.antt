@@ -33,7 +33,7 @@ use Rattle.pc_search.specs.Joined.{IsWorldJoined, IsWorldOn}
 use Rattle.pc_search.specs.Laws.{ExactWorldsAreOn, JoinedWorldsAreWorlds}
 use Rattle.pc_search.proofs.WorldLemmas.{within_long}
 use Rattle.pc_components.specs.View.{number_of}
-use Rattle.pc_search.specs.Spending.{IsLogOf, AreFewFor}
+use Rattle.pc_search.specs.Spending.{IsSearchLog, AreFewWithTargets}
 
 pub searched_here : (sheet : Sheet) (part : Part) (cells : List CellId) (entries on : List Entry) (g : Grounded) (p : Problem) → g ≡ grounded sheet → entries ≡ on
     → IsPartOf sheet part cells entries p → IsSearched (sheet_of sheet part) cells g.sizes on p
@@ -47,7 +47,7 @@ searched_here sheet part cells entries on g p ground are is =
 more_for_all : (s t n : ℕ) → s * (n + 2) ≤ s * (t + 1) * (n + 2)
 more_for_all s t n = let is : s * (t + 1) * (n + 2) ≡ s * (n + 2) + t * (s * (n + 2)) = grind arith in omega (arith, is)
 
-pub few_alone : (sheet : Sheet) (t most : ℕ) → listing.AreFewFor sheet most → AreFewFor sheet t most
+pub few_alone : (sheet : Sheet) (t most : ℕ) → listing.AreFewFor sheet most → AreFewWithTargets sheet t most
 few_alone sheet t most few sets lists = omega (arith, few sets lists, more_for_all (length sets) t (length sheet.entries))
 
 -- exact worlds are no more than the sets of an exact list
@@ -63,7 +63,7 @@ with_targets s t n m w few fit =
     let right : s * (t + 1) * (n + 2) ≡ s * (n + 2) + t * ((n + 2) * s) = grind arith in
     omega (arith, few, all, left, right)
 
-pub few_with : (sheet : Sheet) (worlds : List WorldView) (t most w : ℕ) → AreExact sheet worlds → w ≡ length worlds → listing.AreFewFor sheet most → AreFewFor sheet t (most + t * (w * (length sheet.entries + 2)))
+pub few_with : (sheet : Sheet) (worlds : List WorldView) (t most w : ℕ) → AreExact sheet worlds → w ≡ length worlds → listing.AreFewFor sheet most → AreFewWithTargets sheet t (most + t * (w * (length sheet.entries + 2)))
 few_with sheet worlds t most w exact is few sets lists =
     with_targets (length sets) t (length sheet.entries) most w (few sets lists) (omega (arith, is, worlds_few sheet worlds sets exact lists))
 
@@ -87,22 +87,22 @@ spends_both own first next last m n o p q a b = record {
 -- ---- logs
 
 -- of a search without blocks
-pub without_blocks : (sheet : Sheet) (p : Problem) (log : List LogLine) → IsLawfulLog p [] log → IsLogOf sheet p log
+pub without_blocks : (sheet : Sheet) (p : Problem) (log : List LogLine) → IsLawfulLog p [] log → IsSearchLog sheet p log
 without_blocks sheet p log lawful = record { blocks = []; lawful = lawful; of_sets = λ b has. absurd (omega (arith, has.1)) }
 
-pub logs_alone : (sheet : Sheet) (p : Problem) (old new : List (List LogLine)) → AddsLogs 2 (IsListingLog (cell_sizes sheet.universe) sheet.entries (IsMaximalSet sheet) p) old new → AddsLogs 3 (IsLogOf sheet p) old new
+pub logs_alone : (sheet : Sheet) (p : Problem) (old new : List (List LogLine)) → AddsLogs 2 (IsListingLog (cell_sizes sheet.universe) sheet.entries (IsMaximalSet sheet) p) old new → AddsLogs 3 (IsSearchLog sheet p) old new
 logs_alone sheet p old new h = record { added = h.added; is = h.is; few = omega (arith, h.few); each = h.each }
 
 pub logs_same : (most : ℕ) (IsSuch : List LogLine → Type 0) (old new : List (List LogLine)) → new ≡ old → AddsLogs most IsSuch old new
 logs_same most IsSuch old new same = record { added = []; is = same ∙ sym (append-nil old); few = omega arith; each = λ i d below. absurd (omega (arith, below)) }
 
 pub logs_both : (sheet : Sheet) (p : Problem) (old mid new : List (List LogLine)) → AddsLogs 2 (IsListingLog (cell_sizes sheet.universe) sheet.entries (IsMaximalSet sheet) p) old mid
-    → AddsLogs 1 (IsLawfulLog p []) mid new → AddsLogs 3 (IsLogOf sheet p) old new
+    → AddsLogs 1 (IsLawfulLog p []) mid new → AddsLogs 3 (IsSearchLog sheet p) old new
 logs_both sheet p old mid new h k = record {
   added = h.added ++ k.added;
   is = k.is ∙ ap (λ xs. xs ++ k.added) h.is ∙ append_assoc old h.added k.added;
   few = omega (arith, length-append h.added k.added, h.few, k.few);
-  each = All-append (IsLogOf sheet p) h.added k.added h.each (λ i d below. without_blocks sheet p (get_or k.added i d) (k.each i d below));
+  each = All-append (IsSearchLog sheet p) h.added k.added h.each (λ i d below. without_blocks sheet p (get_or k.added i d) (k.each i d below));
 }
 
 -- ---- worlds
@@ -143,9 +143,9 @@ logs_sized sizes sheet p old new are h = subst (λ ns. AddsLogs 2 (IsListingLog 
 
 pub few_of_part : (sheet : Sheet) (part : Part) (cells : List CellId) (entries : List Entry) (p : Problem) (worlds joined : List WorldView) (base : List ValueId) (t most : ℕ)
     → IsPartOf sheet part cells entries p → AreExact (sheet_of sheet part) worlds → AllZip (IsWorldJoined (map number_of cells) base) worlds joined → listing.AreFewFor (sheet_of sheet part) most
-    → AreFewFor (sheet_of sheet part) t (most + t * (length joined * (length entries + 2)))
+    → AreFewWithTargets (sheet_of sheet part) t (most + t * (length joined * (length entries + 2)))
 few_of_part sheet part cells entries p worlds joined base t most is exact zip few =
-    subst (λ n. AreFewFor (sheet_of sheet part) t (most + t * (length joined * (n + 2)))) (ap length is.searched.entries_are)
+    subst (λ n. AreFewWithTargets (sheet_of sheet part) t (most + t * (length joined * (n + 2)))) (ap length is.searched.entries_are)
     (few_with (sheet_of sheet part) worlds t most (length joined) exact (as_many (map number_of cells) base worlds joined zip) few)
 
 pub small_of_part : (sheet : Sheet) (part : Part) (cells : List CellId) (entries : List Entry) (p : Problem) (worlds joined : List WorldView) (base : List ValueId) (most : ℕ)

@@ -4,7 +4,7 @@ ghost use Rattle.std.specs.Prelude.{◌≤◌, ◌<◌, ◌+◌, ◌*◌, ◌^�
 ghost use Rattle.pc_sheet.specs.Limits.{most_cells};
 ghost use Rattle.pc_search.specs.Found.{AddsRow, Finds, FindsOne, steps_in};
 ghost use Rattle.pc_search.specs.inside.Finding.{CanFind};
-ghost use Rattle.pc_solver.specs.Spending.{basis_of, GoesOn, StopSays};
+ghost use Rattle.pc_solver.specs.Spending.{basis_of, GoesOnFor, StopSays};
 ghost use Rattle.pc_support.specs.Seen.{AreSeen};
 
 use crate::finder::Finder;
@@ -75,7 +75,7 @@ impl Finder<'_> {
         requires few_calls { tally.old.calls < 2 ^ 120 }
         ensures found { OnOk result (FindsOne listed.entry.task.book.now (steps_in log.new) target patch.old patch.new) }
         ensures seen { AreSeen (basis_of self.old.solver) self.new.seen }
-        ensures goes_on { GoesOn (length listed.entry.worlds.now * (length listed.entry.task.entries.now + 2)) self.old.solver self.new.solver tally.old tally.new log.old log.new }
+        ensures goes_on { GoesOnFor (length listed.entry.worlds.now * (length listed.entry.task.entries.now + 2)) self.old.solver self.new.solver tally.old tally.new log.old log.new }
         ensures stop { IfErr result (StopSays tally.new) }
     {
         part_reasons_justify();
@@ -108,7 +108,7 @@ impl Finder<'_> {
         requires few_learned { tally.old.learned < 2 ^ 118 }
         requires few_calls { tally.old.calls < 2 ^ 118 }
         ensures found { OnOk result (Finds listed.entry.task.book.now (steps_in log.new) listed.entry.task.targets.now patch.old patch.new) }
-        ensures goes_on { GoesOn (length listed.entry.task.targets.now * (length listed.entry.worlds.now * (length listed.entry.task.entries.now + 2))) self.old.solver self.new.solver tally.old tally.new log.old log.new }
+        ensures goes_on { GoesOnFor (length listed.entry.task.targets.now * (length listed.entry.worlds.now * (length listed.entry.task.entries.now + 2))) self.old.solver self.new.solver tally.old tally.new log.old log.new }
         ensures stop { IfErr result (StopSays tally.new) }
     {
         let targets = listed.task.targets;

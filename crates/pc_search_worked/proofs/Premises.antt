@@ -11,7 +11,7 @@ use Rattle.pc_sheet.specs.declared.ids.Target.{Target}
 use Rattle.pc_ground.specs.Grounded.{grounded}
 use Rattle.pc_ground.specs.GroundView.{Grounded}
 use Rattle.pc_parts.specs.PartSheets.{entries_on}
-use Rattle.pc_components.specs.Pairs.{IsValueOf}
+use Rattle.pc_components.specs.Pairs.{IsValueOfCell}
 use Rattle.pc_components.specs.View.{number_of}
 use Rattle.pc_solver.specs.Solver.{Problem, IsProblem, AreOwn, clauses_used}
 use Rattle.pc_solver.specs.Spending.{Basis}
@@ -55,22 +55,22 @@ module _ (sheet : Sheet) (g : Grounded) (is : g ≡ grounded sheet) (cells : Lis
 
   -- all entries are on all cells
   asked_here : (entries : List Entry) (s : Basis) (worlds : List WorldView) (target : Target) → entries ≡ sheet.entries → s.problem ≡ problem_of sheet used own → AreExact sheet worlds → Contains cells target.cell
-      → IsValueOf (cell_sizes sheet.universe) target.cell target.value → IsAskedOf sheet cells g.sizes entries s worlds target
+      → IsValueOfCell (cell_sizes sheet.universe) target.cell target.value → IsAskedOf sheet cells g.sizes entries s worlds target
   asked_here entries s worlds target are problem exact on value = record {
     searched = subst (λ (x : Grounded). IsSearched sheet cells x.sizes entries s.problem) (sym is)
         (subst (λ p. IsSearched sheet cells (cell_sizes sheet.universe) entries p) (sym problem)
         (subst (λ es. IsSearched sheet cells (cell_sizes sheet.universe) es (problem_of sheet used own)) (sym h.searched.entries_are ∙ sym are) h.searched));
     target_on = on;
-    target_value = subst (λ (x : Grounded). IsValueOf x.sizes target.cell target.value) (sym is) value;
+    target_value = subst (λ (x : Grounded). IsValueOfCell x.sizes target.cell target.value) (sym is) value;
     exact = exact;
   }
 
   -- the same of the view of all of it
   pub asked_of_whole : (w : WholeView) → record { sheet = sheet; cells = cells; axioms = used; variables = own } ≡ w → (entries : List Entry) (s : Basis) (worlds : List WorldView) (target : Target) → entries ≡ sheet.entries
-      → s.problem ≡ problem_of w.sheet w.axioms w.variables → AreExact w.sheet worlds → Contains w.cells target.cell → IsValueOf (cell_sizes w.sheet.universe) target.cell target.value
+      → s.problem ≡ problem_of w.sheet w.axioms w.variables → AreExact w.sheet worlds → Contains w.cells target.cell → IsValueOfCell (cell_sizes w.sheet.universe) target.cell target.value
       → IsAskedOf w.sheet w.cells g.sizes entries s worlds target
   asked_of_whole w same entries s worlds target are =
-      subst (λ (v : WholeView). s.problem ≡ problem_of v.sheet v.axioms v.variables → AreExact v.sheet worlds → Contains v.cells target.cell → IsValueOf (cell_sizes v.sheet.universe) target.cell target.value → IsAskedOf v.sheet v.cells g.sizes entries s worlds target)
+      subst (λ (v : WholeView). s.problem ≡ problem_of v.sheet v.axioms v.variables → AreExact v.sheet worlds → Contains v.cells target.cell → IsValueOfCell (cell_sizes v.sheet.universe) target.cell target.value → IsAskedOf v.sheet v.cells g.sizes entries s worlds target)
       same (asked_here entries s worlds target are)
 
 -- nothing was seen

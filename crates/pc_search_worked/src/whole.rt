@@ -1,7 +1,7 @@
 //! A book as one part.
 
 ghost use Rattle.std.specs.Prelude.{◌≡◌, Contains, IfOk, IsTrue};
-ghost use Rattle.pc_components.specs.Pairs.{IsValueOf};
+ghost use Rattle.pc_components.specs.Pairs.{IsValueOfCell};
 ghost use Rattle.pc_sheet.specs.Entailment.{cell_sizes};
 
 use crate::book_part::{BookPart, part_of_book};
@@ -74,7 +74,7 @@ pub fn whole_of(alloc: Global, text: &str) -> Option<Whole> {
 /// Whether the target's cell and value are the book's.
 pub(crate) fn has_target(whole: &Whole, target: Target) -> bool
     ensures on { IsTrue result → Contains whole.now.cells target.cell }
-    ensures value { IsTrue result → IsValueOf (cell_sizes whole.now.sheet.universe) target.cell target.value }
+    ensures value { IsTrue result → IsValueOfCell (cell_sizes whole.now.sheet.universe) target.cell target.value }
 {
     whole.all.cells.contains(&target.cell)
         && usize::from(target.cell.0) < whole.book.cells()

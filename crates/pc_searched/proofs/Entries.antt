@@ -14,7 +14,7 @@ use Rattle.pc_sheet.specs.WellFormed.{IsEntryOf}
 use Rattle.pc_sheet.specs.declared.ids.CellId.{CellId}
 use Rattle.pc_sheet.specs.declared.ids.Entry.{Entry}
 use Rattle.pc_parts.specs.PartSheets.{is_on, entries_on}
-use Rattle.pc_components.specs.Pairs.{IsValueOf}
+use Rattle.pc_components.specs.Pairs.{IsValueOfCell}
 use Rattle.pc_components.specs.View.{number_of}
 
 pub cell_there : (cells : List CellId) (e : Entry) → is_on (map number_of cells) e ≡ true → Contains cells e.cell
@@ -37,7 +37,7 @@ module _ (u : Universe) (entries : List Entry) (each : All (IsEntryOf u) entries
   pub on_cells : All (λ e. Contains cells e.cell) on
   on_cells k d l = cell_there cells (get_or on k d) (filter_passes (is_on (map number_of cells)) entries k d l)
 
-  pub on_values : All (λ e. IsValueOf (cell_sizes u) e.cell e.value) on
+  pub on_values : All (λ e. IsValueOfCell (cell_sizes u) e.cell e.value) on
   on_values k d l =
       let e = get_or on k d in
       let n = some_and (slice_get (cell_sizes u) e.cell.0) (λ m. e.value.0 < m) (on_each k d l) in

@@ -19,7 +19,7 @@ use Rattle.pc_parts.specs.PartSheets.{entries_on, sheet_of}
 use Rattle.pc_laws.proofs.Elements.{all_from, contains_first}
 use Rattle.pc_parts.proofs.Joining.{contains_among}
 use Rattle.pc_ground.specs.Variables.{pair_at, variables, variable_count, number}
-use Rattle.pc_ground.specs.Ground.{axioms, clauses, clause_of, lit_of, some_axiom, one_axioms}
+use Rattle.pc_ground.specs.Ground.{axioms, clauses, clause_of_axiom, lit_of, some_axiom, one_axioms}
 use Rattle.pc_ground.proofs.Lists.{each_there}
 use Rattle.pc_ground.proofs.Numbers.{numbered_up, counted_up}
 use Rattle.pc_ground.proofs.Symbols.{symbols_are_variables}
@@ -66,7 +66,7 @@ module _ (sheet : Sheet) where
   -- and so is that of each literal of a clause
   literal_below : (clause : List Lit) (l : Lit) → Contains (clauses sheet) clause → Contains clause l → l.variable.0 < variable_count sheet
   literal_below clause l c has =
-      let g = contains_mapped (clause_of sheet) (axioms sheet) clause c in
+      let g = contains_mapped (clause_of_axiom sheet) (axioms sheet) clause c in
       let m = contains_mapped (lit_of sheet) g.0.clause l (subst (λ d. Contains d l) (sym g.2) has) in
       let same : number sheet m.0.what ≡ l.variable.0 = ap (λ (x : Lit). x.variable.0) m.2 in
       let below = number_below m.0.what (symbols_are_variables sheet g.0 g.1 m.0 m.1) in
@@ -154,7 +154,7 @@ parts_are_searched sheet formed all division part there low cells used own cells
         (λ n c.
         let g = (of.exact n).0 c in
         let below = slice_get_within (axioms sheet) n g.0 g.1 in
-        omega (arith, below, length-map (axioms sheet) (clause_of sheet)))
+        omega (arith, below, length-map (axioms sheet) (clause_of_axiom sheet)))
 
     own_below : (v : Var) → Contains own v → v.0 < variable_count sheet
     own_below v c =

@@ -7,7 +7,7 @@ use Rattle.pc_sheet.specs.declared.ids.CellId.{CellId}
 use Rattle.pc_sheet.specs.declared.ids.Entry.{Entry}
 use Rattle.pc_sheet.specs.declared.ids.Target.{Target}
 use Rattle.pc_components.specs.View.{number_of}
-use Rattle.pc_edits.specs.Reasons.{IsReasoning}
+use Rattle.pc_edits.specs.Reasons.{IsJustifying}
 use Rattle.pc_edits.specs.Edits.{edited}
 use Rattle.pc_cache.specs.Rows.{TargetRow, row_of}
 use Rattle.pc_theory.specs.Targets.{AreAsked}
@@ -18,7 +18,7 @@ use Rattle.pc_session.specs.inside.Staleness.{IsStale}
 use Rattle.pc_session.proofs.Apart.{AreApart}
 use Rattle.pc_session.proofs.Changing.{stale_asked, stale_apart, stale_right}
 
-module _ (sheet : Sheet) (theory : TheoryView) (rows : List TargetRow) (formed : IsWellFormed sheet) (known : IsTheory (rules_alone sheet) theory) (reasons : IsReasoning sheet (row_of rows)) (c : CellId) (old : Option Entry) (adds : Bool)
+module _ (sheet : Sheet) (theory : TheoryView) (rows : List TargetRow) (formed : IsWellFormed sheet) (known : IsTheory (rules_alone sheet) theory) (reasons : IsJustifying sheet (row_of rows)) (c : CellId) (old : Option Entry) (adds : Bool)
     (more : List Entry) (is_old : IsOldOf sheet.entries c old) (none_more : adds ≡ false → more ≡ []) (i : ℕ) (cells : List CellId) (at : slice_get theory.components.cells i ≡ Some cells) (ts : List Target)
     (are : ts ≡ stale_on rows old adds (cell_sizes sheet.universe) cells) where
   pub asked : (new : Sheet) → new ≡ edited sheet c more → AreAsked (cell_sizes new.universe) theory.components i ts

@@ -9,7 +9,7 @@ use Rattle.pc_reason.specs.Reasons.{Justification}
 use Rattle.pc_components.specs.Pairs.{size_at}
 use Rattle.pc_cache.specs.Rows.{TargetRow, is_same_target, row_of, row_after, row_bytes, bytes_of_rows}
 use Rattle.pc_search.specs.Found.{IsFound}
-use Rattle.pc_theory.specs.Targets.{target, targets_of_cell, targets_on}
+use Rattle.pc_theory.specs.Targets.{target_of_value, targets_on_cell, targets_on}
 use Rattle.pc_laws.proofs.Elements.{contains_cases, contains_first, contains_later, contains_none}
 use Rattle.pc_theory.proofs.OnCells.{has_of_cell, has_on}
 use Rattle.pc_theory.proofs.Changes.{compared}
@@ -24,20 +24,20 @@ same_test t = ap (λ b. b && (eqb t.value.0 t.value.0 && beq t.holds t.holds)) (
     itself true = refl
     itself false = refl
 
-two_apart : (c : CellId) (n : ℕ) → AreApart (target c n true ∷ target c n false ∷ [])
-two_apart c n = (λ there. elim (contains_cases (target c n false) [] (target c n true) there) [ inl is ↦ differs (let of : Target → Bool = λ t. t.holds in ap of is) | inr none ↦ contains_none (target c n true) none ], (λ none. contains_none (target c n false) none, tt))
+two_apart : (c : CellId) (n : ℕ) → AreApart (target_of_value c n true ∷ target_of_value c n false ∷ [])
+two_apart c n = (λ there. elim (contains_cases (target_of_value c n false) [] (target_of_value c n true) there) [ inl is ↦ differs (let of : Target → Bool = λ t. t.holds in ap of is) | inr none ↦ contains_none (target_of_value c n true) none ], (λ none. contains_none (target_of_value c n false) none, tt))
   where
     differs : false ≡ true → ⊥
     differs is = cc
 
-pub apart_of_cell : (c : CellId) (n : ℕ) → AreApart (targets_of_cell c n)
+pub apart_of_cell : (c : CellId) (n : ℕ) → AreApart (targets_on_cell c n)
 apart_of_cell c zero = tt
 apart_of_cell c (suc n) =
-    apart_append (targets_of_cell c n) (target c n true ∷ target c n false ∷ []) (apart_of_cell c n) (two_apart c n) (λ t early late.
+    apart_append (targets_on_cell c n) (target_of_value c n true ∷ target_of_value c n false ∷ []) (apart_of_cell c n) (two_apart c n) (λ t early late.
     let below = (has_of_cell t c n early).1 in
-    elim (contains_cases (target c n true) (target c n false ∷ []) t late) [
+    elim (contains_cases (target_of_value c n true) (target_of_value c n false ∷ []) t late) [
       | inl is ↦ omega (arith, below, (let of : Target → ℕ = λ x. x.value.0 in ap of is))
-      | inr later ↦ elim (contains_cases (target c n false) [] t later) [
+      | inr later ↦ elim (contains_cases (target_of_value c n false) [] t later) [
         | inl is ↦ omega (arith, below, (let of : Target → ℕ = λ x. x.value.0 in ap of is))
         | inr none ↦ contains_none t none
       ]
@@ -46,7 +46,7 @@ apart_of_cell c (suc n) =
 pub apart_on : (sizes : List ℕ) (cells : List CellId) → AreApart cells → AreApart (targets_on sizes cells)
 apart_on sizes [] apart = tt
 apart_on sizes (c ∷ cs) apart =
-    apart_append (targets_of_cell c (size_at sizes c)) (targets_on sizes cs) (apart_of_cell c (size_at sizes c)) (apart_on sizes cs apart.1)
+    apart_append (targets_on_cell c (size_at sizes c)) (targets_on sizes cs) (apart_of_cell c (size_at sizes c)) (apart_on sizes cs apart.1)
     (λ t early late. apart.0 (subst (Contains cs) (has_of_cell t c (size_at sizes c) early).0 (has_on sizes cs t late).0))
 
 -- ---- the bytes of some targets' rows

@@ -8,9 +8,9 @@ use Rattle.pc_sheet.specs.declared.ids.Entry.{Entry}
 use Rattle.pc_sheet.specs.declared.ids.Target.{Target}
 use Rattle.pc_laws.proofs.Contained.{sub_contained}
 use Rattle.pc_reason.specs.Reasons.{IsTargetOf, Justification}
-use Rattle.pc_edits.specs.Reasons.{IsRowFor, IsReasoning}
-use Rattle.pc_edits.specs.Edits.{Lacks}
-use Rattle.pc_cache.specs.Rows.{TargetRow, row_of, is_same_entry, is_among}
+use Rattle.pc_edits.specs.Reasons.{IsRowFor, IsJustifying}
+use Rattle.pc_edits.specs.Edits.{HasNoEntryOf}
+use Rattle.pc_cache.specs.Rows.{TargetRow, row_of, is_equal_entry, is_entry_among}
 use Rattle.pc_session.specs.inside.Old.{IsOldOf}
 use Rattle.pc_laws.proofs.Elements.{all_from, contains_cases, contains_first, contains_later, contains_none}
 use Rattle.pc_theory.proofs.Lists.{all_in}
@@ -37,26 +37,26 @@ one_of_cell (z ∷ zs) distinct x y in_x in_y same = elim (contains_cases z zs x
 same_entry : (e f : Entry) → e.cell.0 ≡ f.cell.0 → e.value.0 ≡ f.value.0 → e ≡ f
 same_entry e f cells values = let make : ℕ → ℕ → Entry = λ c v. record { cell = record { 0 = c }; value = record { 0 = v } } in ap (λ c. make c e.value.0) cells ∙ ap (make f.cell.0) values
 
-pub there_among : (e : Entry) (es : List Entry) → Contains es e → is_among e es ≡ true
+pub there_among : (e : Entry) (es : List Entry) → Contains es e → is_entry_among e es ≡ true
 there_among e [] h = absurd (contains_none e h)
 there_among e (f ∷ fs) h = elim (contains_cases f fs e h) [
   | inl is ↦
-      let test : is_same_entry f e ≡ true =
+      let test : is_equal_entry f e ≡ true =
       ap (λ b. b && eqb f.value.0 e.value.0) (eq-eqb f.cell.0 e.cell.0 (let cell : Entry → ℕ = λ x. x.cell.0 in ap cell is)) ∙ eq-eqb f.value.0 e.value.0 (let value : Entry → ℕ = λ x. x.value.0 in ap value is)
       in
-      ap (λ b. cond b true (is_among e fs)) test
-  | inr later ↦ either (is_same_entry f e) (is_among e fs) (there_among e fs later)
+      ap (λ b. cond b true (is_entry_among e fs)) test
+  | inr later ↦ either (is_equal_entry f e) (is_entry_among e fs) (there_among e fs later)
 ]
   where
     either : (a b : Bool) → b ≡ true → cond a true b ≡ true
     either true b is = refl
     either false b is = is
 
-pub among_there : (e : Entry) (es : List Entry) → is_among e es ≡ true → Contains es e
+pub among_there : (e : Entry) (es : List Entry) → is_entry_among e es ≡ true → Contains es e
 among_there e [] h = absurd (false≢true h)
 among_there e (f ∷ fs) h = by (eqb f.cell.0 e.cell.0) (eqb f.value.0 e.value.0) refl refl h (among_there e fs)
   where
-    by : (a b : Bool) → eqb f.cell.0 e.cell.0 ≡ a → eqb f.value.0 e.value.0 ≡ b → cond (a && b) true (is_among e fs) ≡ true → (is_among e fs ≡ true → Contains fs e) → Contains (f ∷ fs) e
+    by : (a b : Bool) → eqb f.cell.0 e.cell.0 ≡ a → eqb f.value.0 e.value.0 ≡ b → cond (a && b) true (is_entry_among e fs) ≡ true → (is_entry_among e fs ≡ true → Contains fs e) → Contains (f ∷ fs) e
     by true true is_a is_b h later = subst (Contains (f ∷ fs)) (same_entry f e (omega (arith, eqb-true, is_a)) (omega (arith, eqb-true, is_b))) (contains_first f fs)
     by true false is_a is_b h later = contains_later f fs e (later h)
     by false b is_a is_b h later = contains_later f fs e (later h)
@@ -64,7 +64,7 @@ among_there e (f ∷ fs) h = by (eqb f.cell.0 e.cell.0) (eqb f.value.0 e.value.0
 -- ---- the entry of a cell
 
 -- an entry that isn't its cell's doesn't stand
-pub not_standing : (es : List Entry) → HaveDistinctCells es → (e : Entry) (old : Option Entry) → IfSome old (λ x. Contains es x) → IfSome old (λ x. x.cell ≡ e.cell) → IfNone old (Lacks es e.cell)
+pub not_standing : (es : List Entry) → HaveDistinctCells es → (e : Entry) (old : Option Entry) → IfSome old (λ x. Contains es x) → IfSome old (λ x. x.cell ≡ e.cell) → IfNone old (HasNoEntryOf es e.cell)
     → ¬ (old ≡ Some e) → ¬ Contains es e
 not_standing es distinct e None found of_cell none other there = all_in (λ x. x.cell.0 ≢ e.cell.0) es e none there refl
 not_standing es distinct e (Some x) found of_cell none other there = other (ap Some (one_of_cell es distinct x e found there of_cell))
@@ -74,26 +74,26 @@ pub stands_there : (es : List Entry) (e : Entry) (o : Option Entry) → IfSome o
 stands_there es e o found is = subst (λ p. IfSome p (λ x. Contains es x)) is found
 
 -- what is found of a cell is its entry
-pub old_of : (es : List Entry) (c : CellId) (o : Option Entry) → IfSome o (λ x. Contains es x) → IfSome o (λ x. x.cell ≡ c) → IfNone o (Lacks es c) → IsOldOf es c o
+pub old_of : (es : List Entry) (c : CellId) (o : Option Entry) → IfSome o (λ x. Contains es x) → IfSome o (λ x. x.cell ≡ c) → IfNone o (HasNoEntryOf es c) → IsOldOf es c o
 old_of es c None found of_cell none = none
 old_of es c (Some e) found of_cell none = (found, of_cell)
 
 -- an entry of the cell is there
-pub not_lacking : (es : List Entry) (c : CellId) (x : Entry) → Contains es x → x.cell ≡ c → ¬ Lacks es c
+pub not_lacking : (es : List Entry) (c : CellId) (x : Entry) → Contains es x → x.cell ≡ c → ¬ HasNoEntryOf es c
 not_lacking es c x found of_cell lacks = all_in (λ y. y.cell.0 ≢ c.0) es x lacks found (let number : CellId → ℕ = λ d. d.0 in ap number of_cell)
 
 -- ---- supports
 
-module _ (sheet : Sheet) (rows : List TargetRow) (c : CellId) (distinct : HaveDistinctCells sheet.entries) (reasons : IsReasoning sheet (row_of rows)) where
+module _ (sheet : Sheet) (rows : List TargetRow) (c : CellId) (distinct : HaveDistinctCells sheet.entries) (reasons : IsJustifying sheet (row_of rows)) where
   in_entries : (t : Target) (j : Justification) → IsTargetOf sheet.universe t → row_of rows t ≡ Some j → (y : Entry) → Contains j.support y → Contains sheet.entries y
   in_entries t j is row y has = sub_contained sheet.entries j.support (subst (IsRowFor sheet t) row (reasons t is)).least.supports.among y has
 
   -- a support without the cell's entry lacks the cell
-  pub lacks_unless : (t : Target) (j : Justification) (e : Entry) → Contains sheet.entries e → e.cell ≡ c → IsTargetOf sheet.universe t → row_of rows t ≡ Some j → ¬ Contains j.support e → Lacks j.support c
+  pub lacks_unless : (t : Target) (j : Justification) (e : Entry) → Contains sheet.entries e → e.cell ≡ c → IsTargetOf sheet.universe t → row_of rows t ≡ Some j → ¬ Contains j.support e → HasNoEntryOf j.support c
   lacks_unless t j e entered of_cell is row none =
       all_from (λ y. y.cell.0 ≢ c.0) j.support (λ y in_s same.
       let cells_same : y.cell ≡ e.cell = (let make : ℕ → CellId = λ n. record { 0 = n } in ap make same) ∙ sym of_cell in
       none (subst (Contains j.support) (one_of_cell sheet.entries distinct y e (in_entries t j is row y in_s) entered cells_same) in_s))
 
-  pub lacks_all : (t : Target) (j : Justification) → Lacks sheet.entries c → IsTargetOf sheet.universe t → row_of rows t ≡ Some j → Lacks j.support c
+  pub lacks_all : (t : Target) (j : Justification) → HasNoEntryOf sheet.entries c → IsTargetOf sheet.universe t → row_of rows t ≡ Some j → HasNoEntryOf j.support c
   lacks_all t j lacks is row = all_from (λ y. y.cell.0 ≢ c.0) j.support (λ y in_s. all_in (λ e. e.cell.0 ≢ c.0) sheet.entries y lacks (in_entries t j is row y in_s))

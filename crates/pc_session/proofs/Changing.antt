@@ -9,8 +9,8 @@ use Rattle.pc_sheet.specs.declared.ids.Entry.{Entry}
 use Rattle.pc_sheet.specs.declared.ids.Target.{Target}
 use Rattle.pc_components.specs.View.{Kept, number_of, AreComponentsOf}
 use Rattle.pc_reason.specs.Reasons.{IsTargetOf, Justification}
-use Rattle.pc_edits.specs.Reasons.{IsReasoning}
-use Rattle.pc_edits.specs.Edits.{Lacks, edited, MayStay}
+use Rattle.pc_edits.specs.Reasons.{IsJustifying}
+use Rattle.pc_edits.specs.Edits.{HasNoEntryOf, edited, MayStay}
 use Rattle.pc_cache.specs.Rows.{TargetRow, row_of}
 use Rattle.pc_search.specs.Found.{steps_in, IsFound}
 use Rattle.pc_theory.specs.Targets.{targets_on, AreAsked}
@@ -44,7 +44,7 @@ stale_apart rows removed added sheet kept are part cells at =
 
 -- ---- they are enough
 
-module _ (sheet : Sheet) (rows : List TargetRow) (c : CellId) (distinct : HaveDistinctCells sheet.entries) (reasons : IsReasoning sheet (row_of rows)) (cells : List CellId) (removed : Option Entry) (adds : Bool)
+module _ (sheet : Sheet) (rows : List TargetRow) (c : CellId) (distinct : HaveDistinctCells sheet.entries) (reasons : IsJustifying sheet (row_of rows)) (cells : List CellId) (removed : Option Entry) (adds : Bool)
     (more : List Entry) (old : IsOldOf sheet.entries c removed) (none_more : adds ≡ false → more ≡ []) where
   abbrev all : List Target
   all = targets_on (cell_sizes sheet.universe) cells
@@ -58,10 +58,10 @@ module _ (sheet : Sheet) (rows : List TargetRow) (c : CellId) (distinct : HaveDi
   cell_there : (t : Target) → Contains (map number_of cells) t.cell.0 → Contains cells t.cell
   cell_there t on = let from = contains_mapped number_of cells t.cell.0 on in let make : ℕ → CellId = λ n. record { 0 = n } in subst (Contains cells) (ap make from.2) from.1
 
-  lacks : (t : Target) (j : Justification) → IsTargetOf sheet.universe t → row_of rows t ≡ Some j → is_stale removed adds (Some j) ≡ false → Lacks j.support c
+  lacks : (t : Target) (j : Justification) → IsTargetOf sheet.universe t → row_of rows t ≡ Some j → is_stale removed adds (Some j) ≡ false → HasNoEntryOf j.support c
   lacks t j is row fresh = by removed old fresh
     where
-      by : (r : Option Entry) → IsOldOf sheet.entries c r → is_stale r adds (Some j) ≡ false → Lacks j.support c
+      by : (r : Option Entry) → IsOldOf sheet.entries c r → is_stale r adds (Some j) ≡ false → HasNoEntryOf j.support c
       by None old fresh = lacks_all sheet rows c distinct reasons t j old is row
       by (Some e) old fresh = lacks_unless sheet rows c distinct reasons t j e old.0 old.1 is row (λ has. false≢true (sym fresh ∙ there_among e j.support has))
 
@@ -73,7 +73,7 @@ module _ (sheet : Sheet) (rows : List TargetRow) (c : CellId) (distinct : HaveDi
   off t outside None = inr outside
   off t outside (Some j) = inr outside
 
-  has_entry : (t : Target) (j : Justification) → is_stale removed adds (Some j) ≡ true → ¬ Lacks j.support c
+  has_entry : (t : Target) (j : Justification) → is_stale removed adds (Some j) ≡ true → ¬ HasNoEntryOf j.support c
   has_entry t j is lacks = by removed old is
     where
       by : (r : Option Entry) → IsOldOf sheet.entries c r → is_stale r adds (Some j) ≡ true → ⊥
@@ -83,7 +83,7 @@ module _ (sheet : Sheet) (rows : List TargetRow) (c : CellId) (distinct : HaveDi
           differs : (e : Entry) → Contains j.support e → e.cell ≡ c → ⊥
           differs e has of_cell = not_there j.support e has lacks of_cell
             where
-              not_there : (s : List Entry) (e : Entry) → Contains s e → Lacks s c → e.cell ≡ c → ⊥
+              not_there : (s : List Entry) (e : Entry) → Contains s e → HasNoEntryOf s c → e.cell ≡ c → ⊥
               not_there s e has lacks of_cell =
                   let number : CellId → ℕ = λ d. d.0 in
                   let is_e = has.2 in

@@ -15,10 +15,10 @@ use Rattle.pc_parts.specs.PartSheets.{is_on, entries_on, sheet_of}
 use Rattle.pc_parts.specs.Components.{parts_of}
 use Rattle.pc_components.specs.View.{number_of}
 use Rattle.pc_reason.specs.Reasons.{IsTargetOf, Justification}
-use Rattle.pc_edits.specs.Reasons.{IsRowFor, IsReasoning}
-use Rattle.pc_edits.specs.Edits.{Lacks, edited, MayStay}
+use Rattle.pc_edits.specs.Reasons.{IsRowFor, IsJustifying}
+use Rattle.pc_edits.specs.Edits.{HasNoEntryOf, edited, MayStay}
 use Rattle.pc_edits.specs.Laws.{ClearingEdits, OtherPartsStay}
-use Rattle.pc_cache.specs.Rows.{TargetRow, HasTarget, row_of, is_among, is_used_in}
+use Rattle.pc_cache.specs.Rows.{TargetRow, HasRowOf, row_of, is_entry_among, is_used_in}
 use Rattle.pc_world_list.specs.Worlds.{WorldView, AreExact, sheet_without, without_one, world_without, IsWithout}
 use Rattle.pc_search.specs.Parts.{AreWorldsOf}
 use Rattle.pc_theory.specs.Targets.{targets_on}
@@ -113,7 +113,7 @@ worlds_left sheet e p ws left distinct entered on without gives h =
 
 -- ---- whether a reason rests on the entry
 
-row_has : (rows : List TargetRow) (t : Target) (j : Justification) → row_of rows t ≡ Some j → HasTarget rows t
+row_has : (rows : List TargetRow) (t : Target) (j : Justification) → row_of rows t ≡ Some j → HasRowOf rows t
 row_has [] t j row = absurd (cc)
 row_has (r ∷ rs) t j row = elim (compared r.target t) [
   | inl is ↦ inl is
@@ -127,7 +127,7 @@ stale_used e (Some j) = refl
 pub used_right : (e : Entry) (rows : List TargetRow) (t : Target) → is_stale (Some e) false (row_of rows t) ≡ true → ¬ IsUnused e rows
 used_right e rows t is unused = unused t (sym (stale_used e (row_of rows t)) ∙ is)
 
-module _ (others : OtherPartsStay) (clears : ClearingEdits) (sheet : Sheet) (theory : TheoryView) (rows : List TargetRow) (formed : IsWellFormed sheet) (known : IsTheory (rules_alone sheet) theory) (reasons : IsReasoning sheet (row_of rows))
+module _ (others : OtherPartsStay) (clears : ClearingEdits) (sheet : Sheet) (theory : TheoryView) (rows : List TargetRow) (formed : IsWellFormed sheet) (known : IsTheory (rules_alone sheet) theory) (reasons : IsJustifying sheet (row_of rows))
     (places : HavePlaces sheet rows) (e : Entry) (i : ℕ) (p : Part) (cells : List CellId) (numbered : IsPartNumbered (rules_alone sheet) i p) (has : Contains p.cells e.cell.0) (are : p.cells ≡ map number_of cells) where
   pub unused_right : ((t : Target) → Contains (targets_on (cell_sizes sheet.universe) cells) t → is_stale (Some e) false (row_of rows t) ≡ true → ⊥) → IsUnused e rows
   unused_right none t used = by (row_of rows t) refl used
@@ -148,7 +148,7 @@ module _ (others : OtherPartsStay) (clears : ClearingEdits) (sheet : Sheet) (the
           ]
 
 -- no reason rests on an entry that is in no least support
-pub spare_unused : (sheet : Sheet) (rows : List TargetRow) (c : CellId) (e : Entry) → HavePlaces sheet rows → IsReasoning sheet (row_of rows) → e.cell ≡ c → IsSpare sheet c → IsUnused e rows
+pub spare_unused : (sheet : Sheet) (rows : List TargetRow) (c : CellId) (e : Entry) → HavePlaces sheet rows → IsJustifying sheet (row_of rows) → e.cell ≡ c → IsSpare sheet c → IsUnused e rows
 spare_unused sheet rows c e places reasons of_cell spare t used = by (row_of rows t) refl used
   where
     by : (o : Option Justification) → row_of rows t ≡ o → is_used_in e o ≡ true → ⊥
@@ -164,8 +164,8 @@ told false e rows some none = (some, λ not_unused. absurd (not_unused (none fal
 
 -- ---- in no support
 
-pub unused_stays : (sheet : Sheet) (rows : List TargetRow) (e : Entry) (cells : List ℕ) → HaveDistinctCells sheet.entries → IsReasoning sheet (row_of rows) → Contains sheet.entries e → IsUnused e rows
-    → ((t : Target) (j : Justification) → IsTargetOf sheet.universe t → row_of rows t ≡ Some j → ¬ Contains j.support e → Lacks j.support e.cell) → ((e : Entry) (s : List Entry) → Contains s e → is_among e s ≡ true)
+pub unused_stays : (sheet : Sheet) (rows : List TargetRow) (e : Entry) (cells : List ℕ) → HaveDistinctCells sheet.entries → IsJustifying sheet (row_of rows) → Contains sheet.entries e → IsUnused e rows
+    → ((t : Target) (j : Justification) → IsTargetOf sheet.universe t → row_of rows t ≡ Some j → ¬ Contains j.support e → HasNoEntryOf j.support e.cell) → ((e : Entry) (s : List Entry) → Contains s e → is_entry_among e s ≡ true)
     → (t : Target) → IsTargetOf sheet.universe t → MayStay cells e.cell [] t (row_of rows t)
 unused_stays sheet rows e cells distinct reasons entered unused lacks there t is = by (row_of rows t) refl
   where

@@ -4,7 +4,7 @@ use Rattle.std.specs.List.{AllZip}
 use Rattle.pc_sheet.specs.Sheet.{Sheet}
 use Rattle.pc_sheet.specs.Weight.{weight}
 use Rattle.pc_sheet.specs.declared.ids.Target.{Target}
-use Rattle.pc_edits.specs.Reasons.{IsRowFor, IsReasoning}
+use Rattle.pc_edits.specs.Reasons.{IsRowFor, IsJustifying}
 use Rattle.pc_cache.specs.Rows.{AreEmpty, TargetRow, is_same_target, row_of, row_after}
 use Rattle.pc_lits.specs.declared.tally.Tally.{Tally}
 use Rattle.pc_parts.specs.Components.{parts_of}
@@ -28,7 +28,7 @@ is_loaded sheet budget changes spending s is tally light found places rows = rec
     known = subst (λ x. IsTheory (rules_alone x) s.theory) (sym is) found.theory_is;
     worlds_of = subst (λ x. AllZip (AreWorldsOf x) (parts_of (rules_alone x)) s.worlds.items) (sym is) found.found.worlds_of;
     places = subst (λ x. HavePlaces x s.cache.rows) (sym is) places;
-    reasons = subst (λ x. IsReasoning x (row_of s.cache.rows)) (sym is) (λ t target. subst (IsRowFor sheet t) (sym (rows t)) (found.found.answered t target));
+    reasons = subst (λ x. IsJustifying x (row_of s.cache.rows)) (sym is) (λ t target. subst (IsRowFor sheet t) (sym (rows t)) (found.found.answered t target));
   };
   light = light;
   consistent = consistent_by sheet s.theory.base found.found.base_is;

@@ -12,11 +12,11 @@ use Rattle.pc_parts.specs.Parts.{Part}
 use Rattle.pc_parts.specs.PartSheets.{sheet_of}
 use Rattle.pc_parts.specs.Components.{parts_of}
 use Rattle.pc_components.specs.View.{number_of}
-use Rattle.pc_edits.specs.Reasons.{IsRowFor, IsReasoning}
+use Rattle.pc_edits.specs.Reasons.{IsRowFor, IsJustifying}
 use Rattle.pc_edits.specs.Edits.{IsAdded, edited}
 use Rattle.pc_edits.specs.Laws.{EditedReasonsAreRight}
 use Rattle.pc_edits.proofs.OtherParts.{same_entries}
-use Rattle.pc_cache.specs.Rows.{TargetRow, HasTarget, HaveTargets, row_of, target_of}
+use Rattle.pc_cache.specs.Rows.{TargetRow, HasRowOf, HaveTargets, row_of, target_of}
 use Rattle.pc_world_list.specs.Worlds.{WorldView, AreExact}
 use Rattle.pc_search.specs.Found.{steps_in}
 use Rattle.pc_search.specs.Parts.{AreWorldsOf}
@@ -58,7 +58,7 @@ worlds_stay sheet c added p ws is_added off h =
 
 -- ---- the changes have places
 
-pub have_targets : (rows changes : List TargetRow) → ((r : TargetRow) → Contains changes r → HasTarget rows r.target) → HaveTargets rows changes
+pub have_targets : (rows changes : List TargetRow) → ((r : TargetRow) → Contains changes r → HasRowOf rows r.target) → HaveTargets rows changes
 have_targets rows [] h = tt
 have_targets rows (r ∷ rs) h = (h r (contains_first r rs), have_targets rows rs (λ s has. h s (contains_later r rs s has)))
 
@@ -71,7 +71,7 @@ rest_same is = cc
 none_same : {x : Target} {xs : List Target} → [] ≡ x ∷ xs → ⊥
 none_same is = cc
 
-same_targets : (old new : List TargetRow) (t : Target) → map target_of new ≡ map target_of old → HasTarget old t → HasTarget new t
+same_targets : (old new : List TargetRow) (t : Target) → map target_of new ≡ map target_of old → HasRowOf old t → HasRowOf new t
 same_targets [] new t same h = absurd h
 same_targets (r ∷ rs) [] t same h = absurd (none_same same)
 same_targets (r ∷ rs) (s ∷ ss) t same h = elim h [ inl here ↦ inl (first_same same ∙ here) | inr later ↦ inr (same_targets rs ss t (rest_same same) later) ]
@@ -116,7 +116,7 @@ module _ (sheet : Sheet) (theory : TheoryView) (worlds : List (List WorldView)) 
               (worlds_stay sheet c added p (get_or worlds j []) is_added off (world_at j p [] (omega (arith, below, set_length worlds number ws)) at))
         ])
 
-    reasons_after : EditedReasonsAreRight → IsWellFormed new → IsReasoning new (after rows changes)
+    reasons_after : EditedReasonsAreRight → IsWellFormed new → IsJustifying new (after rows changes)
     reasons_after law formed_after =
         law sheet (parts_of sheet) edit.part c added (row_of rows) (after rows changes) (division_here sheet session.known.division) consistent formed formed_after is_added
         (at_contained (parts_of (rules_alone sheet)) number edit.part edit.numbered) edit.has session.reasons edit.changes_are.each

@@ -7,7 +7,7 @@ use Rattle.pc_sheet.specs.declared.ids.Entry.{Entry}
 use Rattle.pc_sheet.specs.declared.ids.Target.{Target}
 use Rattle.pc_components.specs.View.{Kept}
 use Rattle.pc_reason.specs.Reasons.{IsTargetOf, Justification}
-use Rattle.pc_edits.specs.Edits.{Lacks}
+use Rattle.pc_edits.specs.Edits.{HasNoEntryOf}
 use Rattle.pc_cache.specs.Rows.{TargetRow, row_of, is_used_in}
 use Rattle.pc_search.specs.Found.{steps_in}
 use Rattle.pc_session.specs.Arena.{IsLeft}
@@ -19,7 +19,7 @@ Steps old new tally = (t : Target) (j : Justification) → row_of new t ≡ Some
 
 -- each reason whose support has no entry of the cell stays as it was
 abbrev pub Stay : CellId → List TargetRow → List TargetRow → Type 0
-Stay c old new = (t : Target) (j : Justification) → row_of old t ≡ Some j → Lacks j.support c → row_of new t ≡ Some j
+Stay c old new = (t : Target) (j : Justification) → row_of old t ≡ Some j → HasNoEntryOf j.support c → row_of new t ≡ Some j
 
 -- what is kept of targets on the cells of other parts stays as it was
 abbrev pub OthersStay : CellId → Kept → List TargetRow → List TargetRow → Type 0
@@ -35,4 +35,4 @@ IsUnchanged old new = (new ≡ record old { bytes = new.bytes }) × IsLeft old.r
 
 -- the cell's entry, if it has one, is in no least support of an implied target
 abbrev pub IsSpare : Sheet → CellId → Type 0
-IsSpare sheet c = (t : Target) (s : List Entry) → IsTargetOf sheet.universe t → IsLeastSupport sheet s t → Lacks s c
+IsSpare sheet c = (t : Target) (s : List Entry) → IsTargetOf sheet.universe t → IsLeastSupport sheet s t → HasNoEntryOf s c

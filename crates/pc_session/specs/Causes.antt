@@ -6,7 +6,7 @@ use Rattle.pc_sheet.specs.Weight.{weight}
 use Rattle.pc_sheet.specs.MaximalSets.{AreRulesConsistent}
 use Rattle.pc_sheet.specs.declared.ids.CellId.{CellId}
 use Rattle.pc_logic.specs.Edits.{without_entry}
-use Rattle.pc_edits.specs.Edits.{Lacks}
+use Rattle.pc_edits.specs.Edits.{HasNoEntryOf}
 use Rattle.pc_theory.specs.Spendings.{IsLawful}
 use Rattle.pc_session.specs.declared.refused.LoadRefused.{LoadRefused}
 use Rattle.pc_session.specs.declared.refused.LoadRefused.TheVariants as load
@@ -32,7 +32,7 @@ IsEntryCause sheet cell budget (edit.Inconsistent refutation) = ⊥
 
 -- of clearing the cell: it has no entry, or its entry's removal spends too much
 abbrev pub IsClearCause : Sheet → CellId → ℕ → EditRefused → Type 0
-IsClearCause sheet cell budget edit.NoEntry = Lacks sheet.entries cell
+IsClearCause sheet cell budget edit.NoEntry = HasNoEntryOf sheet.entries cell
 IsClearCause sheet cell budget edit.DuplicateRule = ⊥
 IsClearCause sheet cell budget edit.NoRule = ⊥
 IsClearCause sheet cell budget edit.TooLarge = ⊥

@@ -2,7 +2,7 @@
 ghost use Rattle.std.specs.Prelude.{◌≡◌, ◌↔◌, ◌≤◌, ◌<◌, [], Contains, Err, IfErr, IfOk, IsTrue, None, Ok, OnErr, OnOk, Some, length, option_map};
 ghost use Rattle.pc_components.specs.View.{AreComponentsOf};
 ghost use Rattle.pc_cache.specs.Rows.{row_of};
-ghost use Rattle.pc_edits.specs.Edits.{Lacks};
+ghost use Rattle.pc_edits.specs.Edits.{HasNoEntryOf};
 ghost use Rattle.pc_logic.specs.Edits.{entered, without_entry};
 ghost use Rattle.pc_reason.specs.Reasons.{IsReasonFor, IsTargetOf, justification_of};
 ghost use Rattle.pc_search.specs.Parts.{IsBase};
@@ -150,7 +150,7 @@ impl Session {
 
     /// Clears the cell's entry. Where no reason rests on the entry it takes no memory, searches nothing and is always Ok.
     pub fn clear(&mut self, cell: CellId) -> Result<(), EditRefused>
-        ensures no_entry { Lacks self.old.sheet.entries cell → result ≡ Err NoEntry }
+        ensures no_entry { HasNoEntryOf self.old.sheet.entries cell → result ≡ Err NoEntry }
         ensures sheet { OnOk result (self.new.sheet ≡ without_entry self.old.sheet cell) }
         ensures budget { self.new.budget ≡ self.old.budget }
         ensures parts { self.new.components ≡ self.old.components }

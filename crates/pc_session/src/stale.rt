@@ -1,11 +1,11 @@
 //! Which targets an edit searches again.
 ghost use Rattle.std.specs.Prelude.{◌≡◌, ◌<◌, ◌≤◌, All, Contains, IfOk, IsTrue, Some, false, filter, length, true};
-ghost use Rattle.pc_cache.specs.Rows.{is_among, is_same_entry, row_of};
+ghost use Rattle.pc_cache.specs.Rows.{is_entry_among, is_equal_entry, row_of};
 ghost use Rattle.pc_sheet.specs.Limits.{most_values};
 ghost use Rattle.pc_sheet.specs.Entailment.{cell_sizes};
 ghost use Rattle.pc_sheet.specs.declared.ids.Target.{Target};
 ghost use Rattle.pc_session.specs.inside.Stale.{is_stale, stale_on};
-ghost use Rattle.pc_theory.specs.Targets.{target, targets_of_cell, targets_on};
+ghost use Rattle.pc_theory.specs.Targets.{target_of_value, targets_on_cell, targets_on};
 
 use crate::state::State;
 use pc_cache::Cache;
@@ -15,13 +15,13 @@ use pc_theory::targets_on;
 use std::alloc::{AllocError, Global};
 
 fn is_same(one: Entry, other: Entry) -> bool
-    ensures { result ≡ is_same_entry one other }
+    ensures { result ≡ is_equal_entry one other }
 {
     one.cell.0 == other.cell.0 && one.value.0 == other.value.0
 }
 
 fn has_entry(entries: &[Entry], entry: Entry) -> bool
-    ensures { result ≡ is_among entry entries.now }
+    ensures { result ≡ is_entry_among entry entries.now }
 {
     for one in entries {
         if is_same(*one, entry) {
@@ -39,7 +39,7 @@ fn is_stale(
     removed: Option<Entry>,
     added: bool,
 ) -> bool
-    ensures { result ≡ is_stale removed added (row_of cache.now.rows target) }
+    ensures { result ≡ is_stale removed added (row_of cache.now.rows target_of_value) }
 {
     match cache.reason(names, target) {
         None => added,
@@ -89,7 +89,7 @@ pub(crate) fn stale_targets(
 // That the cell has a value, or that it hasn't.
 fn target(cell: CellId, value: usize, holds: bool) -> Target
     requires { value < most_values }
-    ensures { result ≡ target cell value holds }
+    ensures { result ≡ target_of_value cell value holds }
 {
     Target {
         cell,
@@ -101,8 +101,8 @@ fn target(cell: CellId, value: usize, holds: bool) -> Target
 // Whether the reason of some target on the cell rests on the entry.
 fn is_used_on(cache: &Cache, names: &Names, cell: CellId, count: usize, entry: Entry) -> bool
     requires { count ≤ most_values }
-    ensures some { IsTrue result → (t : Target) × Contains (targets_of_cell cell count) t × (is_stale (Some entry) false (row_of cache.now.rows t) ≡ true) }
-    ensures none { (t : Target) → Contains (targets_of_cell cell count) t → is_stale (Some entry) false (row_of cache.now.rows t) ≡ true → IsTrue result }
+    ensures some { IsTrue result → (t : Target) × Contains (targets_on_cell cell count) t × (is_stale (Some entry) false (row_of cache.now.rows t) ≡ true) }
+    ensures none { (t : Target) → Contains (targets_on_cell cell count) t → is_stale (Some entry) false (row_of cache.now.rows t) ≡ true → IsTrue result }
 {
     for value in 0..count {
         if is_stale(cache, names, target(cell, value, true), Some(entry), false) {

@@ -2,7 +2,8 @@
 use Rattle.std.specs.Prelude.{◌≡◌, ◌≢◌, ℕ, ◌<◌, ◌⊎◌, ◌↔◌, List, [], ◌∷◌, ◌++◌, replicate, Some, slice_get, All, AllPairs, Contains, MatchBool, false, IsSomeAnd}
 use Rattle.std.specs.List.{flat_map}
 use Rattle.pc_sheet.specs.Sheet.{Universe, Sheet}
-use Rattle.pc_sheet.specs.Truth.{size_of, cells_in, Holds}
+use Rattle.pc_sheet.specs.Truth.{Holds}
+use Rattle.pc_sheet.specs.Sizes.{size_of, cells_in}
 use Rattle.pc_sheet.specs.declared.ids.ValueId.{ValueId}
 use Rattle.pc_sheet.specs.declared.ids.Entry.{Entry}
 use Rattle.pc_sheet.specs.declared.ids.Target.{Target}

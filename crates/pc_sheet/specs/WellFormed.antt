@@ -2,7 +2,7 @@
 use Rattle.std.specs.Prelude.{◌≢◌, ℕ, ◌<◌, ◌≤◌, ◌≤ℤ◌, List, [], map, length, sum_by, slice_get, IsSomeAnd, All, AllPairs}
 use Rattle.pc_name.specs.Names.{IsName}
 use Rattle.pc_sheet.specs.Sheet.{Values, listed, range, Table, Family, Universe, NamedStatement, Sheet}
-use Rattle.pc_sheet.specs.Truth.{count_of, size_of, cells_in}
+use Rattle.pc_sheet.specs.Sizes.{count_of, size_of, cells_in}
 use Rattle.pc_sheet.specs.Entailment.{AreWithin, cell_sizes, HaveDistinctCells}
 use Rattle.pc_sheet.specs.Limits.{most_sorts, most_values, most_tables, most_families, most_arguments, most_cells, most_rows, most_rules, most_nesting}
 use Rattle.pc_sheet.specs.Nesting.{nesting_of}

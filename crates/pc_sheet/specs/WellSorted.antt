@@ -4,7 +4,7 @@ use Rattle.std.specs.List.{flat_map}
 use Rattle.pc_name.specs.Names.{IsName}
 use Rattle.pc_sheet.specs.Limits.{largest_number, most_reads, most_depth}
 use Rattle.pc_sheet.specs.Sheet.{Values, listed, range, Sort, Table, Family, Universe, Item, Items, no_items, item, variable, constant, number, cell, Sum, Statement, Statements, no_statements, statement, compare, in_table, negation, all_of, some_of, implies, iff, for_all, exists}
-use Rattle.pc_sheet.specs.Truth.{values_at, size_of}
+use Rattle.pc_sheet.specs.Sizes.{values_at, size_of}
 use Rattle.pc_sheet.specs.declared.ids.SortId.{SortId}
 use Rattle.pc_name.specs.declared.sign.Op.{Op}
 use Rattle.pc_name.specs.declared.sign.Op.TheVariants.{Eq, Ne, Lt, Le, Gt, Ge}
@@ -138,16 +138,16 @@ parts_in no_statements = 0
 parts_in (statement s ss) = 1 + parts_in ss
 
 -- two parts or more
-abbrev pub AreParts : Statements → Type 0
-AreParts ss = (2 ≤ parts_in ss) × (parts_in ss < 4194304)
+abbrev pub AreTwoOrMore : Statements → Type 0
+AreTwoOrMore ss = (2 ≤ parts_in ss) × (parts_in ss < 4194304)
 
 abbrev mutual
   pub IsWellSorted : Universe → Variables → Statement → Type 0
   IsWellSorted u vs (compare left op right) = AreComparable u vs left op right × ReadsFew (reads_in_sum left + reads_in_sum right)
   IsWellSorted u vs (in_table t xs) = IsSomeAnd (slice_get u.tables t.0) (λ table. AreOfSorts u vs xs table.sorts) × ReadsFew (reads_in_items xs)
   IsWellSorted u vs (negation s) = IsWellSorted u vs s
-  IsWellSorted u vs (all_of ss) = AreParts ss × AreWellSorted u vs ss
-  IsWellSorted u vs (some_of ss) = AreParts ss × AreWellSorted u vs ss
+  IsWellSorted u vs (all_of ss) = AreTwoOrMore ss × AreWellSorted u vs ss
+  IsWellSorted u vs (some_of ss) = AreTwoOrMore ss × AreWellSorted u vs ss
   IsWellSorted u vs (implies s t) = IsWellSorted u vs s × IsWellSorted u vs t
   IsWellSorted u vs (iff s t) = IsWellSorted u vs s × IsWellSorted u vs t
   IsWellSorted u vs (for_all name s body) = IsNewVariable u vs name s × IsWellSorted u (vs ++ (name, s) ∷ []) body

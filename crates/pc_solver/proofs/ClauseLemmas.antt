@@ -18,17 +18,17 @@ use Rattle.pc_lits.specs.Literals.{negated}
 use Rattle.pc_lits.specs.Steps.{IsGoodStep, IsTautology}
 use Rattle.pc_lits.proofs.Elements.{contains_mapped, contains_cases}
 use Rattle.std.proofs.lemmas.List.Elements.{All-push, All-contains, Contains-append_left, Contains-push, Contains-push_cases}
-use Rattle.pc_log.specs.Derivations.{clause_of, hinted_clauses}
-use Rattle.pc_analyze.specs.Learning.{IsWithin}
+use Rattle.pc_log.specs.Derivations.{clause_of_line, hinted_clauses}
+use Rattle.pc_analyze.specs.Learning.{IsSubclause}
 use Rattle.pc_solver.specs.New.{AreNewClauses, ContainNone}
 use Rattle.pc_solver.proofs.NewLemmas.{line_cases, learned_cases, learned_within, new_learned}
 use Rattle.pc_propagate.specs.TrailView.{TrailView}
 use Rattle.pc_solver.specs.declared.clauses.Kept.{Kept}
 use Rattle.pc_solver.specs.declared.clauses.Kept.TheVariants.{Block, Learned, Dropped}
 use Rattle.pc_solver.specs.Clauses.{ClausesView, AreClauses, KeepsClauses, KeepsProblem, blank, number_of, line_of, IsStanding, IsKnown, IsOverOwn, used_clauses, blocks_among, blocks_of}
-use Rattle.pc_solver.specs.InLog.{Stands, IsLogOf, IsKeptAs, ContainsNoKnown}
+use Rattle.pc_solver.specs.InLog.{StandsInLog, IsLogOf, IsKeptAs, ContainsNoKnown}
 use Rattle.pc_solver.specs.inside.Search.{IsSearch, KnowsAll}
-use Rattle.pc_solver.proofs.LogLemmas.{Stands-last, Stands-more, IsLogOf-line, IsDerivation-line}
+use Rattle.pc_solver.proofs.LogLemmas.{StandsInLog-last, StandsInLog-more, IsLogOf-line, IsDerivation-line}
 
 some_same : {A : Type 0} (x y : A) → ◌≡◌ {A = Option A} (Some x) (Some y) → x ≡ y
 some_same x y h = cc
@@ -41,7 +41,7 @@ default (a ∷ xs) (suc k) x y h = default xs k x y (omega arith)
 -- ---- an axiom gets its line
 
 module _ (c : ClausesView) (log : List LogLine) (place : ℕ) (id : StepId) (within : place < length c.axiom_lines) where
-  pub axiom_logged : IsLogOf c log → Stands c.axioms log id (get_or c.axioms (get_or c.used place 0) []) → IsLogOf (record c { axiom_lines = slice_set c.axiom_lines place (Some id) }) log
+  pub axiom_logged : IsLogOf c log → StandsInLog c.axioms log id (get_or c.axioms (get_or c.used place 0) []) → IsLogOf (record c { axiom_lines = slice_set c.axiom_lines place (Some id) }) log
   axiom_logged h here = record {
     derivation = h.derivation;
     blocks = h.blocks;
@@ -53,12 +53,12 @@ module _ (c : ClausesView) (log : List LogLine) (place : ℕ) (id : StepId) (wit
     new = h.new;
   }
     where
-      found : (n : ℕ) (other : StepId) → n < length c.used → get_or (set c.axiom_lines place (Some id)) n None ≡ Some other → Stands c.axioms log other (get_or c.axioms (get_or c.used n 0) [])
+      found : (n : ℕ) (other : StepId) → n < length c.used → get_or (set c.axiom_lines place (Some id)) n None ≡ Some other → StandsInLog c.axioms log other (get_or c.axioms (get_or c.used n 0) [])
       found n other is has =
           ⊎_elim
           (λ same.
           let that : id ≡ other = some_same id other (sym (get_or-set_same c.axiom_lines place (Some id) None within) ∙ subst (λ k. get_or (set c.axiom_lines place (Some id)) k None ≡ Some other) same has) in
-          subst (λ (k : StepId). Stands c.axioms log k (get_or c.axioms (get_or c.used n 0) [])) that (rw same here))
+          subst (λ (k : StepId). StandsInLog c.axioms log k (get_or c.axioms (get_or c.used n 0) [])) that (rw same here))
           (λ differs. h.axioms_stand n other is (sym (get_or-set_other c.axiom_lines place n (Some id) None differs) ∙ has))
           (cases_eq n place)
 
@@ -110,7 +110,7 @@ module _ (c : ClausesView) (place number : ℕ) (id : StepId) (within : place < 
       same : blocks_among c.more (set c.kept place (Block number (Some id))) ≡ blocks_among c.more c.kept
       same = blocks_kept c.more c.kept place number (Some id) is
 
-  pub block_logged : (log : List LogLine) → IsLogOf c log → Stands c.axioms log id (get_or c.more place []) → IsLogOf (record c { kept = slice_set c.kept place (Block number (Some id)) }) log
+  pub block_logged : (log : List LogLine) → IsLogOf c log → StandsInLog c.axioms log id (get_or c.more place []) → IsLogOf (record c { kept = slice_set c.kept place (Block number (Some id)) }) log
   block_logged log h here = record {
     derivation = h.derivation;
     blocks = λ i k clause at. rw (blocks_kept c.more c.kept place number (Some id) is) (h.blocks i k clause at);
@@ -122,12 +122,12 @@ module _ (c : ClausesView) (place number : ℕ) (id : StepId) (within : place < 
     new = h.new;
   }
     where
-      found : (n : ℕ) (other : StepId) → n < length c.more → line_of (get_or (set c.kept place (Block number (Some id))) n blank) ≡ Some other → Stands c.axioms log other (get_or c.more n [])
+      found : (n : ℕ) (other : StepId) → n < length c.more → line_of (get_or (set c.kept place (Block number (Some id))) n blank) ≡ Some other → StandsInLog c.axioms log other (get_or c.more n [])
       found n other is_ref has =
           ⊎_elim
           (λ same.
           let that : id ≡ other = some_same id other (sym (ap line_of (get_or-set_same c.kept place (Block number (Some id)) blank within)) ∙ subst (λ k. line_of (get_or (set c.kept place (Block number (Some id))) k blank) ≡ Some other) same has) in
-          subst (λ (k : StepId). Stands c.axioms log k (get_or c.more n [])) that (rw same here))
+          subst (λ (k : StepId). StandsInLog c.axioms log k (get_or c.more n [])) that (rw same here))
           (λ differs. h.stands n other is_ref (sym (ap line_of (get_or-set_other c.kept place n (Block number (Some id)) blank differs)) ∙ has))
           (cases_eq n place)
 
@@ -173,7 +173,7 @@ module _ (c : ClausesView) (blocks : ℕ) (h : AreClauses c blocks) (clause : Li
 
   -- the log stays one for the clauses
   pub added_logged : (bs : List (List Lit)) (log : List LogLine) → blocks_among (c.more ++ clause ∷ []) (c.kept ++ k ∷ []) ≡ blocks_of c ++ bs → IsLogOf c log
-      → ((id : StepId) → line_of k ≡ Some id → Stands c.axioms log id clause) → IsLogOf (record c { more = c.more ++ clause ∷ []; kept = c.kept ++ k ∷ [] }) log
+      → ((id : StepId) → line_of k ≡ Some id → StandsInLog c.axioms log id clause) → IsLogOf (record c { more = c.more ++ clause ∷ []; kept = c.kept ++ k ∷ [] }) log
   added_logged bs log is logged last = record {
     derivation = logged.derivation;
     blocks = λ i number other at. rw is (slice_get-more (blocks_of c) bs number other (logged.blocks i number other at));
@@ -185,7 +185,7 @@ module _ (c : ClausesView) (blocks : ℕ) (h : AreClauses c blocks) (clause : Li
     new = logged.new;
   }
     where
-      found : (n : ℕ) (other : StepId) → n < length (c.more ++ clause ∷ []) → line_of (get_or (c.kept ++ k ∷ []) n blank) ≡ Some other → Stands c.axioms log other (get_or (c.more ++ clause ∷ []) n [])
+      found : (n : ℕ) (other : StepId) → n < length (c.more ++ clause ∷ []) → line_of (get_or (c.kept ++ k ∷ []) n blank) ≡ Some other → StandsInLog c.axioms log other (get_or (c.more ++ clause ∷ []) n [])
       found n other is_ref has =
           ⊎_elim
           (λ before.
@@ -253,10 +253,10 @@ is_numbered c (StepLine clause hints learned) = Unit {0}
 
 -- the line that was added has the block's clause
 pub block_line_stands : (c : ClausesView) (more : List (List Lit)) (place number : ℕ) (id : StepId) (log new : List LogLine) (clause : List Lit) → slice_get more place ≡ Some clause → more ≡ c.more → id.0 ≡ length log
-    → new ≡ log ++ BlockLine number clause ∷ [] → Stands c.axioms new id (get_or c.more place [])
+    → new ≡ log ++ BlockLine number clause ∷ [] → StandsInLog c.axioms new id (get_or c.more place [])
 block_line_stands c more place number id log new clause read same at is =
     let clause_is : clause ≡ get_or c.more place [] = sym (get_or_from_slice_get more place clause [] read) ∙ ap (λ (cs : List (List Lit)). get_or cs place []) same in
-    subst (λ (ls : List LogLine). Stands c.axioms ls id (get_or c.more place [])) (sym is) (subst (Stands c.axioms (log ++ BlockLine number clause ∷ []) id) clause_is (Stands-last c.axioms log (BlockLine number clause) id at))
+    subst (λ (ls : List LogLine). StandsInLog c.axioms ls id (get_or c.more place [])) (sym is) (subst (StandsInLog c.axioms (log ++ BlockLine number clause ∷ []) id) clause_is (StandsInLog-last c.axioms log (BlockLine number clause) id at))
 
 pub block_line_logged : (v c : ClausesView) (blocks : ℕ) → AreClauses v blocks → (place number : ℕ) (id : StepId) (log new : List LogLine) (clause : List Lit) → place < length v.kept → get_or v.kept place blank ≡ Block number None → v ≡ c
     → IsLogOf c log → slice_get v.more place ≡ Some clause → id.0 ≡ length log → new ≡ log ++ BlockLine number clause ∷ [] → IsLogOf (record v { kept = slice_set v.kept place (Block number (Some id)) }) new
@@ -281,26 +281,26 @@ axiom_line_logged v c blocks h number place id log new within has there same log
     subst (λ (l : LogLine). is_numbered v l) is_line tt)
     (λ n is_line. subst (λ (m : ℕ). Contains v.used m) (same_axiom number n is_line) (subst (λ (w : ClausesView). Contains w.used number) (sym same) has)) (λ cl hs is_line. cc) (λ cl hs marked is_line. absurd (cc))) in
     axiom_logged v new place id (omega (arith, slice_get_within v.used place number there, h.axiom_each)) after
-    (rw (get_or_from_slice_get v.used place number 0 there) (subst (λ (ls : List LogLine). Stands v.axioms ls id (get_or v.axioms number [])) (sym new_is) (Stands-last v.axioms log (AxiomLine number) id at)))
+    (rw (get_or_from_slice_get v.used place number 0 there) (subst (λ (ls : List LogLine). StandsInLog v.axioms ls id (get_or v.axioms number [])) (sym new_is) (StandsInLog-last v.axioms log (AxiomLine number) id at)))
 
-pub axiom_line_stands : (axioms : List (List Lit)) (number : ℕ) (id : StepId) (log new : List LogLine) → id.0 ≡ length log → new ≡ log ++ AxiomLine number ∷ [] → Stands axioms new id (get_or axioms number [])
+pub axiom_line_stands : (axioms : List (List Lit)) (number : ℕ) (id : StepId) (log new : List LogLine) → id.0 ≡ length log → new ≡ log ++ AxiomLine number ∷ [] → StandsInLog axioms new id (get_or axioms number [])
 axiom_line_stands axioms number id log new at new_is =
-    subst (λ (ls : List LogLine). Stands axioms ls id (get_or axioms number [])) (sym new_is) (Stands-last axioms log (AxiomLine number) id at)
+    subst (λ (ls : List LogLine). StandsInLog axioms ls id (get_or axioms number [])) (sym new_is) (StandsInLog-last axioms log (AxiomLine number) id at)
 
 -- ---- a line that was there
 
 pub axiom_stands : (v c : ClausesView) (blocks : ℕ) → AreClauses v blocks → (number place : ℕ) (read : Option StepId) (id : StepId) (log : List LogLine) → v ≡ c → IsLogOf c log → slice_get v.used place ≡ Some number
-    → read ≡ get_or v.axiom_lines place read → read ≡ Some id → Stands c.axioms log id (get_or c.axioms number [])
+    → read ≡ get_or v.axiom_lines place read → read ≡ Some id → StandsInLog c.axioms log id (get_or c.axioms number [])
 axiom_stands v c blocks are number place read id log same h there at is =
     let within : place < length v.used = slice_get_within v.used place number there in
     let under : place < length v.axiom_lines = omega (arith, within, are.axiom_each) in
     let of_number : get_or c.used place 0 ≡ number = ap (λ (w : ClausesView). get_or w.used place 0) (sym same) ∙ get_or_from_slice_get v.used place number 0 there in
     let found = h.axioms_stand place id (omega (arith, within, ap (λ (w : ClausesView). length w.used) same))
     (ap (λ (w : ClausesView). get_or w.axiom_lines place None) (sym same) ∙ default v.axiom_lines place None read under ∙ sym at ∙ is) in
-    subst (λ m. Stands c.axioms log id (get_or c.axioms m [])) of_number found
+    subst (λ m. StandsInLog c.axioms log id (get_or c.axioms m [])) of_number found
 
 pub kept_stands : (v c : ClausesView) (blocks : ℕ) → AreClauses v blocks → (place : ℕ) (read k : Kept) (id : StepId) (log : List LogLine) → v ≡ c → IsLogOf c log → place < length c.more
-    → read ≡ get_or v.kept place read → read ≡ k → line_of k ≡ Some id → Stands c.axioms log id (get_or c.more place [])
+    → read ≡ get_or v.kept place read → read ≡ k → line_of k ≡ Some id → StandsInLog c.axioms log id (get_or c.more place [])
 kept_stands v c blocks are place read k id log same h within at is has =
     let under : place < length v.kept = omega (arith, within, ap (λ (w : ClausesView). length w.more) same, are.kept_each) in
     h.stands place id within (ap (λ (w : ClausesView). line_of (get_or w.kept place blank)) (sym same) ∙ ap line_of (default v.kept place blank read under ∙ sym at ∙ is) ∙ has)
@@ -565,8 +565,8 @@ block_is_known c all block has =
     numbered_stands (Learned line) h = tt
     numbered_stands Dropped h = cc
 
-pub within_known : (c : ClausesView) (clause part : List Lit) → ContainsNoKnown c clause → (r : ClauseRef) × IsKnown c r × (clause_at c.axioms c.more r ≡ part) → IsWithin part clause → ⊥
-within_known c clause part none known inside = none known.0 known.1 (subst (λ (p : List Lit). IsWithin p clause) (sym known.2) inside)
+pub within_known : (c : ClausesView) (clause part : List Lit) → ContainsNoKnown c clause → (r : ClauseRef) × IsKnown c r × (clause_at c.axioms c.more r ≡ part) → IsSubclause part clause → ⊥
+within_known c clause part none known inside = none known.0 known.1 (subst (λ (p : List Lit). IsSubclause p clause) (sym known.2) inside)
 
 learned_is_known : (c : ClausesView) → KnowsAll c → (part : List Lit) → IsKeptAs c part → (r : ClauseRef) × IsKnown c r × (clause_at c.axioms c.more r ≡ part)
 learned_is_known c all part kept = (More kept.0, (kept.1, omega (arith, kept.1, all), kept.3), kept.2)
@@ -579,7 +579,7 @@ module _ (v : ClausesView) (blocks : ℕ) (h : AreClauses v blocks) (clause : Li
   learned_no_block i other block late at has inside =
       ⊎_elim
       (λ was. absurd (omega (arith, late, learned_within log i other was)))
-      (λ last. within_known v clause block none (block_is_known v all block has) (subst (λ (o : List Lit). IsWithin block o) (sym last.1) inside))
+      (λ last. within_known v clause block none (block_is_known v all block has) (subst (λ (o : List Lit). IsSubclause block o) (sym last.1) inside))
       (learned_cases log clause lines i other at)
 
   learned_new : AreNewClauses (used_clauses v.axioms v.used) (log ++ StepLine clause lines true ∷ [])
@@ -602,11 +602,11 @@ module _ (v : ClausesView) (blocks : ℕ) (h : AreClauses v blocks) (clause : Li
         (λ last. absurd (not_block number other last.1))
         (line_cases log (StepLine clause lines true) i (BlockLine number other) here);
     axioms = λ i number here. ⊎_elim (λ was. logged.axioms i number was) (λ last. absurd (not_axiom number last.1)) (line_cases log (StepLine clause lines true) i (AxiomLine number) here);
-    axioms_stand = λ place other within has. Stands-more v.axioms log (StepLine clause lines true ∷ []) other _ (logged.axioms_stand place other within has);
+    axioms_stand = λ place other within has. StandsInLog-more v.axioms log (StepLine clause lines true ∷ []) other _ (logged.axioms_stand place other within has);
     stands = found;
     over_own = λ i other hints learned here. ⊎_elim
         (λ was. logged.over_own i other hints learned was)
-        (λ last. subst (IsOverOwn v.own) (ap (clause_of []) last.1) over)
+        (λ last. subst (IsOverOwn v.own) (ap (clause_of_line []) last.1) over)
         (line_cases log (StepLine clause lines true) i (StepLine other hints learned) here);
     learned = λ i other here. ⊎_elim (λ was. kept_still (logged.learned i other was)) (λ last. subst (IsKeptAs (record v { more = v.more ++ clause ∷ []; kept = v.kept ++ Learned id ∷ [] })) last.1 kept_last) (learned_cases log clause lines i other here);
     new = learned_new;
@@ -621,21 +621,21 @@ module _ (v : ClausesView) (blocks : ℕ) (h : AreClauses v blocks) (clause : Li
       not_axiom : (number : ℕ) → StepLine clause lines true ≡ AxiomLine number → ⊥
       not_axiom number e = cc
 
-      here : Stands v.axioms (log ++ StepLine clause lines true ∷ []) id clause
-      here = Stands-last v.axioms log (StepLine clause lines true) id at
+      here : StandsInLog v.axioms (log ++ StepLine clause lines true ∷ []) id clause
+      here = StandsInLog-last v.axioms log (StepLine clause lines true) id at
 
       found : (n : ℕ) (other : StepId) → n < length (v.more ++ clause ∷ []) → line_of (get_or (v.kept ++ Learned id ∷ []) n blank) ≡ Some other
-          → Stands v.axioms (log ++ StepLine clause lines true ∷ []) other (get_or (v.more ++ clause ∷ []) n [])
+          → StandsInLog v.axioms (log ++ StepLine clause lines true ∷ []) other (get_or (v.more ++ clause ∷ []) n [])
       found n other is_ref has =
           ⊎_elim
           (λ before.
           let within : n < length v.kept = omega (arith, before, h.kept_each) in
           rw (get_or_append_left v.more (clause ∷ []) [] n before)
-          (Stands-more v.axioms log (StepLine clause lines true ∷ []) other (get_or v.more n []) (logged.stands n other before (ap line_of (sym (get_or_append_left v.kept (Learned id ∷ []) blank n within)) ∙ has))))
+          (StandsInLog-more v.axioms log (StepLine clause lines true ∷ []) other (get_or v.more n []) (logged.stands n other before (ap line_of (sym (get_or_append_left v.kept (Learned id ∷ []) blank n within)) ∙ has))))
           (λ end.
           let there : length v.more ≡ n = omega (arith, is_ref, length_push v.more clause, end) in
           let same : id ≡ other = some_same id other (ap line_of (sym (get_or_push v.kept (Learned id) blank n (omega (arith, there, h.kept_each)))) ∙ has) in
-          rw (get_or_push v.more clause [] n there) (subst (λ (o : StepId). Stands v.axioms (log ++ StepLine clause lines true ∷ []) o clause) same here))
+          rw (get_or_push v.more clause [] n there) (subst (λ (o : StepId). StandsInLog v.axioms (log ++ StepLine clause lines true ∷ []) o clause) same here))
           (cases_lt n (length v.more))
 
       kept_still : {other : List Lit} → IsKeptAs v other → IsKeptAs (record v { more = v.more ++ clause ∷ []; kept = v.kept ++ Learned id ∷ [] }) other

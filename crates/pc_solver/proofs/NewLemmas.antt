@@ -10,8 +10,8 @@ use Rattle.pc_lits.specs.Literals.{negated}
 use Rattle.pc_lits.specs.Steps.{IsTautology}
 use Rattle.pc_log.specs.declared.log.StepId.{StepId}
 use Rattle.pc_log.specs.Lines.{LogLine, AxiomLine, BlockLine, StepLine}
-use Rattle.pc_log.specs.Derivations.{clause_of}
-use Rattle.pc_analyze.specs.Learning.{IsWithin}
+use Rattle.pc_log.specs.Derivations.{clause_of_line}
+use Rattle.pc_analyze.specs.Learning.{IsSubclause}
 use Rattle.pc_solver.specs.InLog.{LogGrows, is_marked}
 use Rattle.pc_solver.specs.New.{IsLearnedAt, AreNewClauses, ContainNone}
 
@@ -56,23 +56,23 @@ new_other used log line un h = record {
 -- a learned step was there, or is the new one
 pub learned_cases : (log : List LogLine) (clause : List Lit) (hints : List StepId) (i : ℕ) (other : List Lit) → IsLearnedAt (log ++ StepLine clause hints true ∷ []) i other → IsLearnedAt log i other ⊎ ((i ≡ length log) × (clause ≡ other))
 learned_cases log clause hints i other at =
-    ⊎_elim (λ was. inl (at.0, was)) (λ last. inr (last.0, ap (clause_of []) last.1)) (line_cases log (StepLine clause hints true) i (StepLine other at.0 true) at.1)
+    ⊎_elim (λ was. inl (at.0, was)) (λ last. inr (last.0, ap (clause_of_line []) last.1)) (line_cases log (StepLine clause hints true) i (StepLine other at.0 true) at.1)
 
 pub new_learned : (used : List (List Lit)) (log : List LogLine) (clause : List Lit) (hints : List StepId) → AreNewClauses used log → (IsTautology negated clause → ⊥)
-    → ((part : List Lit) → Contains used part → IsWithin part clause → ⊥) → ((i : ℕ) (earlier : List Lit) → IsLearnedAt log i earlier → IsWithin earlier clause → ⊥)
-    → ((i number : ℕ) (block : List Lit) → slice_get log i ≡ Some (BlockLine number block) → IsWithin block clause → ⊥) → AreNewClauses used (log ++ StepLine clause hints true ∷ [])
+    → ((part : List Lit) → Contains used part → IsSubclause part clause → ⊥) → ((i : ℕ) (earlier : List Lit) → IsLearnedAt log i earlier → IsSubclause earlier clause → ⊥)
+    → ((i number : ℕ) (block : List Lit) → slice_get log i ≡ Some (BlockLine number block) → IsSubclause block clause → ⊥) → AreNewClauses used (log ++ StepLine clause hints true ∷ [])
 new_learned used log clause hints h no_tautology no_axiom no_learned no_block = record {
   no_tautology = λ i other at. ⊎_elim (λ was. h.no_tautology i other was) (λ last. subst (λ (c : List Lit). ¬ IsTautology negated c) last.1 no_tautology) (learned_cases log clause hints i other at);
-  no_axiom = λ i other part at has. ⊎_elim (λ was. h.no_axiom i other part was has) (λ last. subst (λ (c : List Lit). ¬ IsWithin part c) last.1 (no_axiom part has)) (learned_cases log clause hints i other at);
+  no_axiom = λ i other part at has. ⊎_elim (λ was. h.no_axiom i other part was has) (λ last. subst (λ (c : List Lit). ¬ IsSubclause part c) last.1 (no_axiom part has)) (learned_cases log clause hints i other at);
   no_learned = λ i j earlier other before one two.
       ⊎_elim
       (λ was. h.no_learned i j earlier other before (first_was i j earlier before (omega (arith, learned_within log j other was)) one) was)
-      (λ last. subst (λ (c : List Lit). ¬ IsWithin earlier c) last.1 (no_learned i earlier (first_was i (length log) earlier (omega (arith, before, last.0)) (omega arith) one)))
+      (λ last. subst (λ (c : List Lit). ¬ IsSubclause earlier c) last.1 (no_learned i earlier (first_was i (length log) earlier (omega (arith, before, last.0)) (omega arith) one)))
       (learned_cases log clause hints j other two);
   no_block_line = λ i j number block other before one two.
       ⊎_elim
       (λ was. h.no_block_line i j number block other before (block_was log (StepLine clause hints true) i number block (omega (arith, before, learned_within log j other was)) one) was)
-      (λ last. subst (λ (c : List Lit). ¬ IsWithin block c) last.1 (no_block i number block (block_was log (StepLine clause hints true) i number block (omega (arith, before, last.0)) one)))
+      (λ last. subst (λ (c : List Lit). ¬ IsSubclause block c) last.1 (no_block i number block (block_was log (StepLine clause hints true) i number block (omega (arith, before, last.0)) one)))
       (learned_cases log clause hints j other two);
 }
   where

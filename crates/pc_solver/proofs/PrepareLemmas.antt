@@ -4,7 +4,7 @@ use Rattle.std.proofs.lemmas.Bool.{cases_lt, false≢true}
 use Rattle.std.proofs.lemmas.List.{get_or-take, length-take}
 use Rattle.std.proofs.lemmas.Option.{get_or_from_slice_get, slice_get_within, slice_get-get_or}
 use Rattle.pc_lits.specs.declared.literal.Lit.{Lit}
-use Rattle.pc_propagate.specs.declared.trail.Entry.{Entry}
+use Rattle.pc_propagate.specs.declared.trail.TrailEntry.{TrailEntry}
 use Rattle.pc_propagate.specs.declared.clauses.ClauseRef.{ClauseRef}
 use Rattle.pc_propagate.specs.Levels.{level_at, IsBackTo}
 use Rattle.pc_propagate.specs.TrailView.{TrailView}
@@ -15,19 +15,19 @@ use Rattle.pc_solver.proofs.LearnLemmas.{logs_known}
 use Rattle.pc_solver.proofs.SolverLemmas.{decided_level}
 
 -- of the entries before `place`, each decision is assumed, and `level` is the level of one, or 0
-pub record IsFoundSoFar (entries : List Entry) (assumed : List Lit) (place level : ℕ) : Type 0 where
-  pub assumed_so_far : (k : ℕ) (e : Entry) → k < place → slice_get entries k ≡ Some e → IsNone e.reason → Contains assumed e.literal
+pub record IsFoundSoFar (entries : List TrailEntry) (assumed : List Lit) (place level : ℕ) : Type 0 where
+  pub assumed_so_far : (k : ℕ) (e : TrailEntry) → k < place → slice_get entries k ≡ Some e → IsNone e.reason → Contains assumed e.literal
   pub reached : (level ≡ 0) ⊎ ((k : ℕ) × (k < place) × (level_at entries k ≡ level))
 
-pub found_none : (entries : List Entry) (assumed : List Lit) → IsFoundSoFar entries assumed 0 0
+pub found_none : (entries : List TrailEntry) (assumed : List Lit) → IsFoundSoFar entries assumed 0 0
 found_none entries assumed = record { assumed_so_far = λ k e below. absurd (omega (arith, below)); reached = inl refl }
 
 -- all entries were looked at
-pub found_all : (entries : List Entry) (assumed : List Lit) (place level : ℕ) → IsFoundSoFar entries assumed place level → length entries ≤ place → AreAssumed entries assumed level
+pub found_all : (entries : List TrailEntry) (assumed : List Lit) (place level : ℕ) → IsFoundSoFar entries assumed place level → length entries ≤ place → AreAssumed entries assumed level
 found_all entries assumed place level h past k e at low decided = h.assumed_so_far k e (omega (arith, past, slice_get_within entries k e at)) at decided
 
 -- the decision at `place` isn't assumed: its level is higher
-pub found_end : (entries : List Entry) (assumed : List Lit) (place level : ℕ) (d : Entry) → IsFoundSoFar entries assumed place level → slice_get entries place ≡ Some d → IsNone d.reason → AreAssumed entries assumed level
+pub found_end : (entries : List TrailEntry) (assumed : List Lit) (place level : ℕ) (d : TrailEntry) → IsFoundSoFar entries assumed place level → slice_get entries place ≡ Some d → IsNone d.reason → AreAssumed entries assumed level
 found_end entries assumed place level d h here starts k e at low decided =
     ⊎_elim
     (λ before. h.assumed_so_far k e before at decided)
@@ -35,7 +35,7 @@ found_end entries assumed place level d h here starts k e at low decided =
     let within : place < length entries = slice_get_within entries place d here in
     let k_within : k < length entries = slice_get_within entries k e at in
     let read : get_or entries place d ≡ d = get_or_from_slice_get entries place d d here in
-    let is_start : IsNone (get_or entries place d).reason = subst (λ (x : Entry). IsNone x.reason) (sym read) starts in
+    let is_start : IsNone (get_or entries place d).reason = subst (λ (x : TrailEntry). IsNone x.reason) (sym read) starts in
     let up = level_at-le entries place k (omega (arith, late)) k_within in
     let positive = decision_level entries place d within is_start in
     ⊎_elim
@@ -45,22 +45,22 @@ found_end entries assumed place level d h here starts k e at low decided =
     (cases_lt k place)
 
 -- one entry more
-pub found_reason : (entries : List Entry) (assumed : List Lit) (place level : ℕ) (d : Entry) → IsFoundSoFar entries assumed place level → slice_get entries place ≡ Some d → (IsNone d.reason → ⊥) → IsFoundSoFar entries assumed (place + 1) level
+pub found_reason : (entries : List TrailEntry) (assumed : List Lit) (place level : ℕ) (d : TrailEntry) → IsFoundSoFar entries assumed place level → slice_get entries place ≡ Some d → (IsNone d.reason → ⊥) → IsFoundSoFar entries assumed (place + 1) level
 found_reason entries assumed place level d h here not_start = record {
   assumed_so_far = λ k e below at decided. ⊎_elim
       (λ before. h.assumed_so_far k e before at decided)
       (λ end.
       let same : place ≡ k = omega (arith, below, end) in
       let is : d ≡ e = one_of entries k d e (subst (λ n. slice_get entries n ≡ Some d) same here) at in
-      absurd (not_start (subst (λ (x : Entry). IsNone x.reason) (sym is) decided)))
+      absurd (not_start (subst (λ (x : TrailEntry). IsNone x.reason) (sym is) decided)))
       (cases_lt k place);
   reached = ⊎_elim (λ zero. inl zero) (λ some. inr (some.0, omega (arith, some.1), some.2)) h.reached;
 }
   where
-    one_of : (entries : List Entry) (k : ℕ) (d e : Entry) → slice_get entries k ≡ Some d → slice_get entries k ≡ Some e → d ≡ e
+    one_of : (entries : List TrailEntry) (k : ℕ) (d e : TrailEntry) → slice_get entries k ≡ Some d → slice_get entries k ≡ Some e → d ≡ e
     one_of entries k d e a b = sym (get_or_from_slice_get entries k d d a) ∙ get_or_from_slice_get entries k e d b
 
-pub found_decision : (entries : List Entry) (assumed : List Lit) (place level new : ℕ) (d : Entry) → IsFoundSoFar entries assumed place level → slice_get entries place ≡ Some d → Contains assumed d.literal → level_at entries place ≡ new
+pub found_decision : (entries : List TrailEntry) (assumed : List Lit) (place level new : ℕ) (d : TrailEntry) → IsFoundSoFar entries assumed place level → slice_get entries place ≡ Some d → Contains assumed d.literal → level_at entries place ≡ new
     → IsFoundSoFar entries assumed (place + 1) new
 found_decision entries assumed place level new d h here has is = record {
   assumed_so_far = λ k e below at decided. ⊎_elim
@@ -68,7 +68,7 @@ found_decision entries assumed place level new d h here has is = record {
       (λ end.
       let same : place ≡ k = omega (arith, below, end) in
       let that : d ≡ e = sym (get_or_from_slice_get entries k d d (subst (λ n. slice_get entries n ≡ Some d) same here)) ∙ get_or_from_slice_get entries k e d at in
-      subst (λ (x : Entry). Contains assumed x.literal) that has)
+      subst (λ (x : TrailEntry). Contains assumed x.literal) that has)
       (cases_lt k place);
   reached = inr (place, omega arith, is);
 }
@@ -77,7 +77,7 @@ found_decision entries assumed place level new d h here has is = record {
 
 pub assumed_after : (assumed : List Lit) (t u : TrailView) (level : ℕ) → AreAssumed t.entries assumed level → IsBackTo level t u → AssumesFirst assumed u.entries
 assumed_after assumed t u level h back place e at decided =
-    let here : slice_get (take back.count t.entries) place ≡ Some e = subst (λ (es : List Entry). slice_get es place ≡ Some e) back.kept at in
+    let here : slice_get (take back.count t.entries) place ≡ Some e = subst (λ (es : List TrailEntry). slice_get es place ≡ Some e) back.kept at in
     let below : place < length (take back.count t.entries) = slice_get_within (take back.count t.entries) place e here in
     let under : place < back.count = omega (arith, below, length-take back.count t.entries) in
     let within : place < length t.entries = omega (arith, below, length-take back.count t.entries) in
@@ -86,14 +86,14 @@ assumed_after assumed t u level h back place e at decided =
 
 pub none_after : (t u : TrailView) → IsBackTo 0 t u → HasNoDecision u.entries
 none_after t u back place e at decided =
-    let here : slice_get (take back.count t.entries) place ≡ Some e = subst (λ (es : List Entry). slice_get es place ≡ Some e) back.kept at in
+    let here : slice_get (take back.count t.entries) place ≡ Some e = subst (λ (es : List TrailEntry). slice_get es place ≡ Some e) back.kept at in
     let below : place < length (take back.count t.entries) = slice_get_within (take back.count t.entries) place e here in
     let under : place < back.count = omega (arith, below, length-take back.count t.entries) in
     let within : place < length t.entries = omega (arith, below, length-take back.count t.entries) in
     let was : slice_get t.entries place ≡ Some e = slice_get-get_or t.entries place e within ∙ ap Some (sym (get_or-take back.count t.entries place e under) ∙ get_or_from_slice_get (take back.count t.entries) place e e here) in
     omega (arith, decided_level t.entries place e was decided, back.low place under within)
 
-pub first_by_none : (assumed : List Lit) (entries : List Entry) → HasNoDecision entries → AssumesFirst assumed entries
+pub first_by_none : (assumed : List Lit) (entries : List TrailEntry) → HasNoDecision entries → AssumesFirst assumed entries
 first_by_none assumed entries none place e at decided = absurd (none place e at decided)
 
 pub none_same : (t u : TrailView) → KeepsTrail t u → HasNoDecision t.entries → HasNoDecision u.entries

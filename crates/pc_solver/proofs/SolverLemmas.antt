@@ -1,6 +1,6 @@
 -- Before and after a search.
 use Rattle.std.proofs.Common.{suc, ◌≡◌, ℕ, ◌+◌, ◌*◌, ◌<◌, ◌≤◌, Bool, true, false, not, List, [], ◌∷◌, ◌++◌, length, get_or, take, count_by, replicate, refl, sym, ap, ◌∙◌, subst, arith, AllPairs, ⊎_elim, Option, Some, None, IsNone, is_none, slice_get, Contains, cond, eqb, zero, All}
-use Rattle.std.proofs.lemmas.Bool.{false≢true, cases_Bool}
+use Rattle.std.proofs.lemmas.Bool.{false≢true, cases_Bool, and_parts, eqb-true}
 use Rattle.std.proofs.lemmas.List.{take_more}
 use Rattle.std.proofs.lemmas.Option.{get_or_from_slice_get, slice_get_within}
 use Rattle.pc_lits.specs.declared.literal.Var.{Var}
@@ -11,12 +11,12 @@ use Rattle.pc_lits.proofs.Elements.{contains_mapped}
 use Rattle.pc_log.specs.declared.log.StepId.{StepId}
 use Rattle.pc_log.specs.Lines.{LogLine, AxiomLine, BlockLine, StepLine}
 use Rattle.pc_log.specs.Laws.{DerivationsAreSound}
-use Rattle.pc_propagate.specs.declared.trail.Entry.{Entry}
+use Rattle.pc_propagate.specs.declared.trail.TrailEntry.{TrailEntry}
 use Rattle.pc_propagate.specs.declared.clauses.ClauseRef.{ClauseRef}
 use Rattle.pc_propagate.specs.declared.clauses.ClauseRef.TheVariants.{Axiom, More}
 use Rattle.pc_propagate.specs.Entries.{literals, HasValue, AreEntries, Differ, starts_level}
 use Rattle.pc_propagate.specs.Levels.{level_at}
-use Rattle.pc_propagate.specs.Over.{IsOver}
+use Rattle.pc_propagate.specs.Over.{IsOver, AreInRange}
 use Rattle.pc_propagate.specs.TrailView.{TrailView}
 use Rattle.pc_propagate.proofs.TrailLemmas.{count_by-push}
 use Rattle.pc_solver.specs.declared.outcome.Outcome.{Outcome}
@@ -24,20 +24,18 @@ use Rattle.pc_solver.specs.declared.outcome.Outcome.TheVariants.{Sat, Unsat, Spe
 use Rattle.pc_solver.specs.Clauses.{ClausesView, IsKnown, IsOverOwn, KeepsProblem}
 use Rattle.pc_solver.specs.InLog.{IsLogOf}
 use Rattle.pc_solver.specs.inside.Search.{SearchView, IsSearch, IsUnderWay, KnowsAll, KeepsLogs, AssumesFirst, Advances}
-use Rattle.pc_solver.specs.Answers.{value_in}
+use Rattle.pc_solver.specs.Answers.{truth_in}
 use Rattle.pc_solver.specs.inside.Ends.{EndSays, extra, unmarked}
 use Rattle.pc_solver.specs.Solver.{AnswerSays, Spends, seen_as, IsProblem, SuspendedView, suspended_as}
 use Rattle.pc_solver.proofs.LogLemmas.{LogGrows-none}
 use Rattle.pc_solver.proofs.SearchLemmas.{fits_own}
 use Rattle.std.proofs.lemmas.List.Elements.{All-contains, Contains-append_left, Contains-push, Contains-push_cases}
-use Rattle.pc_propagate.specs.Over.{AreInRange}
 use Rattle.pc_solver.proofs.ClauseLemmas.{own_in_range}
 use Rattle.pc_solver.proofs.EndLemmas.{found_meets, none_meets, true_lit, is_of}
-use Rattle.std.proofs.lemmas.Bool.{and_parts, eqb-true}
 
 -- ---- back at level 0 there is no decision
 
-pub decided_level : (entries : List Entry) (k : ℕ) (e : Entry) → slice_get entries k ≡ Some e → IsNone e.reason → 1 ≤ level_at entries k
+pub decided_level : (entries : List TrailEntry) (k : ℕ) (e : TrailEntry) → slice_get entries k ≡ Some e → IsNone e.reason → 1 ≤ level_at entries k
 decided_level entries k e at none =
     let within : k < length entries = slice_get_within entries k e at in
     let split : take (k + 1) entries ≡ take k entries ++ get_or entries k e ∷ [] = take_more entries k e within in
@@ -119,21 +117,21 @@ answered law s n p q log grown assumed k m Memory h is are says = tt
 
 -- ---- values
 
-pub value_some : (entries : List Entry) (v : Var) (b : Bool) → AllPairs Differ entries → Contains (literals entries) (record { variable = v; sign = b }) → b ≡ value_in (literals entries) v
+pub value_some : (entries : List TrailEntry) (v : Var) (b : Bool) → AllPairs Differ entries → Contains (literals entries) (record { variable = v; sign = b }) → b ≡ truth_in (literals entries) v
 value_some entries v true different has = sym (true_lit entries (record { variable = v; sign = true }) different has)
-value_some entries v false different has = turned (value_in (literals entries) v) (true_lit entries (record { variable = v; sign = false }) different has)
+value_some entries v false different has = turned (truth_in (literals entries) v) (true_lit entries (record { variable = v; sign = false }) different has)
   where
     turned : (b : Bool) → not b ≡ true → false ≡ b
     turned true h = absurd (false≢true h)
     turned false h = refl
 
-pub value_none : (entries : List Entry) (v : Var) → ¬ HasValue entries v → false ≡ value_in (literals entries) v
-value_none entries v none = ⊎_elim (λ yes. absurd (found yes)) (λ no_value. sym no_value) (cases_Bool (value_in (literals entries) v))
+pub value_none : (entries : List TrailEntry) (v : Var) → ¬ HasValue entries v → false ≡ truth_in (literals entries) v
+value_none entries v none = ⊎_elim (λ yes. absurd (found yes)) (λ no_value. sym no_value) (cases_Bool (truth_in (literals entries) v))
   where
-    found : value_in (literals entries) v ≡ true → ⊥
+    found : truth_in (literals entries) v ≡ true → ⊥
     found is =
         let l = true_literal (is_of (record { variable = v; sign = true })) (literals entries) is in
-        let e = contains_mapped (λ (x : Entry). x.literal) entries l.0 l.1 in
+        let e = contains_mapped (λ (x : TrailEntry). x.literal) entries l.0 l.1 in
         none (e.0, e.1, ap (λ (m : Lit). m.variable.0) e.2 ∙ eqb-true l.0.variable.0 v.0 (and_parts l.0.sign (eqb l.0.variable.0 v.0) l.2).1)
 
 -- ---- a new solver

@@ -5,7 +5,7 @@ use Rattle.pc_lits.specs.Literals.{negated}
 use Rattle.pc_lits.specs.Steps.{IsTautology}
 use Rattle.pc_log.specs.declared.log.StepId.{StepId}
 use Rattle.pc_log.specs.Lines.{LogLine, BlockLine, StepLine}
-use Rattle.pc_analyze.specs.Learning.{IsWithin}
+use Rattle.pc_analyze.specs.Learning.{IsSubclause}
 
 -- the line at this place is marked as learned, and has this clause
 abbrev pub IsLearnedAt : List LogLine → ℕ → List Lit → Type 0
@@ -15,10 +15,10 @@ IsLearnedAt log place clause = (hints : List StepId) × (slice_get log place ≡
 -- no clause of a block line before it.
 pub record AreNewClauses (used : List (List Lit)) (log : List LogLine) : Type 0 where
   pub no_tautology : (i : ℕ) (clause : List Lit) → IsLearnedAt log i clause → ¬ IsTautology negated clause
-  pub no_axiom : (i : ℕ) (clause axiom_clause : List Lit) → IsLearnedAt log i clause → Contains used axiom_clause → ¬ IsWithin axiom_clause clause
-  pub no_learned : (i j : ℕ) (earlier clause : List Lit) → i < j → IsLearnedAt log i earlier → IsLearnedAt log j clause → ¬ IsWithin earlier clause
-  pub no_block_line : (i j number : ℕ) (block clause : List Lit) → i < j → slice_get log i ≡ Some (BlockLine number block) → IsLearnedAt log j clause → ¬ IsWithin block clause
+  pub no_axiom : (i : ℕ) (clause axiom_clause : List Lit) → IsLearnedAt log i clause → Contains used axiom_clause → ¬ IsSubclause axiom_clause clause
+  pub no_learned : (i j : ℕ) (earlier clause : List Lit) → i < j → IsLearnedAt log i earlier → IsLearnedAt log j clause → ¬ IsSubclause earlier clause
+  pub no_block_line : (i j number : ℕ) (block clause : List Lit) → i < j → slice_get log i ≡ Some (BlockLine number block) → IsLearnedAt log j clause → ¬ IsSubclause block clause
 
 -- no learned clause of the log from this place on contains one of these
 abbrev pub ContainNone : List (List Lit) → ℕ → List LogLine → Type 0
-ContainNone blocks start log = (i : ℕ) (clause block : List Lit) → start ≤ i → IsLearnedAt log i clause → Contains blocks block → ¬ IsWithin block clause
+ContainNone blocks start log = (i : ℕ) (clause block : List Lit) → start ≤ i → IsLearnedAt log i clause → Contains blocks block → ¬ IsSubclause block clause

@@ -7,7 +7,7 @@ ghost use Rattle.pc_propagate.specs.declared.clauses.ClauseRef.{ClauseRef};
 ghost use Rattle.pc_propagate.specs.declared.clauses.ClauseRef.TheVariants.{Axiom};
 ghost use Rattle.pc_propagate.specs.Attached.{IsBlank};
 ghost use Rattle.pc_propagate.specs.Over.{IsOver};
-ghost use Rattle.pc_solver.specs.Answers.{value_in};
+ghost use Rattle.pc_solver.specs.Answers.{truth_in};
 ghost use Rattle.pc_solver.specs.New.{ContainNone};
 ghost use Rattle.pc_solver.specs.Solver.{SolverView, IsProblem, AreOwn, HasLog, SuspendedHasLog, AnswerSays, Spends};
 
@@ -135,7 +135,7 @@ impl<'g> Solver<'g> {
     /// The own variable's value. After `solve` has answered `Sat`, the values meet what it was asked.
     pub fn value(&self, v: Var) -> bool
         requires { Contains self.now.problem.own v }
-        ensures { result ≡ value_in self.now.trues v }
+        ensures { result ≡ truth_in self.now.trues v }
     {
         self.search.value(v)
     }

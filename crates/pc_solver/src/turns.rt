@@ -1,7 +1,7 @@
 //! The turns of a search: propagation, and then analysis of a conflict or a decision.
 
 ghost use Rattle.std.specs.Prelude.{◌≡◌, ◌<◌, ◌^◌, ◌+◌, OnErr, IfOk, Contains};
-ghost use Rattle.pc_propagate.specs.Propagation.{IsConflict};
+ghost use Rattle.pc_propagate.specs.Propagation.{IsFalsified};
 ghost use Rattle.pc_propagate.specs.Quiet.{IsQuiet};
 ghost use Rattle.pc_solver.specs.inside.Search.{IsUnderWay, Advances};
 ghost use Rattle.pc_solver.specs.inside.Ends.{EndSays, LearntSays, Turns, ended_by, extra, unmarked};
@@ -88,7 +88,7 @@ impl<'g> Search<'g> {
         tally: &mut Tally,
     ) -> Result<Option<Outcome>, AllocError>
         requires attached { Contains self.old.trail.attached conflict }
-        requires conflict { IsConflict self.old.clauses.axioms self.old.clauses.more self.old.trail.entries conflict }
+        requires conflict { IsFalsified self.old.clauses.axioms self.old.clauses.more self.old.trail.entries conflict }
         requires under_way { IsUnderWay self.old assumed.now log.old }
         requires few { tally.old.learned < 2 ^ 127 }
         ensures ok { IfOk result (Turns self.old self.new assumed.now tally.old tally.new log.old log.new) }

@@ -14,14 +14,14 @@ use Rattle.pc_logic.proofs.NamesLemmas.{name_is_declared}
 use Rattle.pc_elaborate.specs.declared.fault.SortFault.{SortFault}
 use Rattle.pc_elaborate.specs.declared.fault.SortFault.TheVariants.{DuplicateName, WrongArity, EmptySort, Limit}
 use Rattle.pc_elaborate.specs.declared.fault.Which.TheVariants.{Sorts, Values, Number, Tables, Families, Arity, Cells, Rows, Rules}
-use Rattle.pc_elaborate.specs.Elaboration.{IsSortNamed, IsTableNamed, IsValueOf, AreValuesOf, IsCell}
+use Rattle.pc_elaborate.specs.Elaboration.{IsSortNamed, IsTableNamed, StandsForValue, AreValuesOf, IsCell}
 use Rattle.pc_elaborate.specs.FormulaFaults.{IsSomeSort, IsSomeTable, IsNameFault, IsSortNameFault, AreValuesFault, IsSortedFormula, IsFormulaFault, IsCellFault, IsValueFault}
 use Rattle.pc_elaborate.specs.Laws.{HaveOneOutcome}
 use Rattle.pc_elaborate.specs.Outcome.{HasOneOutcome}
 use Rattle.pc_elaborate.specs.Tests.{no_test, test}
 use Rattle.pc_elaborate.proofs.Testing.{IsOne, IsNever, none_one, none_never, test_one, test_never, part_one, part_never}
 use Rattle.pc_elaborate.proofs.Values.{both_at, name_fault_one, name_fault_never, as_many_values}
-use Rattle.pc_sortcheck.specs.Declaring.{Declares, AreSortsNamed, IsTableOf}
+use Rattle.pc_sortcheck.specs.Declaring.{Declares, AreSortsNamed, IsTableWithSorts}
 use Rattle.pc_sortcheck.specs.DeclarationFaults.{IsNew, AreNewValues, AreSortNamesFault, AreSomeSorts, HasRoomForRow, IsRowFault, HasRoomForCells, IsDeclarationFault}
 use Rattle.pc_sortcheck.proofs.DeclaredSorts.{list_needs, range_needs}
 use Rattle.pc_sortcheck.proofs.DeclaredTables.{named_table}
@@ -153,7 +153,7 @@ module _ (old : Sheet) (trees : HaveOneOutcome old.universe) where
   tables_one : (n : List ℕ) (t v : TableId) → IsTableNamed u n t → IsTableNamed u n v → t ≡ v
   tables_one n t v h k = let e = trees.names n (named.Table t) (named.Table v) h k in cc
 
-  arguments_one : (n : List ℕ) (t v : TableId) (ss ts : List SortId) → IsTableOf u n t ss → IsTableOf u n v ts → (t ≡ v) × (ss ≡ ts)
+  arguments_one : (n : List ℕ) (t v : TableId) (ss ts : List SortId) → IsTableWithSorts u n t ss → IsTableWithSorts u n v ts → (t ≡ v) × (ss ≡ ts)
   arguments_one n t v ss ts h k =
       let same = tables_one n t v h.0 k.0 in
       (same, both_at (slice_get u.tables t.0) (λ (d : Table). d.sorts) ss ts h.1 (subst (λ (x : TableId). IsSomeAnd (slice_get u.tables x.0) (λ d. d.sorts ≡ ts)) (sym same) k.1))
@@ -183,14 +183,14 @@ module _ (old : Sheet) (trees : HaveOneOutcome old.universe) where
       (part_never ((vs : List ValueId) × AreValuesOf u ss values vs) (AreValuesFault u ss values) (RoomFault values t ss) ((trees.rows ss values).never vs are) (room_never values t ss vs are room))
 
   abbrev BehindTable : List ℕ → List tree.Value → SortFault → Type 0
-  BehindTable n values e = (t : TableId) × (ss : List SortId) × IsTableOf u n t ss × IsRowFault u values t ss e
+  BehindTable n values e = (t : TableId) × (ss : List SortId) × IsTableWithSorts u n t ss × IsRowFault u values t ss e
 
   behind_same : (n : List ℕ) (values : List tree.Value) → IsOne (BehindTable n values)
   behind_same n values e f h k =
       let same = arguments_one n k.0 h.0 k.1 h.1 k.2 h.2 in
       row_fault_same values h.0 h.1 e f h.3 (subst (λ (ss : List SortId). IsRowFault u values h.0 ss f) same.1 (subst (λ (t : TableId). IsRowFault u values t k.1 f) same.0 k.3))
 
-  behind_never : (n : List ℕ) (values : List tree.Value) (t : TableId) (ss : List SortId) → IsTableOf u n t ss → IsNever (IsRowFault u values t ss) → IsNever (BehindTable n values)
+  behind_never : (n : List ℕ) (values : List tree.Value) (t : TableId) (ss : List SortId) → IsTableWithSorts u n t ss → IsNever (IsRowFault u values t ss) → IsNever (BehindTable n values)
   behind_never n values t ss is never e h =
       let same = arguments_one n h.0 t h.1 ss h.2 is in
       never e (subst (λ (ts : List SortId). IsRowFault u values t ts e) same.1 (subst (λ (v : TableId). IsRowFault u values v h.1 e) same.0 h.3))
@@ -271,7 +271,7 @@ module _ (old : Sheet) (trees : HaveOneOutcome old.universe) where
           let a = h.0 in
           let b = k.0 in
           let same = cells_one c a.0.cell b.0.cell a.1.sort b.1.sort a.1.cell b.1.cell in
-          let values = (trees.values b.1.sort v).one a.0.value b.0.value (subst (λ (s : SortId). IsValueOf u s v a.0.value) same.1 a.1.value) b.1.value in
+          let values = (trees.values b.1.sort v).one a.0.value b.0.value (subst (λ (s : SortId). StandsForValue u s v a.0.value) same.1 a.1.value) b.1.value in
           a.2 ∙ ap₂ (λ (p : CellId) (q : ValueId). entered old (record { cell = p; value = q })) same.0 values ∙ sym b.2
 
       never : (new : Sheet) → Declares old (enter c v) new → IsNever (IsDeclarationFault old (enter c v))

@@ -5,7 +5,7 @@ use Rattle.std.proofs.lemmas.List.Sums.{sum_by_push}
 use Rattle.pc_name.specs.Names.{IsName}
 use Rattle.pc_syntax.specs.Tree as tree
 use Rattle.pc_sheet.specs.Sheet.{Sheet, Universe, Sort, Values, listed, range}
-use Rattle.pc_sheet.specs.Truth.{size_of, cells_in, count_of, values_of_sort, product}
+use Rattle.pc_sheet.specs.Sizes.{size_of, cells_in, count_of, values_of_sort, product}
 use Rattle.pc_sheet.specs.Entailment.{cell_sizes}
 use Rattle.pc_sheet.specs.WellFormed.{IsWellFormed, IsWellFormedUniverse, IsDeclaredSort, AreWellFormedValues}
 use Rattle.pc_sheet.specs.declared.ids.SortId.{SortId}

@@ -7,7 +7,7 @@ use Rattle.std.proofs.lemmas.List.Elements.{All-push, All-weaker, Contains-get_o
 use Rattle.std.proofs.lemmas.List.Quantifiers.{all_pairs_push}
 use Rattle.pc_name.specs.Names.{IsName}
 use Rattle.pc_sheet.specs.Sheet.{Sheet, Universe, Table, Family}
-use Rattle.pc_sheet.specs.Truth.{size_of, cells_in}
+use Rattle.pc_sheet.specs.Sizes.{size_of, cells_in}
 use Rattle.pc_sheet.specs.WellFormed.{AreDifferent, IsDeclaredSort, IsWellFormedTable, IsWellFormedFamily, IsWellFormedUniverse, IsWellFormed}
 use Rattle.pc_sheet.specs.WellSorted.{names_of_sort, name_of_table, name_of_family, declared_names}
 use Rattle.pc_sheet.specs.declared.ids.SortId.{SortId}

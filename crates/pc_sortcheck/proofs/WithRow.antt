@@ -8,7 +8,7 @@ use Rattle.std.proofs.lemmas.List.Sums.{sum_by-cons}
 use Rattle.pc_name.specs.Names.{IsName}
 use Rattle.pc_sheet.specs.Readings.{is_same_row}
 use Rattle.pc_sheet.specs.Sheet.{Sheet, Universe, Table, Family}
-use Rattle.pc_sheet.specs.Truth.{size_of}
+use Rattle.pc_sheet.specs.Sizes.{size_of}
 use Rattle.pc_sheet.specs.Entailment.{AreWithin}
 use Rattle.pc_sheet.specs.WellFormed.{AreDifferent, IsWellFormedTable, IsWellFormedFamily, IsWellFormedUniverse, IsWellFormed, rows_in}
 use Rattle.pc_sheet.specs.WellSorted.{names_of_sort, name_of_table, name_of_family, declared_names}

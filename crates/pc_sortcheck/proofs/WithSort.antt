@@ -7,7 +7,7 @@ use Rattle.std.proofs.lemmas.List.Elements.{All-nil, All-head, All-tail, All-pus
 use Rattle.std.proofs.lemmas.List.Sums.{sum_by-cons}
 use Rattle.pc_name.specs.Names.{IsName}
 use Rattle.pc_sheet.specs.Sheet.{Sheet, Universe, Sort, Table, Family, NamedStatement}
-use Rattle.pc_sheet.specs.Truth.{size_of, cells_in, count_of, values_of_sort, product}
+use Rattle.pc_sheet.specs.Sizes.{size_of, cells_in, count_of, values_of_sort, product}
 use Rattle.pc_sheet.specs.Entailment.{AreWithin, cell_sizes}
 use Rattle.pc_sheet.specs.WellFormed.{AreDifferent, AreWellFormedValues, IsDeclaredSort, IsWellFormedTable, IsWellFormedFamily, IsWellFormedUniverse, IsWellFormedRule, AreWellFormedRules, IsEntryOf, IsWellFormed}
 use Rattle.pc_sheet.specs.WellSorted.{names_of_sort, name_of_table, name_of_family, declared_names}

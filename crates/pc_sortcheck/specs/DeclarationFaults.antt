@@ -4,7 +4,7 @@ use Rattle.pc_syntax.specs.Tree as tree
 use Rattle.pc_syntax.specs.Tree.{list_sort, range_sort, table, row, cell, rule, enter}
 use Rattle.pc_sheet.specs.Limits.{most_arguments, most_cells, most_families, most_rows, most_rules, most_sorts, most_tables, most_values}
 use Rattle.pc_sheet.specs.Sheet.{Sheet, Universe, range, empty_sheet}
-use Rattle.pc_sheet.specs.Truth.{count_of, cells_in}
+use Rattle.pc_sheet.specs.Sizes.{count_of, cells_in}
 use Rattle.pc_sheet.specs.WellFormed.{AreDifferent, rows_in, rule_name}
 use Rattle.pc_sheet.specs.WellSorted.{IsSmallNumber}
 use Rattle.pc_sheet.specs.declared.ids.CellId.{CellId}
@@ -18,7 +18,7 @@ use Rattle.pc_elaborate.specs.declared.fault.Which.TheVariants.{Sorts, Values, N
 use Rattle.pc_elaborate.specs.Elaboration.{IsSortNamed, AreValuesOf, IsCell}
 use Rattle.pc_elaborate.specs.FormulaFaults.{IsDeclared, IsSomeSort, IsSomeTable, IsSortNameFault, IsNameFault, AreValuesFault, IsValueFault, IsCellFault, IsSortedFormula, IsFormulaFault}
 use Rattle.pc_elaborate.specs.Tests.{no_test, test, part}
-use Rattle.pc_sortcheck.specs.Declaring.{AreSortsNamed, IsTableOf, Declares}
+use Rattle.pc_sortcheck.specs.Declaring.{AreSortsNamed, IsTableWithSorts, Declares}
 
 -- nothing has the name yet
 abbrev pub IsNew : Universe → List ℕ → Type 0
@@ -73,7 +73,7 @@ IsDeclarationFault old (table n sorts) =
     (test ((1 ≤ length sorts) × (length sorts ≤ most_arguments)) (Limit Arity) (AreSortNamesFault old.universe sorts)))
 IsDeclarationFault old (row n values) =
     part (IsSomeTable old.universe n) (IsNameFault old.universe n (IsSomeTable old.universe n))
-    (λ e. (t : TableId) × (ss : List SortId) × IsTableOf old.universe n t ss × IsRowFault old.universe values t ss e)
+    (λ e. (t : TableId) × (ss : List SortId) × IsTableWithSorts old.universe n t ss × IsRowFault old.universe values t ss e)
 IsDeclarationFault old (cell n sorts result) =
     test (IsNew old.universe n) DuplicateName
     (test (length old.universe.families < most_families) (Limit Families)

@@ -22,8 +22,8 @@ AreSortsNamed u (n ∷ ns) [] = ⊥
 AreSortsNamed u (n ∷ ns) (s ∷ ss) = IsSortNamed u n s × AreSortsNamed u ns ss
 
 -- the table of that name, whose arguments are of these sorts
-abbrev pub IsTableOf : Universe → List ℕ → TableId → List SortId → Type 0
-IsTableOf u n t ss = IsTableNamed u n t × IsSomeAnd (slice_get u.tables t.0) (λ table. table.sorts ≡ ss)
+abbrev pub IsTableWithSorts : Universe → List ℕ → TableId → List SortId → Type 0
+IsTableWithSorts u n t ss = IsTableNamed u n t × IsSomeAnd (slice_get u.tables t.0) (λ table. table.sorts ≡ ss)
 
 -- the new sheet is the old one with what is declared
 abbrev pub Makes : Sheet → tree.Declared → Sheet → Type 0
@@ -31,7 +31,7 @@ Makes old (list_sort n values) new = new ≡ with_sort old (listed_sort n values
 Makes old (range_sort n low high) new = new ≡ with_sort old (edits.range_sort n low high)
 Makes old (table n sorts) new = (ss : List SortId) × AreSortsNamed old.universe sorts ss × (new ≡ with_table old (table_from n ss))
 Makes old (row n values) new =
-    (t : TableId) × (ss : List SortId) × (vs : List ValueId) × IsTableOf old.universe n t ss × AreValuesOf old.universe ss values vs × (new ≡ with_row old t vs)
+    (t : TableId) × (ss : List SortId) × (vs : List ValueId) × IsTableWithSorts old.universe n t ss × AreValuesOf old.universe ss values vs × (new ≡ with_row old t vs)
 Makes old (cell n sorts result) new =
     (ss : List SortId) × (r : SortId) × AreSortsNamed old.universe sorts ss × IsSortNamed old.universe result r × (new ≡ with_family old (family_from n ss r))
 Makes old (rule n f) new = (s : plain.Statement) × IsStatement old.universe [] f s × (new ≡ with_rule old (record { name = n; states = s }))

@@ -1,7 +1,7 @@
 //! Lines that declare a family or enter a value.
 ghost use Rattle.std.specs.Prelude.{◌≡◌, ◌↔◌, ◌+◌, ◌≤◌, ◌^◌, ℕ, List, [], All, IsTrue, MatchResult, length, map};
 ghost use Rattle.pc_sheet.specs.Limits.{most_arguments, most_cells, most_values};
-ghost use Rattle.pc_sheet.specs.Truth.{product, size_of};
+ghost use Rattle.pc_sheet.specs.Sizes.{product, size_of};
 ghost use Rattle.pc_sheet.specs.Entailment.{cell_sizes};
 ghost use Rattle.pc_sheet.specs.WellFormed.{IsDeclaredSort};
 ghost use Rattle.pc_syntax.specs.Tree as tree;

@@ -12,7 +12,7 @@ use Rattle.pc_syntax.specs.Command.{CommandReading, no_command, asks, IsCommandR
 use Rattle.pc_syntax.specs.Told.{IsCommandTold}
 use Rattle.pc_run.specs.declared.refusal.Refusal.{Refusal}
 use Rattle.pc_run.specs.declared.machine.Reply.TheVariants.{Silent, Accepted, Shown, Refused, Memory}
-use Rattle.pc_run.specs.Answer.{Answer, silent, Follows, IsAnswer, CanBeTold}
+use Rattle.pc_run.specs.Answer.{Answer, silent, IsToldBehind, IsAnswer, CanBeTold}
 use Rattle.pc_sheet.specs.Sheet.{Sheet}
 use Rattle.pc_spreadsheet.specs.Judgement.{State, for_utf8, for_depth, for_syntax, for_asked}
 use Rattle.pc_spreadsheet.specs.Pages.{IsPage, CanShow, IsCertificateAgainst, kind_of}
@@ -72,13 +72,13 @@ takes_memory line a may (spelled_command ws spelled is) only = lone line a may o
 
 -- ---- commands
 
-no_more : (proof : Option Sheet) (more : List ℕ) → proof ≡ None → Follows IsCertificateAgainst proof more → more ≡ []
-no_more proof more none follows = subst (λ (p : Option Sheet). Follows IsCertificateAgainst p more) none follows
+no_more : (proof : Option Sheet) (more : List ℕ) → proof ≡ None → IsToldBehind IsCertificateAgainst proof more → more ≡ []
+no_more proof more none follows = subst (λ (p : Option Sheet). IsToldBehind IsCertificateAgainst p more) none follows
 
-refused_line : (old new : State × Notes) (line : List ℕ) (a : Asked) (why : Refusal) (proof : Option Sheet) (more : List ℕ) → IsCommandReading line (asks a) → RefusesAsked old a why proof new → Follows IsCertificateAgainst proof more → RefusesLine old line why more new
+refused_line : (old new : State × Notes) (line : List ℕ) (a : Asked) (why : Refusal) (proof : Option Sheet) (more : List ℕ) → IsCommandReading line (asks a) → RefusesAsked old a why proof new → IsToldBehind IsCertificateAgainst proof more → RefusesLine old line why more new
 refused_line old new line a why proof more reading (judged is none same) follows = as_judged (for_asked a reading is) (no_more proof more none follows) same
 refused_line old new line a why proof more reading (contradicted r makes is shows same) follows =
-    as_contradiction r (a, reading, makes) (subst (λ (p : Option Sheet). Follows IsCertificateAgainst p more) shows follows) is same
+    as_contradiction r (a, reading, makes) (subst (λ (p : Option Sheet). IsToldBehind IsCertificateAgainst p more) shows follows) is same
 refused_line old new line a why proof more reading (spent counts spends is none same) follows = as_spent counts (a, reading, spends) is (no_more proof more none follows) same
 
 pub obeyed_line : (old new : State × Notes) (line : List ℕ) (a : Asked) (reply : Told) (answer : Answer) → IsCommandReading line (asks a) → ((r : CommandReading) → IsCommandReading line r → r ≡ asks a)

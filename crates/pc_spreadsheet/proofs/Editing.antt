@@ -8,7 +8,7 @@ use Rattle.pc_sheet.specs.declared.ids.CellId.{CellId}
 use Rattle.pc_sheet.specs.declared.ids.Entry.{Entry}
 use Rattle.pc_logic.specs.Edits.{entered, without_entry, without_rule}
 use Rattle.pc_elaborate.specs.Elaboration.{IsEntryNamed, IsCellNamed}
-use Rattle.pc_edits.specs.Edits.{Lacks}
+use Rattle.pc_edits.specs.Edits.{HasNoEntryOf}
 use Rattle.pc_theory.specs.Spendings.{IsLawful}
 use Rattle.pc_theory.specs.declared.spending.Spending.{Spending}
 use Rattle.pc_session.specs.Views.{SessionView}
@@ -110,7 +110,7 @@ module _ (s s' : SessionView) (n : Notes) where
 
   -- ---- clearing
 
-  pub cleared_so : (k : CellId) (c : Cell) (result : Result (Unit {0}) EditRefused) → IsCellNamed s.sheet.universe c k → (Lacks s.sheet.entries k → result ≡ Err edit.NoEntry) → result ≡ Ok tt → s'.sheet ≡ without_entry s.sheet k → s'.budget ≡ s.budget
+  pub cleared_so : (k : CellId) (c : Cell) (result : Result (Unit {0}) EditRefused) → IsCellNamed s.sheet.universe c k → (HasNoEntryOf s.sheet.entries k → result ≡ Err edit.NoEntry) → result ≡ Ok tt → s'.sheet ≡ without_entry s.sheet k → s'.budget ≡ s.budget
       → Obeys (pair_of (state_of s) n) (asks_clear c) Accepted (pair_of (state_of s') n)
   cleared_so k c result named no_entry ok sheet_is budget_is = elim (has_or_lacks s.sheet.entries k) [
     | inl has ↦ (clears k, clearing k named has, tt, edited_pair s s' n (without_entry s.sheet k) sheet_is budget_is)
@@ -128,7 +128,7 @@ module _ (s s' : SessionView) (n : Notes) where
   clearing_told k c edit.TooLarge told is named cause same = absurd cause
   clearing_told k c (edit.Inconsistent sheet) told is named cause same = absurd cause
 
-  pub clearing_spent : (k : CellId) (c : Cell) (spending : Spending) (book : Sheet) (n' : Notes) (told : Told) (result : Result (Unit {0}) EditRefused) → IsCellNamed s.sheet.universe c k → result ≡ Err (edit.Spent spending) → (Lacks s.sheet.entries k → result ≡ Err edit.NoEntry)
+  pub clearing_spent : (k : CellId) (c : Cell) (spending : Spending) (book : Sheet) (n' : Notes) (told : Told) (result : Result (Unit {0}) EditRefused) → IsCellNamed s.sheet.universe c k → result ≡ Err (edit.Spent spending) → (HasNoEntryOf s.sheet.entries k → result ≡ Err edit.NoEntry)
       → ((e : Entry) → Contains s.sheet.entries e → e.cell ≡ k → IsSpare s.sheet k → result ≡ Ok tt) → IsLawful (without_entry s.sheet k) (Some k) s.budget spending → IsAsBefore s s' → book ≡ s'.sheet
       → NotesSpent (without_entry book k) (Some k) spending n n' told → Obeys (pair_of (state_of s) n) (asks_clear c) told (pair_of (state_of s') n')
   clearing_spent k c spending book n' told result named err no_entry spare lawful same book_is notes = elim (has_or_lacks s.sheet.entries k) [

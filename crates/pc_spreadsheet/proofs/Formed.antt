@@ -10,7 +10,7 @@ use Rattle.pc_logic.proofs.EntryLemmas.{entries_stay, entries_left}
 use Rattle.pc_one_reading.proofs.Entries.{entry_of}
 use Rattle.pc_run.specs.Answer.{silent, accepted, shown, refused, no_memory}
 use Rattle.pc_sortcheck.specs.Laws.{SheetsAreWellFormed}
-use Rattle.pc_spreadsheet.specs.Judgement.{State, Task, entering, clearing, adding, dropping, budgeting, asking, showing, showing_grid, showing_json, dumping, IsTaskOf, IsEdit, after}
+use Rattle.pc_spreadsheet.specs.Judgement.{State, Task, entering, clearing, adding, dropping, budgeting, asking, showing, showing_grid, showing_json, dumping, IsTaskOf, IsEdit, state_after}
 use Rattle.pc_spreadsheet.specs.Allowed.{Notes, as_judged, as_contradiction, as_spent}
 use Rattle.pc_spreadsheet.specs.Laws.{StartsAreWellFormed, AnswersKeepForm}
 use Rattle.pc_spreadsheet.proofs.Rules.{formed_with}
@@ -25,7 +25,7 @@ same_pair_formed : (old new : State × Notes) → IsWellFormed old.0.sheet → n
 same_pair_formed old new formed same = subst (λ (s : State × Notes). IsWellFormed s.0.sheet) (sym same) formed
 
 module _ (ordered : CellsAreNumberedInOrder) where
-  edit_keeps : (state : State) (asked : Asked) (task : Task) → IsWellFormed state.sheet → IsTaskOf state.sheet asked task → IsEdit task → IsWellFormed (after state task).sheet
+  edit_keeps : (state : State) (asked : Asked) (task : Task) → IsWellFormed state.sheet → IsTaskOf state.sheet asked task → IsEdit task → IsWellFormed (state_after state task).sheet
   edit_keeps state asked task formed (entering {c = c} {v = v} e named) edit =
       with_entries state.sheet (entered_to state.sheet.entries e) formed (entries_stay state.sheet.universe state.sheet.entries e formed.entries (entry_of state.sheet.universe ordered c v named.sort e named.cell named.value))
   edit_keeps state asked task formed (clearing k named has) edit = with_entries state.sheet (cleared state.sheet.entries k) formed (entries_left state.sheet.universe state.sheet.entries k formed.entries)

@@ -13,25 +13,25 @@ use Rattle.pc_theory.specs.declared.spending.Spending.{Spending}
 use Rattle.pc_run.specs.declared.machine.LoadStop.{LoadStop}
 use Rattle.pc_run.specs.declared.machine.LoadStop.TheVariants.{Refused, Memory}
 use Rattle.pc_run.specs.declared.refusal.SheetRefusal.{SheetRefusal}
-use Rattle.pc_run.specs.Answer.{Follows}
+use Rattle.pc_run.specs.Answer.{IsToldBehind}
 use Rattle.pc_load.specs.Outcome.{HasFault}
 use Rattle.pc_sortcheck.specs.Declaring.{ReadsAs}
 use Rattle.pc_spreadsheet.specs.Judgement.{State, IsLight, Starts, of_whole}
 use Rattle.pc_spreadsheet.specs.Pages.{IsCertificateAgainst}
-use Rattle.pc_spreadsheet.specs.Allowed.{Notes, counts_of, RefusesText, for_fault, for_weight, for_rules, for_search}
+use Rattle.pc_spreadsheet.specs.Allowed.{Notes, told_counts_of, RefusesText, for_fault, for_weight, for_rules, for_search}
 use Rattle.pc_spreadsheet.specs.inside.Loading.{IsNotLoaded, NotesLoad, noted, not_noted, IsRefusedBook, too_large, contradictory, spent, OpensAs}
 
 -- the text has the fault
 pub at_fault : (budget : ℕ) (text : List ℕ) (why : SheetRefusal) (notes : Notes) → HasFault text why → IsNotLoaded budget text notes notes (Refused why None)
 at_fault budget text why notes fault = λ more. λ none. for_fault fault none refl
 
-no_more : (proof : Option Sheet) (more : List ℕ) → proof ≡ None → Follows IsCertificateAgainst proof more → more ≡ []
-no_more proof more none follows = subst (λ (p : Option Sheet). Follows IsCertificateAgainst p more) none follows
+no_more : (proof : Option Sheet) (more : List ℕ) → proof ≡ None → IsToldBehind IsCertificateAgainst proof more → more ≡ []
+no_more proof more none follows = subst (λ (p : Option Sheet). IsToldBehind IsCertificateAgainst p more) none follows
 
-refused_text : (budget : ℕ) (text : List ℕ) (book : Sheet) (why : SheetRefusal) (proof : Option Sheet) (old new : Notes) (more : List ℕ) → ReadsAs text book → IsRefusedBook budget book why proof old new → Follows IsCertificateAgainst proof more → RefusesText budget text why more old new
+refused_text : (budget : ℕ) (text : List ℕ) (book : Sheet) (why : SheetRefusal) (proof : Option Sheet) (old new : Notes) (more : List ℕ) → ReadsAs text book → IsRefusedBook budget book why proof old new → IsToldBehind IsCertificateAgainst proof more → RefusesText budget text why more old new
 refused_text budget text book why proof old new more reads (too_large heavy is none same) follows = for_weight record { sheet = book; reads = reads; heavy = heavy } is (no_more proof more none follows) same
 refused_text budget text book why proof old new more reads (contradictory light never is shows same) follows =
-    for_rules book record { reads = reads; light = light; contradict = never } (subst (λ (p : Option Sheet). Follows IsCertificateAgainst p more) shows follows) is same
+    for_rules book record { reads = reads; light = light; contradict = never } (subst (λ (p : Option Sheet). IsToldBehind IsCertificateAgainst p more) shows follows) is same
 refused_text budget text book why proof old new more reads (spent counts light spends is none) follows = for_search book counts reads light spends is (no_more proof more none follows)
 
 pub opened : (budget : ℕ) (text : List ℕ) (book : Sheet) (old new : Notes) (result : Result State (LoadStop Sheet)) → ReadsAs text book → OpensAs budget book old new result
@@ -44,7 +44,7 @@ opened budget text book old new (Err Memory) reads opens = opens
 -- the search of a book spends too much
 pub load_spent : (budget : ℕ) (book : Sheet) (spending : Spending) (old new : Notes) (stop : LoadStop Sheet) → IsLight book → IsLawful book None budget spending → NotesLoad book spending old new stop → OpensAs budget book old new (Err stop)
 load_spent budget book spending old new stop light lawful (noted why is now_noted) =
-    spent (counts_of spending.tally) light record { spending = spending; lawful = lawful; counts_are = refl; noted = now_noted } is refl
+    spent (told_counts_of spending.tally) light record { spending = spending; lawful = lawful; counts_are = refl; noted = now_noted } is refl
 load_spent budget book spending old new stop light lawful (not_noted none) = none
 
 -- ---- opening
@@ -61,7 +61,7 @@ refused_large budget book notes stop is heavy = subst (λ (s : LoadStop Sheet). 
 pub refused_contradictory : (budget : ℕ) (book refutation : Sheet) (notes : Notes) (stop : LoadStop Sheet) → stop ≡ Refused (of_whole Inconsistent) (Some refutation) → (weight book ≤ 4000000) × (refutation ≡ book) × (¬ AreRulesConsistent book) → OpensAs budget book notes notes (Err stop)
 refused_contradictory budget book refutation notes stop is cause = subst (λ (s : LoadStop Sheet). OpensAs budget book notes notes (Err s)) (sym is) (contradictory cause.0 cause.2 refl (ap (λ (t : Sheet). Some t) cause.1) refl)
 
-pub noted_so : (book : Sheet) (spending : Spending) (old new : Notes) (counts : Counts) (stop : LoadStop Sheet) → stop ≡ Refused (of_whole (Spent counts)) None → counts ≡ counts_of spending.tally
+pub noted_so : (book : Sheet) (spending : Spending) (old new : Notes) (counts : Counts) (stop : LoadStop Sheet) → stop ≡ Refused (of_whole (Spent counts)) None → counts ≡ told_counts_of spending.tally
     → new ≡ old ++ record { sheet = book; cell = None; tally = session.counts_of spending.tally } ∷ [] → NotesLoad book spending old new stop
 noted_so book spending old new counts stop is counts_is now_noted =
     subst (NotesLoad book spending old new) (sym is) (noted (of_whole (Spent counts)) (ap (λ (c : Counts). of_whole (Spent c)) counts_is) now_noted)

@@ -7,7 +7,7 @@ use Rattle.pc_sheet.specs.Sheet.{Sheet, NamedStatement}
 use Rattle.pc_sheet.specs.WellFormed.{AreDifferent, IsWellFormed, rule_name}
 use Rattle.pc_sheet.specs.declared.ids.CellId.{CellId}
 use Rattle.pc_sheet.specs.declared.ids.Entry.{Entry}
-use Rattle.pc_edits.specs.Edits.{Lacks}
+use Rattle.pc_edits.specs.Edits.{HasNoEntryOf}
 use Rattle.pc_session.specs.Rules.{IsNewName, IsRuleAt}
 use Rattle.pc_spreadsheet.specs.Judgement.{HasEntryOf}
 
@@ -39,7 +39,7 @@ abbrev cell_from : ℕ → CellId
 cell_from n = record { 0 = n }
 
 -- a cell has an entry or lacks one
-pub has_or_lacks : (es : List Entry) (k : CellId) → Any (λ e. e.cell ≡ k) es ⊎ Lacks es k
+pub has_or_lacks : (es : List Entry) (k : CellId) → Any (λ e. e.cell ≡ k) es ⊎ HasNoEntryOf es k
 has_or_lacks [] k = inr (All-nil (λ (e : Entry). e.cell.0 ≢ k.0))
 has_or_lacks (x ∷ xs) k = elim (cases_eq x.cell.0 k.0) [
   | inl is ↦ inl (zero, x, omega arith, refl, ap cell_from is)
@@ -55,5 +55,5 @@ number_of e = e.cell.0
 abbrev place_of : CellId → ℕ
 place_of c = c.0
 
-pub lacks_none : (sheet : Sheet) (k : CellId) → Lacks sheet.entries k → HasEntryOf sheet k → ⊥
+pub lacks_none : (sheet : Sheet) (k : CellId) → HasNoEntryOf sheet.entries k → HasEntryOf sheet k → ⊥
 lacks_none sheet k lacks has = lacks has.0 has.1 has.2 (ap number_of has.3 ∙ ap place_of has.4)

@@ -12,7 +12,7 @@ use Rattle.pc_sheet.specs.declared.ids.SortId.{SortId}
 use Rattle.pc_sheet.specs.declared.ids.ValueId.{ValueId}
 use Rattle.pc_sheet.specs.declared.ids.Entry.{Entry}
 use Rattle.pc_elaborate.specs.declared.fault.SortFault.{SortFault}
-use Rattle.pc_elaborate.specs.Elaboration.{IsCell, IsValueOf, IsEntryNamed, IsCellNamed}
+use Rattle.pc_elaborate.specs.Elaboration.{IsCell, StandsForValue, IsEntryNamed, IsCellNamed}
 use Rattle.pc_elaborate.specs.FormulaFaults.{IsValueFault, IsSortedFormula}
 use Rattle.pc_elaborate.specs.Laws.{HaveOneOutcome, TreesHaveOneOutcome}
 use Rattle.pc_elaborate.specs.Tests.{no_test, test}
@@ -21,7 +21,7 @@ use Rattle.pc_run.specs.declared.refusal.Refusal.{Refusal}
 use Rattle.pc_run.specs.declared.refusal.Refusal.TheVariants.{NotUtf8, Syntax, TooDeep}
 use Rattle.pc_load.specs.Refusals.{IsSortRefusal}
 use Rattle.pc_load.proofs.OneRefusal.{one_refusal, some_is}
-use Rattle.pc_spreadsheet.specs.Judgement.{State, IsLight, Task, enters, clears, adds, drops, shows, why_page, HasEntryOf, IsRuleOf, IsTaskOf, entering, clearing, adding, dropping, budgeting, asking, showing, showing_grid, showing_json, dumping, IsAskedFault, IsRefusalOf, by_fault, without_entry, of_old_name, of_no_rule, too_large, MakesContradiction, contradicting, IsRefused, for_utf8, for_depth, for_syntax, for_asked, Verdict, nothing, does, refuses, contradicts, IsVerdict}
+use Rattle.pc_spreadsheet.specs.Judgement.{State, IsLight, Task, enters, clears, adds, drops, shows, why_page, HasEntryOf, IsRuleOf, IsTaskOf, entering, clearing, adding, dropping, budgeting, asking, showing, showing_grid, showing_json, dumping, IsAskedFault, IsRefusalOf, by_fault, without_entry, of_old_name, of_no_rule, too_large, MakesContradiction, contradicting, IsRefused, for_utf8, for_depth, for_syntax, for_asked, Verdict, nothing, does, refuses, contradicts, IsVerdictOn}
 use Rattle.pc_spreadsheet.specs.Judgement as judgement
 use Rattle.pc_spreadsheet.proofs.Places.{not_new, one_place}
 use Rattle.pc_spreadsheet.specs.Laws.{LinesHaveOneVerdict}
@@ -68,7 +68,7 @@ module _ (sheet : Sheet) (one : HaveOneOutcome sheet.universe) (formed : IsWellF
   entry_is c v e f first second =
       let pairs = pair_is c e.cell f.cell first.sort second.sort first.cell second.cell in
       let sorts : first.sort ≡ second.sort = ap (λ (p : CellId × SortId). p.1) pairs in
-      let value : IsValueOf sheet.universe second.sort v e.value = subst (λ (s : SortId). IsValueOf sheet.universe s v e.value) sorts first.value in
+      let value : StandsForValue sheet.universe second.sort v e.value = subst (λ (s : SortId). StandsForValue sheet.universe s v e.value) sorts first.value in
       ap₂ entry_of (ap (λ (p : CellId × SortId). p.0) pairs) ((one.values second.sort v).one e.value f.value value second.value)
 
   entry_never : (c : Cell) (v : Value) (e : Entry) → IsEntryNamed sheet.universe c v e → (f : SortFault) → ¬ IsDeclarationFault sheet (enter c v) f
@@ -124,7 +124,7 @@ module _ (sheet : Sheet) (one : HaveOneOutcome sheet.universe) (formed : IsWellF
   task_never (adding {n = n} {f = f} r new light consistent) e = rule_of_never n f r new.0 e
   task_never (dropping place at) e = λ fails. fails
   task_never (budgeting within) e = test_never within e
-  task_never (asking {c = c} {v = v} t named holds) e = entry_never c v (judgement.entry_of t) named e
+  task_never (asking {c = c} {v = v} t named holds) e = entry_never c v (judgement.entry_of_target t) named e
   task_never showing e = λ fails. fails
   task_never showing_grid e = λ fails. fails
   task_never showing_json e = λ fails. fails
@@ -141,7 +141,7 @@ module _ (sheet : Sheet) (one : HaveOneOutcome sheet.universe) (formed : IsWellF
   task_is (dropping {n = n} i x) (dropping j y) = ap drops (one_place sheet n no_rule i j formed x y)
   task_is (budgeting x) (budgeting y) = refl
   task_is (asking {c = c} {v = v} t x holds) (asking u y holding) =
-      ap₂ asked_why (entry_is c v (judgement.entry_of t) (judgement.entry_of u) x y) (holds ∙ sym holding)
+      ap₂ asked_why (entry_is c v (judgement.entry_of_target t) (judgement.entry_of_target u) x y) (holds ∙ sym holding)
   task_is showing showing = refl
   task_is showing_grid showing_grid = refl
   task_is showing_json showing_json = refl
@@ -242,7 +242,7 @@ judged_refusal state line TooDeep (for_depth is) = record { reading = at_fault t
 judged_refusal state line Syntax (for_syntax is) = record { reading = at_fault syntax; is = is; judged = refl }
 judged_refusal state line why (for_asked a reading is) = record { reading = asks a; is = reading; judged = by_refusal why is }
 
-judged : (state : State) (line : List ℕ) (verdict : Verdict) → IsVerdict state line verdict → Judged state line verdict
+judged : (state : State) (line : List ℕ) (verdict : Verdict) → IsVerdictOn state line verdict → Judged state line verdict
 judged state line nothing is = record { reading = no_command; is = is; judged = tt }
 judged state line (does task) is = record { reading = asks is.0; is = is.1; judged = by_task task is.2 }
 judged state line (refuses why) is = judged_refusal state line why is

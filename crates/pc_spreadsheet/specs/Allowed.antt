@@ -21,8 +21,8 @@ use Rattle.pc_run.specs.declared.refusal.SheetRefusal.{SheetRefusal}
 use Rattle.pc_run.specs.declared.refusal.Refusal.{Refusal}
 use Rattle.pc_run.specs.declared.refusal.Refusal.TheVariants.{TooLarge, Inconsistent, Spent}
 use Rattle.pc_run.specs.Answer.{Answer, silent, accepted, shown, refused, no_memory}
-use Rattle.pc_spreadsheet.specs.Judgement.{State, IsLight, IsTooLarge, IsContradictory, of_whole, Task, shows, PageKind, HasEntryOf, IsNewRule, AsksNothing, IsTask, IsEdit, after, IsRefused, IsContradiction}
-use Rattle.pc_spreadsheet.specs.Pages.{Says, IsCertificateAgainst}
+use Rattle.pc_spreadsheet.specs.Judgement.{State, IsLight, IsTooLarge, IsContradictory, of_whole, Task, shows, PageKind, HasEntryOf, IsNewRule, AsksNothing, IsTask, IsEdit, state_after, IsRefused, IsContradiction}
+use Rattle.pc_spreadsheet.specs.Pages.{PageSays, IsCertificateAgainst}
 
 -- ---- what is spent
 
@@ -31,15 +31,15 @@ abbrev pub Notes : Type 0
 Notes = List NoteView
 
 -- the three numbers that are told
-abbrev pub counts_of : Tally → Counts
-counts_of t = record { placed = t.placed; learned = t.learned; calls = t.calls }
+abbrev pub told_counts_of : Tally → Counts
+told_counts_of t = record { placed = t.placed; learned = t.learned; calls = t.calls }
 
 -- A search on this sheet, of the parts that an edit of this cell touches, or of all, lawfully spends the budget. That is told by these
 -- counts, and noted as the last of the notes.
-pub record IsSpent (budget : ℕ) (sheet : Sheet) (cell : Option CellId) (counts : Counts) (old new : Notes) : Type 0 where
+pub record IsLawfullySpent (budget : ℕ) (sheet : Sheet) (cell : Option CellId) (counts : Counts) (old new : Notes) : Type 0 where
   pub spending : Spending
   pub lawful : IsLawful sheet cell budget spending
-  pub counts_are : counts ≡ counts_of spending.tally
+  pub counts_are : counts ≡ told_counts_of spending.tally
   pub noted : new ≡ old ++ record { sheet = sheet; cell = cell; tally = session.counts_of spending.tally } ∷ []
 
 -- ---- sheets
@@ -50,7 +50,7 @@ pub data RefusesText (budget : ℕ) (text : List ℕ) (why : SheetRefusal) (more
   for_fault : HasFault text why → more ≡ [] → new ≡ old → RefusesText budget text why more old new
   for_weight : IsTooLarge text → why ≡ of_whole TooLarge → more ≡ [] → new ≡ old → RefusesText budget text why more old new
   for_rules : (sheet : Sheet) → IsContradictory text sheet → IsCertificateAgainst sheet more → why ≡ of_whole Inconsistent → new ≡ old → RefusesText budget text why more old new
-  for_search : (sheet : Sheet) (counts : Counts) → ReadsAs text sheet → IsLight sheet → IsSpent budget sheet None counts old new → why ≡ of_whole (Spent counts) → more ≡ [] → RefusesText budget text why more old new
+  for_search : (sheet : Sheet) (counts : Counts) → ReadsAs text sheet → IsLight sheet → IsLawfullySpent budget sheet None counts old new → why ≡ of_whole (Spent counts) → more ≡ [] → RefusesText budget text why more old new
 
 -- ---- command lines
 
@@ -68,24 +68,24 @@ pub record SpendsFor (state : State) (asked : Asked) (counts : Counts) (old new 
   pub cell : Option CellId
   pub made : Sheet
   pub needs : NeedsSearch state.sheet asked cell made
-  pub spent : IsSpent state.budget made cell counts old new
+  pub spent : IsLawfullySpent state.budget made cell counts old new
 
 -- the same of the command that a line asks
-abbrev pub Spends : State → List ℕ → Counts → Notes → Notes → Type 0
-Spends state line counts old new = (a : Asked) × IsCommandReading line (asks a) × SpendsFor state a counts old new
+abbrev pub LineSpends : State → List ℕ → Counts → Notes → Notes → Type 0
+LineSpends state line counts old new = (a : Asked) × IsCommandReading line (asks a) × SpendsFor state a counts old new
 
 -- The line is refused so, with what is told after that: as it is judged; as a contradiction, with a certificate for the sheet with that
 -- rule; or since its search spends too much.
 pub data RefusesLine (old : State × Notes) (line : List ℕ) (why : Refusal) (more : List ℕ) (new : State × Notes) : Type 0 where
   as_judged : IsRefused old.0 line why → more ≡ [] → new ≡ old → RefusesLine old line why more new
   as_contradiction : (r : NamedStatement) → IsContradiction old.0 line r → IsCertificateAgainst (with_rule old.0.sheet r) more → why ≡ Inconsistent → new ≡ old → RefusesLine old line why more new
-  as_spent : (counts : Counts) → Spends old.0 line counts old.1 new.1 → why ≡ Spent counts → more ≡ [] → new.0 ≡ old.0 → RefusesLine old line why more new
+  as_spent : (counts : Counts) → LineSpends old.0 line counts old.1 new.1 → why ≡ Spent counts → more ≡ [] → new.0 ≡ old.0 → RefusesLine old line why more new
 
 -- In the state, the line may have this answer, and the next state and notes follow. Any line but one that takes none may want memory instead,
 -- and an edit that needs a search may spend too much instead.
 abbrev pub Allows : State × Notes → List ℕ → Answer → State × Notes → Type 0
 Allows old line silent new = AsksNothing line × (new ≡ old)
-Allows old line accepted new = (task : Task) × IsTask old.0 line task × IsEdit task × (new ≡ (after old.0 task, old.1))
-Allows old line (shown text) new = (kind : PageKind) × IsTask old.0 line (shows kind) × Says kind old.0.sheet text × (new ≡ old)
+Allows old line accepted new = (task : Task) × IsTask old.0 line task × IsEdit task × (new ≡ (state_after old.0 task, old.1))
+Allows old line (shown text) new = (kind : PageKind) × IsTask old.0 line (shows kind) × PageSays kind old.0.sheet text × (new ≡ old)
 Allows old line (refused why more) new = RefusesLine old line why more new
 Allows old line no_memory new = (¬ TakesNoMemory line) × (new ≡ old)

@@ -24,9 +24,9 @@ use Rattle.pc_run.specs.declared.refusal.Refusal.{Refusal}
 use Rattle.pc_run.specs.declared.refusal.Refusal.TheVariants.{NotUtf8, Syntax, TooDeep, TooLarge, Inconsistent, Spent, NoEntry, DuplicateRule, NoRule}
 use Rattle.pc_display.specs.Json.{IsJson}
 use Rattle.pc_load.specs.Refusals.{IsSortRefusal}
-use Rattle.pc_spreadsheet.specs.Judgement.{State, Task, shows, why_page, IsTaskOf, IsEdit, after, MakesContradiction, IsRefusalOf}
+use Rattle.pc_spreadsheet.specs.Judgement.{State, Task, shows, why_page, IsTaskOf, IsEdit, state_after, MakesContradiction, IsRefusalOf}
 use Rattle.pc_spreadsheet.specs.Pages.{CanShow, kind_of}
-use Rattle.pc_spreadsheet.specs.Allowed.{Notes, counts_of, SpendsFor}
+use Rattle.pc_spreadsheet.specs.Allowed.{Notes, told_counts_of, SpendsFor}
 use Rattle.pc_spreadsheet.specs.declared.page.Page.{Page}
 use Rattle.pc_spreadsheet.specs.declared.page.Page.TheVariants.{Json, Why}
 
@@ -61,7 +61,7 @@ parted edit.Memory = Err Memory
 
 -- what was spent on the sheet is noted and told, or there was no memory for it
 pub data NotesSpent (sheet : Sheet) (cell : Option CellId) (spending : Spending) (old new : Notes) : Told → Type 0 where
-  noted : (counts : Counts) → counts ≡ counts_of spending.tally → new ≡ old ++ record { sheet = sheet; cell = cell; tally = session.counts_of spending.tally } ∷ [] → NotesSpent sheet cell spending old new (Refused (Spent counts) None)
+  noted : (counts : Counts) → counts ≡ told_counts_of spending.tally → new ≡ old ++ record { sheet = sheet; cell = cell; tally = session.counts_of spending.tally } ∷ [] → NotesSpent sheet cell spending old new (Refused (Spent counts) None)
   not_noted : new ≡ old → NotesSpent sheet cell spending old new Memory
 
 -- a question is a page, or it is refused
@@ -93,7 +93,7 @@ pub data RefusesAsked (old : State × Notes) (a : Asked) (why : Refusal) (proof 
 
 -- What a command does: an edit, a page, or a refusal, and then the state stays, as it does at want of memory.
 abbrev pub Obeys : State × Notes → Asked → Told → State × Notes → Type 0
-Obeys old a Accepted new = (task : Task) × IsTaskOf old.0.sheet a task × IsEdit task × (new ≡ (after old.0 task, old.1))
+Obeys old a Accepted new = (task : Task) × IsTaskOf old.0.sheet a task × IsEdit task × (new ≡ (state_after old.0 task, old.1))
 Obeys old a (Shown page) new = IsTaskOf old.0.sheet a (shows (kind_of page)) × CanShow page old.0 × (new ≡ old)
 Obeys old a (Refused why proof) new = RefusesAsked old a why proof new
 Obeys old a Memory new = MayWantMemory a × (new ≡ old)

@@ -114,8 +114,8 @@ IsNewRule sheet n f r = IsRuleOf sheet n f r × IsNewName sheet.rules n
 abbrev pub IsBudget : ℕ → Type 0
 IsBudget n = (1 ≤ n) × (n ≤ 1000000000000)
 
-abbrev pub entry_of : Target → Entry
-entry_of t = record { cell = t.cell; value = t.value }
+abbrev pub entry_of_target : Target → Entry
+entry_of_target t = record { cell = t.cell; value = t.value }
 
 -- the command asks for this, and it can be done
 pub data IsTaskOf (sheet : Sheet) : Asked → Task → Type 0 where
@@ -124,7 +124,7 @@ pub data IsTaskOf (sheet : Sheet) : Asked → Task → Type 0 where
   adding : {n : List ℕ} {f : Formula} (r : NamedStatement) → IsNewRule sheet n f r → IsLight (with_rule sheet r) → AreRulesConsistent (with_rule sheet r) → IsTaskOf sheet (asks_rule n f) (adds r)
   dropping : {n : List ℕ} (place : ℕ) → IsRuleAt sheet.rules n place → IsTaskOf sheet (asks_drop n) (drops place)
   budgeting : {n : ℕ} → IsBudget n → IsTaskOf sheet (asks_budget n) (budgets n)
-  asking : {c : Cell} {v : Value} {holds : Bool} (t : Target) → IsEntryNamed sheet.universe c v (entry_of t) → t.holds ≡ holds → IsTaskOf sheet (asks_why c v holds) (shows (why_page t))
+  asking : {c : Cell} {v : Value} {holds : Bool} (t : Target) → IsEntryNamed sheet.universe c v (entry_of_target t) → t.holds ≡ holds → IsTaskOf sheet (asks_why c v holds) (shows (why_page t))
   showing : IsTaskOf sheet asks_show (shows lines_page)
   showing_grid : IsTaskOf sheet asks_grid (shows grid_page)
   showing_json : IsTaskOf sheet asks_json (shows json_page)
@@ -136,13 +136,13 @@ IsEdit (shows kind) = ⊥
 IsEdit task = Unit {0}
 
 -- the state after the task is done
-abbrev pub after : State → Task → State
-after state (enters e) = record state { sheet = entered state.sheet e }
-after state (clears k) = record state { sheet = edits.without_entry state.sheet k }
-after state (adds r) = record state { sheet = with_rule state.sheet r }
-after state (drops place) = record state { sheet = without_rule state.sheet place }
-after state (budgets n) = record state { budget = n }
-after state (shows kind) = state
+abbrev pub state_after : State → Task → State
+state_after state (enters e) = record state { sheet = entered state.sheet e }
+state_after state (clears k) = record state { sheet = edits.without_entry state.sheet k }
+state_after state (adds r) = record state { sheet = with_rule state.sheet r }
+state_after state (drops place) = record state { sheet = without_rule state.sheet place }
+state_after state (budgets n) = record state { budget = n }
+state_after state (shows kind) = state
 
 -- ---- why a command is refused
 
@@ -196,8 +196,8 @@ pub data Verdict : Type 0 where
   refuses : Refusal → Verdict
   contradicts : NamedStatement → Verdict
 
-abbrev pub IsVerdict : State → List ℕ → Verdict → Type 0
-IsVerdict state line nothing = AsksNothing line
-IsVerdict state line (does task) = IsTask state line task
-IsVerdict state line (refuses why) = IsRefused state line why
-IsVerdict state line (contradicts r) = IsContradiction state line r
+abbrev pub IsVerdictOn : State → List ℕ → Verdict → Type 0
+IsVerdictOn state line nothing = AsksNothing line
+IsVerdictOn state line (does task) = IsTask state line task
+IsVerdictOn state line (refuses why) = IsRefused state line why
+IsVerdictOn state line (contradicts r) = IsContradiction state line r

@@ -3,14 +3,14 @@ use Rattle.std.specs.Prelude.{◌≡◌, ℕ, List}
 use Rattle.pc_sheet.specs.Sheet.{Sheet}
 use Rattle.pc_sheet.specs.WellFormed.{IsWellFormed}
 use Rattle.pc_run.specs.Answer.{Answer}
-use Rattle.pc_spreadsheet.specs.Judgement.{State, Verdict, IsVerdict, SheetVerdict, IsSheetVerdict, Starts}
+use Rattle.pc_spreadsheet.specs.Judgement.{State, Verdict, IsVerdictOn, SheetVerdict, IsSheetVerdict, Starts}
 use Rattle.pc_spreadsheet.specs.Allowed.{Notes, Allows}
 use Rattle.pc_spreadsheet.specs.Summary.{IsSummary}
 use Rattle.pc_spreadsheet.specs.declared.summary.Summary.{Summary}
 
 -- in a well-formed state a command line has one verdict at most
 abbrev pub LinesHaveOneVerdict : Type 0
-LinesHaveOneVerdict = (state : State) → IsWellFormed state.sheet → (line : List ℕ) (x y : Verdict) → IsVerdict state line x → IsVerdict state line y → x ≡ y
+LinesHaveOneVerdict = (state : State) → IsWellFormed state.sheet → (line : List ℕ) (x y : Verdict) → IsVerdictOn state line x → IsVerdictOn state line y → x ≡ y
 
 -- a sheet's text has one verdict at most
 abbrev pub TextsHaveOneVerdict : Type 0

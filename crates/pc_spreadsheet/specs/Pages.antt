@@ -6,13 +6,12 @@ use Rattle.pc_sheet.specs.declared.ids.Target.{Target}
 use Rattle.pc_reason.specs.Reasons.{IsTargetOf}
 use Rattle.pc_reason.specs.Refutations.{IsAgainst}
 use Rattle.pc_accept.specs.Accepts.{Certificate}
-use Rattle.pc_writer.specs.SheetText.{sheet_text}
+use Rattle.pc_writer.specs.SheetText.{sheet_text, ended}
 use Rattle.pc_display.specs.Show.{IsShown}
 use Rattle.pc_display.specs.Grid.{IsGrid}
 use Rattle.pc_display.specs.Json.{IsJson}
 use Rattle.pc_cert_text.specs.CertificateText.{certificate_text}
 use Rattle.pc_cert_text.specs.Why.{IsFor}
-use Rattle.pc_run.specs.Answer.{ended}
 use Rattle.pc_spreadsheet.specs.Judgement.{State, PageKind, lines_page, grid_page, json_page, text_page, why_page}
 use Rattle.pc_spreadsheet.specs.declared.page.Page.{Page}
 use Rattle.pc_spreadsheet.specs.declared.page.Page.TheVariants.{Display, Grid, Json, SheetText, Why}
@@ -28,12 +27,12 @@ abbrev pub IsJsonLine : Sheet → List ℕ → Type 0
 IsJsonLine sheet text = (found : List ℕ) × IsJson sheet found × (text ≡ ended found)
 
 -- what a page of this kind says of a sheet
-abbrev pub Says : PageKind → Sheet → List ℕ → Type 0
-Says lines_page sheet text = IsShown sheet text
-Says grid_page sheet text = IsGrid sheet text
-Says json_page sheet text = IsJsonLine sheet text
-Says text_page sheet text = text ≡ sheet_text sheet
-Says (why_page t) sheet text = IsWhy sheet t text
+abbrev pub PageSays : PageKind → Sheet → List ℕ → Type 0
+PageSays lines_page sheet text = IsShown sheet text
+PageSays grid_page sheet text = IsGrid sheet text
+PageSays json_page sheet text = IsJsonLine sheet text
+PageSays text_page sheet text = text ≡ sheet_text sheet
+PageSays (why_page t) sheet text = IsWhy sheet t text
 
 -- the kind of a page as it is handed on
 abbrev pub kind_of : Page → PageKind
@@ -44,7 +43,7 @@ kind_of SheetText = text_page
 kind_of (Why t) = why_page t
 
 abbrev pub IsPage : Page → State → List ℕ → Type 0
-IsPage page state text = Says (kind_of page) state.sheet text
+IsPage page state text = PageSays (kind_of page) state.sheet text
 
 -- the text that a page carries is the sheet's display as JSON, and a target is one of the sheet's
 abbrev pub CanShow : Page → State → Type 0

@@ -4,7 +4,7 @@ ghost use Rattle.pc_reason.specs.Reasons.{IsTargetOf};
 ghost use Rattle.pc_writer.specs.Writes.{Writes};
 ghost use Rattle.pc_spreadsheet.specs.Commands.{state_of};
 ghost use Rattle.pc_spreadsheet.specs.Pages.{CanShow, IsCertificateAgainst, IsPage, IsWhy};
-ghost use Rattle.pc_run.specs.Answer.{ended};
+ghost use Rattle.pc_writer.specs.SheetText.{ended};
 ghost use Rattle.pc_display.specs.Show.{IsShown};
 ghost use Rattle.pc_display.specs.Grid.{IsGrid};
 ghost use Rattle.pc_display.specs.Json.{IsJson};

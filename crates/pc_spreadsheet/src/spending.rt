@@ -1,7 +1,7 @@
 //! What searches spend: how it is told and noted.
 ghost use Rattle.std.specs.Prelude.{◌≡◌};
 ghost use Rattle.pc_theory.specs.Spendings.{IsLawful};
-ghost use Rattle.pc_spreadsheet.specs.Allowed.{counts_of};
+ghost use Rattle.pc_spreadsheet.specs.Allowed.{told_counts_of};
 ghost use Rattle.pc_spreadsheet.specs.Commands.{NotesSpent, parted};
 
 use crate::page::Page;
@@ -18,7 +18,7 @@ pub(crate) type Told = Reply<Page, Refutation>;
 
 /// The numbers that are told of what was spent.
 pub(crate) fn counts_of(tally: Tally) -> Counts
-    ensures { result ≡ counts_of tally }
+    ensures { result ≡ told_counts_of tally }
 {
     Counts {
         placed: tally.placed,

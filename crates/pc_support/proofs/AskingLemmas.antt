@@ -12,10 +12,10 @@ use Rattle.pc_lits.specs.Truth.{IsTrueUnder, lit_true}
 use Rattle.pc_laws.proofs.Elements.{all_from}
 use Rattle.pc_log.specs.declared.log.StepId.{StepId}
 use Rattle.pc_log.specs.Lines.{LogLine, AxiomLine}
-use Rattle.pc_log.specs.Derivations.{clause_of}
+use Rattle.pc_log.specs.Derivations.{clause_of_line}
 use Rattle.pc_log.specs.Laws.{DerivationsAreSound}
 use Rattle.pc_solver.specs.Solver.{SolverView, clauses_used, HasLog, AreOwn}
-use Rattle.pc_solver.specs.Answers.{value_in, Meets, MeetsEach}
+use Rattle.pc_solver.specs.Answers.{truth_in, Meets, MeetsEach}
 use Rattle.pc_analyze.specs.Learning.{IsOverNegated}
 use Rattle.pc_solver.specs.InLog.{clause_on}
 use Rattle.pc_support.specs.declared.known.Core.{Core}
@@ -92,14 +92,14 @@ not_countered q At forces h = let is = forces h.v h.meets h.has in let is_not = 
 
 -- ---- derived by a line
 
-clause_at_line : (axioms : List (List Lit)) (log : List LogLine) (id : StepId) → id.0 < length log → clause_on axioms log id ≡ clause_of axioms (get_or log id.0 (AxiomLine 0))
-clause_at_line axioms log id within = get_or-map (clause_of axioms) log id.0 (AxiomLine 0) [] within
+clause_at_line : (axioms : List (List Lit)) (log : List LogLine) (id : StepId) → id.0 < length log → clause_on axioms log id ≡ clause_of_line axioms (get_or log id.0 (AxiomLine 0))
+clause_at_line axioms log id within = get_or-map (clause_of_line axioms) log id.0 (AxiomLine 0) [] within
 
 -- later lines change no earlier line's clause
 pub clause_on_more : (axioms : List (List Lit)) (log lines : List LogLine) (id : StepId) → id.0 < length log → clause_on axioms (log ++ lines) id ≡ clause_on axioms log id
 clause_on_more axioms log lines id within =
     clause_at_line axioms (log ++ lines) id (omega (arith, within, length-append log lines))
-    ∙ ap (clause_of axioms) (get_or_append_left log lines (AxiomLine 0) id.0 within)
+    ∙ ap (clause_of_line axioms) (get_or_append_left log lines (AxiomLine 0) id.0 within)
     ∙ sym (clause_at_line axioms log id within)
 
 module _ (s : Basis) (literals : List Lit) (goal : Lit) where
@@ -150,35 +150,35 @@ module _ (s : SolverView) (literals : List Lit) (goal : Lit) (set : List Bool) (
   assumed_at place l at here = subst (λ xs. Contains xs l) (sym are) (later_is (negated goal) (chosen set literals) l (chosen_has set literals place l at here))
 
   -- the values counter the set, and each set of literals that they make true
-  module _ (meets : Meets (value_in s.trues) (clauses_used s.problem) s.blocks assumed) where
-    values_lack : lit_true (value_in s.trues) goal ≡ false
-    values_lack = false_by (lit_true (value_in s.trues) goal) (sym (negated_truth (value_in s.trues) goal) ∙ meets.assumed_true (negated goal) assumed_goal)
+  module _ (meets : Meets (truth_in s.trues) (clauses_used s.problem) s.blocks assumed) where
+    values_lack : lit_true (truth_in s.trues) goal ≡ false
+    values_lack = false_by (lit_true (truth_in s.trues) goal) (sym (negated_truth (truth_in s.trues) goal) ∙ meets.assumed_true (negated goal) assumed_goal)
 
     pub set_countered : IsCountered (asked_of (basis_of s) literals goal) (HasPlace set)
     set_countered = record {
-      v = value_in s.trues;
+      v = truth_in s.trues;
       meets = meets.axioms_true;
       has = λ place l at here. meets.assumed_true l (assumed_at place l at here);
       lacks = values_lack;
     }
 
-    pub model_counters : IsCountered (asked_of (basis_of s) literals goal) (HasPlace (map (lit_true (value_in s.trues)) literals))
+    pub model_counters : IsCountered (asked_of (basis_of s) literals goal) (HasPlace (map (lit_true (truth_in s.trues)) literals))
     model_counters = record {
-      v = value_in s.trues;
+      v = truth_in s.trues;
       meets = meets.axioms_true;
       has = λ place l at here.
-          sym (ap (lit_true (value_in s.trues)) (get_or_from_slice_get literals place l l at))
-          ∙ sym (get_or-map (lit_true (value_in s.trues)) literals place l false (slice_get_within literals place l at))
+          sym (ap (lit_true (truth_in s.trues)) (get_or_from_slice_get literals place l l at))
+          ∙ sym (get_or-map (lit_true (truth_in s.trues)) literals place l false (slice_get_within literals place l at))
           ∙ here;
       lacks = values_lack;
     }
 
-    pub row_seen : (watched : List Var) → IsSeen (clauses_used s.problem) watched (map (value_in s.trues) watched)
+    pub row_seen : (watched : List Var) → IsSeen (clauses_used s.problem) watched (map (truth_in s.trues) watched)
     row_seen watched = record {
-      v = value_in s.trues;
+      v = truth_in s.trues;
       meets = meets.axioms_true;
       same = λ place x at.
-          let e = get_or-map (value_in s.trues) watched place x false (slice_get_within watched place x at) ∙ ap (value_in s.trues) (get_or_from_slice_get watched place x x at) in
+          let e = get_or-map (truth_in s.trues) watched place x false (slice_get_within watched place x at) ∙ ap (truth_in s.trues) (get_or_from_slice_get watched place x x at) in
           (λ has. sym e ∙ has, λ is. e ∙ is);
     }
 
@@ -245,20 +245,20 @@ own_literals own new literals goal watched same h k d below = subst (λ vs. Cont
 module _ (old new : SolverView) (literals : List Lit) (goal : Lit) (set : List Bool) (seen assumed : List Lit) (log grown lines : List LogLine) (cores cores' : List Core) (models models' : List (List Bool)) (watched : List Var) (rows rows' : List (List Bool))
     (kept : basis_of new ≡ basis_of old) (same : seen ≡ assumed) (are : assumed ≡ negated goal ∷ chosen set literals) where
   abbrev pub Told : Type 0
-  Told = Meets (value_in new.trues) (clauses_used new.problem) new.blocks seen
+  Told = Meets (truth_in new.trues) (clauses_used new.problem) new.blocks seen
 
   pub sat_answer : Told → IsCountered (asked_of (basis_of old) literals goal) (HasPlace set)
   sat_answer meets = subst (λ s. IsCountered (asked_of s literals goal) (HasPlace set)) kept (set_countered new literals goal set seen (same ∙ are) meets)
 
-  pub sat_known : Told → grown ≡ log ++ lines → cores' ≡ cores → models' ≡ models ++ map (lit_true (value_in new.trues)) literals ∷ [] → rows' ≡ rows ++ map (value_in new.trues) watched ∷ []
+  pub sat_known : Told → grown ≡ log ++ lines → cores' ≡ cores → models' ≡ models ++ map (lit_true (truth_in new.trues)) literals ∷ [] → rows' ≡ rows ++ map (truth_in new.trues) watched ∷ []
       → IsKnown (basis_of old) literals goal log cores models watched rows → IsKnown (basis_of old) literals goal grown cores' models' watched rows'
   sat_known meets added are_cores are_models are_rows h =
       subst (λ cs. IsKnown (basis_of old) literals goal grown cs models' watched rows') (sym are_cores)
       (subst (λ ms. IsKnown (basis_of old) literals goal grown cores ms watched rows') (sym are_models)
-      (subst (λ rs. IsKnown (basis_of old) literals goal grown cores (models ++ map (lit_true (value_in new.trues)) literals ∷ []) watched rs) (sym are_rows)
-      (known_model (basis_of old) literals goal grown cores models watched rows (map (lit_true (value_in new.trues)) literals) (map (value_in new.trues) watched)
-      (subst (λ s. IsSeen (clauses_used s.problem) watched (map (value_in new.trues) watched)) kept (row_seen new literals goal set seen (same ∙ are) meets watched))
-      (subst (λ s. IsCountered (asked_of s literals goal) (HasPlace (map (lit_true (value_in new.trues)) literals))) kept (model_counters new literals goal set seen (same ∙ are) meets))
+      (subst (λ rs. IsKnown (basis_of old) literals goal grown cores (models ++ map (lit_true (truth_in new.trues)) literals ∷ []) watched rs) (sym are_rows)
+      (known_model (basis_of old) literals goal grown cores models watched rows (map (lit_true (truth_in new.trues)) literals) (map (truth_in new.trues) watched)
+      (subst (λ s. IsSeen (clauses_used s.problem) watched (map (truth_in new.trues) watched)) kept (row_seen new literals goal set seen (same ∙ are) meets watched))
+      (subst (λ s. IsCountered (asked_of s literals goal) (HasPlace (map (lit_true (truth_in new.trues)) literals))) kept (model_counters new literals goal set seen (same ∙ are) meets))
       (known_more (basis_of old) literals goal log grown lines cores models watched rows added h))))
 
   module _ (law : DerivationsAreSound) (logged : HasLog new grown) (no_blocks : new.blocks ≡ []) (line : StepId)

@@ -3,7 +3,7 @@ use Rattle.std.proofs.Common.{◌≡◌, ℕ, ℤ, ◌<◌, List, [], ◌∷◌,
 use Rattle.pc_token.specs.declared.token.Kind.TheVariants.{Colon}
 use Rattle.pc_formula.specs.Word.{Word, name, sign, nesting}
 use Rattle.pc_formula.specs.Tree.{Formula, Cell, Value}
-use Rattle.pc_formula.specs.Front.{StopsAt}
+use Rattle.pc_formula.specs.Front.{StopsLevel}
 use Rattle.pc_formula.specs.Value.{DerivesName, DerivesNumber, a_number, DerivesInt, natural, negative, DerivesValue, DerivesCell, InParentheses, Arguments}
 use Rattle.pc_formula.specs.Grammar.{IsFormula, whole}
 use Rattle.pc_formula.proofs.Lists.{enclosed_once, arguments_once}
@@ -13,7 +13,7 @@ use Rattle.pc_syntax.specs.Sized.{too_many, IsSized}
 
 -- ---- what is derived once, by the signs behind it
 
-pub one_cell : (ws : List Word) (c d : Cell) (r s : List Word) → StopsAt 1 r → StopsAt 1 s → DerivesCell ws c r → DerivesCell ws d s → (c ≡ d) × (r ≡ s)
+pub one_cell : (ws : List Word) (c d : Cell) (r s : List Word) → StopsLevel 1 r → StopsLevel 1 s → DerivesCell ws c r → DerivesCell ws d s → (c ≡ d) × (r ≡ s)
 one_cell ws c d r s p q a b = cell_once ws c d r s a b p q
 
 pub one_list_of_names : (ws : List Word) (xs ys : List (List ℕ)) (r s : List Word) → InParentheses DerivesName ws xs r → InParentheses DerivesName ws ys s → (xs ≡ ys) × (r ≡ s)
@@ -22,7 +22,7 @@ one_list_of_names ws xs ys r s a b = enclosed_once DerivesName name_once ws xs y
 pub one_list_of_values : (ws : List Word) (xs ys : List Value) (r s : List Word) → InParentheses DerivesValue ws xs r → InParentheses DerivesValue ws ys s → (xs ≡ ys) × (r ≡ s)
 one_list_of_values ws xs ys r s a b = enclosed_once DerivesValue value_once ws xs ys r s a b
 
-pub one_arguments : (ws : List Word) (xs ys : List (List ℕ)) (r s : List Word) → StopsAt 1 r → StopsAt 1 s → Arguments DerivesName ws xs r → Arguments DerivesName ws ys s → (xs ≡ ys) × (r ≡ s)
+pub one_arguments : (ws : List Word) (xs ys : List (List ℕ)) (r s : List Word) → StopsLevel 1 r → StopsLevel 1 s → Arguments DerivesName ws xs r → Arguments DerivesName ws ys s → (xs ≡ ys) × (r ≡ s)
 one_arguments ws xs ys r s p q a b = arguments_once DerivesName name_once ws xs ys r s a b p q
 
 -- ---- how an integer starts

@@ -7,7 +7,7 @@ use Rattle.pc_syntax.specs.Tree.{Formula, Declared, rule}
 use Rattle.pc_syntax.specs.Spelling.{IsSpelled}
 use Rattle.pc_syntax.specs.Clause.{IsRule}
 use Rattle.pc_syntax.specs.Line.{LineForm, declares, IsLine, spelled_line}
-use Rattle.pc_syntax.specs.Sheet.{starts_with_lf, push_front, with_front, lines_of, AreStanding, declared_from, sheet, IsSheetReading, whole}
+use Rattle.pc_syntax.specs.Sheet.{starts_with_lf, push_front, with_front, lines_of_text, AreStanding, declared_from, sheet, IsSheetReading, whole}
 use Rattle.pc_syntax.specs.Sized.{too_many, IsSized, HasSizedRules, HasNestedRules}
 use Rattle.pc_formula.proofs.Nests.{nested}
 use Rattle.pc_formula.proofs.Sizes.{words_within}
@@ -38,12 +38,12 @@ fronted b n t ls all = go (b == 10) ((b == 13) && t)
     go false true = wider n (n + 1) ls (omega arith) all
     go false false = pushed b n ls all
 
-lines_within : (text : List ℕ) → AreWithin (length text) (lines_of text)
+lines_within : (text : List ℕ) → AreWithin (length text) (lines_of_text text)
 unfolding AreWithin
 lines_within [] = tt
 lines_within (b ∷ bs) =
     let size : length bs + 1 ≡ length (b ∷ bs) = omega arith in
-    subst (λ n. AreWithin n (lines_of (b ∷ bs))) size (fronted b (length bs) (starts_with_lf bs) (lines_of bs) (lines_within bs))
+    subst (λ n. AreWithin n (lines_of_text (b ∷ bs))) size (fronted b (length bs) (starts_with_lf bs) (lines_of_text bs) (lines_within bs))
 
 -- ---- one rule
 
@@ -86,7 +86,7 @@ nested_lines n m before (l ∷ ls) (declares d ∷ fs) few within lines = nested
 nested_lines n m before (l ∷ ls) (f ∷ fs) few within lines = nested_lines (n + 1) m (before ++ f ∷ []) ls fs few within.1 lines.2
 
 pub sized_sheet : (text : List ℕ) (ds : List (ℕ × Declared)) → length text ≤ too_many → IsSheetReading text (sheet ds) → HasSizedRules ds
-sized_sheet text ds few (whole fs lines begun) = sized_lines 1 (length text) [] (lines_of text) fs few (lines_within text) lines
+sized_sheet text ds few (whole fs lines begun) = sized_lines 1 (length text) [] (lines_of_text text) fs few (lines_within text) lines
 
 pub nested_sheet : (text : List ℕ) (ds : List (ℕ × Declared)) → length text ≤ too_many → IsSheetReading text (sheet ds) → HasNestedRules ds
-nested_sheet text ds few (whole fs lines begun) = nested_lines 1 (length text) [] (lines_of text) fs few (lines_within text) lines
+nested_sheet text ds few (whole fs lines begun) = nested_lines 1 (length text) [] (lines_of_text text) fs few (lines_within text) lines

@@ -3,14 +3,14 @@ use Rattle.std.proofs.Common.{◌≡◌, ℕ, ℤ, Bool, true, false, List, [], 
 use Rattle.std.specs.Prelude.{codes, bytes_eq}
 use Rattle.pc_token.specs.declared.token.Kind.TheVariants.{Colon}
 use Rattle.pc_formula.specs.Word.{Word, name, sign, nesting}
-use Rattle.pc_formula.specs.Front.{StopsAt}
+use Rattle.pc_formula.specs.Front.{StopsLevel}
 use Rattle.pc_formula.specs.Value.{DerivesName, DerivesNumber, DerivesInt, DerivesValue, InParentheses, Arguments}
 use Rattle.pc_formula.specs.Grammar.{IsFormula}
 use Rattle.pc_formula.specs.Tree.{Formula, Cell, Value}
 use Rattle.pc_syntax.specs.Tree.{Declared, list_sort, range_sort, table, row, cell, rule, enter}
 use Rattle.pc_syntax.specs.Spelling.{IsSpelled, IsTooDeep}
-use Rattle.pc_syntax.specs.Clause.{IsPair, IsRule, equality}
-use Rattle.pc_syntax.specs.Line.{LineForm, nothing, heading, declares, begins, keyword, AreBounds, IsRange, IsTable, IsRow, IsFamily, Follows, IsDeclaration, IsHeading, IsForm, IsBegin, IsLine, empty_line, begin_line, spelled_line}
+use Rattle.pc_syntax.specs.Clause.{IsEquation, IsRule, equality}
+use Rattle.pc_syntax.specs.Line.{LineForm, nothing, heading, declares, begins, keyword, AreBounds, IsRangeDeclared, IsTable, IsRow, IsFamily, StandsBehind, IsDeclaration, IsHeading, IsForm, IsBegin, IsLine, empty_line, begin_line, spelled_line}
 use Rattle.pc_formula.proofs.Unambiguous.{one_tree}
 use Rattle.pc_formula.proofs.ValueForms.{number_once, int_once, value_once}
 use Rattle.pc_syntax.proofs.Families.{one_cell, one_list_of_names, one_list_of_values, one_arguments, no_int_of_name, no_int_of_none, nesting_of_one}
@@ -100,13 +100,13 @@ shape (enter c v) = an_entry c v
 
 -- ---- one declaration
 
-one_listed : (ws : List Word) (n k : List ℕ) (xs ys : List (List ℕ)) → Follows (list_sort n xs) ws → Follows (list_sort k ys) ws → list_sort n xs ≡ list_sort k ys
+one_listed : (ws : List Word) (n k : List ℕ) (xs ys : List (List ℕ)) → StandsBehind (list_sort n xs) ws → StandsBehind (list_sort k ys) ws → list_sort n xs ≡ list_sort k ys
 one_listed ws n k xs ys a b =
     let words = sym a ∙ b in
     let values = same_names xs ys (cc) in
     cc
 
-no_bounds : (ws : List Word) (xs : List (List ℕ)) (n k : List ℕ) (low high : ℤ) → Follows (list_sort n xs) ws → IsRange ws k low high → ⊥
+no_bounds : (ws : List Word) (xs : List (List ℕ)) (n k : List ℕ) (low high : ℤ) → StandsBehind (list_sort n xs) ws → IsRangeDeclared ws k low high → ⊥
 no_bounds ws [] n k low high a b =
     let words = sym b.words ∙ a in
     let none : b.rest ≡ [] = cc in
@@ -116,7 +116,7 @@ no_bounds ws (x ∷ xs) n k low high a b =
     let first : b.rest ≡ name x ∷ map name xs = cc in
     no_int_of_name b.rest x (map name xs) low _ first b.bounds.first
 
-one_range : (ws : List Word) (n k : List ℕ) (low high below above : ℤ) → IsRange ws n low high → IsRange ws k below above → range_sort n low high ≡ range_sort k below above
+one_range : (ws : List Word) (n k : List ℕ) (low high below above : ℤ) → IsRangeDeclared ws n low high → IsRangeDeclared ws k below above → range_sort n low high ≡ range_sort k below above
 one_range ws n k low high below above a b =
     let words = sym a.words ∙ b.words in
     let rest : a.rest ≡ b.rest = cc in
@@ -164,7 +164,7 @@ one_rule ws n k f g a b =
     ((cc), one_tree b.rest f g (subst (λ l. IsFormula l f) rest a.formula) b.formula)
 
 -- the sign behind a cell ends it
-ends_cell : (h : Bool) (ws : List Word) → StopsAt 1 (sign (equality h) ∷ ws)
+ends_cell : (h : Bool) (ws : List Word) → StopsLevel 1 (sign (equality h) ∷ ws)
 ends_cell true ws = omega arith
 ends_cell false ws = omega arith
 
@@ -179,14 +179,14 @@ same_sign true false r s is = cc
 same_sign false true r s is = cc
 same_sign false false r s is = refl
 
-pub one_pair : (ws : List Word) (c d : Cell) (v w : Value) (h i : Bool) → IsPair ws (equality h) c v → IsPair ws (equality i) d w → SamePair c d v w h i
+pub one_pair : (ws : List Word) (c d : Cell) (v w : Value) (h i : Bool) → IsEquation ws (equality h) c v → IsEquation ws (equality i) d w → SamePair c d v w h i
 one_pair ws c d v w h i a b =
     let cells = one_cell ws c d _ _ (ends_cell h a.rest) (ends_cell i b.rest) a.cell b.cell in
     let behind = cells.1 in
     let rest : a.rest ≡ b.rest = cc in
     record { cells = cells.0; values = (value_once b.rest v w [] [] (subst (λ l. DerivesValue l v []) rest a.value) b.value).0; signs = same_sign h i a.rest b.rest behind }
 
-one_shape : (t : Start) (d e : Declared) (ws : List Word) → Shape t d → Shape t e → Follows d ws → Follows e ws → d ≡ e
+one_shape : (t : Start) (d e : Declared) (ws : List Word) → Shape t d → Shape t e → StandsBehind d ws → StandsBehind e ws → d ≡ e
 one_shape t d e ws (a_list n xs) (a_list k ys) a b = one_listed ws n k xs ys a b
 one_shape t d e ws (a_list n xs) (a_range k low high) a b = absurd (no_bounds ws xs n k low high a b)
 one_shape t d e ws (a_range n low high) (a_list k ys) a b = absurd (no_bounds ws ys k n low high b a)
@@ -203,7 +203,7 @@ one_declaration ws d e a b =
     let keywords : keyword d ≡ keyword e = cc in
     let rest : a.rest ≡ b.rest = cc in
     let starts = sym (start_is d) ∙ ap start keywords ∙ start_is e in
-    one_shape (start_of e) d e b.rest (subst (λ t. Shape t d) starts (shape d)) (shape e) (subst (Follows d) rest a.follows) b.follows
+    one_shape (start_of e) d e b.rest (subst (λ t. Shape t d) starts (shape d)) (shape e) (subst (StandsBehind d) rest a.follows) b.follows
 
 -- ---- one form
 

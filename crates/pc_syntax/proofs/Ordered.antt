@@ -4,7 +4,7 @@ use Rattle.std.specs.Prelude.{not}
 use Rattle.std.specs.List.{list_any}
 use Rattle.pc_syntax.specs.Tree.{Declared}
 use Rattle.pc_syntax.specs.Line.{LineForm, nothing, heading, declares, begins}
-use Rattle.pc_syntax.specs.Sheet.{is_rule, is_rule_line, is_of_universe, is_open, lines_of, AreStanding, declared_from, sheet, IsSheetReading, whole, HasNoUniverse, HasUniverseFirst}
+use Rattle.pc_syntax.specs.Sheet.{is_rule, is_rule_line, is_of_universe, is_open, lines_of_text, AreStanding, declared_from, sheet, IsSheetReading, whole, HasNoUniverse, HasUniverseFirst}
 use Rattle.pc_syntax.proofs.Parts.{grown}
 
 or_true : (a : Bool) → (a || true) ≡ true
@@ -37,4 +37,4 @@ ordered_lines n before (l ∷ ls) (declares d ∷ fs) lines =
 ordered_lines n before (l ∷ ls) (f ∷ fs) lines = ordered_lines (n + 1) (before ++ f ∷ []) ls fs lines.2
 
 pub ordered_sheet : (text : List ℕ) (ds : List (ℕ × Declared)) → IsSheetReading text (sheet ds) → HasUniverseFirst ds
-ordered_sheet text ds (whole fs lines begun) = ordered_lines 1 [] (lines_of text) fs lines
+ordered_sheet text ds (whole fs lines begun) = ordered_lines 1 [] (lines_of_text text) fs lines

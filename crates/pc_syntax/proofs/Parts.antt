@@ -9,7 +9,7 @@ use Rattle.pc_syntax.specs.Tree.{Declared}
 use Rattle.pc_syntax.specs.Fault.{syntax, wrong_version}
 use Rattle.pc_syntax.specs.Line.{LineForm, nothing, heading, declares, begins}
 use Rattle.pc_syntax.specs.Sheet.{is_heading, is_begin, is_rule, is_rule_line, is_of_universe, is_open, may_stand, misplacement}
-use Rattle.pc_syntax.specs.Part.{IsPart, next_part, misplaced}
+use Rattle.pc_syntax.specs.Part.{IsPartBehind, next_part, misplaced}
 
 -- ---- one line more
 
@@ -21,7 +21,7 @@ pub grown : (p : LineForm → Bool) (before : List LineForm) (f : LineForm) (a c
 grown p before f a c one other = list_any-append p before (f ∷ []) ∙ ap₂ (λ x y. x || y) one (or_false (p f) ∙ other)
 
 -- a line that tells no part from another
-kept : (p : Part) (before : List LineForm) (f : LineForm) → is_heading f ≡ false → is_begin f ≡ false → is_rule_line f ≡ false → IsPart p before → IsPart p (before ++ f ∷ [])
+kept : (p : Part) (before : List LineForm) (f : LineForm) → is_heading f ≡ false → is_begin f ≡ false → is_rule_line f ≡ false → IsPartBehind p before → IsPartBehind p (before ++ f ∷ [])
 kept Heading before f h b r is = (grown is_heading before f false false is.0 h, grown is_begin before f false false is.1 b, grown is_rule_line before f false false is.2 r)
 kept Universe before f h b r is = (grown is_heading before f true false is.0 h, grown is_begin before f false false is.1 b, grown is_rule_line before f false false is.2 r)
 kept Rules before f h b r is = (grown is_heading before f true false is.0 h, grown is_begin before f false false is.1 b, grown is_rule_line before f true false is.2 r)
@@ -31,7 +31,7 @@ kept End before f h b r is = (grown is_heading before f true false is.0 h, grown
 
 pub record Stands (q : Part) (before : List LineForm) (f : LineForm) : Type 0 where
   pub may : may_stand before f ≡ true
-  pub part : IsPart q (before ++ f ∷ [])
+  pub part : IsPartBehind q (before ++ f ∷ [])
 
 pub record Stays (p : Part) (before : List LineForm) (f : LineForm) : Type 0 where
   pub may_not : may_stand before f ≡ false
@@ -47,7 +47,7 @@ heads before n h t one other = ap₂ (λ x y. not x && y) one other
 declared_there : (before : List LineForm) (d : Declared) (o u r : Bool) → is_open before ≡ o → is_of_universe d ≡ u → list_any is_rule_line before ≡ r → may_stand before (declares d) ≡ (o && (not u || not r))
 declared_there before d o u r open_is universe rules = ap₂ (λ x y. x && y) open_is (ap₂ (λ x y. not x || not y) universe rules)
 
-heading_stands : (before : List LineForm) (n : ℕ) (q : Part) (t : Bool) → IsPart Heading before → (n == 1) ≡ t → (if t then Some Universe else None) ≡ Some q → Stands q before (heading n)
+heading_stands : (before : List LineForm) (n : ℕ) (q : Part) (t : Bool) → IsPartBehind Heading before → (n == 1) ≡ t → (if t then Some Universe else None) ≡ Some q → Stands q before (heading n)
 heading_stands before n q true is one goes =
     let same : Universe ≡ q = cc in
     subst (λ p. Stands p before (heading n)) same (record {
@@ -60,7 +60,7 @@ either : (u : Bool) → (not u || true) ≡ true
 either true = refl
 either false = refl
 
-universe_stands : (before : List LineForm) (d : Declared) (q : Part) (t : Bool) → IsPart Universe before → is_rule d ≡ t → (if t then Some Rules else Some Universe) ≡ Some q → Stands q before (declares d)
+universe_stands : (before : List LineForm) (d : Declared) (q : Part) (t : Bool) → IsPartBehind Universe before → is_rule d ≡ t → (if t then Some Rules else Some Universe) ≡ Some q → Stands q before (declares d)
 universe_stands before d q true is rules goes =
     let same : Rules ≡ q = cc in
     subst (λ p. Stands p before (declares d)) same (record {
@@ -74,7 +74,7 @@ universe_stands before d q false is rules goes =
       part = (grown is_heading before (declares d) true false is.0 refl, grown is_begin before (declares d) false false is.1 refl, grown is_rule_line before (declares d) false false is.2 rules);
     })
 
-rule_stands : (before : List LineForm) (d : Declared) (q : Part) (t : Bool) → IsPart Rules before → is_of_universe d ≡ t → (if t then None else Some Rules) ≡ Some q → Stands q before (declares d)
+rule_stands : (before : List LineForm) (d : Declared) (q : Part) (t : Bool) → IsPartBehind Rules before → is_of_universe d ≡ t → (if t then None else Some Rules) ≡ Some q → Stands q before (declares d)
 rule_stands before d q true is universe goes = cc
 rule_stands before d q false is universe goes =
     let same : Rules ≡ q = cc in
@@ -83,7 +83,7 @@ rule_stands before d q false is universe goes =
       part = (grown is_heading before (declares d) true false is.0 refl, grown is_begin before (declares d) false false is.1 refl, grown is_rule_line before (declares d) true (is_rule d) is.2 refl);
     })
 
-pub stands : (p q : Part) (before : List LineForm) (f : LineForm) → IsPart p before → next_part p f ≡ Some q → Stands q before f
+pub stands : (p q : Part) (before : List LineForm) (f : LineForm) → IsPartBehind p before → next_part p f ≡ Some q → Stands q before f
 stands p q before nothing is goes =
     let same : p ≡ q = cc in
     subst (λ r. Stands r before nothing) same (record { may = refl; part = kept p before nothing refl refl refl is })
@@ -103,7 +103,7 @@ stands p q before f is goes = cc
 fault_there : (before : List LineForm) (n : ℕ) (h : Bool) → list_any is_heading before ≡ h → misplacement before (heading n) ≡ (if h then syntax else wrong_version)
 fault_there before n h is = ap (λ x. if x then syntax else wrong_version) is
 
-heading_stays : (before : List LineForm) (n : ℕ) (t : Bool) → IsPart Heading before → (n == 1) ≡ t → (if t then Some Universe else None) ≡ None → Stays Heading before (heading n)
+heading_stays : (before : List LineForm) (n : ℕ) (t : Bool) → IsPartBehind Heading before → (n == 1) ≡ t → (if t then Some Universe else None) ≡ None → Stays Heading before (heading n)
 heading_stays before n true is one goes = cc
 heading_stays before n false is one goes = record { may_not = heads before n false false is.0 one; fault = fault_there before n false is.0 }
 
@@ -111,11 +111,11 @@ universe_goes : (t : Bool) → (if t then Some Rules else Some Universe) ≡ Non
 universe_goes true goes = cc
 universe_goes false goes = cc
 
-rule_stays : (before : List LineForm) (d : Declared) (t : Bool) → IsPart Rules before → is_of_universe d ≡ t → (if t then None else Some Rules) ≡ None → Stays Rules before (declares d)
+rule_stays : (before : List LineForm) (d : Declared) (t : Bool) → IsPartBehind Rules before → is_of_universe d ≡ t → (if t then None else Some Rules) ≡ None → Stays Rules before (declares d)
 rule_stays before d true is universe goes = record { may_not = declared_there before d true true true (opens before true false is.0 is.1) universe is.2; fault = refl }
 rule_stays before d false is universe goes = cc
 
-pub stays : (p : Part) (before : List LineForm) (f : LineForm) → IsPart p before → next_part p f ≡ None → Stays p before f
+pub stays : (p : Part) (before : List LineForm) (f : LineForm) → IsPartBehind p before → next_part p f ≡ None → Stays p before f
 stays p before nothing is goes = cc
 stays Heading before (heading n) is goes = heading_stays before n (n == 1) is refl goes
 stays Universe before (heading n) is goes = record { may_not = heads before n true (n == 1) is.0 refl; fault = fault_there before n true is.0 }

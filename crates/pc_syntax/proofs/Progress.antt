@@ -11,9 +11,9 @@ use Rattle.pc_syntax.specs.declared.fault.LineFault.TheVariants as line_fault
 use Rattle.pc_syntax.specs.Tree.{Declared, sheet_of}
 use Rattle.pc_syntax.specs.Fault.{Fault, IsAtFault}
 use Rattle.pc_syntax.specs.Line.{LineForm, nothing, heading, declares, begins, IsLine, HasForm}
-use Rattle.pc_syntax.specs.Sheet.{lines_of, may_stand, AreStanding, IsAtFaultBehind, declared_from, SheetReading, sheet, fault_at, no_begin, IsSheetReading, whole, endless, faulty}
+use Rattle.pc_syntax.specs.Sheet.{lines_of_text, may_stand, AreStanding, IsAtFaultBehind, declared_from, SheetReading, sheet, fault_at, no_begin, IsSheetReading, whole, endless, faulty}
 use Rattle.pc_syntax.specs.Sheet as behind
-use Rattle.pc_syntax.specs.Part.{IsPart, next_part, IsAtFaultIn, Takes}
+use Rattle.pc_syntax.specs.Part.{IsPartBehind, next_part, IsAtFaultIn, Takes}
 use Rattle.pc_syntax.specs.Part as within
 use Rattle.pc_syntax.specs.Told.{IsSheetTold, TellsSheet, Means, Blames, sheet_fault_of, misplaced_as}
 use Rattle.pc_syntax.proofs.Parts.{stands, stays}
@@ -23,13 +23,13 @@ use Rattle.pc_syntax.proofs.OneSheet.{one_sheet_reading}
 pub record Progress (text : List ℕ) (p : Part) (n : ℕ) (rest : List (List ℕ)) (seen : List (ℕ × Declared)) : Type 0 where
   pub before : List (List ℕ)
   pub forms : List LineForm
-  pub lines : lines_of text ≡ before ++ rest
+  pub lines : lines_of_text text ≡ before ++ rest
   pub standing : AreStanding [] before forms
-  pub part : IsPart p forms
+  pub part : IsPartBehind p forms
   pub number : n ≡ length before + 1
   pub declared : seen ≡ declared_from 1 forms
 
-pub starts : (text : List ℕ) (seen : List (ℕ × Declared)) → seen ≡ [] → Progress text Heading 1 (lines_of text) seen
+pub starts : (text : List ℕ) (seen : List (ℕ × Declared)) → seen ≡ [] → Progress text Heading 1 (lines_of_text text) seen
 starts text seen none = record { before = []; forms = []; lines = refl; standing = tt; part = (refl, refl, refl); number = omega arith; declared = none }
 
 -- ---- one line more
@@ -55,7 +55,7 @@ declared_more n m (begins ∷ fs) f is = declared_more (n + 1) m fs f (omega (ar
 
 -- ---- what is at fault in a part
 
-fault_behind : (p : Part) (before : List LineForm) (line : List ℕ) (e : Fault) → IsPart p before → IsAtFaultIn p line e → IsAtFaultBehind before line e
+fault_behind : (p : Part) (before : List LineForm) (line : List ℕ) (e : Fault) → IsPartBehind p before → IsAtFaultIn p line e → IsAtFaultBehind before line e
 fault_behind p before line e is (within.by_itself fault) = behind.by_itself fault
 fault_behind p before line e is (within.by_place f line_is goes) =
     let there = stays p before f is goes in
@@ -113,21 +113,21 @@ module _ (text : List ℕ) (p : Part) (n : ℕ) (rest : List (List ℕ)) (seen :
     blamed sheet_fault.Memory is r err = subst (IsSheetTold text) (sym err) tt
 
   module _ (end : rest ≡ []) where
-    all_lines : lines_of text ≡ so_far.before
+    all_lines : lines_of_text text ≡ so_far.before
     all_lines = so_far.lines ∙ ap (λ ls. so_far.before ++ ls) end ∙ append-nil so_far.before
 
-    all_standing : AreStanding [] (lines_of text) so_far.forms
+    all_standing : AreStanding [] (lines_of_text text) so_far.forms
     all_standing = subst (λ ls. AreStanding [] ls so_far.forms) (sym all_lines) so_far.standing
 
     pub finished : p ≡ End → IsSheetReading text (sheet seen)
     finished last =
-        let is = subst (λ q. IsPart q so_far.forms) last so_far.part in
+        let is = subst (λ q. IsPartBehind q so_far.forms) last so_far.part in
         subst (λ ds. IsSheetReading text (sheet ds)) (sym so_far.declared) (whole so_far.forms all_standing is.1)
 
     pub unfinished : (p ≡ End → ⊥) → IsSheetReading text no_begin
     unfinished other = go p so_far.part other
       where
-        go : (q : Part) → IsPart q so_far.forms → (q ≡ End → ⊥) → IsSheetReading text no_begin
+        go : (q : Part) → IsPartBehind q so_far.forms → (q ≡ End → ⊥) → IsSheetReading text no_begin
         go Heading is o = endless so_far.forms all_standing is.1
         go Universe is o = endless so_far.forms all_standing is.1
         go Rules is o = endless so_far.forms all_standing is.1

@@ -4,7 +4,7 @@ use Rattle.std.specs.Prelude.{codes}
 use Rattle.pc_token.specs.declared.token.Kind.TheVariants.{Equal}
 use Rattle.pc_formula.specs.Word.{Word, name, sign}
 use Rattle.pc_syntax.specs.Tree.{Declared, list_sort, range_sort, table, row, cell, rule, enter}
-use Rattle.pc_syntax.specs.Line.{keyword, AreBounds, Follows, Declares}
+use Rattle.pc_syntax.specs.Line.{keyword, AreBounds, StandsBehind, IsDeclarationOf}
 use Rattle.pc_syntax.proofs.Families.{no_int_of_name}
 use Rattle.pc_syntax.proofs.OneLine.{differ}
 
@@ -39,14 +39,14 @@ sort_of (enter c v) is = absurd (differ (codes "enter") (codes "sort") refl refl
 
 module _ (old behind left : List Word) (text : List ℕ) (found : List (List ℕ)) (first : old ≡ name text ∷ sign Equal ∷ behind) (names : behind ≡ map name found ++ left) (all : (n : List ℕ) (more : List Word) → left ≡ name n ∷ more → ⊥) where
   -- with words left, no listed sort was read
-  no_list : (n : List ℕ) (values : List (List ℕ)) → Follows (list_sort n values) old → (left ≡ [] → ⊥) → ⊥
+  no_list : (n : List ℕ) (values : List (List ℕ)) → StandsBehind (list_sort n values) old → (left ≡ [] → ⊥) → ⊥
   no_list n values is some =
       let words = sym is ∙ first in
       let same : map name values ≡ behind = cc in
       some (names_end values found left (same ∙ names) all).1
 
   -- names, and then other words
-  pub no_sort : (found ≡ [] → ⊥) → (left ≡ [] → ⊥) → (d : Declared) → Declares (codes "sort") d old → ⊥
+  pub no_sort : (found ≡ [] → ⊥) → (left ≡ [] → ⊥) → (d : Declared) → IsDeclarationOf (codes "sort") d old → ⊥
   no_sort many some d is = go d (sort_of d is.0) is.1
     where
       starts : (xs : List (List ℕ)) (n : List ℕ) (low high : ℤ) (rest : List Word) → xs ≡ found → old ≡ name n ∷ sign Equal ∷ rest → AreBounds rest low high → ⊥
@@ -56,15 +56,15 @@ module _ (old behind left : List Word) (text : List ℕ) (found : List (List ℕ
           let begins : rest ≡ name x ∷ (map name xs ++ left) = same ∙ names ∙ subst (λ ys. map name ys ++ left ≡ name x ∷ (map name xs ++ left)) is refl in
           no_int_of_name rest x (map name xs ++ left) low _ begins bounds.first
 
-      go : (d : Declared) → Sort d → Follows d old → ⊥
+      go : (d : Declared) → Sort d → StandsBehind d old → ⊥
       go d (listed n values) is = no_list n values is some
       go d (ranged n low high) is = starts found n low high is.rest refl is.words is.bounds
 
   -- no names, and then no bounds
-  pub no_range : found ≡ [] → (left ≡ [] → ⊥) → ((low high : ℤ) → AreBounds left low high → ⊥) → (d : Declared) → Declares (codes "sort") d old → ⊥
+  pub no_range : found ≡ [] → (left ≡ [] → ⊥) → ((low high : ℤ) → AreBounds left low high → ⊥) → (d : Declared) → IsDeclarationOf (codes "sort") d old → ⊥
   no_range empty some none d is = go d (sort_of d is.0) is.1
     where
-      go : (d : Declared) → Sort d → Follows d old → ⊥
+      go : (d : Declared) → Sort d → StandsBehind d old → ⊥
       go d (listed n values) is = no_list n values is some
       go d (ranged n low high) is =
           let words = sym is.words ∙ first in
@@ -72,7 +72,7 @@ module _ (old behind left : List Word) (text : List ℕ) (found : List (List ℕ
           let behind_is : behind ≡ left = names ∙ subst (λ ys. map name ys ++ left ≡ left) (sym empty) refl in
           none low high (subst (λ l. AreBounds l low high) (same ∙ behind_is) is.bounds)
 
-  pub a_range : found ≡ [] → (low high : ℤ) → AreBounds left low high → Declares (codes "sort") (range_sort text low high) old
+  pub a_range : found ≡ [] → (low high : ℤ) → AreBounds left low high → IsDeclarationOf (codes "sort") (range_sort text low high) old
   a_range empty low high bounds =
       let behind_is : left ≡ behind = sym (names ∙ subst (λ ys. map name ys ++ left ≡ left) (sym empty) refl) in
       (refl, record { rest = behind; words = first; bounds = subst (λ l. AreBounds l low high) behind_is bounds })

@@ -13,7 +13,7 @@ equality true = Equal
 equality false = NotEqual
 
 -- CELL, the sign, VALUE
-pub record IsPair (ws : List Word) (k : Kind) (c : Cell) (v : Value) : Type 0 where
+pub record IsEquation (ws : List Word) (k : Kind) (c : Cell) (v : Value) : Type 0 where
   pub rest : List Word
   pub cell : DerivesCell ws c (sign k ∷ rest)
   pub value : DerivesValue rest v []

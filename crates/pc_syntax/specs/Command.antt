@@ -7,7 +7,7 @@ use Rattle.pc_formula.specs.Value.{DerivesNumber, DerivesCell}
 use Rattle.pc_syntax.specs.Spelling.{IsNothing, IsSpelled}
 use Rattle.pc_syntax.specs.Fault.{Fault, IsAtFault}
 use Rattle.pc_syntax.specs.Tree.{Asked, asks_enter, asks_clear, asks_rule, asks_drop, asks_budget, asks_show, asks_grid, asks_json, asks_why, asks_dump}
-use Rattle.pc_syntax.specs.Clause.{equality, IsPair, IsRule}
+use Rattle.pc_syntax.specs.Clause.{equality, IsEquation, IsRule}
 
 -- the word that starts a command
 abbrev pub command_keyword : Asked → List ℕ
@@ -24,7 +24,7 @@ command_keyword asks_dump = codes "dump"
 
 -- what stands behind it
 abbrev pub FollowsCommand : Asked → List Word → Type 0
-FollowsCommand (asks_enter c v) ws = IsPair ws Equal c v
+FollowsCommand (asks_enter c v) ws = IsEquation ws Equal c v
 FollowsCommand (asks_clear c) ws = DerivesCell ws c []
 FollowsCommand (asks_rule n f) ws = IsRule ws n f
 FollowsCommand (asks_drop n) ws = ws ≡ name n ∷ []
@@ -32,7 +32,7 @@ FollowsCommand (asks_budget n) ws = DerivesNumber ws n []
 FollowsCommand asks_show ws = ws ≡ []
 FollowsCommand asks_grid ws = ws ≡ []
 FollowsCommand asks_json ws = ws ≡ []
-FollowsCommand (asks_why c v holds) ws = IsPair ws (equality holds) c v
+FollowsCommand (asks_why c v holds) ws = IsEquation ws (equality holds) c v
 FollowsCommand asks_dump ws = ws ≡ []
 
 -- the words are a command, all of them

@@ -7,7 +7,7 @@ use Rattle.pc_formula.specs.Word.{Word, name, sign}
 use Rattle.pc_formula.specs.Tree.{Value}
 use Rattle.pc_formula.specs.Value.{DerivesName, DerivesNumber, DerivesInt, DerivesValue, InParentheses, Arguments}
 use Rattle.pc_syntax.specs.Spelling.{IsNothing, IsSpelled}
-use Rattle.pc_syntax.specs.Clause.{IsPair, IsRule}
+use Rattle.pc_syntax.specs.Clause.{IsEquation, IsRule}
 use Rattle.pc_syntax.specs.Tree.{Declared, list_sort, range_sort, table, row, cell, rule, enter}
 
 -- what a line of a sheet is: blank or a comment, `sheet` with its version, a declaration, or `begin`
@@ -34,7 +34,7 @@ pub record AreBounds (ws : List Word) (low high : ℤ) : Type 0 where
   pub second : DerivesInt rest high []
 
 -- NAME = INT .. INT
-pub record IsRange (ws : List Word) (n : List ℕ) (low high : ℤ) : Type 0 where
+pub record IsRangeDeclared (ws : List Word) (n : List ℕ) (low high : ℤ) : Type 0 where
   pub rest : List Word
   pub words : ws ≡ name n ∷ sign Equal ∷ rest
   pub bounds : AreBounds rest low high
@@ -58,20 +58,20 @@ pub record IsFamily (ws : List Word) (n : List ℕ) (sorts : List (List ℕ)) (r
   pub arguments : Arguments DerivesName rest sorts (sign Colon ∷ name result ∷ [])
 
 -- what stands behind the word that starts a declaration; a listed sort is NAME = { NAME }
-abbrev pub Follows : Declared → List Word → Type 0
-Follows (list_sort n values) ws = ws ≡ name n ∷ sign Equal ∷ map name values
-Follows (range_sort n low high) ws = IsRange ws n low high
-Follows (table n sorts) ws = IsTable ws n sorts
-Follows (row n values) ws = IsRow ws n values
-Follows (cell n sorts result) ws = IsFamily ws n sorts result
-Follows (rule n f) ws = IsRule ws n f
-Follows (enter c v) ws = IsPair ws Equal c v
+abbrev pub StandsBehind : Declared → List Word → Type 0
+StandsBehind (list_sort n values) ws = ws ≡ name n ∷ sign Equal ∷ map name values
+StandsBehind (range_sort n low high) ws = IsRangeDeclared ws n low high
+StandsBehind (table n sorts) ws = IsTable ws n sorts
+StandsBehind (row n values) ws = IsRow ws n values
+StandsBehind (cell n sorts result) ws = IsFamily ws n sorts result
+StandsBehind (rule n f) ws = IsRule ws n f
+StandsBehind (enter c v) ws = IsEquation ws Equal c v
 
 -- the words are a declaration, all of them
 pub record IsDeclaration (ws : List Word) (d : Declared) : Type 0 where
   pub rest : List Word
   pub words : ws ≡ name (keyword d) ∷ rest
-  pub follows : Follows d rest
+  pub follows : StandsBehind d rest
 
 -- the words are `sheet NUMBER`, all of them
 pub record IsHeading (ws : List Word) (version : ℕ) : Type 0 where
@@ -101,5 +101,5 @@ abbrev pub HasForm : List ℕ → Type 0
 HasForm line = (form : LineForm) × IsLine line form
 
 -- a declaration whose line starts with the word, and what stands behind that
-abbrev pub Declares : List ℕ → Declared → List Word → Type 0
-Declares start d ws = (keyword d ≡ start) × Follows d ws
+abbrev pub IsDeclarationOf : List ℕ → Declared → List Word → Type 0
+IsDeclarationOf start d ws = (keyword d ≡ start) × StandsBehind d ws

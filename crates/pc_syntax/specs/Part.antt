@@ -10,11 +10,11 @@ use Rattle.pc_syntax.specs.Line.{LineForm, nothing, heading, declares, begins, I
 use Rattle.pc_syntax.specs.Sheet.{is_heading, is_begin, is_rule, is_rule_line, is_of_universe, declared_from}
 
 -- the part behind lines of these forms
-abbrev pub IsPart : Part → List LineForm → Type 0
-IsPart Heading fs = (list_any is_heading fs ≡ false) × (list_any is_begin fs ≡ false) × (list_any is_rule_line fs ≡ false)
-IsPart Universe fs = (list_any is_heading fs ≡ true) × (list_any is_begin fs ≡ false) × (list_any is_rule_line fs ≡ false)
-IsPart Rules fs = (list_any is_heading fs ≡ true) × (list_any is_begin fs ≡ false) × (list_any is_rule_line fs ≡ true)
-IsPart End fs = (list_any is_heading fs ≡ true) × (list_any is_begin fs ≡ true)
+abbrev pub IsPartBehind : Part → List LineForm → Type 0
+IsPartBehind Heading fs = (list_any is_heading fs ≡ false) × (list_any is_begin fs ≡ false) × (list_any is_rule_line fs ≡ false)
+IsPartBehind Universe fs = (list_any is_heading fs ≡ true) × (list_any is_begin fs ≡ false) × (list_any is_rule_line fs ≡ false)
+IsPartBehind Rules fs = (list_any is_heading fs ≡ true) × (list_any is_begin fs ≡ false) × (list_any is_rule_line fs ≡ true)
+IsPartBehind End fs = (list_any is_heading fs ≡ true) × (list_any is_begin fs ≡ true)
 
 -- the part behind a declaration: once a rule stood, no more of the universe follows
 abbrev pub part_after : Part → Declared → Option Part

@@ -20,9 +20,9 @@ abbrev pub with_front : ℕ → Bool → List (List ℕ) → List (List ℕ)
 with_front b before_lf ls = if b == 10 then [] ∷ ls else (if (b == 13) && before_lf then ls else push_front b ls)
 
 -- the lines of a text: each ends at LF or at the text's end, and one CR before the LF is dropped
-abbrev pub lines_of : List ℕ → List (List ℕ)
-lines_of [] = []
-lines_of (b ∷ bs) = with_front b (starts_with_lf bs) (lines_of bs)
+abbrev pub lines_of_text : List ℕ → List (List ℕ)
+lines_of_text [] = []
+lines_of_text (b ∷ bs) = with_front b (starts_with_lf bs) (lines_of_text bs)
 
 -- a line without one CR at its end
 abbrev pub without_cr : List ℕ → List ℕ
@@ -100,9 +100,9 @@ pub data SheetReading : Type 0 where
 
 -- the text is read so
 pub data IsSheetReading (text : List ℕ) : SheetReading → Type 0 where
-  whole : (forms : List LineForm) → AreStanding [] (lines_of text) forms → list_any is_begin forms ≡ true → IsSheetReading text (sheet (declared_from 1 forms))
-  endless : (forms : List LineForm) → AreStanding [] (lines_of text) forms → list_any is_begin forms ≡ false → IsSheetReading text no_begin
-  faulty : (before : List (List ℕ)) (forms : List LineForm) (line : List ℕ) (after : List (List ℕ)) {e : Fault} → lines_of text ≡ before ++ line ∷ after → AreStanding [] before forms → IsAtFaultBehind forms line e → IsSheetReading text (fault_at (length before + 1) e)
+  whole : (forms : List LineForm) → AreStanding [] (lines_of_text text) forms → list_any is_begin forms ≡ true → IsSheetReading text (sheet (declared_from 1 forms))
+  endless : (forms : List LineForm) → AreStanding [] (lines_of_text text) forms → list_any is_begin forms ≡ false → IsSheetReading text no_begin
+  faulty : (before : List (List ℕ)) (forms : List LineForm) (line : List ℕ) (after : List (List ℕ)) {e : Fault} → lines_of_text text ≡ before ++ line ∷ after → AreStanding [] before forms → IsAtFaultBehind forms line e → IsSheetReading text (fault_at (length before + 1) e)
 
 -- the text is a sheet that declares this, line by line
 abbrev pub IsSheet : List ℕ → List (ℕ × Declared) → Type 0

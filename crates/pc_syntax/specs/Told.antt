@@ -165,6 +165,6 @@ IsLineTold line (Ok t) = IsLine line (form_of t)
 IsLineTold line (Err f) = Means f (λ e. IsAtFault line (HasForm line) e)
 
 -- the line leads to what is answered, or has that fault in the part
-abbrev pub IsTaken : Part → ℕ → List ℕ → List (ℕ × Declared) → List (ℕ × Declared) → Result Part SheetFault → Type 0
-IsTaken part number line old new (Ok next) = Takes part number line next old new
-IsTaken part number line old new (Err f) = Blames f number (λ e. IsAtFaultIn part line e)
+abbrev pub IsLineTaken : Part → ℕ → List ℕ → List (ℕ × Declared) → List (ℕ × Declared) → Result Part SheetFault → Type 0
+IsLineTaken part number line old new (Ok next) = Takes part number line next old new
+IsLineTaken part number line old new (Err f) = Blames f number (λ e. IsAtFaultIn part line e)

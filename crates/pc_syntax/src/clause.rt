@@ -3,7 +3,7 @@ ghost use Rattle.std.specs.Prelude.{◌≡◌, ◌↔◌, ℕ, Bool, List, [], �
 ghost use Rattle.pc_formula.specs.Word.{name, sign, NotFirst};
 ghost use Rattle.pc_formula.specs.Tree.{Formula, Cell, Value, formula_of, cell_of, value_of};
 ghost use Rattle.pc_formula.specs.Value.{DerivesNumber, DerivesValue, DerivesCell};
-ghost use Rattle.pc_syntax.specs.Clause.{equality, IsPair, IsRule};
+ghost use Rattle.pc_syntax.specs.Clause.{equality, IsEquation, IsRule};
 
 use crate::tree::RuleTree;
 use pc_formula::{
@@ -78,8 +78,8 @@ fn last_value(alloc: Global, words: &mut Words<'_>) -> Result<ValueTree, Refusal
 
 /// Reads CELL = VALUE and the end.
 pub fn entry(alloc: Global, words: &mut Words<'_>) -> Result<(CellTree, ValueTree), Refusal>
-    ensures told { IfOk result (λ p. IsPair words.old Kind.Equal (cell_of p.0) (value_of p.1)) }
-    ensures none { result ≡ Err Refusal.Syntax → (c : Cell) (v : Value) → IsPair words.old Kind.Equal c v → ⊥ }
+    ensures told { IfOk result (λ p. IsEquation words.old Kind.Equal (cell_of p.0) (value_of p.1)) }
+    ensures none { result ≡ Err Refusal.Syntax → (c : Cell) (v : Value) → IsEquation words.old Kind.Equal c v → ⊥ }
 {
     let cell = read_cell(alloc, words)?;
     if !words.take_sign(Kind::Equal) {
@@ -94,8 +94,8 @@ pub fn question(
     alloc: Global,
     words: &mut Words<'_>,
 ) -> Result<(CellTree, ValueTree, bool), Refusal>
-    ensures told { IfOk result (λ q. IsPair words.old (equality q.2) (cell_of q.0) (value_of q.1)) }
-    ensures none { result ≡ Err Refusal.Syntax → (c : Cell) (v : Value) (holds : Bool) → IsPair words.old (equality holds) c v → ⊥ }
+    ensures told { IfOk result (λ q. IsEquation words.old (equality q.2) (cell_of q.0) (value_of q.1)) }
+    ensures none { result ≡ Err Refusal.Syntax → (c : Cell) (v : Value) (holds : Bool) → IsEquation words.old (equality holds) c v → ⊥ }
 {
     let cell = read_cell(alloc, words)?;
     let Some(holds) = take_equality(words) else {

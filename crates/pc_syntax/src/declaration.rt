@@ -2,7 +2,7 @@
 ghost use Rattle.std.specs.Prelude.{◌≡◌, ℕ, ℤ, List, [], ◌∷◌, ◌++◌, map, codes, IfOk};
 ghost use Rattle.pc_formula.specs.Word.{Word, name};
 ghost use Rattle.pc_syntax.specs.Tree.{Declared, declared_of};
-ghost use Rattle.pc_syntax.specs.Line.{AreBounds, Declares};
+ghost use Rattle.pc_syntax.specs.Line.{AreBounds, IsDeclarationOf};
 
 use crate::clause::{end, entry, is_word, last_name, rule};
 use crate::tree::Declaration;
@@ -17,8 +17,8 @@ pub fn declaration(
     start: &str,
     words: &mut Words<'_>,
 ) -> Result<Declaration, Refusal>
-    ensures told { IfOk result (λ d. Declares start.now (declared_of d) words.old) }
-    ensures none { result ≡ Err Refusal.Syntax → (d : Declared) → Declares start.now d words.old → ⊥ }
+    ensures told { IfOk result (λ d. IsDeclarationOf start.now (declared_of d) words.old) }
+    ensures none { result ≡ Err Refusal.Syntax → (d : Declared) → IsDeclarationOf start.now d words.old → ⊥ }
 {
     if is_word(start, "sort") {
         return sort(alloc, words);
@@ -43,8 +43,8 @@ pub fn declaration(
 
 // Reads NAME = { NAME } or NAME = INT .. INT, and the end.
 fn sort(alloc: Global, words: &mut Words<'_>) -> Result<Declaration, Refusal>
-    ensures told { IfOk result (λ d. Declares (codes "sort") (declared_of d) words.old) }
-    ensures none { result ≡ Err Refusal.Syntax → (d : Declared) → Declares (codes "sort") d words.old → ⊥ }
+    ensures told { IfOk result (λ d. IsDeclarationOf (codes "sort") (declared_of d) words.old) }
+    ensures none { result ≡ Err Refusal.Syntax → (d : Declared) → IsDeclarationOf (codes "sort") d words.old → ⊥ }
 {
     let Some(text) = words.take_name() else {
         return Err(Refusal::Syntax);
@@ -98,8 +98,8 @@ fn bounds(words: &mut Words<'_>) -> Result<(i64, i64), Refusal>
 
 // Reads NAME ( NAME { , NAME } ) and the end.
 fn table(alloc: Global, words: &mut Words<'_>) -> Result<Declaration, Refusal>
-    ensures told { IfOk result (λ d. Declares (codes "table") (declared_of d) words.old) }
-    ensures none { result ≡ Err Refusal.Syntax → (d : Declared) → Declares (codes "table") d words.old → ⊥ }
+    ensures told { IfOk result (λ d. IsDeclarationOf (codes "table") (declared_of d) words.old) }
+    ensures none { result ≡ Err Refusal.Syntax → (d : Declared) → IsDeclarationOf (codes "table") d words.old → ⊥ }
 {
     let Some(text) = words.take_name() else {
         return Err(Refusal::Syntax);
@@ -112,8 +112,8 @@ fn table(alloc: Global, words: &mut Words<'_>) -> Result<Declaration, Refusal>
 
 // Reads NAME ( VALUE { , VALUE } ) and the end.
 fn row(alloc: Global, words: &mut Words<'_>) -> Result<Declaration, Refusal>
-    ensures told { IfOk result (λ d. Declares (codes "row") (declared_of d) words.old) }
-    ensures none { result ≡ Err Refusal.Syntax → (d : Declared) → Declares (codes "row") d words.old → ⊥ }
+    ensures told { IfOk result (λ d. IsDeclarationOf (codes "row") (declared_of d) words.old) }
+    ensures none { result ≡ Err Refusal.Syntax → (d : Declared) → IsDeclarationOf (codes "row") d words.old → ⊥ }
 {
     let Some(text) = words.take_name() else {
         return Err(Refusal::Syntax);
@@ -126,8 +126,8 @@ fn row(alloc: Global, words: &mut Words<'_>) -> Result<Declaration, Refusal>
 
 // Reads NAME [ ( NAME { , NAME } ) ] : NAME and the end.
 fn family(alloc: Global, words: &mut Words<'_>) -> Result<Declaration, Refusal>
-    ensures told { IfOk result (λ d. Declares (codes "cell") (declared_of d) words.old) }
-    ensures none { result ≡ Err Refusal.Syntax → (d : Declared) → Declares (codes "cell") d words.old → ⊥ }
+    ensures told { IfOk result (λ d. IsDeclarationOf (codes "cell") (declared_of d) words.old) }
+    ensures none { result ≡ Err Refusal.Syntax → (d : Declared) → IsDeclarationOf (codes "cell") d words.old → ⊥ }
 {
     let Some(text) = words.take_name() else {
         return Err(Refusal::Syntax);
@@ -147,16 +147,16 @@ fn family(alloc: Global, words: &mut Words<'_>) -> Result<Declaration, Refusal>
 
 // Reads NAME : FORMULA and the end.
 fn named_rule(alloc: Global, words: &mut Words<'_>) -> Result<Declaration, Refusal>
-    ensures told { IfOk result (λ d. Declares (codes "rule") (declared_of d) words.old) }
-    ensures none { result ≡ Err Refusal.Syntax → (d : Declared) → Declares (codes "rule") d words.old → ⊥ }
+    ensures told { IfOk result (λ d. IsDeclarationOf (codes "rule") (declared_of d) words.old) }
+    ensures none { result ≡ Err Refusal.Syntax → (d : Declared) → IsDeclarationOf (codes "rule") d words.old → ⊥ }
 {
     Ok(Declaration::Rule(rule(alloc, words)?))
 }
 
 // Reads CELL = VALUE and the end.
 fn first_entry(alloc: Global, words: &mut Words<'_>) -> Result<Declaration, Refusal>
-    ensures told { IfOk result (λ d. Declares (codes "enter") (declared_of d) words.old) }
-    ensures none { result ≡ Err Refusal.Syntax → (d : Declared) → Declares (codes "enter") d words.old → ⊥ }
+    ensures told { IfOk result (λ d. IsDeclarationOf (codes "enter") (declared_of d) words.old) }
+    ensures none { result ≡ Err Refusal.Syntax → (d : Declared) → IsDeclarationOf (codes "enter") d words.old → ⊥ }
 {
     let (cell, value) = entry(alloc, words)?;
     Ok(Declaration::Enter(cell, value))

@@ -2,10 +2,10 @@
 ghost use Rattle.std.specs.Prelude.{◌≡◌, ◌↔◌, ◌≤◌, ◌<◌, ◌++◌, ◌∷◌, ℕ, List, [], length, slice_index, IfOk, IsTrue};
 ghost use Rattle.pc_name.specs.Names.{most_name_bytes};
 ghost use Rattle.pc_syntax.specs.Tree.{declared_of, sheet_of};
-ghost use Rattle.pc_syntax.specs.Sheet.{lines_of, without_cr, declared_from, SheetReading, IsSheetReading, HasUniverseFirst};
+ghost use Rattle.pc_syntax.specs.Sheet.{lines_of_text, without_cr, declared_from, SheetReading, IsSheetReading, HasUniverseFirst};
 ghost use Rattle.pc_syntax.specs.Sized.{HasSizedRules, HasNestedRules};
 ghost use Rattle.pc_syntax.specs.Part.{next_part, part_after, declared};
-ghost use Rattle.pc_syntax.specs.Told.{form_of, sheet_fault_of, misplaced_as, IsTaken, IsSheetTold, TellsSheet};
+ghost use Rattle.pc_syntax.specs.Told.{form_of, sheet_fault_of, misplaced_as, IsLineTaken, IsSheetTold, TellsSheet};
 
 use crate::fault::LineFault;
 use crate::line::LineTree;
@@ -53,7 +53,7 @@ fn without_cr(line: &[u8]) -> &[u8]
 // The first line of a text, and what follows it.
 fn split_line(text: &[u8]) -> (&[u8], &[u8])
     requires { 0 < length text.now }
-    ensures lines { lines_of text.now ≡ result.0.now ∷ lines_of result.1.now }
+    ensures lines { lines_of_text text.now ≡ result.0.now ∷ lines_of_text result.1.now }
     ensures line { length result.0.now ≤ length text.now }
     ensures shorter { length result.1.now < length text.now }
 {
@@ -143,7 +143,7 @@ fn take_line(
     declarations: &mut Vec<(u32, Declaration)>,
 ) -> Result<Part, SheetFault>
     requires { length line.now ≤ most_name_bytes }
-    ensures { IsTaken part number line.now (declared declarations.old.items) (declared declarations.new.items) result }
+    ensures { IsLineTaken part number line.now (declared declarations.old.items) (declared declarations.new.items) result }
 {
     let form = match read_line(alloc, line) {
         Ok(form) => form,

@@ -21,7 +21,7 @@ use Rattle.pc_components.specs.View.{Kept, number_of, AreComponentsOf}
 use Rattle.pc_justify.specs.Laws.{NamesAreOfTheirSheet}
 use Rattle.pc_reason.specs.Reasons.{IsTargetOf}
 use Rattle.pc_log.specs.Spans.{lines_of_span}
-use Rattle.pc_reason.specs.Refutations.{certificate_against, Refutes}
+use Rattle.pc_reason.specs.Refutations.{certificate_against, RefutesRules}
 use Rattle.pc_edits.specs.Reasons.{IsRowFor}
 use Rattle.pc_cache.specs.Rows.{TargetRow, row_after}
 use Rattle.pc_world_list.specs.Worlds.{WorldView}
@@ -132,5 +132,5 @@ few_enough sheet kept are few = omega (arith, few_kept sheet kept are, few)
 
 -- ---- inconsistent rules
 
-pub refuted_rules : CertificatesAreSound → (sheet : Sheet) (lines : List LogLine) (span : Span) → Refutes sheet (names_of sheet) lines span → ¬ AreRulesConsistent sheet
+pub refuted_rules : CertificatesAreSound → (sheet : Sheet) (lines : List LogLine) (span : Span) → RefutesRules sheet (names_of sheet) lines span → ¬ AreRulesConsistent sheet
 refuted_rules sound sheet lines span refutes consistent = sound sheet (certificate_against (names_of sheet) (lines_of_span lines span)) refutes.accepted consistent.0 consistent.1 consistent.2

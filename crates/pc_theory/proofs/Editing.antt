@@ -20,7 +20,7 @@ use Rattle.pc_solver.specs.Solver.{Problem, IsProblem, IsLawfulLog}
 use Rattle.pc_solver.specs.Spending.{marked, SpendsOver}
 use Rattle.pc_searched.specs.Laws.{problem_of, PartsAreSearched}
 use Rattle.pc_search.specs.Parts.{IsPartOf, IsBase, AreWorldsOf, AreAskedOf, AreSearchedOf}
-use Rattle.pc_search.specs.Spending.{IsLogOf, AreFewFor}
+use Rattle.pc_search.specs.Spending.{IsSearchLog, AreFewWithTargets}
 use Rattle.pc_worlds.specs.Parts.{AddsLogs, marked_in}
 use Rattle.pc_search.proofs.SearchLemmas.{few_with, without_blocks}
 use Rattle.pc_theory.specs.Theories.{rules_alone, TheoryView, IsTheory, IsPartNumbered}
@@ -130,19 +130,19 @@ module _ (searched : PartsAreSearched) (sheet : Sheet) (theory : TheoryView) (fo
       no_marks : sum_by marked before.logs.items ≡ before.tally.learned
       no_marks = ap (sum_by marked) blank.no_logs ∙ sym blank.none_learned
 
-      pub alone_after : (most : ℕ) → AreFewFor (sheet_of sheet found.0) (length ts) most → SpendsOver (length own) before.tally place.tally (marked_in before.logs.items) (marked_in place.logs.items) most
+      pub alone_after : (most : ℕ) → AreFewWithTargets (sheet_of sheet found.0) (length ts) most → SpendsOver (length own) before.tally place.tally (marked_in before.logs.items) (marked_in place.logs.items) most
           → (length place.logs.items ≤ 3) × All (IsGoodLog sheet found.0 used own) place.logs.items → IsSpentAlone sheet theory.components i place
       alone_after most few spends logs =
           alone_if (spent_more sheet theory.components i found.0 cells used own found.1 consistent before.tally before.logs.items place most (length ts) few few_cells spends
           (omega (arith, blank.none_learned)) nothing_placed no_marks (omega (arith, blank.no_calls)) logs.0 logs.1)
 
       pub alone_of_part : (entries : List Entry) → entries ≡ entries_on (map number_of cells) sheet.entries
-          → ((p : Part) → IsPartOf sheet p cells entries problem → AddsLogs 3 (IsLogOf (sheet_of sheet p) problem) before.logs.items place.logs.items)
-          → ((most : ℕ) × ((p : Part) → IsPartOf sheet p cells entries problem → AreFewFor (sheet_of sheet p) (length ts) most)
+          → ((p : Part) → IsPartOf sheet p cells entries problem → AddsLogs 3 (IsSearchLog (sheet_of sheet p) problem) before.logs.items place.logs.items)
+          → ((most : ℕ) × ((p : Part) → IsPartOf sheet p cells entries problem → AreFewWithTargets (sheet_of sheet p) (length ts) most)
           × SpendsOver (length own) before.tally place.tally (marked_in before.logs.items) (marked_in place.logs.items) most) → IsSpentAlone sheet theory.components i place
       alone_of_part entries are logs spends =
           let here = part_right entries are in
-          let added = subst (λ q. AddsLogs 3 (IsLogOf (sheet_of sheet found.0) q) before.logs.items place.logs.items) is_problem (logs found.0 here) in
+          let added = subst (λ q. AddsLogs 3 (IsSearchLog (sheet_of sheet found.0) q) before.logs.items place.logs.items) is_problem (logs found.0 here) in
           alone_after spends.0 (spends.1 found.0 here) spends.2 (logs_added sheet used own found.0 3 before.logs.items place.logs.items consistent (omega arith) blank.no_logs added)
 
       pub alone_of_reasons : (entries : List Entry) (worlds : List WorldView) → entries ≡ entries_on (map number_of cells) sheet.entries → ((p : Part) → IsPartNumbered (rules_alone sheet) i p → AreWorldsOf sheet p worlds)
@@ -153,21 +153,21 @@ module _ (searched : PartsAreSearched) (sheet : Sheet) (theory : TheoryView) (fo
           let sheet_p = sheet_of sheet found.0 in
           let exact = (worlds_are found.0 found.1.numbered).exact in
           let lawful = subst (λ q. AddsLogs 1 (IsLawfulLog q []) before.logs.items place.logs.items) is_problem logs in
-          let added : AddsLogs 1 (IsLogOf sheet_p (problem_of sheet used own)) before.logs.items place.logs.items =
+          let added : AddsLogs 1 (IsSearchLog sheet_p (problem_of sheet used own)) before.logs.items place.logs.items =
           record { added = lawful.added; is = lawful.is; few = lawful.few; each = λ k d below. without_blocks sheet_p (problem_of sheet used own) (get_or lawful.added k d) (lawful.each k d below) } in
           let many : length sheet_p.entries ≡ length entries = ap length here.searched.entries_are in
-          let few : AreFewFor sheet_p (length ts) (length ts * (length worlds * (length entries + 2))) =
+          let few : AreFewWithTargets sheet_p (length ts) (length ts * (length worlds * (length entries + 2))) =
           λ sets listed. subst (λ n. length ts * (length worlds * (n + 2)) ≤ length sets * (length ts + 1) * (length sheet_p.entries + 2) + 1) many
           (omega (arith, few_with sheet_p worlds (length ts) 0 (length worlds) exact refl (λ others all. omega arith) sets listed)) in
           alone_after (length ts * (length worlds * (length entries + 2))) few spends (logs_added sheet used own found.0 1 before.logs.items place.logs.items consistent (omega arith) blank.no_logs added)
 
       -- the same, where room was made for the logs
       pub alone_reserved : (mid : List (List LogLine)) → mid ≡ before.logs.items → (entries : List Entry) → entries ≡ entries_on (map number_of cells) sheet.entries
-          → ((p : Part) → IsPartOf sheet p cells entries problem → AddsLogs 3 (IsLogOf (sheet_of sheet p) problem) mid place.logs.items)
-          → ((most : ℕ) × ((p : Part) → IsPartOf sheet p cells entries problem → AreFewFor (sheet_of sheet p) (length ts) most)
+          → ((p : Part) → IsPartOf sheet p cells entries problem → AddsLogs 3 (IsSearchLog (sheet_of sheet p) problem) mid place.logs.items)
+          → ((most : ℕ) × ((p : Part) → IsPartOf sheet p cells entries problem → AreFewWithTargets (sheet_of sheet p) (length ts) most)
           × SpendsOver (length own) before.tally place.tally (marked_in mid) (marked_in place.logs.items) most) → IsSpentAlone sheet theory.components i place
       alone_reserved mid same entries are logs spends =
-          alone_of_part entries are (λ p is. subst (λ ls. AddsLogs 3 (IsLogOf (sheet_of sheet p) problem) ls place.logs.items) same (logs p is))
+          alone_of_part entries are (λ p is. subst (λ ls. AddsLogs 3 (IsSearchLog (sheet_of sheet p) problem) ls place.logs.items) same (logs p is))
           (spends.0, spends.1, subst (λ ls. SpendsOver (length own) before.tally place.tally (marked_in ls) (marked_in place.logs.items) spends.0) same spends.2)
 
       -- nothing was spent

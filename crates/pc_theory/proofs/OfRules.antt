@@ -8,10 +8,10 @@ use Rattle.pc_sheet.specs.Entailment.{cell_sizes}
 use Rattle.pc_sheet.specs.MaximalSets.{AreRulesConsistent}
 use Rattle.pc_sheet.specs.declared.ids.ValueId.{ValueId}
 use Rattle.pc_accept.specs.Literals.{Symbol, pair, node, Literal}
-use Rattle.pc_accept.specs.Axioms.{Axiom, some_value, not_both, true_rule, parts, by_reads}
+use Rattle.pc_accept.specs.Axioms.{Axiom, axiom_some, axiom_one, axiom_rule, axiom_node, axiom_atom}
 use Rattle.pc_accept.specs.Writable.{IsSymbolOf, IsAxiomOf}
 use Rattle.pc_ground.specs.Variables.{number, variable_count}
-use Rattle.pc_ground.specs.Ground.{GroundAxiom, axioms, lit_of, clause_of, clauses}
+use Rattle.pc_ground.specs.Ground.{GroundAxiom, axioms, lit_of, clause_of_axiom, clauses}
 use Rattle.pc_ground.specs.GroundView.{Grounded}
 use Rattle.pc_ground.specs.Grounded.{grounded}
 use Rattle.pc_ground.specs.Naming.{names_of}
@@ -38,11 +38,11 @@ module _ (sheet : Sheet) where
   lit_alone : (l : Literal) → lit_of alone l ≡ lit_of sheet l
   lit_alone l = let make : ℕ → Lit = λ n. record { variable = record { 0 = n }; sign = l.sign } in ap make (number_alone l.what)
 
-  clause_alone : (g : GroundAxiom) → clause_of alone g ≡ clause_of sheet g
+  clause_alone : (g : GroundAxiom) → clause_of_axiom alone g ≡ clause_of_axiom sheet g
   clause_alone g = map_same (lit_of alone) (lit_of sheet) lit_alone g.clause
 
   pub clauses_alone : clauses alone ≡ clauses sheet
-  clauses_alone = map_same (clause_of alone) (clause_of sheet) clause_alone (axioms sheet)
+  clauses_alone = map_same (clause_of_axiom alone) (clause_of_axiom sheet) clause_alone (axioms sheet)
 
   pub grounded_alone : grounded alone ≡ grounded sheet
   grounded_alone = let make : List (List Lit) → Grounded = λ cs. record { clauses = cs; sizes = cell_sizes sheet.universe; variables = variable_count sheet; names = names_of sheet } in ap make clauses_alone
@@ -82,18 +82,18 @@ module _ (sheet : Sheet) where
   symbol_alone (node r steps) h = record { leads = h.leads; small = h.small }
 
   axiom_here : (a : Axiom) → IsAxiomOf alone a → IsAxiomOf sheet a
-  axiom_here (some_value c) h = h
-  axiom_here (not_both c v w) h = h
-  axiom_here (true_rule r) h = h
-  axiom_here (parts r steps i) h = (record { leads = h.0.leads; small = h.0.small }, h.1)
-  axiom_here (by_reads r steps reads) h = (record { leads = h.0.leads; small = h.0.small }, h.1)
+  axiom_here (axiom_some c) h = h
+  axiom_here (axiom_one c v w) h = h
+  axiom_here (axiom_rule r) h = h
+  axiom_here (axiom_node r steps i) h = (record { leads = h.0.leads; small = h.0.small }, h.1)
+  axiom_here (axiom_atom r steps reads) h = (record { leads = h.0.leads; small = h.0.small }, h.1)
 
   axiom_alone : (a : Axiom) → IsAxiomOf sheet a → IsAxiomOf alone a
-  axiom_alone (some_value c) h = h
-  axiom_alone (not_both c v w) h = h
-  axiom_alone (true_rule r) h = h
-  axiom_alone (parts r steps i) h = (record { leads = h.0.leads; small = h.0.small }, h.1)
-  axiom_alone (by_reads r steps reads) h = (record { leads = h.0.leads; small = h.0.small }, h.1)
+  axiom_alone (axiom_some c) h = h
+  axiom_alone (axiom_one c v w) h = h
+  axiom_alone (axiom_rule r) h = h
+  axiom_alone (axiom_node r steps i) h = (record { leads = h.0.leads; small = h.0.small }, h.1)
+  axiom_alone (axiom_atom r steps reads) h = (record { leads = h.0.leads; small = h.0.small }, h.1)
 
   pub named_here : AreOfSheet alone (names_of alone) → AreOfSheet sheet (names_of sheet)
   named_here h = record {

@@ -22,7 +22,7 @@ use Rattle.pc_solver.specs.declared.stop.Stop.{Stop}
 use Rattle.pc_solver.specs.declared.stop.Stop.TheVariants.{Spent, Memory}
 use Rattle.pc_searched.specs.Laws.{problem_of, PartsAreSearched}
 use Rattle.pc_search.specs.Parts.{IsBase, IsPartOf, AreSearchedOf}
-use Rattle.pc_search.specs.Spending.{IsLogOf, AreFewFor}
+use Rattle.pc_search.specs.Spending.{IsSearchLog, AreFewWithTargets}
 use Rattle.pc_worlds.specs.Parts.{AddsLogs, marked_in}
 use Rattle.pc_theory.specs.Theories.{rules_alone, TheoryView, IsTheory, IsPartNumbered}
 use Rattle.pc_theory.specs.Targets.{targets_on, AreAsked}
@@ -75,8 +75,8 @@ module _ (searched : PartsAreSearched) (sheet : Sheet) (g : Grounded) (kept : Ke
 
     -- what was spent on the part after its search, whose logs are `mid`, and behind them the solver's
     pub one_moved : (spent more most : ℕ) (place : PartSpending) (rest mid : List (List LogLine)) (log grown : List LogLine) (blank : Tally) → before.logs.items ≡ rest ++ log ∷ [] → place.logs.items ≡ mid ++ grown ∷ [] → place.part ≡ before.part
-        → blank.placed ≡ before.tally.placed → blank.learned ≡ before.tally.learned → blank.calls ≡ before.tally.calls → AddsLogs 2 (IsLogOf (sheet_of sheet found.0) (problem_of sheet used own)) [] mid → IsLawfulLog (problem_of sheet used own) [] grown
-        → AreFewFor (sheet_of sheet found.0) (length ts) most → SpendsOver (length own) blank place.tally (marked log + marked_in []) (marked grown + marked_in mid) most → more + before.tally.placed ≡ spent + place.tally.placed → IsMoved sheet kept spent before more place
+        → blank.placed ≡ before.tally.placed → blank.learned ≡ before.tally.learned → blank.calls ≡ before.tally.calls → AddsLogs 2 (IsSearchLog (sheet_of sheet found.0) (problem_of sheet used own)) [] mid → IsLawfulLog (problem_of sheet used own) [] grown
+        → AreFewWithTargets (sheet_of sheet found.0) (length ts) most → SpendsOver (length own) blank place.tally (marked log + marked_in []) (marked grown + marked_in mid) most → more + before.tally.placed ≡ spent + place.tally.placed → IsMoved sheet kept spent before more place
     one_moved spent more most place rest mid log grown blank is_before is_after same no_placed no_learned no_calls added lawful few spends sum =
         let one = popped before.logs.items rest log on.only.log on.only.only is_before in
         let before_marks : marked log + marked_in [] ≡ marked_in before.logs.items = omega (arith, ap (sum_by marked) is_before, sum_push marked rest log, ap (sum_by marked) one.0) in
@@ -114,17 +114,17 @@ module _ (searched : PartsAreSearched) (sheet : Sheet) (g : Grounded) (kept : Ke
     -- what was spent, as the search says it; room was made in the logs
     pub moved_here : (before : PartSpending) (s : SuspendedView) (number : before.part ≡ i) (on : IsStarted sheet kept before s) (spent more : ℕ) (place : PartSpending) (rest room mid : List (List LogLine)) (log grown : List LogLine) (blank : Tally)
         (entries : List Entry) → entries ≡ entries_on (map number_of cells) sheet.entries → before.logs.items ≡ rest ++ log ∷ [] → room ≡ rest → place.logs.items ≡ mid ++ grown ∷ [] → place.part ≡ before.part
-        → ((p : Part) → IsPartOf sheet p cells entries given → AddsLogs 2 (IsLogOf (sheet_of sheet p) given) room mid) → IsLawfulLog given [] grown
-        → ((most : ℕ) × ((p : Part) → IsPartOf sheet p cells entries given → AreFewFor (sheet_of sheet p) (length targets) most) × SpendsOver (length own) blank place.tally (marked log + marked_in room) (marked grown + marked_in mid) most)
+        → ((p : Part) → IsPartOf sheet p cells entries given → AddsLogs 2 (IsSearchLog (sheet_of sheet p) given) room mid) → IsLawfulLog given [] grown
+        → ((most : ℕ) × ((p : Part) → IsPartOf sheet p cells entries given → AreFewWithTargets (sheet_of sheet p) (length targets) most) × SpendsOver (length own) blank place.tally (marked log + marked_in room) (marked grown + marked_in mid) most)
         → blank.placed ≡ before.tally.placed → blank.learned ≡ before.tally.learned → blank.calls ≡ before.tally.calls → more + before.tally.placed ≡ spent + place.tally.placed → IsMoved sheet kept spent before more place
     moved_here before s number on spent more place rest room mid log grown blank entries are is_before is_room is_after same_part added lawful spends no_placed no_learned no_calls sum =
         let here = part_here found.0 entries found.1.numbered are in
         let is_given : given ≡ problem_of sheet used own = let make : Grounded → Problem = λ x. record { axioms = x.clauses; used = used; own = own } in ap make ready.ground_is in
         let none : room ≡ [] = is_room ∙ (popped before.logs.items rest log on.only.log on.only.only is_before).0 in
-        let logs : AddsLogs 2 (IsLogOf (sheet_of sheet found.0) (problem_of sheet used own)) [] mid =
-        subst (λ ls. AddsLogs 2 (IsLogOf (sheet_of sheet found.0) (problem_of sheet used own)) ls mid) none (subst (λ q. AddsLogs 2 (IsLogOf (sheet_of sheet found.0) q) room mid) is_given (added found.0 here))
+        let logs : AddsLogs 2 (IsSearchLog (sheet_of sheet found.0) (problem_of sheet used own)) [] mid =
+        subst (λ ls. AddsLogs 2 (IsSearchLog (sheet_of sheet found.0) (problem_of sheet used own)) ls mid) none (subst (λ q. AddsLogs 2 (IsSearchLog (sheet_of sheet found.0) q) room mid) is_given (added found.0 here))
         in
-        let few : AreFewFor (sheet_of sheet found.0) (length ts) spends.0 = subst (λ xs. AreFewFor (sheet_of sheet found.0) (length xs) spends.0) same (spends.1 found.0 here) in
+        let few : AreFewWithTargets (sheet_of sheet found.0) (length ts) spends.0 = subst (λ xs. AreFewWithTargets (sheet_of sheet found.0) (length xs) spends.0) same (spends.1 found.0 here) in
         let paid : SpendsOver (length own) blank place.tally (marked log + marked_in []) (marked grown + marked_in mid) spends.0 =
         subst (λ ls. SpendsOver (length own) blank place.tally (marked log + marked_in ls) (marked grown + marked_in mid) spends.0) none spends.2
         in

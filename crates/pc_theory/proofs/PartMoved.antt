@@ -29,7 +29,7 @@ use Rattle.pc_solver.specs.declared.stop.Stop.TheVariants.{Spent, Memory}
 use Rattle.pc_searched.specs.Laws.{problem_of}
 use Rattle.pc_search.specs.Found.{steps_in}
 use Rattle.pc_search.specs.Parts.{AreWorldsOf}
-use Rattle.pc_search.specs.Spending.{IsLogOf, AreFewFor}
+use Rattle.pc_search.specs.Spending.{IsSearchLog, AreFewWithTargets}
 use Rattle.pc_worlds.specs.Parts.{AddsLogs, marked_in}
 use Rattle.pc_theory.specs.Theories.{rules_alone, IsPartNumbered}
 use Rattle.pc_theory.specs.Targets.{targets_on, target_count}
@@ -58,11 +58,11 @@ more_calls s t n e up =
 sets_of : (sheet : Sheet) (part : Part) (sets : List (List Entry)) → AreRulesConsistent sheet → ListsExactly (List Entry) (IsSetOf sheet part) sets → ListsExactly (List Entry) (IsMaximalSet (sheet_of sheet part)) sets
 sets_of sheet part sets consistent listed = record { exact = λ s. (λ has. ((listed.exact s).0 has).1, λ is. (listed.exact s).1 (consistent, is)); different = listed.different }
 
-pub good_log : (sheet : Sheet) (part : Part) (used : List ℕ) (own : List Var) (log : List LogLine) → AreRulesConsistent sheet → IsLogOf (sheet_of sheet part) (problem_of sheet used own) log → IsGoodLog sheet part used own log
+pub good_log : (sheet : Sheet) (part : Part) (used : List ℕ) (own : List Var) (log : List LogLine) → AreRulesConsistent sheet → IsSearchLog (sheet_of sheet part) (problem_of sheet used own) log → IsGoodLog sheet part used own log
 good_log sheet part used own log consistent h = record { blocks = h.blocks; lawful = h.lawful; of_sets = λ b has. let r = h.of_sets b has in (r.0, (consistent, r.1), r.2) }
 
 module _ (sheet : Sheet) (kept : Kept) (number : ℕ) (part : Part) (cells : List CellId) (used : List ℕ) (own : List Var) (at : IsPartAt sheet kept number part cells used own) (consistent : AreRulesConsistent sheet)
-    (before : Tally) (logs_before : List (List LogLine)) (place : PartSpending) (most targets : ℕ) (few : AreFewFor (sheet_of sheet part) targets most) (many : targets ≤ length (targets_on (cell_sizes sheet.universe) cells))
+    (before : Tally) (logs_before : List (List LogLine)) (place : PartSpending) (most targets : ℕ) (few : AreFewWithTargets (sheet_of sheet part) targets most) (many : targets ≤ length (targets_on (cell_sizes sheet.universe) cells))
     (spends : SpendsOver (length own) before place.tally (marked_in logs_before) (marked_in place.logs.items) most) (spare : before.learned ≤ before.placed + before.calls)
     (placed : before.placed ≤ length own * (before.learned + before.calls)) (learned : sum_by marked logs_before ≡ before.learned) (one : before.calls ≤ 1)
     (few_logs : length place.logs.items ≤ 3) (good_logs : All (IsGoodLog sheet part used own) place.logs.items) where
@@ -93,14 +93,14 @@ module _ (sheet : Sheet) (kept : Kept) (number : ℕ) (part : Part) (cells : Lis
     logs = good_logs;
   }
 
-pub logs_added : (sheet : Sheet) (used : List ℕ) (own : List Var) (part : Part) (most : ℕ) (old logs : List (List LogLine)) → AreRulesConsistent sheet → most ≤ 3 → old ≡ [] → AddsLogs most (IsLogOf (sheet_of sheet part) (problem_of sheet used own)) old logs
+pub logs_added : (sheet : Sheet) (used : List ℕ) (own : List Var) (part : Part) (most : ℕ) (old logs : List (List LogLine)) → AreRulesConsistent sheet → most ≤ 3 → old ≡ [] → AddsLogs most (IsSearchLog (sheet_of sheet part) (problem_of sheet used own)) old logs
     → (length logs ≤ 3) × All (IsGoodLog sheet part used own) logs
 logs_added sheet used own part most old logs consistent small none h =
     let is : logs ≡ h.added = h.is ∙ ap (λ xs. xs ++ h.added) none in
     subst (λ ls. (length ls ≤ 3) × All (IsGoodLog sheet part used own) ls) (sym is) (omega (arith, h.few, small), λ i d below. good_log sheet part used own (get_or h.added i d) consistent (h.each i d below))
 
 -- and the solver's log behind those of the listing
-pub logs_behind : (sheet : Sheet) (used : List ℕ) (own : List Var) (part : Part) (old mid logs : List (List LogLine)) (log : List LogLine) → AreRulesConsistent sheet → old ≡ [] → AddsLogs 2 (IsLogOf (sheet_of sheet part) (problem_of sheet used own)) old mid
+pub logs_behind : (sheet : Sheet) (used : List ℕ) (own : List Var) (part : Part) (old mid logs : List (List LogLine)) (log : List LogLine) → AreRulesConsistent sheet → old ≡ [] → AddsLogs 2 (IsSearchLog (sheet_of sheet part) (problem_of sheet used own)) old mid
     → IsLawfulLog (problem_of sheet used own) [] log → logs ≡ mid ++ log ∷ [] → (length logs ≤ 3) × All (IsGoodLog sheet part used own) logs
 logs_behind sheet used own part old mid logs log consistent none h lawful behind =
     let two = logs_added sheet used own part 2 old mid consistent (omega arith) none h in

@@ -9,11 +9,11 @@ use Rattle.pc_sheet.specs.Sheet.{Sheet}
 use Rattle.pc_sheet.specs.WellFormed.{IsWellFormed}
 use Rattle.pc_ground.specs.Naming.{names_of}
 use Rattle.pc_justify.specs.Laws.{NamesAreOfTheirSheet, TrimmedLinesRefute}
-use Rattle.pc_reason.specs.Refutations.{Refutes}
+use Rattle.pc_reason.specs.Refutations.{RefutesRules}
 use Rattle.pc_theory.specs.inside.Calling.{IsEmptyAt}
 
 pub refuted_at : TrimmedLinesRefute → NamesAreOfTheirSheet → (sheet : Sheet) (log kept : List LogLine) (last : StepId) (span : Span) → IsWellFormed sheet → IsEmptyAt sheet log last → length log < 10 ^ 18
-    → IsSpanOf kept span → IsTrimmed log last.0 [] (lines_of_span kept span) → Refutes sheet (names_of sheet) kept span
+    → IsSpanOf kept span → IsTrimmed log last.0 [] (lines_of_span kept span) → RefutesRules sheet (names_of sheet) kept span
 refuted_at refute names sheet log kept last span formed empty few lies trimmed =
     let r = refute sheet log (lines_of_span kept span) last.0 (names sheet formed) few empty.derived empty.empty trimmed in
     record { lies = lies; named = r.0; accepted = r.1; written = r.2 }

@@ -4,7 +4,7 @@ use Rattle.std.specs.List.{flat_map}
 use Rattle.std.proofs.lemmas.List.Elements.{All-nil, All-append, All-replicate, All-head, All-tail}
 use Rattle.std.proofs.lemmas.Option.{slice_get-get_or}
 use Rattle.pc_sheet.specs.Sheet.{Values, listed, range, Sort, Family, Universe}
-use Rattle.pc_sheet.specs.Truth.{count_of, values_of_sort, size_of, cells_in}
+use Rattle.pc_sheet.specs.Sizes.{count_of, values_of_sort, size_of, cells_in}
 use Rattle.pc_sheet.specs.Entailment.{cell_sizes}
 use Rattle.pc_sheet.specs.WellFormed.{AreWellFormedValues, IsWellFormedFamily, IsWellFormedUniverse}
 use Rattle.pc_sheet.specs.declared.ids.CellId.{CellId}

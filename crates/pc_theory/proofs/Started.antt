@@ -27,10 +27,10 @@ use Rattle.pc_parts.specs.Laws.{AgreeAt}
 use Rattle.pc_components.specs.Pairs.{pair_var}
 use Rattle.pc_components.specs.Used.{MeetsUsed, HasValues}
 use Rattle.pc_components.specs.View.{Kept, number_of}
-use Rattle.pc_justify.specs.Found.{clause_on, HasNoBlock}
+use Rattle.pc_justify.specs.Found.{clause_at_place, HasNoBlock}
 use Rattle.pc_justify.specs.Laws.{OwnLinesAreNamed}
 use Rattle.pc_analyze.specs.Learning.{IsOverNegated}
-use Rattle.pc_solver.specs.Answers.{value_in, MeetsEach}
+use Rattle.pc_solver.specs.Answers.{truth_in, MeetsEach}
 use Rattle.pc_solver.specs.Solver.{Problem, SolverView, SuspendedView, SuspendedHasLog, IsProblem, IsLawfulLog, HasLog, Spends, clauses_used}
 use Rattle.pc_solver.specs.Spending.{marked}
 use Rattle.pc_searched.specs.Laws.{problem_of, AreSearchedBy, PartsAreSearched}
@@ -73,7 +73,7 @@ lawful_here : (s : SolverView) (p : Problem) (log : List LogLine) → s.problem 
 lawful_here s p log is none has = subst (λ q. IsLawfulLog q [] log) is (subst (λ bs. IsLawfulLog s.problem bs log) none has.lawful)
 
 pub empty_at : OwnLinesAreNamed → (sheet : Sheet) (used : List ℕ) (own : List Var) (s : SolverView) (log : List LogLine) (last : StepId) → IsProblem (variable_count sheet) (problem_of sheet used own)
-    → s.problem ≡ problem_of sheet used own → s.blocks ≡ [] → HasLog s log → last.0 < length log → IsOverNegated [] (clause_on s.problem.axioms log last.0) → IsEmptyAt sheet log last
+    → s.problem ≡ problem_of sheet used own → s.blocks ≡ [] → HasLog s log → last.0 < length log → IsOverNegated [] (clause_at_place s.problem.axioms log last.0) → IsEmptyAt sheet log last
 empty_at named sheet used own s log last problem is none has stands over =
     let lawful = lawful_here s (problem_of sheet used own) log is none has in
     let axioms : Problem → List (List Lit) = λ p. p.axioms in
@@ -83,7 +83,7 @@ empty_at named sheet used own s log last problem is none has stands over =
         stands = stands;
         named = named sheet own log last.0 lawful.derivation (no_block (problem_of sheet used own) log lawful) problem.own_in lawful.over_own;
       };
-      empty = none_over (clause_on (clauses sheet) log last.0) (subst (λ a. IsOverNegated [] (clause_on a log last.0)) (ap axioms is) over);
+      empty = none_over (clause_at_place (clauses sheet) log last.0) (subst (λ a. IsOverNegated [] (clause_at_place a log last.0)) (ap axioms is) over);
     }
 
 -- ---- one call
@@ -190,13 +190,13 @@ module _ (searched : PartsAreSearched) (sheet : Sheet) (g : Grounded) (kept : Ke
         })
 
     -- the values that were read fit the part
-    pub read_fits : (s : SolverView) (base : List ValueId) → s.problem ≡ problem_of sheet used own → MeetsEach (value_in s.trues) (clauses_used s.problem) → IsAssignment sheet.universe base
-        → ((a : List ValueId) → IsAssignment sheet.universe a → HasValues (cell_sizes sheet.universe) (map number_of cells) (value_in s.trues) a → AgreeAt (Contains (map number_of cells)) a base)
+    pub read_fits : (s : SolverView) (base : List ValueId) → s.problem ≡ problem_of sheet used own → MeetsEach (truth_in s.trues) (clauses_used s.problem) → IsAssignment sheet.universe base
+        → ((a : List ValueId) → IsAssignment sheet.universe a → HasValues (cell_sizes sheet.universe) (map number_of cells) (truth_in s.trues) a → AgreeAt (Contains (map number_of cells)) a base)
         → Fits (sheet_of sheet part) base
     read_fits s base problem meets assigns reads =
         let are_for = by_part.searched.are_for in
-        let met = met_used (clauses sheet) used own (value_in s.trues) (subst (λ p. MeetsEach (value_in s.trues) (clauses_used p)) problem meets) in
-        let a = are_for.fits (value_in s.trues) met in
+        let met = met_used (clauses sheet) used own (truth_in s.trues) (subst (λ p. MeetsEach (truth_in s.trues) (clauses_used p)) problem meets) in
+        let a = are_for.fits (truth_in s.trues) met in
         are_for.by_cells a.0 base a.1 assigns (reads a.0 a.1 a.3) a.2
 
     -- a part keeps fitting where its cells keep their values
@@ -228,7 +228,7 @@ module _ (searched : PartsAreSearched) (sheet : Sheet) (g : Grounded) (kept : Ke
   pub first_given : (axioms : List (List Lit)) (p : Problem) → axioms ≡ g.clauses → p ≡ record { axioms = axioms; used = used; own = own } → p ≡ given
   first_given axioms p same_axioms is = is ∙ (let make : List (List Lit) → Problem = λ a. record { axioms = a; used = used; own = own } in ap make same_axioms)
 
-  pub first_empty : OwnLinesAreNamed → (s : SolverView) (log : List LogLine) (last : StepId) → s.problem ≡ given → s.blocks ≡ [] → HasLog s log → last.0 < length log → IsOverNegated [] (clause_on s.problem.axioms log last.0) → IsEmptyAt sheet log last
+  pub first_empty : OwnLinesAreNamed → (s : SolverView) (log : List LogLine) (last : StepId) → s.problem ≡ given → s.blocks ≡ [] → HasLog s log → last.0 < length log → IsOverNegated [] (clause_at_place s.problem.axioms log last.0) → IsEmptyAt sheet log last
   first_empty named s log last is none has stands over = empty_at named sheet used own s log last of_sheet (problem_is sheet g used own s.problem ready.ground_is is) none has stands over
 
   pub first_called : (cs s before : SolverView) (place : PartSpending) (log_before log : List LogLine) (blank tally : Tally) (end is : End) (limit : ℕ) → cs ≡ s → place.part ≡ i → place.tally ≡ tally → place.logs.items ≡ log ∷ [] → end ≡ is
@@ -312,8 +312,8 @@ module _ (sheet : Sheet) (kept : Kept) (spent number : ℕ) (base now : List Val
 -- the part that made its first call, with its values
 pub started_next : PartsAreSearched → (sheet : Sheet) (g : Grounded) (kept : Kept) → IsReady sheet g kept → (spent number : ℕ) (base now : List ValueId) (parts : List PartSpending) (solvers : List SuspendedView) (cells : List CellId) (used : List ℕ) (own : List Var)
     → slice_get kept.cells number ≡ Some cells → slice_get kept.axioms number ≡ Some used → slice_get kept.variables number ≡ Some own → AreStarted sheet kept spent base parts solvers → length parts ≡ number
-    → (place : PartSpending) (s : SolverView) (t : SuspendedView) → place.part ≡ number → IsStarted sheet kept place (set_aside s) → IsStarted sheet kept place t → MeetsEach (value_in s.trues) (clauses_used s.problem)
-    → IsAssignment sheet.universe now → ((a : List ValueId) → IsAssignment sheet.universe a → HasValues (cell_sizes sheet.universe) (map number_of cells) (value_in s.trues) a → AgreeAt (Contains (map number_of cells)) a now)
+    → (place : PartSpending) (s : SolverView) (t : SuspendedView) → place.part ≡ number → IsStarted sheet kept place (set_aside s) → IsStarted sheet kept place t → MeetsEach (truth_in s.trues) (clauses_used s.problem)
+    → IsAssignment sheet.universe now → ((a : List ValueId) → IsAssignment sheet.universe a → HasValues (cell_sizes sheet.universe) (map number_of cells) (truth_in s.trues) a → AgreeAt (Contains (map number_of cells)) a now)
     → AgreeAt (λ c. ¬ Contains (map number_of cells) c) base now → AreStarted sheet kept (spent + place.tally.placed) now (parts ++ place ∷ []) (solvers ++ t ∷ [])
 started_next searched sheet g kept ready spent number base now parts solvers cells used own at_cells at_used at_own are many place s t numbered called on meets assigns reads elsewhere =
     let found = at_part searched sheet g kept ready number cells used own at_cells at_used at_own in

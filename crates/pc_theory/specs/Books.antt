@@ -13,7 +13,7 @@ use Rattle.pc_ground.specs.declared.ground.GroundFault.TheVariants as ground
 use Rattle.pc_parts.specs.Components.{parts_of}
 use Rattle.pc_components.specs.View.{Kept}
 use Rattle.pc_reason.specs.Reasons.{IsTargetOf, Justification}
-use Rattle.pc_reason.specs.Refutations.{Refutes}
+use Rattle.pc_reason.specs.Refutations.{RefutesRules}
 use Rattle.pc_edits.specs.Reasons.{IsRowFor}
 use Rattle.pc_cache.specs.Rows.{TargetRow, row_after}
 use Rattle.pc_world_list.specs.Worlds.{WorldView}
@@ -45,13 +45,13 @@ pub record AreFound (sheet : Sheet) (budget : ℕ) (theory : TheoryView) (worlds
 -- each with its cause; but for the first, the sheet isn't too large
 abbrev pub IsCause : Sheet → ℕ → Fault → Type 0
 IsCause sheet budget fault.TooLarge = most_weight < weight sheet
-IsCause sheet budget (fault.Inconsistent d) = (weight sheet ≤ most_weight) × Refutes sheet d.names d.log d.span × (¬ AreRulesConsistent sheet)
+IsCause sheet budget (fault.Inconsistent d) = (weight sheet ≤ most_weight) × RefutesRules sheet d.names d.log d.span × (¬ AreRulesConsistent sheet)
 IsCause sheet budget (fault.Spent s) = (weight sheet ≤ most_weight) × IsLawful sheet None budget s
 IsCause sheet budget fault.Memory = Unit {0}
 
 -- of a sheet that isn't too large
 abbrev pub IsPartCause : Sheet → ℕ → PartFault → Type 0
-IsPartCause sheet budget (part.Inconsistent log span) = Refutes sheet (names_of sheet) log span
+IsPartCause sheet budget (part.Inconsistent log span) = RefutesRules sheet (names_of sheet) log span
 IsPartCause sheet budget (part.Spent s) = IsLawful sheet None budget s
 IsPartCause sheet budget part.Memory = Unit {0}
 

@@ -5,18 +5,18 @@ use Rattle.pc_sheet.specs.declared.ids.Target.{Target}
 use Rattle.pc_components.specs.Pairs.{size_at}
 use Rattle.pc_components.specs.View.{Kept}
 
-abbrev pub target : CellId → ℕ → Bool → Target
-target c v holds = record { cell = c; value = record { 0 = v }; holds = holds }
+abbrev pub target_of_value : CellId → ℕ → Bool → Target
+target_of_value c v holds = record { cell = c; value = record { 0 = v }; holds = holds }
 
 -- of the cell's first n values
-abbrev pub targets_of_cell : CellId → ℕ → List Target
-targets_of_cell c zero = []
-targets_of_cell c (suc n) = targets_of_cell c n ++ target c n true ∷ target c n false ∷ []
+abbrev pub targets_on_cell : CellId → ℕ → List Target
+targets_on_cell c zero = []
+targets_on_cell c (suc n) = targets_on_cell c n ++ target_of_value c n true ∷ target_of_value c n false ∷ []
 
 -- where the cells have so many values each
 abbrev pub targets_on : List ℕ → List CellId → List Target
 targets_on sizes [] = []
-targets_on sizes (c ∷ cs) = targets_of_cell c (size_at sizes c) ++ targets_on sizes cs
+targets_on sizes (c ∷ cs) = targets_on_cell c (size_at sizes c) ++ targets_on sizes cs
 
 -- two for each value of each of these cells
 abbrev pub target_count : List ℕ → List ℕ → ℕ

@@ -7,7 +7,7 @@ ghost use Rattle.pc_components.specs.Pairs.{pair_var, size_at};
 ghost use Rattle.pc_components.specs.Used.{HasValues};
 ghost use Rattle.pc_components.specs.View.{number_of};
 ghost use Rattle.pc_parts.specs.Laws.{AgreeAt};
-ghost use Rattle.pc_solver.specs.Answers.{value_in};
+ghost use Rattle.pc_solver.specs.Answers.{truth_in};
 ghost use Rattle.pc_theory.specs.inside.Reading.{HasPairs};
 
 use pc_ground::Ground;
@@ -22,8 +22,8 @@ fn first_true(book: &Book, ground: &Ground, solver: &Solver<'_>, cell: CellId) -
     requires cell { cell.0 < length ground.now.sizes }
     requires pairs { (x : ValueId) → x.0 < size_at ground.now.sizes cell → Contains solver.now.problem.own (pair_var ground.now.sizes cell x) }
     ensures some { IfSome result (λ x. x.0 < size_at ground.now.sizes cell) }
-    ensures true_ { IfSome result (λ x. value_in solver.now.trues (pair_var ground.now.sizes cell x) ≡ true) }
-    ensures none { IfNone result ((x : ValueId) → x.0 < size_at ground.now.sizes cell → value_in solver.now.trues (pair_var ground.now.sizes cell x) ≡ false) }
+    ensures true_ { IfSome result (λ x. truth_in solver.now.trues (pair_var ground.now.sizes cell x) ≡ true) }
+    ensures none { IfNone result ((x : ValueId) → x.0 < size_at ground.now.sizes cell → truth_in solver.now.trues (pair_var ground.now.sizes cell x) ≡ false) }
 {
     for number in 0..book.values_of(cell) {
         let value = ValueId(number as u16);
@@ -46,7 +46,7 @@ pub(crate) fn read_values(
     requires pairs { HasPairs ground.now.sizes cells.now solver.now }
     requires within { AreWithin ground.now.sizes base.old }
     ensures within { AreWithin ground.now.sizes base.new }
-    ensures reads { (a : List ValueId) → AreWithin ground.now.sizes a → HasValues ground.now.sizes (map number_of cells.now) (value_in solver.now.trues) a → AgreeAt (Contains (map number_of cells.now)) a base.new }
+    ensures reads { (a : List ValueId) → AreWithin ground.now.sizes a → HasValues ground.now.sizes (map number_of cells.now) (truth_in solver.now.trues) a → AgreeAt (Contains (map number_of cells.now)) a base.new }
     ensures elsewhere { AgreeAt (λ c. ¬ Contains (map number_of cells.now) c) base.old base.new }
 {
     for cell in cells {

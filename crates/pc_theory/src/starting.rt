@@ -2,7 +2,7 @@
 ghost use Rattle.std.specs.Prelude.{◌≡◌, ◌+◌, ◌<◌, ◌≤◌, ◌∷◌, [], IfErr, IfOk, OnOk, length};
 ghost use Rattle.pc_sheet.specs.Limits.{most_cells};
 ghost use Rattle.pc_ground.specs.Naming.{names_of};
-ghost use Rattle.pc_reason.specs.Refutations.{Refutes};
+ghost use Rattle.pc_reason.specs.Refutations.{RefutesRules};
 ghost use Rattle.pc_theory.specs.inside.Tasks.{IsReady};
 ghost use Rattle.pc_theory.specs.inside.Starting.{AreStarted, HaltSays};
 ghost use Rattle.pc_theory.specs.inside.Calling.{IsCalled, IsEmptyAt, IsRefused};
@@ -31,7 +31,7 @@ struct Derivation {
 fn refuted(task: Task<'_>, log: &Log, last: StepId) -> Result<Derivation, AllocError>
     requires ready { IsReady task.book.now task.ground.now task.components.now }
     requires empty { IsEmptyAt task.book.now log.now last }
-    ensures { IfOk result (λ r. Refutes task.entry.book.now (names_of task.entry.book.now) r.log r.span) }
+    ensures { IfOk result (λ r. RefutesRules task.entry.book.now (names_of task.entry.book.now) r.log r.span) }
 {
     names_are_of_their_sheet();
     trimmed_lines_refute();

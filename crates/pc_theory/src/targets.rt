@@ -2,7 +2,7 @@
 ghost use Rattle.std.specs.Prelude.{◌≡◌, ◌<◌, ◌≤◌, ◌++◌, All, IfOk, OnOk, length};
 ghost use Rattle.pc_sheet.specs.Limits.{most_values};
 ghost use Rattle.pc_sheet.specs.Entailment.{cell_sizes};
-ghost use Rattle.pc_theory.specs.Targets.{target, targets_of_cell, targets_on};
+ghost use Rattle.pc_theory.specs.Targets.{target_of_value, targets_on_cell, targets_on};
 
 use pc_logic::Book;
 use pc_sheet::{CellId, Target, ValueId};
@@ -11,7 +11,7 @@ use std::alloc::{AllocError, Global};
 // That the cell has a value, or that it hasn't.
 fn target(cell: CellId, value: usize, holds: bool) -> Target
     requires { value < most_values }
-    ensures { result ≡ target cell value holds }
+    ensures { result ≡ target_of_value cell value holds }
 {
     Target {
         cell,
@@ -23,7 +23,7 @@ fn target(cell: CellId, value: usize, holds: bool) -> Target
 // Adds the targets of a cell with so many values.
 fn add_targets(cell: CellId, count: usize, targets: &mut Vec<Target>) -> Result<(), AllocError>
     requires { count ≤ most_values }
-    ensures { OnOk result (targets.new.items ≡ targets.old.items ++ targets_of_cell cell count) }
+    ensures { OnOk result (targets.new.items ≡ targets.old.items ++ targets_on_cell cell count) }
 {
     for value in 0..count {
         targets.push(target(cell, value, true))?;

@@ -13,7 +13,7 @@ use Rattle.pc_token.specs.declared.token.Kind.{Kind}
 use Rattle.pc_token.specs.declared.token.Kind.TheVariants.{Name, Number}
 use Rattle.pc_token.specs.declared.token.Token.{Token}
 use Rattle.pc_name.specs.Names.{starts_name, continues_name}
-use Rattle.pc_token.specs.Token.{is_blank, AreBlank, StopsName, IsNameAt, IsDigitRun, sign_text, IsSignAt, IsOfKind, IsTokenOf, Reads, StartsLongNumber, StartsNoToken, Reading, split, bad_character, long_number, IsReadingOf, Splits}
+use Rattle.pc_token.specs.Token.{is_blank, AreBlank, StopsName, IsNameAt, IsDigitRun, sign_text, IsSignAt, IsOfKind, IsTokenOf, ReadsTokens, StartsLongNumber, StartsNoToken, LineReading, split, bad_character, long_number, IsReadingOf, Splits}
 use Rattle.pc_token.specs.declared.token.Piece.{Piece}
 use Rattle.pc_token.specs.declared.token.Piece.TheVariants as piece
 use Rattle.pc_token.specs.Line.{IsBlankRun}
@@ -159,7 +159,7 @@ record Final (line : List ℕ) (to : ℕ) : Type 0 where
 blanks_once : (line : List ℕ) (from a b : ℕ) → from ≤ a → AreBlank line from b → (is_blank (get_or line a 0) ≡ true → ⊥) → a < b → ⊥
 blanks_once line from a b after blanks no_blank before = no_blank (blanks a after before)
 
-reads_once : (line : List ℕ) (from : ℕ) (ts : List Token) (to : ℕ) (us : List Token) (end : ℕ) → Reads line from ts to → Final line to → Reads line from us end → Final line end → (ts ≡ us) × (to ≡ end)
+reads_once : (line : List ℕ) (from : ℕ) (ts : List Token) (to : ℕ) (us : List Token) (end : ℕ) → ReadsTokens line from ts to → Final line to → ReadsTokens line from us end → Final line end → (ts ≡ us) × (to ≡ end)
 reads_once line from [] to [] end one stops other halts =
     (refl, ⊎_elim (λ before. absurd (blanks_once line from to end one.0 other.1 stops.no_blank before)) (λ after. ⊎_elim (λ later. absurd (blanks_once line from end to other.0 one.1 halts.no_blank later)) (λ same. omega arith) (order end to)) (order to end))
 reads_once line from [] to (u ∷ us) end one stops other halts =
@@ -169,7 +169,7 @@ reads_once line from (t ∷ ts) to [] end one stops other halts =
 reads_once line from (t ∷ ts) to (u ∷ us) end one stops other halts =
     let start : t.start ≡ u.start = ⊎_elim (λ before. absurd (blanks_once line from t.start u.start one.0 other.1 (token_no_blank line t one.2) before)) (λ after. ⊎_elim (λ later. absurd (blanks_once line from u.start t.start other.0 one.1 (token_no_blank line u other.2) later)) (λ same. omega arith) (order u.start t.start)) (order t.start u.start) in
     let same = token_once line t u start one.2 other.2 in
-    let rest = reads_once line t.end ts to us end one.3 stops (subst (λ n. Reads line n us end) (sym (ap (λ v. v.end) same)) other.3) halts in
+    let rest = reads_once line t.end ts to us end one.3 stops (subst (λ n. ReadsTokens line n us end) (sym (ap (λ v. v.end) same)) other.3) halts in
     (ap₂ (λ v vs. v ∷ vs) same rest.0, rest.1)
 
 end_final : (line : List ℕ) → Final line (length line)
@@ -214,7 +214,7 @@ no_digit_at_bad line at to bad long same =
     let no_digit = bad.no_digit in
     cc
 
-pub one_reading : (line : List ℕ) (q r : Reading) → IsReadingOf line q → IsReadingOf line r → q ≡ r
+pub one_reading : (line : List ℕ) (q r : LineReading) → IsReadingOf line q → IsReadingOf line r → q ≡ r
 one_reading line (split ts) (split us) a b = ap split (reads_once line 0 ts (length line) us (length line) a (end_final line) b (end_final line)).0
 one_reading line (split ts) (bad_character at) a b =
     let same = (reads_once line 0 ts (length line) b.0 at a (end_final line) b.1 (bad_final line at b.2)).1 in

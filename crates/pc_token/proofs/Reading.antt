@@ -1,10 +1,9 @@
 -- What stands at a place, and a line that is read from left to right.
-use Rattle.std.proofs.Common.{◌≡◌, ℕ, zero, suc, ◌+◌, ◌-◌, ◌<◌, ◌≤◌, Bool, true, false, ◌&&◌, List, [], ◌∷◌, ◌++◌, length, get_or, drop, arith, refl, ◌∙◌, ap, subst}
+use Rattle.std.proofs.Common.{◌≡◌, ℕ, zero, suc, ◌+◌, ◌-◌, ◌<◌, ◌≤◌, Bool, true, false, ◌&&◌, List, [], ◌∷◌, ◌++◌, length, get_or, drop, arith, refl, ◌∙◌, ap, subst, ⊎_elim}
 use Rattle.std.proofs.lemmas.Bool.Decides.{nat_tests}
 use Rattle.std.proofs.lemmas.List.{append_assoc, get_or_past}
 use Rattle.std.proofs.lemmas.Str.{IsCharBoundary-after_ascii, IsCharBoundary-start}
 use Rattle.std.proofs.str.Laws.{order}
-use Rattle.std.proofs.Common.{⊎_elim}
 use Rattle.std.specs.Prelude.{encode_utf8, nat_lt}
 use Rattle.std.specs.Char.{is_ascii_digit}
 use Rattle.std.specs.List.{list_all, AllByRecursion}
@@ -12,7 +11,7 @@ use Rattle.std.specs.Str.{encode_utf8_all, IsUtf8, IsCharBoundary}
 use Rattle.pc_token.specs.declared.token.Kind.{Kind}
 use Rattle.pc_token.specs.declared.token.Kind.TheVariants.{Name, Number}
 use Rattle.pc_token.specs.declared.token.Token.{Token}
-use Rattle.pc_token.specs.Token.{is_blank, AreBlank, sign_text, HasTextAt, IsSignAt, StartsNoSign, StartsNoName, IsDigitRun, IsOfKind, IsTokenOf, Reads}
+use Rattle.pc_token.specs.Token.{is_blank, AreBlank, sign_text, HasTextAt, IsSignAt, StartsNoSign, StartsNoName, IsDigitRun, IsOfKind, IsTokenOf, ReadsTokens}
 use Rattle.pc_token.proofs.Names.{slice_split}
 
 -- a byte that isn't 0 stands within the line
@@ -105,19 +104,19 @@ blank_more line from to blanks blank i after before =
     ⊎_elim (λ earlier. blanks i after earlier) (λ last. let there : i ≡ to = omega arith in ap (λ k. is_blank (get_or line k 0)) there ∙ blank) (order i to)
 
 -- the blank at the end joins what is read
-pub Reads-blank : (line : List ℕ) (from : ℕ) (ts : List Token) (to : ℕ) → Reads line from ts to → is_blank (get_or line to 0) ≡ true → Reads line from ts (to + 1)
-Reads-blank line from [] to read blank = (omega (arith, read.0), blank_more line from to read.1 blank)
-Reads-blank line from (t ∷ ts) to read blank = (read.0, read.1, read.2, Reads-blank line t.end ts to read.3 blank)
+pub ReadsTokens-blank : (line : List ℕ) (from : ℕ) (ts : List Token) (to : ℕ) → ReadsTokens line from ts to → is_blank (get_or line to 0) ≡ true → ReadsTokens line from ts (to + 1)
+ReadsTokens-blank line from [] to read blank = (omega (arith, read.0), blank_more line from to read.1 blank)
+ReadsTokens-blank line from (t ∷ ts) to read blank = (read.0, read.1, read.2, ReadsTokens-blank line t.end ts to read.3 blank)
 
 -- the token at the end joins what is read
-pub Reads-push : (line : List ℕ) (from : ℕ) (ts : List Token) (t : Token) → Reads line from ts t.start → IsTokenOf line t → Reads line from (ts ++ t ∷ []) t.end
-Reads-push line from [] t read is = (read.0, read.1, is, (omega arith, λ i after before. absurd (omega arith)))
-Reads-push line from (u ∷ ts) t read is = (read.0, read.1, read.2, Reads-push line u.end ts t read.3 is)
+pub ReadsTokens-push : (line : List ℕ) (from : ℕ) (ts : List Token) (t : Token) → ReadsTokens line from ts t.start → IsTokenOf line t → ReadsTokens line from (ts ++ t ∷ []) t.end
+ReadsTokens-push line from [] t read is = (read.0, read.1, is, (omega arith, λ i after before. absurd (omega arith)))
+ReadsTokens-push line from (u ∷ ts) t read is = (read.0, read.1, read.2, ReadsTokens-push line u.end ts t read.3 is)
 
 -- each token that is read is a token of the line
-pub Reads-each : (line : List ℕ) (from : ℕ) (ts : List Token) (to : ℕ) → Reads line from ts to → AllByRecursion (IsTokenOf line) ts
-Reads-each line from [] to read = tt
-Reads-each line from (t ∷ ts) to read = (read.2, Reads-each line t.end ts to read.3)
+pub ReadsTokens-each : (line : List ℕ) (from : ℕ) (ts : List Token) (to : ℕ) → ReadsTokens line from ts to → AllByRecursion (IsTokenOf line) ts
+ReadsTokens-each line from [] to read = tt
+ReadsTokens-each line from (t ∷ ts) to read = (read.2, ReadsTokens-each line t.end ts to read.3)
 
 -- a run of blanks at the start of a line ends at a character
 pub run_ends : (line : List ℕ) (end : ℕ) → IsUtf8 line → AreBlank line 0 end → IsCharBoundary line end

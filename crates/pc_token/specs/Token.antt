@@ -92,13 +92,13 @@ pub record IsTokenOf (line : List ℕ) (t : Token) : Type 0 where
   pub kind : IsOfKind t.kind line t.start t.end
 
 -- from one place up to another the line is these tokens, with blanks alone between them
-abbrev pub Reads : List ℕ → ℕ → List Token → ℕ → Type 0
-Reads line from [] to = (from ≤ to) × AreBlank line from to
-Reads line from (t ∷ ts) to = (from ≤ t.start) × AreBlank line from t.start × IsTokenOf line t × Reads line t.end ts to
+abbrev pub ReadsTokens : List ℕ → ℕ → List Token → ℕ → Type 0
+ReadsTokens line from [] to = (from ≤ to) × AreBlank line from to
+ReadsTokens line from (t ∷ ts) to = (from ≤ t.start) × AreBlank line from t.start × IsTokenOf line t × ReadsTokens line t.end ts to
 
 -- the line is these tokens, with blanks alone between them
 abbrev pub Splits : List ℕ → List Token → Type 0
-Splits line ts = Reads line 0 ts (length line)
+Splits line ts = ReadsTokens line 0 ts (length line)
 
 -- more than 18 digits stand at the place
 abbrev pub StartsLongNumber : List ℕ → ℕ → Type 0
@@ -113,20 +113,20 @@ pub record StartsNoToken (line : List ℕ) (at : ℕ) : Type 0 where
 
 -- the first fault of a line: the place follows tokens that are whole
 abbrev pub HasBadCharacter : List ℕ → ℕ → Type 0
-HasBadCharacter line at = (ts : List Token) × Reads line 0 ts at × StartsNoToken line at
+HasBadCharacter line at = (ts : List Token) × ReadsTokens line 0 ts at × StartsNoToken line at
 
 -- the same, where the fault is a number of more than 18 digits
 abbrev pub HasLongNumber : List ℕ → ℕ → Type 0
-HasLongNumber line at = (ts : List Token) × Reads line 0 ts at × StartsLongNumber line at
+HasLongNumber line at = (ts : List Token) × ReadsTokens line 0 ts at × StartsLongNumber line at
 
 -- what a line is: its tokens, or its first fault
-pub data Reading : Type 0 where
-  split : List Token → Reading
-  bad_character : ℕ → Reading
-  long_number : ℕ → Reading
+pub data LineReading : Type 0 where
+  split : List Token → LineReading
+  bad_character : ℕ → LineReading
+  long_number : ℕ → LineReading
 
 -- the line is read so
-abbrev pub IsReadingOf : List ℕ → Reading → Type 0
+abbrev pub IsReadingOf : List ℕ → LineReading → Type 0
 IsReadingOf line (split ts) = Splits line ts
 IsReadingOf line (bad_character at) = HasBadCharacter line at
 IsReadingOf line (long_number at) = HasLongNumber line at

@@ -1,9 +1,9 @@
 ghost use Rattle.std.specs.Prelude.{◌≡◌, ℕ, ◌<◌, ◌≤◌, length, IfOk, IsErrOf};
 ghost use Rattle.std.specs.Str.{IsCharBoundary};
 ghost use Rattle.std.specs.List.{AllByRecursion};
-ghost use Rattle.pc_token.specs.Told.{Tells};
+ghost use Rattle.pc_token.specs.Told.{TellsReading};
 ghost use Rattle.pc_token.specs.Piece.{IsPieceAt};
-ghost use Rattle.pc_token.specs.Token.{IsTokenOf, is_blank, IsDigitRun, Splits, HasBadCharacter, HasLongNumber, Reading, IsReadingOf};
+ghost use Rattle.pc_token.specs.Token.{IsTokenOf, is_blank, IsDigitRun, Splits, HasBadCharacter, HasLongNumber, LineReading, IsReadingOf};
 
 use crate::name::name_end;
 use crate::sign::{sign_at, sign_len};
@@ -141,7 +141,7 @@ pub fn tokens(alloc: Global, line: &str) -> Result<Vec<Token>, TokenFault>
     ensures split { IfOk result (λ found. Splits line.now found.items) }
     ensures each { IfOk result (λ found. AllByRecursion (IsTokenOf line.now) found.items) }
     ensures bad { (at : ℕ) → IsErrOf result (TokenFault.BadCharacter at) → HasBadCharacter line.now at }
-    ensures only { (r : Reading) → IsReadingOf line.now r → Tells result r }
+    ensures only { (r : LineReading) → IsReadingOf line.now r → TellsReading result r }
     ensures long { (at : ℕ) → IsErrOf result (TokenFault.NumberTooLong at) → HasLongNumber line.now at }
 {
     let mut found = Vec::new(alloc);

@@ -13,7 +13,7 @@ use Rattle.pc_sheet.specs.declared.ids.Entry.{Entry}
 use Rattle.pc_laws.proofs.Contained.{sub_contained}
 use Rattle.pc_laws.proofs.Counting.{pairs_append}
 use Rattle.pc_laws.proofs.Least.{sub_without}
-use Rattle.pc_trying.specs.Collecting.{GoesOn, Collects}
+use Rattle.pc_trying.specs.Collecting.{IsOlderAndNewer, Collects}
 use Rattle.pc_trying.proofs.Sublists.{sub_with, sub_cases}
 
 module _ (sheet : Sheet) (newer : List Entry) (before : List (List Entry)) where
@@ -23,7 +23,7 @@ module _ (sheet : Sheet) (newer : List Entry) (before : List (List Entry)) where
   collected_one m = record {
     found = newer ∷ [];
     is = refl;
-    each = All-cons (λ s. IsMaximalSet sheet s × GoesOn [] newer s) newer [] (m, ([], refl, refl)) (All-nil (λ s. IsMaximalSet sheet s × GoesOn [] newer s));
+    each = All-cons (λ s. IsMaximalSet sheet s × IsOlderAndNewer [] newer s) newer [] (m, ([], refl, refl)) (All-nil (λ s. IsMaximalSet sheet s × IsOlderAndNewer [] newer s));
     every = λ s g h. (zero, omega arith, sym (g.2 ∙ ap (λ o. o ++ newer) g.1));
     different = λ i j d below within. absurd (omega arith);
   }
@@ -32,7 +32,7 @@ module _ (sheet : Sheet) (newer : List Entry) (before : List (List Entry)) where
   collected_none none = record {
     found = [];
     is = sym (append-nil before);
-    each = All-nil (λ s. IsMaximalSet sheet s × GoesOn [] newer s);
+    each = All-nil (λ s. IsMaximalSet sheet s × IsOlderAndNewer [] newer s);
     every = λ s g h. absurd (none (subst (IsMaximalSet sheet) (g.2 ∙ ap (λ o. o ++ newer) g.1) h));
     different = λ i j d below within. absurd (omega (arith, within));
   }
@@ -40,20 +40,20 @@ module _ (sheet : Sheet) (newer : List Entry) (before : List (List Entry)) where
 -- ---- one more older entry
 
 module _ (sheet : Sheet) (older newer : List Entry) (e : Entry) (new : ¬ Contains older e) where
-  goes_without : (s : List Entry) → GoesOn older newer s → GoesOn (older ++ e ∷ []) newer s
+  goes_without : (s : List Entry) → IsOlderAndNewer older newer s → IsOlderAndNewer (older ++ e ∷ []) newer s
   goes_without s g = (g.0, sub_without older g.0 e g.1, g.2)
 
-  goes_with : (s : List Entry) → GoesOn older (e ∷ newer) s → GoesOn (older ++ e ∷ []) newer s
+  goes_with : (s : List Entry) → IsOlderAndNewer older (e ∷ newer) s → IsOlderAndNewer (older ++ e ∷ []) newer s
   goes_with s g = (g.0 ++ e ∷ [], sub_with e older g.0 g.1, g.2 ∙ sym (append_assoc g.0 (e ∷ []) newer))
 
-  goes_cases : (s : List Entry) → GoesOn (older ++ e ∷ []) newer s → GoesOn older newer s ⊎ GoesOn older (e ∷ newer) s
+  goes_cases : (s : List Entry) → IsOlderAndNewer (older ++ e ∷ []) newer s → IsOlderAndNewer older newer s ⊎ IsOlderAndNewer older (e ∷ newer) s
   goes_cases s g = elim (sub_cases e older g.0 g.1) [
     | inl without ↦ inl (g.0, without, g.2)
     | inr c ↦ inr (c.0, c.2, g.2 ∙ ap (λ o. o ++ newer) c.1 ∙ append_assoc c.0 (e ∷ []) newer)
   ]
 
   -- without it and with it are different
-  differ : (s t : List Entry) → GoesOn older newer s → GoesOn older (e ∷ newer) t → s ≢ t
+  differ : (s t : List Entry) → IsOlderAndNewer older newer s → IsOlderAndNewer older (e ∷ newer) t → s ≢ t
   differ s t g h same =
       let cut : g.0 ≡ h.0 ++ e ∷ [] = append_cancel_right g.0 (h.0 ++ e ∷ []) newer (sym g.2 ∙ same ∙ h.2 ∙ sym (append_assoc h.0 (e ∷ []) newer)) in
       new (sub_contained older g.0 g.1 e (subst (λ o. Contains o e) (sym cut) (Contains-push h.0 e)))
@@ -62,13 +62,13 @@ module _ (sheet : Sheet) (older newer : List Entry) (e : Entry) (new : ¬ Contai
   collected_both before between after c d = record {
     found = c.found ++ d.found;
     is = d.is ∙ ap (λ sets. sets ++ d.found) c.is ∙ append_assoc before c.found d.found;
-    each = All-append (λ s. IsMaximalSet sheet s × GoesOn (older ++ e ∷ []) newer s) c.found d.found
-        (All-weaker (λ s. IsMaximalSet sheet s × GoesOn older newer s) (λ s. IsMaximalSet sheet s × GoesOn (older ++ e ∷ []) newer s) (λ s h. (h.0, goes_without s h.1)) c.found c.each)
-        (All-weaker (λ s. IsMaximalSet sheet s × GoesOn older (e ∷ newer) s) (λ s. IsMaximalSet sheet s × GoesOn (older ++ e ∷ []) newer s) (λ s h. (h.0, goes_with s h.1)) d.found d.each);
+    each = All-append (λ s. IsMaximalSet sheet s × IsOlderAndNewer (older ++ e ∷ []) newer s) c.found d.found
+        (All-weaker (λ s. IsMaximalSet sheet s × IsOlderAndNewer older newer s) (λ s. IsMaximalSet sheet s × IsOlderAndNewer (older ++ e ∷ []) newer s) (λ s h. (h.0, goes_without s h.1)) c.found c.each)
+        (All-weaker (λ s. IsMaximalSet sheet s × IsOlderAndNewer older (e ∷ newer) s) (λ s. IsMaximalSet sheet s × IsOlderAndNewer (older ++ e ∷ []) newer s) (λ s h. (h.0, goes_with s h.1)) d.found d.each);
     every = λ s g m. elim (goes_cases s g) [ inl without ↦ Contains-append_left c.found d.found s (c.every s without m) | inr within ↦ Contains-append_right c.found d.found s (d.every s within m) ];
     different = pairs_append (λ s t. s ≢ t) c.found d.found c.different d.different
-        (All-weaker (λ s. IsMaximalSet sheet s × GoesOn older newer s) (λ s. All (λ t. s ≢ t) d.found)
-        (λ s h. All-weaker (λ t. IsMaximalSet sheet t × GoesOn older (e ∷ newer) t) (λ t. s ≢ t) (λ t k. differ s t h.1 k.1) d.found d.each) c.found c.each);
+        (All-weaker (λ s. IsMaximalSet sheet s × IsOlderAndNewer older newer s) (λ s. All (λ t. s ≢ t) d.found)
+        (λ s h. All-weaker (λ t. IsMaximalSet sheet t × IsOlderAndNewer older (e ∷ newer) t) (λ t. s ≢ t) (λ t k. differ s t h.1 k.1) d.found d.each) c.found c.each);
   }
 
 -- ---- one entry of a book
@@ -119,7 +119,7 @@ excluded_unless sheet set e false lacks says = (λ z. inr (λ h. let y = says.1 
 pub lists_all : (sheet : Sheet) (after : List (List Entry)) → Collects sheet sheet.entries [] [] after → ListsExactly (List Entry) (IsMaximalSet sheet) after
 lists_all sheet after c = record {
   exact = λ s. (
-    λ h. (All-contains (λ o. IsMaximalSet sheet o × GoesOn sheet.entries [] o) c.found s c.each (subst (λ sets. Contains sets s) c.is h)).0,
+    λ h. (All-contains (λ o. IsMaximalSet sheet o × IsOlderAndNewer sheet.entries [] o) c.found s c.each (subst (λ sets. Contains sets s) c.is h)).0,
     λ m. subst (λ sets. Contains sets s) (sym c.is) (c.every s (s, m.among, sym (append-nil s)) m),
   );
   different = subst (AllPairs (λ s t. s ≢ t)) (sym c.is) c.different;

@@ -1,6 +1,5 @@
 -- One hint further in a refutation.
-use Rattle.std.proofs.Common.{◌≡◌, ◌≢◌, ℕ, ◌+◌, ◌<◌, Bool, true, not, List, [], ◌∷◌, ◌++◌, Option, Some, length, get_or, set, take, drop, All, refl, sym, ap, ◌∙◌, subst, arith, Contains, ⊎_elim, ◌↔◌}
-use Rattle.std.proofs.Common.{eqb, slice_get}
+use Rattle.std.proofs.Common.{◌≡◌, ◌≢◌, ℕ, ◌+◌, ◌<◌, Bool, true, not, List, [], ◌∷◌, ◌++◌, Option, Some, length, get_or, set, take, drop, All, refl, sym, ap, ◌∙◌, subst, arith, Contains, ⊎_elim, ◌↔◌, eqb, slice_get}
 use Rattle.std.proofs.lemmas.Option.{get_or_from_slice_get, slice_get_within}
 use Rattle.std.proofs.lemmas.Bool.{cases_Bool, eqb-true, eqb-false}
 use Rattle.std.proofs.lemmas.List.{take_more, take-append-drop, drop_more, drop_all, length-drop}
@@ -12,23 +11,23 @@ use Rattle.pc_lits.specs.Steps.{IsTautology, Refutes}
 use Rattle.pc_lits.proofs.LitLemmas.{same_lit, lit_from_same, other_lit}
 use Rattle.pc_values.specs.declared.scan.Left.TheVariants.{Nothing, Last, More}
 use Rattle.pc_values.specs.Values.{MakesFalse, IsInRange, value_of, Agrees}
-use Rattle.pc_values.specs.Scan.{IsLeft}
+use Rattle.pc_values.specs.Scan.{IsScanned}
 use Rattle.pc_values.proofs.AgreeLemmas.{Agrees-set, never_not, some_cancel}
 
 -- the literals of the hint have values or may get them
 abbrev pub InRange : List (Option Bool) → List Lit → Type 0
 InRange values hint = (m : Lit) → Contains hint m → IsInRange values m
 
-pub closed_last : (values : List (Option Bool)) (falses hint : List Lit) → Agrees values falses → InRange values hint → IsLeft values hint Nothing → Refutes negated falses (hint ∷ [])
+pub closed_last : (values : List (Option Bool)) (falses hint : List Lit) → Agrees values falses → InRange values hint → IsScanned values hint Nothing → Refutes negated falses (hint ∷ [])
 closed_last values falses hint agrees within left m has = (agrees m (within m has)).0 (left m has)
 
-pub closed_early : (values : List (Option Bool)) (falses hint : List Lit) (rest : List (List Lit)) → Agrees values falses → InRange values hint → IsLeft values hint Nothing
+pub closed_early : (values : List (Option Bool)) (falses hint : List Lit) (rest : List (List Lit)) → Agrees values falses → InRange values hint → IsScanned values hint Nothing
     → rest ≢ [] → Refutes negated falses (hint ∷ rest) → ⊥
 closed_early values falses hint [] agrees within left more h = more refl
 closed_early values falses hint (next ∷ rest) agrees within left more h =
     h.1.1 ((agrees h.0 (within h.0 h.1.0)).0 (left h.0 h.1.0))
 
-pub open_more : (values : List (Option Bool)) (falses hint : List Lit) (rest : List (List Lit)) → Agrees values falses → InRange values hint → IsLeft values hint More
+pub open_more : (values : List (Option Bool)) (falses hint : List Lit) (rest : List (List Lit)) → Agrees values falses → InRange values hint → IsScanned values hint More
     → Refutes negated falses (hint ∷ rest) → ⊥
 open_more values falses hint [] agrees within left h = left.5 ((agrees left.0 (within left.0 left.3)).1 (h left.0 left.3))
 open_more values falses hint (next ∷ rest) agrees within left h =
@@ -41,7 +40,7 @@ open_more values falses hint (next ∷ rest) agrees within left h =
     (cases_Bool (same_lit l h.0))
 
 -- the only literal that isn't false is the one that the hint makes true
-pub open_last : (values : List (Option Bool)) (falses hint : List Lit) (rest : List (List Lit)) (l : Lit) → Agrees values falses → InRange values hint → IsLeft values hint (Last l)
+pub open_last : (values : List (Option Bool)) (falses hint : List Lit) (rest : List (List Lit)) (l : Lit) → Agrees values falses → InRange values hint → IsScanned values hint (Last l)
     → Refutes negated falses (hint ∷ rest) ↔ Refutes negated (falses ++ negated l ∷ []) rest
 open_last values falses hint [] l agrees within left =
     (λ h. left.1 ((agrees l (within l left.0)).1 (h l left.0)), λ h. absurd h)
@@ -87,7 +86,7 @@ hints_more hints place clause at =
 
 -- the answer where no literal of the hint is left
 pub nothing_left : (values : List (Option Bool)) (falses hint : List Lit) (hints : List (List Lit)) (place count : ℕ) → count ≡ length hints
-    → slice_get hints place ≡ Some hint → Agrees values falses → InRange values hint → IsLeft values hint Nothing
+    → slice_get hints place ≡ Some hint → Agrees values falses → InRange values hint → IsScanned values hint Nothing
     → (eqb (place + 1) count ≡ true) ↔ Refutes negated falses (drop place hints)
 nothing_left values falses hint hints place count all at agrees in_range left =
     let more = hints_more hints place hint at in

@@ -5,7 +5,7 @@ use Rattle.std.specs.Prelude.{option_and_then}
 use Rattle.pc_words.specs.declared.asked.Request.{Request as FoundRequest}
 use Rattle.pc_words.specs.declared.parting.Parts.{Parts as FoundParts}
 use Rattle.pc_words.specs.View.{request_of}
-use Rattle.pc_words.specs.Words.{Request, Fits, FitSomething, FitOnly}
+use Rattle.pc_words.specs.Words.{Request, FitsWords, FitSomething, FitOnly}
 use Rattle.pc_words.specs.inside.Parts.{Parts, parts_of, request_from, request_for}
 use Rattle.pc_words.specs.inside.Seen.{seen}
 use Rattle.pc_words.proofs.Fitting.{sound, complete, one_request, nothing}
@@ -32,7 +32,7 @@ module _ (words : List (List ℕ)) where
       let there : parts_of words ≡ None = sym seen_is ∙ ap (option_map seen) is in
       (λ t. absurd (cc), λ f. absurd (nothing words (ap (option_and_then request_from) there) f.0 f.1))
 
-  pub parted : (r : Request) → Fits words r → Parted words r
+  pub parted : (r : Request) → FitsWords words r → Parted words r
   parted r fits = by (parts_of words) refl (complete words r fits)
     where
       by : (o : Option Parts) → parts_of words ≡ o → option_and_then request_from o ≡ Some r → Parted words r
@@ -40,13 +40,13 @@ module _ (words : List (List ℕ)) where
       by (Some p) e h = record { parts = p; are = e; ask = h }
 
   -- the request that is found is the only one
-  pub told : (r : Request) → Fits words r → (p q : Parts) → request_from p ≡ Some r → q ≡ p → (asked : Option FoundRequest) (x : FoundRequest) → option_map request_of asked ≡ request_from q → asked ≡ Some x
+  pub told : (r : Request) → FitsWords words r → (p q : Parts) → request_from p ≡ Some r → q ≡ p → (asked : Option FoundRequest) (x : FoundRequest) → option_map request_of asked ≡ request_from q → asked ≡ Some x
       → FitOnly words (request_of x)
   told r fits p q ask same asked x asked_is is =
       let found : Some (request_of x) ≡ Some r = sym (ap (option_map request_of) is) ∙ asked_is ∙ ap request_from same ∙ ask in
       let this : r ≡ request_of x = cc in
-      let here : Fits words (request_of x) = subst (Fits words) this fits in
-      λ other. (λ f. one_request words other (request_of x) f here, λ e. subst (Fits words) (sym e) here)
+      let here : FitsWords words (request_of x) = subst (FitsWords words) this fits in
+      λ other. (λ f. one_request words other (request_of x) f here, λ e. subst (FitsWords words) (sym e) here)
 
 pub same_parts : (p : Parts) (mode : List ℕ) (word budget : Option (List ℕ)) → mode ≡ p.mode → word ≡ p.word → budget ≡ p.budget → record { mode = mode; word = word; budget = budget } ≡ p
 same_parts p mode word budget e f g = λ i. record { mode = e i; word = f i; budget = g i }

@@ -6,7 +6,7 @@ use Rattle.std.proofs.lemmas.Slice.Eq.{bytes_eq-Decides}
 use Rattle.std.proofs.lemmas.Str.Parse.{digit_from_value}
 use Rattle.std.specs.Prelude.{if◌then◌else◌, option_and_then}
 use Rattle.std.specs.Str.{bytes_eq}
-use Rattle.pc_words.specs.Words.{Mode, replays, edits, checks, demonstrates, Request, IsFileName, IsNumber, AreOfMode, AreOption, FitWithBudget, Fits, FitNothing}
+use Rattle.pc_words.specs.Words.{Mode, replays, edits, checks, demonstrates, Request, IsFileName, IsNumber, AreOfMode, AreOption, FitWithBudget, FitsWords, FitNothing}
 use Rattle.pc_words.specs.inside.Parts.{is_option, is_attached, plain_parts, valued_parts, option_parts, option_place, parts_of, request_from, request_for}
 use Rattle.pc_words.proofs.Modes.{plain_sound, plain_complete}
 
@@ -15,7 +15,7 @@ use Rattle.pc_words.proofs.Modes.{plain_sound, plain_complete}
 attached_is : (word : List ℕ) → is_attached word ≡ true → word ≡ codes "--budget=" ++ drop 9 word
 attached_is word h = sym (ap (λ t. t ++ drop 9 word) ((bytes_eq-Decides (codes "--budget=") (take 9 word)).0 h) ∙ take-append-drop 9 word)
 
-valued_sound : (before : List (List ℕ)) (word : List ℕ) (rest : List (List ℕ)) (r : Request) → word ≡ codes "--budget" → option_and_then request_from (valued_parts before rest) ≡ Some r → Fits (before ++ (word ∷ rest)) r
+valued_sound : (before : List (List ℕ)) (word : List ℕ) (rest : List (List ℕ)) (r : Request) → word ≡ codes "--budget" → option_and_then request_from (valued_parts before rest) ≡ Some r → FitsWords (before ++ (word ∷ rest)) r
 valued_sound before word [] r is h = absurd (cc)
 valued_sound before word (value ∷ after) r is h =
     let told = plain_sound (before ++ after) (Some value) r h in
@@ -29,14 +29,14 @@ valued_sound before word (value ∷ after) r is h =
       budget = (value, inl (ap (λ w. w ∷ value ∷ []) is), told.1.1);
     })
 
-option_sound : (before rest : List (List ℕ)) (r : Request) → option_and_then request_from (option_parts before rest) ≡ Some r → Fits (before ++ rest) r
+option_sound : (before rest : List (List ℕ)) (r : Request) → option_and_then request_from (option_parts before rest) ≡ Some r → FitsWords (before ++ rest) r
 option_sound before [] r h =
     let told = plain_sound before None r h in
-    subst (λ ws. Fits ws r) (sym (append-nil before)) (inl told)
+    subst (λ ws. FitsWords ws r) (sym (append-nil before)) (inl told)
 option_sound before (word ∷ rest) r h = by (bytes_eq word (codes "--budget")) refl (is_attached word) refl h
   where
     by : (b : Bool) → bytes_eq word (codes "--budget") ≡ b → (c : Bool) → is_attached word ≡ c
-        → option_and_then request_from (if b then valued_parts before rest else if c then plain_parts (before ++ rest) (Some (drop 9 word)) else None) ≡ Some r → Fits (before ++ (word ∷ rest)) r
+        → option_and_then request_from (if b then valued_parts before rest else if c then plain_parts (before ++ rest) (Some (drop 9 word)) else None) ≡ Some r → FitsWords (before ++ (word ∷ rest)) r
     by true e c f h = valued_sound before word rest r ((bytes_eq-Decides word (codes "--budget")).0 e) h
     by false e true f h =
         let told = plain_sound (before ++ rest) (Some (drop 9 word)) r h in
@@ -51,10 +51,10 @@ option_sound before (word ∷ rest) r h = by (bytes_eq word (codes "--budget")) 
         })
     by false e false f h = absurd (cc)
 
-pub sound : (words : List (List ℕ)) (r : Request) → request_for words ≡ Some r → Fits words r
+pub sound : (words : List (List ℕ)) (r : Request) → request_for words ≡ Some r → FitsWords words r
 sound words r h =
     let place = option_place words in
-    subst (λ ws. Fits ws r) (take-append-drop place words) (option_sound (take place words) (drop place words) r h)
+    subst (λ ws. FitsWords ws r) (take-append-drop place words) (option_sound (take place words) (drop place words) r h)
 
 -- ---- what fits is found
 
@@ -116,7 +116,7 @@ with_option words r told number option is =
       | inr e ↦ ap request_for (told.all ∙ ap (λ o. told.before ++ (o ++ told.after)) e) ∙ ap (option_and_then request_from) (attached_parts told.before told.after number plain) ∙ plain_complete (told.before ++ told.after) (Some number) r told.mode (told.takes, is)
     ]
 
-pub complete : (words : List (List ℕ)) (r : Request) → Fits words r → request_for words ≡ Some r
+pub complete : (words : List (List ℕ)) (r : Request) → FitsWords words r → request_for words ≡ Some r
 complete words r (inl told) = ap (option_and_then request_from) (parts_plain words (plain_words words r.mode told.0)) ∙ plain_complete words None r told.0 told.1
 complete words r (inr told) = with_option words r told told.budget.0 told.budget.1 told.budget.2
 
@@ -125,7 +125,7 @@ complete words r (inr told) = with_option words r told told.budget.0 told.budget
 some_same : (x y : Request) → Some x ≡ Some y → x ≡ y
 some_same x y h = cc
 
-pub one_request : (words : List (List ℕ)) (x y : Request) → Fits words x → Fits words y → x ≡ y
+pub one_request : (words : List (List ℕ)) (x y : Request) → FitsWords words x → FitsWords words y → x ≡ y
 one_request words x y first second = some_same x y (sym (complete words x first) ∙ complete words y second)
 
 pub nothing : (words : List (List ℕ)) → request_for words ≡ None → FitNothing words

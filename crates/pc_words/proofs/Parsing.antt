@@ -4,7 +4,7 @@ use Rattle.std.specs.Str.{bytes_eq}
 use Rattle.clap.specs.Lexer.{strip_byte}
 use Rattle.clap.specs.Words.{matches_of, takes, first_of}
 use Rattle.clap.proofs.OnLiterals.{clap_on_literals}
-use Rattle.pc_words.specs.Words.{Request, AreOption, FitWithBudget, Fits}
+use Rattle.pc_words.specs.Words.{Request, AreOption, FitWithBudget, FitsWords}
 use Rattle.pc_words.specs.inside.Parse.{app}
 use Rattle.pc_words.specs.inside.Parts.{is_option, Parts, plain_parts, parts_of}
 use Rattle.pc_words.proofs.Fitting.{AllPlain, plain_front, plain_back, plain_words, plain_number, parts_plain, attached_parts, detached_parts}
@@ -222,6 +222,6 @@ with_option words r told number option plain p h =
           subst (λ ws. GivesParts ws p) (sym is) (gives_attached told.before told.after number front back p (sym (attached_parts told.before told.after number front) ∙ ap parts_of (sym is) ∙ h))
     ]
 
-pub gives : (words : List (List ℕ)) (r : Request) → Fits words r → (p : Parts) → parts_of words ≡ Some p → GivesParts words p
+pub gives : (words : List (List ℕ)) (r : Request) → FitsWords words r → (p : Parts) → parts_of words ≡ Some p → GivesParts words p
 gives words r (inl told) p h = let plain = plain_words words r.mode told.0 in gives_alone words plain p (sym (parts_plain words plain) ∙ h)
 gives words r (inr told) p h = with_option words r told told.budget.0 told.budget.1 (plain_number 13 1000000000000 told.budget.0 r.budget told.budget.2) p h

@@ -1,9 +1,9 @@
 -- Worked words: what they ask for, or that they fit nothing.
 use Rattle.std.specs.Prelude.{ℕ, List, [], ◌∷◌, codes}
-use Rattle.pc_words.specs.Words.{Mode, replays, edits, checks, demonstrates, usual_budget, Fits, FitNothing}
+use Rattle.pc_words.specs.Words.{Mode, replays, edits, checks, demonstrates, usual_budget, FitsWords, FitNothing}
 
 abbrev ask : List (List ℕ) → Mode → ℕ → Type 0
-ask words mode budget = Fits words (record { mode = mode; budget = budget })
+ask words mode budget = FitsWords words (record { mode = mode; budget = budget })
 
 -- words that fit
 pub record FitWorked : Type 0 where

@@ -73,17 +73,17 @@ abbrev pub FitWithoutBudget : List (List ℕ) → Request → Type 0
 FitWithoutBudget words request = AreOfMode words request.mode × (request.budget ≡ usual_budget)
 
 -- the words fit: this is what they ask for
-abbrev pub Fits : List (List ℕ) → Request → Type 0
-Fits words request = FitWithoutBudget words request ⊎ FitWithBudget words request
+abbrev pub FitsWords : List (List ℕ) → Request → Type 0
+FitsWords words request = FitWithoutBudget words request ⊎ FitWithBudget words request
 
 -- they ask for something
 abbrev pub FitSomething : List (List ℕ) → Type 0
-FitSomething words = (request : Request) × Fits words request
+FitSomething words = (request : Request) × FitsWords words request
 
 -- for this and for nothing else
 abbrev pub FitOnly : List (List ℕ) → Request → Type 0
-FitOnly words request = (other : Request) → (Fits words other ↔ (other ≡ request))
+FitOnly words request = (other : Request) → (FitsWords words other ↔ (other ≡ request))
 
 -- for nothing: the words don't fit
 abbrev pub FitNothing : List (List ℕ) → Type 0
-FitNothing words = (request : Request) → ¬ Fits words request
+FitNothing words = (request : Request) → ¬ FitsWords words request

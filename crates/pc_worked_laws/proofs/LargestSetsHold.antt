@@ -3,7 +3,7 @@ use Rattle.std.proofs.Common.{◌≡◌, ◌⊎◌, inl, inr, List, [], ◌∷�
 use Rattle.std.proofs.lemmas.List.Elements.{All-head}
 use Rattle.pc_sheet.specs.Entailment.{IsConsistent, IsSublist, opposite_of}
 use Rattle.pc_sheet.specs.declared.ids.Entry.{Entry}
-use Rattle.pc_laws.specs.Examples.{IsShown, red, green, entry, never_red, two_pairs}
+use Rattle.pc_laws.specs.Examples.{IsShownFor, red, green, entry, never_red, two_pairs}
 use Rattle.pc_laws.proofs.Finding.{computed}
 use Rattle.pc_worked_laws.specs.LargestSets.{NothingIsKept, PairsHaveFourSets, four_sets}
 use Rattle.pc_worked_laws.proofs.Computing.{is_consistent, not_consistent, not_maximal, lists, sublist}
@@ -23,7 +23,7 @@ nothing_kept = record {
     minimal = fewer;
   };
   largest = lists never_red.sheet 2 [] refl ([] ∷ []) refl;
-  against_the_rules = All-head (λ p. IsShown never_red.sheet p.0 p.1) (opposite_of (entry 0 red), Some []) [] (computed never_red.sheet ((opposite_of (entry 0 red), Some []) ∷ []) refl);
+  against_the_rules = All-head (λ p. IsShownFor never_red.sheet p.0 p.1) (opposite_of (entry 0 red), Some []) [] (computed never_red.sheet ((opposite_of (entry 0 red), Some []) ∷ []) refl);
 }
 
 -- ---- two pairs

@@ -2,7 +2,7 @@
 use Rattle.std.proofs.Common.{[], ◌∷◌, refl, Some}
 use Rattle.std.proofs.lemmas.List.Elements.{All-head}
 use Rattle.pc_sheet.specs.Entailment.{IsLess, IsLeastSupport}
-use Rattle.pc_laws.specs.Examples.{IsShown, red, entry, target}
+use Rattle.pc_laws.specs.Examples.{IsShownFor, red, entry, target}
 use Rattle.pc_laws.proofs.Contained.{contains_later, contains_none}
 use Rattle.pc_laws.proofs.Finding.{computed}
 use Rattle.pc_laws.proofs.Order.{irreflexive}
@@ -43,7 +43,7 @@ newer_less = record {
 }
 
 least : IsLeastSupport ends_red older (target 1 red)
-least = All-head (λ p. IsShown ends_red p.0 p.1) (target 1 red, Some older) [] (computed ends_red ((target 1 red, Some older) ∷ []) refl)
+least = All-head (λ p. IsShownFor ends_red p.0 p.1) (target 1 red, Some older) [] (computed ends_red ((target 1 red, Some older) ∷ []) refl)
 
 pub newest_decides : NewestDecides
 newest_decides = record {

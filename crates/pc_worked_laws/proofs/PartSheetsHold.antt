@@ -6,7 +6,7 @@ use Rattle.pc_sheet.specs.Truth.{Holds}
 use Rattle.pc_sheet.specs.declared.ids.ValueId.{ValueId}
 use Rattle.pc_sheet.specs.Entailment.{IsLeastSupport}
 use Rattle.pc_sheet.specs.MaximalSets.{AreRulesConsistent}
-use Rattle.pc_laws.specs.Examples.{IsShown, red, green, entry, target, two_pairs}
+use Rattle.pc_laws.specs.Examples.{IsShownFor, red, green, entry, target, two_pairs}
 use Rattle.pc_laws.proofs.Finding.{computed}
 use Rattle.pc_parts.specs.Components.{parts_of}
 use Rattle.pc_parts.specs.Pieces.{Piece}
@@ -15,7 +15,7 @@ use Rattle.pc_worked_laws.specs.PartSheets.{WorkedPartSheets, first_pair, second
 use Rattle.pc_worked_laws.proofs.Computing.{is_consistent, lists}
 
 in_second : IsLeastSupport second_pair (entry 3 green ∷ []) (target 2 green)
-in_second = All-head (λ p. IsShown second_pair p.0 p.1) (target 2 green, Some (entry 3 green ∷ [])) [] (computed second_pair ((target 2 green, Some (entry 3 green ∷ [])) ∷ []) refl)
+in_second = All-head (λ p. IsShownFor second_pair p.0 p.1) (target 2 green, Some (entry 3 green ∷ [])) [] (computed second_pair ((target 2 green, Some (entry 3 green ∷ [])) ∷ []) refl)
 
 -- ---- parts that are turned
 

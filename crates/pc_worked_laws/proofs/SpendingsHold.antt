@@ -15,7 +15,7 @@ use Rattle.pc_theory.specs.Spendings.{AreFewCalls, IsSetOf, IsSpentOn, IsLawful}
 use Rattle.pc_theory.specs.Theories.{rules_alone}
 use Rattle.pc_theory.specs.declared.spending.PartSpending.{PartSpending}
 use Rattle.pc_theory.specs.declared.spending.Spending.{Spending}
-use Rattle.pc_worked_laws.specs.Spendings.{IsBare, IsOfOnePart, WorkedSpendings}
+use Rattle.pc_worked_laws.specs.Spendings.{HasNoLog, IsOfOnePart, WorkedSpendings}
 use Rattle.pc_worked_laws.proofs.Computing.{is_consistent, lists}
 
 -- what is spent on the only part, or on the first
@@ -84,7 +84,7 @@ in_no_log s p are none one l =
     let on = on_first equal_cells None 5 s p [] are l in
     omega (arith, ap (sum_by marked) none, on.spent.learned, one)
 
-stands_twice : (s : Spending) (p q : PartSpending) → s.parts.items ≡ p ∷ q ∷ [] → IsBare p 0 2 1 → IsBare q 0 3 1 → ¬ IsLawful equal_cells None 5 s
+stands_twice : (s : Spending) (p q : PartSpending) → s.parts.items ≡ p ∷ q ∷ [] → HasNoLog p 0 2 1 → HasNoLog q 0 3 1 → ¬ IsLawful equal_cells None 5 s
 stands_twice s p q are first second l =
     let pairs = subst (AllPairs (λ (x y : PartSpending). x.part ≢ y.part)) are l.of_sheet.different in
     pairs 0 1 p (omega arith) (omega arith) (first.number ∙ sym second.number)

@@ -13,7 +13,7 @@ pub record Has (t : Tally) (placed learned calls : ℕ) : Type 0 where
   pub calls_is : t.calls ≡ calls
 
 -- so much on the part of that number, with no log
-pub record IsBare (p : PartSpending) (part placed calls : ℕ) : Type 0 where
+pub record HasNoLog (p : PartSpending) (part placed calls : ℕ) : Type 0 where
   pub number : p.part ≡ part
   pub counts : Has p.tally placed 0 calls
   pub no_logs : p.logs.items ≡ []
@@ -22,7 +22,7 @@ pub record IsBare (p : PartSpending) (part placed calls : ℕ) : Type 0 where
 pub record IsOfOnePart (s : Spending) (limit part placed calls : ℕ) : Type 0 where
   pub only : PartSpending
   pub parts : s.parts.items ≡ only ∷ []
-  pub spent : IsBare only part placed calls
+  pub spent : HasNoLog only part placed calls
   pub counts : Has s.tally placed 0 calls
   pub limit_is : s.tally.limit ≡ limit
 
@@ -41,4 +41,4 @@ pub record WorkedSpendings : Type 0 where
   -- a clause that was learned stands in no log
   pub learned_in_no_log : (s : Spending) (p : PartSpending) → s.parts.items ≡ p ∷ [] → p.logs.items ≡ [] → p.tally.learned ≡ 1 → ¬ IsLawful equal_cells None 5 s
   -- no part stands twice
-  pub twice : (s : Spending) (p q : PartSpending) → s.parts.items ≡ p ∷ q ∷ [] → IsBare p 0 2 1 → IsBare q 0 3 1 → ¬ IsLawful equal_cells None 5 s
+  pub twice : (s : Spending) (p q : PartSpending) → s.parts.items ≡ p ∷ q ∷ [] → HasNoLog p 0 2 1 → HasNoLog q 0 3 1 → ¬ IsLawful equal_cells None 5 s

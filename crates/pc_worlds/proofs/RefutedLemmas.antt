@@ -10,7 +10,7 @@ use Rattle.pc_lits.specs.Truth.{IsTrueUnder, lit_true}
 use Rattle.pc_lits.proofs.Sound.{true_literal}
 use Rattle.pc_log.specs.declared.log.StepId.{StepId}
 use Rattle.pc_log.specs.Lines.{LogLine, AxiomLine}
-use Rattle.pc_log.specs.Derivations.{clause_of}
+use Rattle.pc_log.specs.Derivations.{clause_of_line}
 use Rattle.pc_log.specs.Laws.{DerivationsAreSound}
 use Rattle.pc_analyze.specs.Learning.{IsOverNegated}
 use Rattle.pc_sheet.specs.Entailment.{AreWithin, HasAll, HasEntry}
@@ -47,8 +47,8 @@ not_both false h k = (cc)
 one_true : (v : Var → Bool) (l m : Lit) → m ≡ negated l → lit_true v l ≡ true → lit_true v m ≡ true → ⊥
 one_true v l m is h k = not_both (lit_true v l) h (sym (turned (v l.variable) l.sign) ∙ sym (ap (lit_true v) is) ∙ k)
 
-clause_at_line : (axioms : List (List Lit)) (log : List LogLine) (id : StepId) → id.0 < length log → clause_on axioms log id ≡ clause_of axioms (get_or log id.0 (AxiomLine 0))
-clause_at_line axioms log id within = get_or-map (clause_of axioms) log id.0 (AxiomLine 0) [] within
+clause_at_line : (axioms : List (List Lit)) (log : List LogLine) (id : StepId) → id.0 < length log → clause_on axioms log id ≡ clause_of_line axioms (get_or log id.0 (AxiomLine 0))
+clause_at_line axioms log id within = get_or-map (clause_of_line axioms) log id.0 (AxiomLine 0) [] within
 
 none_there : {P : Type 0} (number : ℕ) (c : List Lit) → slice_get (let none : List (List Lit) = [] in none) number ≡ Some c → P
 none_there number c e = (cc)

@@ -6,7 +6,7 @@ use Rattle.std.proofs.lemmas.Option.{slice_get_within, slice_get-get_or, get_or_
 use Rattle.pc_sheet.proofs.Cells.{some_same}
 use Rattle.pc_sheet.proofs.CellsListed.{cells_are_numbered}
 use Rattle.pc_sheet.specs.Sheet.{Universe, Family, Sort}
-use Rattle.pc_sheet.specs.Truth.{count_of, size_of, values_of_sort, argument_sorts, result_sort_of}
+use Rattle.pc_sheet.specs.Sizes.{count_of, size_of, values_of_sort, argument_sorts, result_sort_of}
 use Rattle.pc_sheet.specs.Entailment.{AreWithin, cell_sizes}
 use Rattle.pc_sheet.specs.Cells.{Application, cells, IsApplication, size_of_cell}
 use Rattle.pc_sheet.specs.declared.ids.SortId.{SortId}

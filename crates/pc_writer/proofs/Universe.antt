@@ -5,7 +5,7 @@ use Rattle.std.proofs.lemmas.Option.{slice_get-get_or, unwrap_or-slice_get}
 use Rattle.std.proofs.lemmas.List.Elements.{All-get_or}
 use Rattle.pc_sheet.proofs.Cells.{some_same}
 use Rattle.pc_sheet.specs.Sheet.{Universe, Values, listed, range}
-use Rattle.pc_sheet.specs.Truth.{count_of, size_of, values_of_sort, values_at}
+use Rattle.pc_sheet.specs.Sizes.{count_of, size_of, values_of_sort, values_at}
 use Rattle.pc_sheet.specs.WellFormed.{AreWellFormedValues, IsWellFormedUniverse, IsWellFormedTable, IsWellFormedFamily}
 use Rattle.pc_sheet.specs.WellSorted.{names_of_values}
 use Rattle.pc_sheet.specs.declared.ids.SortId.{SortId}

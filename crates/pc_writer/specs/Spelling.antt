@@ -3,7 +3,7 @@ use Rattle.std.specs.Prelude.{ℕ, pos, ◌+ℤ◌, List, [], ◌∷◌, ◌++�
 use Rattle.std.specs.List.{flat_map}
 use Rattle.std.specs.Fmt.{signed_decimal}
 use Rattle.pc_sheet.specs.Sheet.{Values, listed, range, Family, Universe}
-use Rattle.pc_sheet.specs.Truth.{values_at, argument_sorts, result_sort_of}
+use Rattle.pc_sheet.specs.Sizes.{values_at, argument_sorts, result_sort_of}
 use Rattle.pc_sheet.specs.Cells.{Application, cells}
 use Rattle.pc_sheet.specs.declared.ids.SortId.{SortId}
 use Rattle.pc_sheet.specs.declared.ids.CellId.{CellId}

@@ -1,7 +1,7 @@
 -- Items of which each name is declared: what can be written.
 use Rattle.std.specs.Prelude.{ℕ, ◌<◌, length, All}
 use Rattle.pc_sheet.specs.Sheet.{Universe, Item, Items, no_items, item, variable, constant, number, cell, Sum}
-use Rattle.pc_sheet.specs.Truth.{size_of}
+use Rattle.pc_sheet.specs.Sizes.{size_of}
 use Rattle.pc_name.specs.declared.sign.Sign.{Sign}
 
 -- under that many enclosing variables

@@ -1,7 +1,7 @@
 // Cells, by their family and arguments.
 ghost use Rattle.std.specs.Prelude.{◌≡◌, ◌<◌, length};
 ghost use Rattle.pc_sheet.specs.Entailment.{cell_sizes};
-ghost use Rattle.pc_sheet.specs.Truth.{argument_sorts};
+ghost use Rattle.pc_sheet.specs.Sizes.{argument_sorts};
 ghost use Rattle.pc_writer.specs.Spelling.{application_of, cell_text, family_of, joined, separated_arguments, separated_cell, sort_of, value_texts};
 ghost use Rattle.pc_writer.specs.Writes.{Writes};
 

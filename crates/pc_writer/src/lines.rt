@@ -3,7 +3,7 @@ ghost use Rattle.std.specs.Prelude.{◌≡◌, ◌<◌, codes, length, map, None
 ghost use Rattle.std.specs.List.{flat_map};
 ghost use Rattle.pc_sheet.specs.Entailment.{AreWithin};
 ghost use Rattle.pc_sheet.specs.Sheet.{range};
-ghost use Rattle.pc_sheet.specs.Truth.{size_of, values_at};
+ghost use Rattle.pc_sheet.specs.Sizes.{size_of, values_at};
 ghost use Rattle.pc_sheet.specs.Views.{rule_of};
 ghost use Rattle.pc_sheet.specs.WellFormed.{IsEntryOf, IsWellFormedRule, IsWellFormedUniverse};
 ghost use Rattle.pc_sheet.specs.WellSorted.{names_of_values};

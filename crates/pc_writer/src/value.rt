@@ -1,6 +1,6 @@
 // Values of a sort.
 ghost use Rattle.std.specs.Prelude.{◌<◌};
-ghost use Rattle.pc_sheet.specs.Truth.{size_of};
+ghost use Rattle.pc_sheet.specs.Sizes.{size_of};
 ghost use Rattle.pc_writer.specs.Spelling.{value_text};
 ghost use Rattle.pc_writer.specs.Writes.{Writes};
 

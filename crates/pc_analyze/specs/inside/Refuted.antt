@@ -2,7 +2,7 @@
 use Rattle.std.specs.Prelude.{◌≡◌, ℕ, ◌+◌, ◌<◌, ◌≤◌, ◌⊎◌, Bool, List, [], ◌∷◌, ◌++◌, Contains, take, length, slice_index_or, IsNone}
 use Rattle.pc_lits.specs.declared.literal.Lit.{Lit}
 use Rattle.pc_lits.specs.Steps.{AreFalse, IsLastOpen}
-use Rattle.pc_propagate.specs.declared.trail.Entry.{Entry}
+use Rattle.pc_propagate.specs.declared.trail.TrailEntry.{TrailEntry}
 use Rattle.pc_propagate.specs.Entries.{falses}
 use Rattle.pc_propagate.specs.Watched.{IsFalseAt}
 use Rattle.pc_analyze.specs.inside.Marking.{IsMarked}
@@ -11,7 +11,7 @@ use Rattle.pc_lits.specs.Literals.{negated}
 use Rattle.pc_analyze.specs.FirstPoint.{Leads}
 
 -- each literal that became false at a marked place is among these
-abbrev pub Covers : List Entry → List Bool → List Lit → Type 0
+abbrev pub Covers : List TrailEntry → List Bool → List Lit → Type 0
 Covers entries marks lits = (k : ℕ) (m : Lit) → IsMarked marks k → IsFalseAt entries k m → Contains lits m
 
 -- with these literals false, each hint but the last has one literal that isn't, whose negation wasn't false before and stands in
@@ -24,29 +24,29 @@ RefutesByEach falses (hint ∷ next ∷ hints) =
 
 -- The hints refute every list of literals that has the marked ones and, beside the literals of `base`, only such as are
 -- false by the entries before `place`.
-pub record IsRefuted (entries : List Entry) (base : List Lit) (place : ℕ) (marks : List Bool) (hints : List (List Lit)) : Type 0 where
+pub record IsRefuted (entries : List TrailEntry) (base : List Lit) (place : ℕ) (marks : List Bool) (hints : List (List Lit)) : Type 0 where
   pub below : (k : ℕ) → IsMarked marks k → k < place
   pub refutes : (lits : List Lit) → Covers entries marks lits → AreFalse negated lits base → ((m : Lit) → Contains lits m → Contains (falses (take place entries)) m ⊎ Contains base m) → RefutesByEach lits hints
 
 -- each literal that became false at a marked place stands in one of the hints' clauses
-abbrev pub AreAsked : List Entry → List Bool → List (List Lit) → Type 0
+abbrev pub AreAsked : List TrailEntry → List Bool → List (List Lit) → Type 0
 AreAsked entries marks hints = (k : ℕ) (m : Lit) → IsMarked marks k → IsFalseAt entries k m → IsInOne hints m
 
 -- the literals' variables are those of entries at `place` or later
-abbrev pub AreLater : List Entry → ℕ → List Lit → Type 0
+abbrev pub AreLater : List TrailEntry → ℕ → List Lit → Type 0
 AreLater entries place lits = (m : Lit) → Contains lits m
-    → (k : ℕ) × (place ≤ k) × (k < length entries) × ((d : Entry) → (slice_index_or entries k d).literal.variable.0 ≡ m.variable.0)
+    → (k : ℕ) × (place ≤ k) × (k < length entries) × ((d : TrailEntry) → (slice_index_or entries k d).literal.variable.0 ≡ m.variable.0)
 
 -- the literal is false by a decision before `end`
-abbrev pub IsOfDecision : List Entry → ℕ → Lit → Type 0
-IsOfDecision entries end m = (k : ℕ) × (k < end) × IsFalseAt entries k m × ((d : Entry) → IsNone (slice_index_or entries k d).reason)
+abbrev pub IsOfDecision : List TrailEntry → ℕ → Lit → Type 0
+IsOfDecision entries end m = (k : ℕ) × (k < end) × IsFalseAt entries k m × ((d : TrailEntry) → IsNone (slice_index_or entries k d).reason)
 
 -- the marked places are those before `from` that have a way to the false clause by entries at `from` or later
-pub record AreMet (axioms more : List (List Lit)) (entries : List Entry) (conflict : List Lit) (from : ℕ) (marks : List Bool) : Type 0 where
+pub record AreMet (axioms more : List (List Lit)) (entries : List TrailEntry) (conflict : List Lit) (from : ℕ) (marks : List Bool) : Type 0 where
   pub leads : (k : ℕ) → IsMarked marks k → (k < from) × Leads axioms more entries conflict from k
   pub marked : (k : ℕ) → k < from → Leads axioms more entries conflict from k → IsMarked marks k
 
 -- past each entry at `from` or later there is a way from an earlier one at `start` or later
-abbrev pub ArePassed : List (List Lit) → List (List Lit) → List Entry → List Lit → ℕ → ℕ → Type 0
+abbrev pub ArePassed : List (List Lit) → List (List Lit) → List TrailEntry → List Lit → ℕ → ℕ → Type 0
 ArePassed axioms more entries conflict start from =
     (k : ℕ) → from ≤ k → k < length entries → (j : ℕ) × (start ≤ j) × (j < k) × Leads axioms more entries conflict (k + 1) j

@@ -3,10 +3,10 @@ use Rattle.std.specs.Prelude.{◌≡◌, ℕ, ◌+◌, ◌≤◌, List, [], ◌�
 use Rattle.std.specs.Str.Lines.{lines}
 use Rattle.pc_sheet.specs.Sheet.{Sheet}
 use Rattle.pc_cert.specs.Written.{WrittenLine, SaidLine}
-use Rattle.pc_cert.specs.Line.{IsLine}
+use Rattle.pc_cert.specs.Line.{IsCertificateLine}
 use Rattle.pc_cert.specs.Order.{LineKind, kind_of}
 use Rattle.pc_cert.specs.Standing.{order_of}
-use Rattle.pc_cert.specs.Text.{Says, AllSay, IsAtFault, syntax, unknown_name}
+use Rattle.pc_cert.specs.Text.{SaysOfSheet, AllSay, IsCertificateAtFault, syntax, unknown_name}
 use Rattle.pc_cert.specs.Gathered.{IsGathered}
 use Rattle.pc_cert.specs.declared.draft.Draft.{Draft}
 use Rattle.pc_cert.specs.declared.order.Order.{Order}
@@ -15,20 +15,20 @@ use Rattle.pc_cert.specs.declared.cert.CertFault.TheVariants as cert_fault
 
 -- the line of this number has no form
 abbrev pub IsFormless : List ℕ → ℕ → CertFault → Type 0
-IsFormless line number (cert_fault.Syntax n) = (n ≡ number) × ((form : WrittenLine) → IsLine line form → ⊥)
+IsFormless line number (cert_fault.Syntax n) = (n ≡ number) × ((form : WrittenLine) → IsCertificateLine line form → ⊥)
 IsFormless line number (cert_fault.UnknownName n) = ⊥
 IsFormless line number cert_fault.Memory = Unit {0}
 
 -- the fault of the line of this number, behind lines of these kinds
 abbrev pub IsLineFault : Sheet → List LineKind → List ℕ → ℕ → CertFault → Type 0
-IsLineFault sheet before line number (cert_fault.Syntax n) = (n ≡ number) × IsAtFault sheet before line syntax
-IsLineFault sheet before line number (cert_fault.UnknownName n) = (n ≡ number) × IsAtFault sheet before line unknown_name
+IsLineFault sheet before line number (cert_fault.Syntax n) = (n ≡ number) × IsCertificateAtFault sheet before line syntax
+IsLineFault sheet before line number (cert_fault.UnknownName n) = (n ≡ number) × IsCertificateAtFault sheet before line unknown_name
 IsLineFault sheet before line number cert_fault.Memory = Unit {0}
 
 -- the line says something behind lines that say this, which is gathered
 pub record IsTaken (sheet : Sheet) (ls : List SaidLine) (line : List ℕ) (o : Order) (d : Draft) : Type 0 where
   pub says : SaidLine
-  pub is : Says sheet (map kind_of ls) line says
+  pub is : SaysOfSheet sheet (map kind_of ls) line says
   pub gathered : IsGathered (ls ++ says ∷ []) d
   pub order : o ≡ order_of (map kind_of (ls ++ says ∷ []))
 

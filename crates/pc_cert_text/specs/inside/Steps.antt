@@ -8,7 +8,7 @@ use Rattle.pc_log.specs.Lines.{LogLine, AxiomLine, BlockLine, StepLine}
 use Rattle.pc_log.specs.Trimmed.{moved}
 use Rattle.pc_names.specs.Listed.{NameLists}
 use Rattle.pc_reason.specs.Derivation.{literal_named, symbol_named, axiom_named, line_named}
-use Rattle.pc_cert_text.specs.CertificateText.{behind_blank, literal_text, number_text, line_text}
+use Rattle.pc_cert_text.specs.CertificateText.{behind_blank, literal_text, number_text, derivation_line_text}
 use Rattle.pc_accept.specs.Writable.{IsAxiomOf, IsSymbolOf}
 
 -- its variable has a name, which is the sheet's
@@ -25,7 +25,7 @@ CanBeWritten sheet names first (StepLine clause hints learned) = All (IsLiteralO
 
 -- the text of the line, its hints counted from the place `first`
 abbrev pub logged_text : Sheet → NameLists → ℕ → LogLine → List ℕ
-logged_text sheet names first line = line_text sheet (line_named names (moved (λ h. h - first) line))
+logged_text sheet names first line = derivation_line_text sheet (line_named names (moved (λ h. h - first) line))
 
 abbrev pub spaced_literal_text : Sheet → NameLists → Lit → List ℕ
 spaced_literal_text sheet names l = behind_blank (literal_text sheet (literal_named names l))

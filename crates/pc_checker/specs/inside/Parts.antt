@@ -13,7 +13,7 @@ use Rattle.pc_accept.specs.Accepts.{AreInCellOrder}
 use Rattle.pc_cert.specs.declared.cert.CertPart.{CertPart}
 use Rattle.pc_cert.specs.declared.cert.CertPart.TheVariants.{Axiom, Step}
 use Rattle.pc_cert.specs.declared.cert.CertLine.{CertLine}
-use Rattle.pc_cert.specs.Text.{Reading, entry_said, place_meant}
+use Rattle.pc_cert.specs.Text.{CertificateReading, entry_said, place_meant}
 use Rattle.pc_checker.specs.declared.verdict.Verdict.{Verdict}
 use Rattle.pc_checker.specs.declared.verdict.Verdict.TheVariants.{BadAxiom, BadStep}
 use Rattle.pc_checker.specs.Verdicts.{Numbered, IsFirstWithout, IsFirstAstray, IsFirstBroken, IsOnTarget, Stands, ClaimStands, IsVerdict}
@@ -38,12 +38,12 @@ IsRuleBroken sheet a None = Fits sheet a
 IsRuleBroken sheet a (Some rule) = IsFirstBroken sheet a rule
 
 -- what stands before the derivation passes; or its verdict
-abbrev pub IsClaimVerdict : Sheet → Reading → Option Verdict → Type 0
+abbrev pub IsClaimVerdict : Sheet → CertificateReading → Option Verdict → Type 0
 IsClaimVerdict sheet r None = ClaimStands sheet r r.claim
 IsClaimVerdict sheet r (Some v) = IsVerdict sheet r v
 
 -- the same of a claim on a target
-abbrev pub IsTargetVerdict : Sheet → Reading → Option Verdict → Type 0
+abbrev pub IsTargetVerdict : Sheet → CertificateReading → Option Verdict → Type 0
 IsTargetVerdict sheet r None = Stands sheet r
 IsTargetVerdict sheet r (Some v) = IsOnTarget r.claim → IsVerdict sheet r v
 

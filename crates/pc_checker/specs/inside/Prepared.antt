@@ -10,13 +10,13 @@ use Rattle.pc_cert.specs.declared.cert.CertLine.{CertLine}
 use Rattle.pc_cert.specs.ReadFor.{IsNamedIn, IsReadFor}
 use Rattle.pc_cert.specs.Views.{reading_of}
 use Rattle.pc_checker.specs.Made.{IsPrepared}
-use Rattle.pc_checker.specs.Drafts.{Grows}
+use Rattle.pc_cert.specs.Numbered.{StartsWith}
 use Rattle.pc_checker.specs.Entered.{AreEnteredValues}
 use Rattle.pc_checker.specs.Verdicts.{values_in}
 
 -- one clause more is stored, which is prepared for the part
 pub record IsLinePrepared (sheet : Sheet) (part : CertPart) (old new : List Symbol) (before after : List (List Lit)) (good : Bool) : Type 0 where
-  pub grows : Grows old new
+  pub grows : StartsWith old new
   pub clause : List Lit
   pub pushed : after ≡ before ++ clause ∷ []
   pub within : All (IsNamedIn new) clause
@@ -30,7 +30,7 @@ IsPlacePrepared sheet part (Some j) marks old new before after good =
 
 -- the first n lines are prepared
 pub record ArePrepared (sheet : Sheet) (lines : List CertLine) (n : ℕ) (symbols names : List Symbol) (clauses : List (List Lit)) (axioms : List Bool) : Type 0 where
-  pub grows : Grows symbols names
+  pub grows : StartsWith symbols names
   pub count : length clauses ≡ n
   pub marks : length axioms ≡ n
   pub within : All (All (IsNamedIn names)) clauses

@@ -4,12 +4,13 @@ use Rattle.pc_sheet.specs.Sheet.{Sheet}
 use Rattle.pc_sheet.specs.declared.nodes.NodeKind.{NodeKind}
 use Rattle.pc_sheet.specs.declared.nodes.NodeKind.TheVariants.{Atom, Not, And, Or, Implies, Iff, ForAll, Exists}
 use Rattle.pc_accept.specs.Literals.{Symbol, Literal, positive, negative}
-use Rattle.pc_accept.specs.Axioms.{Axiom, IsClauseOf, IsNumbered, each_below, clauses_of_all, clauses_of_some}
-use Rattle.pc_checker.specs.Drafts.{Grows, Draft}
+use Rattle.pc_accept.specs.Axioms.{Axiom, IsClauseOf, IsAtNumber, each_below, clauses_of_all, clauses_of_some}
+use Rattle.pc_checker.specs.Drafts.{Draft}
+use Rattle.pc_cert.specs.Numbered.{StartsWith}
 
 -- more symbols are numbered, and the clause is the axiom's; or there is no such clause
 pub record IsAxiomWritten (sheet : Sheet) (a : Axiom) (old new : Draft) (good : Bool) : Type 0 where
-  pub grows : Grows old.symbols new.symbols
+  pub grows : StartsWith old.symbols new.symbols
   pub clause : MatchBool good (IsClauseOf sheet a new.clause) ((c : List Literal) → ¬ IsClauseOf sheet a c)
 
 -- the clauses of a node of that kind, with its children
@@ -28,8 +29,8 @@ clauses_of_kind p child (Exists n) = clauses_of_some p child n
 
 -- more symbols are numbered, and the clause is the one of that number, from 1; or there is none
 pub record IsNumberWritten (clauses : List (List Literal)) (i : ℕ) (old new : Draft) (good : Bool) : Type 0 where
-  pub grows : Grows old.symbols new.symbols
-  pub clause : MatchBool good (IsNumbered clauses i new.clause) ((c : List Literal) → ¬ IsNumbered clauses i c)
+  pub grows : StartsWith old.symbols new.symbols
+  pub clause : MatchBool good (IsAtNumber clauses i new.clause) ((c : List Literal) → ¬ IsAtNumber clauses i c)
 
 -- each child's clause, in which the child has this sign and the node the other, and then one of all children, in which the
 -- node has this sign and each child the other

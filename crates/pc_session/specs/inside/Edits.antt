@@ -7,7 +7,7 @@ use Rattle.pc_sheet.specs.declared.ids.Target.{Target}
 use Rattle.pc_parts.specs.Parts.{Part}
 use Rattle.pc_reason.specs.Reasons.{IsTargetOf, Justification}
 use Rattle.pc_edits.specs.Reasons.{IsRowFor}
-use Rattle.pc_edits.specs.Edits.{Lacks, edited, MayStay}
+use Rattle.pc_edits.specs.Edits.{HasNoEntryOf, edited, MayStay}
 use Rattle.pc_cache.specs.Rows.{TargetRow, bytes_of_rows, row_of, row_after}
 use Rattle.pc_world_list.specs.Worlds.{WorldView}
 use Rattle.pc_search.specs.Found.{steps_in}
@@ -26,7 +26,7 @@ pub record AreChanges (sheet : Sheet) (rows : List TargetRow) (c : CellId) (adde
   pub each : (t : Target) → IsTargetOf sheet.universe t
       → IsRowFor (edited sheet c added) t (after rows changes t) ⊎ ((after rows changes t ≡ row_of rows t) × MayStay cells c added t (row_of rows t))
   -- a reason whose support lacks the cell's entry stays as it was
-  pub stays : (t : Target) (j : Justification) → row_of rows t ≡ Some j → Lacks j.support c → after rows changes t ≡ Some j
+  pub stays : (t : Target) (j : Justification) → row_of rows t ≡ Some j → HasNoEntryOf j.support c → after rows changes t ≡ Some j
   -- and so does all that is kept of the other parts' targets
   pub others : (t : Target) → ¬ Contains cells t.cell.0 → after rows changes t ≡ row_of rows t
   -- a new reason has at most so many steps

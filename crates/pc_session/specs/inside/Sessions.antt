@@ -7,15 +7,15 @@ use Rattle.pc_sheet.specs.Weight.{weight}
 use Rattle.pc_sheet.specs.declared.ids.Target.{Target}
 use Rattle.pc_parts.specs.Components.{parts_of}
 use Rattle.pc_reason.specs.Reasons.{IsTargetOf}
-use Rattle.pc_edits.specs.Reasons.{IsReasoning}
-use Rattle.pc_cache.specs.Rows.{TargetRow, HasTarget, row_of}
+use Rattle.pc_edits.specs.Reasons.{IsJustifying}
+use Rattle.pc_cache.specs.Rows.{TargetRow, HasRowOf, row_of}
 use Rattle.pc_world_list.specs.Worlds.{WorldView}
 use Rattle.pc_search.specs.Parts.{AreWorldsOf}
 use Rattle.pc_theory.specs.Theories.{rules_alone, TheoryView, IsTheory}
 
 -- there is a place for a row of each target, and of no other
 abbrev pub HavePlaces : Sheet → List TargetRow → Type 0
-HavePlaces sheet rows = (t : Target) → HasTarget rows t ↔ IsTargetOf sheet.universe t
+HavePlaces sheet rows = (t : Target) → HasRowOf rows t ↔ IsTargetOf sheet.universe t
 
 -- each change is of a target of the sheet
 abbrev pub ArePlaced : Sheet → List TargetRow → Type 0
@@ -27,4 +27,4 @@ pub record IsSession (sheet : Sheet) (theory : TheoryView) (worlds : List (List 
   pub known : IsTheory (rules_alone sheet) theory
   pub worlds_of : AllZip (AreWorldsOf sheet) (parts_of (rules_alone sheet)) worlds
   pub places : HavePlaces sheet rows
-  pub reasons : IsReasoning sheet (row_of rows)
+  pub reasons : IsJustifying sheet (row_of rows)

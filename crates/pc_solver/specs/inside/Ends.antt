@@ -7,7 +7,7 @@ use Rattle.pc_log.specs.declared.log.StepId.{StepId}
 use Rattle.pc_log.specs.Lines.{LogLine}
 use Rattle.pc_propagate.specs.declared.trail.Placed.{Placed}
 use Rattle.pc_propagate.specs.declared.trail.Placed.TheVariants as placed
-use Rattle.pc_propagate.specs.declared.trail.Entry.{Entry}
+use Rattle.pc_propagate.specs.declared.trail.TrailEntry.{TrailEntry}
 use Rattle.pc_propagate.specs.declared.clauses.ClauseRef.{ClauseRef}
 use Rattle.pc_propagate.specs.declared.clauses.ClauseRef.TheVariants.{More}
 use Rattle.pc_propagate.specs.Quiet.{IsQuiet}
@@ -23,17 +23,17 @@ use Rattle.pc_solver.specs.declared.decisions.Next.TheVariants.{Place, Failed, D
 use Rattle.pc_solver.specs.declared.outcome.Outcome.{Outcome}
 use Rattle.pc_solver.specs.declared.outcome.Outcome.TheVariants.{Sat, Unsat, Spent, Memory}
 use Rattle.pc_solver.specs.Clauses.{ClausesView, IsGiven}
-use Rattle.pc_solver.specs.InLog.{Stands}
+use Rattle.pc_solver.specs.InLog.{StandsInLog}
 use Rattle.pc_solver.specs.inside.Search.{SearchView, AreTrue, Advances, IsUnderWay}
 
 -- each used axiom and each block has a literal that is true by the entries
-abbrev pub AreMet : ClausesView → List Entry → Type 0
+abbrev pub AreMet : ClausesView → List TrailEntry → Type 0
 AreMet c entries = (r : ClauseRef) → IsGiven c r → (m : Lit) × Contains (clause_at c.axioms c.more r) m × Contains (literals entries) m
 
 -- what a search that ends says of its clauses, entries and log
 abbrev pub EndSays : SearchView → List Lit → List LogLine → Tally → Outcome → Type 0
 EndSays s assumed log tally Sat = AreMet s.clauses s.trail.entries × AreTrue s.trail.entries assumed
-EndSays s assumed log tally (Unsat id) = (clause : List Lit) × Stands s.clauses.axioms log id clause × IsOverNegated assumed clause
+EndSays s assumed log tally (Unsat id) = (clause : List Lit) × StandsInLog s.clauses.axioms log id clause × IsOverNegated assumed clause
 EndSays s assumed log tally Spent = tally.placed ≡ tally.limit
 EndSays s assumed log tally Memory = Unit {0}
 
@@ -68,13 +68,13 @@ pub record Turns (old new : SearchView) (assumed : List Lit) (before after : Tal
   pub says : TurnSays new assumed grown before after ended
 
 -- what is to be decided next
-abbrev pub DecisionSays : List Var → List Entry → List Lit → Next → Type 0
+abbrev pub DecisionSays : List Var → List TrailEntry → List Lit → Next → Type 0
 DecisionSays own entries assumed (Place l) = Contains own l.variable × (¬ HasValue entries l.variable) × (Contains assumed l ⊎ AreTrue entries assumed)
 DecisionSays own entries assumed (Failed l) = Contains assumed l × Contains (falses entries) l
 DecisionSays own entries assumed Done = AreTrue entries assumed × ((v : Var) → Contains own v → HasValue entries v)
 
 -- what is to be done next of the assumptions
-abbrev pub NextSays : List Entry → List Lit → Next → Type 0
+abbrev pub NextSays : List TrailEntry → List Lit → Next → Type 0
 NextSays entries assumed (Place l) = Contains assumed l × (¬ HasValue entries l.variable)
 NextSays entries assumed (Failed l) = Contains assumed l × Contains (falses entries) l
 NextSays entries assumed Done = AreTrue entries assumed
@@ -89,7 +89,7 @@ IsUnsat (Some Memory) P = ⊥
 
 -- the search ended with a line whose clause is within the negated assumptions
 abbrev pub Refutes : SearchView → List Lit → List LogLine → Option Outcome → Type 0
-Refutes s assumed log ended = IsUnsat ended (λ id. (clause : List Lit) × Stands s.clauses.axioms log id clause × IsOverNegated assumed clause)
+Refutes s assumed log ended = IsUnsat ended (λ id. (clause : List Lit) × StandsInLog s.clauses.axioms log id clause × IsOverNegated assumed clause)
 
 -- After a clause was learned: its literal has no value and is the last one that isn't false, or the trail is quiet.
 abbrev pub LearntSays : SearchView → Learnt → Type 0

@@ -6,7 +6,7 @@ use Rattle.pc_formula.specs.Word.{most_nesting}
 use Rattle.pc_syntax.specs.Tree as tree
 use Rattle.pc_sheet.specs.Limits.{most_arguments, most_families, most_sorts, most_tables, most_values}
 use Rattle.pc_sheet.specs.Sheet.{Sheet, Universe, range}
-use Rattle.pc_sheet.specs.Truth.{count_of}
+use Rattle.pc_sheet.specs.Sizes.{count_of}
 use Rattle.pc_sheet.specs.WellSorted.{IsSmallNumber}
 use Rattle.pc_sheet.specs.declared.ids.SortId.{SortId}
 use Rattle.pc_sheet.specs.declared.ids.TableId.{TableId}

@@ -16,7 +16,7 @@ use Rattle.pc_run.specs.declared.refusal.Refusal.TheVariants.{TooLarge, Inconsis
 use Rattle.pc_run.specs.Answer.{StopsBy}
 use Rattle.pc_spreadsheet.specs.Judgement.{State, IsLight, of_whole}
 use Rattle.pc_spreadsheet.specs.Pages.{IsCertificateAgainst}
-use Rattle.pc_spreadsheet.specs.Allowed.{Notes, counts_of, IsSpent, RefusesText}
+use Rattle.pc_spreadsheet.specs.Allowed.{Notes, told_counts_of, IsLawfullySpent, RefusesText}
 
 -- no spreadsheet is made of the text: for a refusal that it has, or for want of memory
 abbrev pub IsNotLoaded : ℕ → List ℕ → Notes → Notes → LoadStop Sheet → Type 0
@@ -24,14 +24,14 @@ IsNotLoaded budget text old new stop = StopsBy IsCertificateAgainst (λ why more
 
 -- what was spent on the book is noted and told, or there was no memory for it
 pub data NotesLoad (book : Sheet) (spending : Spending) (old new : Notes) : LoadStop Sheet → Type 0 where
-  noted : (why : SheetRefusal) → why ≡ of_whole (Spent (counts_of spending.tally)) → new ≡ old ++ record { sheet = book; cell = None; tally = session.counts_of spending.tally } ∷ [] → NotesLoad book spending old new (Refused why None)
+  noted : (why : SheetRefusal) → why ≡ of_whole (Spent (told_counts_of spending.tally)) → new ≡ old ++ record { sheet = book; cell = None; tally = session.counts_of spending.tally } ∷ [] → NotesLoad book spending old new (Refused why None)
   not_noted : new ≡ old → NotesLoad book spending old new Memory
 
 -- within the budget, the book is refused so, with what shows that this is right
 pub data IsRefusedBook (budget : ℕ) (book : Sheet) (why : SheetRefusal) (proof : Option Sheet) (old new : Notes) : Type 0 where
   too_large : most_weight < weight book → why ≡ of_whole TooLarge → proof ≡ None → new ≡ old → IsRefusedBook budget book why proof old new
   contradictory : IsLight book → ¬ AreRulesConsistent book → why ≡ of_whole Inconsistent → proof ≡ Some book → new ≡ old → IsRefusedBook budget book why proof old new
-  spent : (counts : Counts) → IsLight book → IsSpent budget book None counts old new → why ≡ of_whole (Spent counts) → proof ≡ None → IsRefusedBook budget book why proof old new
+  spent : (counts : Counts) → IsLight book → IsLawfullySpent budget book None counts old new → why ≡ of_whole (Spent counts) → proof ≡ None → IsRefusedBook budget book why proof old new
 
 -- the spreadsheet that starts with the book and the budget, or why none does
 abbrev pub OpensAs : ℕ → Sheet → Notes → Notes → Result State (LoadStop Sheet) → Type 0

@@ -6,9 +6,9 @@ use Rattle.pc_sheet.specs.Sheet.{Sheet}
 use Rattle.pc_ground.specs.Ground.{clauses}
 use Rattle.pc_ground.specs.Naming.{names_of}
 use Rattle.pc_components.specs.View.{Kept}
-use Rattle.pc_justify.specs.Found.{clause_on, IsDerivedAt}
-use Rattle.pc_reason.specs.Refutations.{Refutes}
-use Rattle.pc_solver.specs.Answers.{value_in, MeetsEach}
+use Rattle.pc_justify.specs.Found.{clause_at_place, IsDerivedAt}
+use Rattle.pc_reason.specs.Refutations.{RefutesRules}
+use Rattle.pc_solver.specs.Answers.{truth_in, MeetsEach}
 use Rattle.pc_solver.specs.Solver.{SolverView, SuspendedView, clauses_used}
 use Rattle.pc_theory.specs.inside.Starting.{IsStarted}
 use Rattle.pc_theory.specs.declared.spending.PartSpending.{PartSpending}
@@ -21,17 +21,17 @@ use Rattle.pc_theory.specs.declared.stop.Halt.TheVariants.{Inconsistent, Spent, 
 -- the line derives the empty clause
 pub record IsEmptyAt (sheet : Sheet) (log : List LogLine) (last : StepId) : Type 0 where
   pub derived : IsDerivedAt sheet log last.0
-  pub empty : clause_on (clauses sheet) log last.0 ≡ []
+  pub empty : clause_at_place (clauses sheet) log last.0 ≡ []
 
 -- the rules are refuted, or memory was wanting
 abbrev pub IsRefused : Sheet → Halt → Type 0
-IsRefused sheet (Inconsistent log span) = Refutes sheet (names_of sheet) log span
+IsRefused sheet (Inconsistent log span) = RefutesRules sheet (names_of sheet) log span
 IsRefused sheet Spent = ⊥
 IsRefused sheet Memory = Unit {0}
 
 -- the values meet the solver's axioms, or the limit is reached
 abbrev pub EndSays : SolverView → PartSpending → End → Type 0
-EndSays s place Met = MeetsEach (value_in s.trues) (clauses_used s.problem)
+EndSays s place Met = MeetsEach (truth_in s.trues) (clauses_used s.problem)
 EndSays s place end.Spent = place.tally.placed ≡ place.tally.limit
 
 -- the solver without its trail

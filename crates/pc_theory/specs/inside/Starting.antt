@@ -1,5 +1,5 @@
 -- What stands while the parts of a sheet make their first calls, one after the other.
-use Rattle.std.specs.Prelude.{◌≡◌, ℕ, ◌<◌, ◌≤◌, ◌+◌, List, [], ◌∷◌, length, sum_by, All, slice_index_or}
+use Rattle.std.specs.Prelude.{◌≡◌, ℕ, ◌<◌, ◌≤◌, ◌+◌, List, [], ◌∷◌, length, sum_by, All, slice_index_or, None}
 use Rattle.pc_lits.specs.declared.tally.Tally.{Tally}
 use Rattle.pc_log.specs.Lines.{LogLine}
 use Rattle.pc_sheet.specs.Sheet.{Sheet}
@@ -9,7 +9,7 @@ use Rattle.pc_ground.specs.Naming.{names_of}
 use Rattle.pc_parts.specs.Parts.{Part}
 use Rattle.pc_parts.specs.PartSheets.{sheet_of}
 use Rattle.pc_components.specs.View.{Kept}
-use Rattle.pc_reason.specs.Refutations.{Refutes}
+use Rattle.pc_reason.specs.Refutations.{RefutesRules}
 use Rattle.pc_searched.specs.Laws.{problem_of}
 use Rattle.pc_search.specs.Found.{steps_in}
 use Rattle.pc_solver.specs.Solver.{SuspendedView, SuspendedHasLog}
@@ -20,7 +20,6 @@ use Rattle.pc_theory.specs.Spendings.{placed_of, IsSpentOn}
 use Rattle.pc_theory.specs.declared.spending.PartSpending.{PartSpending}
 use Rattle.pc_theory.specs.declared.stop.Halt.{Halt}
 use Rattle.pc_theory.specs.declared.stop.Halt.TheVariants.{Inconsistent, Spent, Memory}
-use Rattle.std.specs.Prelude.{None}
 
 -- The places are of the first parts, and so many literals were placed for them.
 pub record ArePlaces (sheet : Sheet) (kept : Kept) (spent : ℕ) (parts : List PartSpending) : Type 0 where
@@ -57,6 +56,6 @@ halt_of stop.Memory = Memory
 
 -- Inconsistent: the span refutes the rules. Spent: the limit is reached, by what was spent on the first parts. Memory says nothing.
 abbrev pub HaltSays : Sheet → Kept → ℕ → ℕ → List PartSpending → Halt → Type 0
-HaltSays sheet kept budget spent parts (Inconsistent log span) = Refutes sheet (names_of sheet) log span
+HaltSays sheet kept budget spent parts (Inconsistent log span) = RefutesRules sheet (names_of sheet) log span
 HaltSays sheet kept budget spent parts Spent = (spent ≡ budget) × ArePlaces sheet kept spent parts
 HaltSays sheet kept budget spent parts Memory = Unit {0}

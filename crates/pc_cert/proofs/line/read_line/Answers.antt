@@ -1,5 +1,5 @@
 use Rattle.std.proofs.Common.{codes, sym, ◌∙◌, ap, subst}
-use Rattle.pc_cert.specs.Line.{IsForm}
+use Rattle.pc_cert.specs.Line.{IsCertificateForm}
 use Rattle.pc_cert.specs.Trees.{seen}
 use Rattle.pc_cert.proofs.Forms.{told_at, texts_are}
 use Rattle.pc_cert.proofs.line.read_line.Goals as goal
@@ -12,7 +12,7 @@ returns-then-is_word-clause-told c =
 pub returns-then-is_word-clause-none : goal.returns-then-is_word-clause-none
 returns-then-is_word-clause-none c = λ e f is.
     let texts = texts_are c.args.line.now c.in_ok-found.found.items c.deref.result.now c.in-Some.first.now c.in-Some.rest.now (codes "certificate") c.in_ok-found.ensures c.deref.ensures.value c.in-Some.ensures.cases.0 (c.is_word.ensures.0 c.if-is_word.true) in
-    c.heading_line.ensures.none e c.args.line.now f (subst (λ ts. IsForm c.args.line.now ts f) texts is)
+    c.heading_line.ensures.none e c.args.line.now f (subst (λ ts. IsCertificateForm c.args.line.now ts f) texts is)
 
 pub returns-then-is_word-5-clause-told : goal.returns-then-is_word-5-clause-told
 returns-then-is_word-5-clause-told c =

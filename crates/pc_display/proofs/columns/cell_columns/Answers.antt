@@ -1,5 +1,5 @@
 use Rattle.std.proofs.Common.{◌≡◌, ◌∙◌, ap, arith, length}
-use Rattle.pc_sheet.specs.Truth.{argument_sorts}
+use Rattle.pc_sheet.specs.Sizes.{argument_sorts}
 use Rattle.pc_writer.specs.Spelling.{application_of, arguments_text, family_of, name_of}
 use Rattle.pc_writer.proofs.CellLemmas.{cell_name_is, cell_sorts_are, family_there}
 use Rattle.pc_display.specs.Grid.{columns}

@@ -4,7 +4,8 @@ use Rattle.pc_sheet.specs.WellFormed.{IsEntryOf}
 use Rattle.pc_sheet.specs.declared.ids.Target.{Target}
 use Rattle.pc_writer.specs.Spelling.{sort_of, value_text}
 use Rattle.pc_writer.proofs.InTurn.{Writes-nil, Writes-same}
-use Rattle.pc_display.specs.Show.{because, ended, value_line}
+use Rattle.pc_display.specs.Show.{because, value_line}
+use Rattle.pc_writer.specs.SheetText.{ended}
 use Rattle.pc_display.proofs.SheetLemmas.{is_target, same_reason, support_fits}
 use Rattle.pc_display.proofs.display.write_if_implied.Goals as goal
 

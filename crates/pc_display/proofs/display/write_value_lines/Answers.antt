@@ -1,6 +1,6 @@
 use Rattle.std.proofs.Common.{◌≡◌, ℕ, List, refl, ap, arith}
 use Rattle.pc_sheet.specs.Cells.{values_below}
-use Rattle.pc_sheet.specs.Truth.{size_of}
+use Rattle.pc_sheet.specs.Sizes.{size_of}
 use Rattle.pc_sheet.specs.declared.ids.ValueId.{ValueId}
 use Rattle.std.specs.List.{flat_map}
 use Rattle.pc_writer.specs.Spelling.{sort_of}

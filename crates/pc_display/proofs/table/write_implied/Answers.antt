@@ -1,5 +1,5 @@
 use Rattle.std.proofs.Common.{◌≡◌, arith, refl, sym, ◌∙◌, ap}
-use Rattle.pc_sheet.specs.Truth.{size_of}
+use Rattle.pc_sheet.specs.Sizes.{size_of}
 use Rattle.pc_writer.specs.Spelling.{sort_of}
 use Rattle.pc_writer.proofs.InTurn.{Writes-nil, Writes-then, Writes-same}
 use Rattle.pc_display.specs.Grid.{listed_texts}

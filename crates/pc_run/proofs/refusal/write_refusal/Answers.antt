@@ -1,16 +1,16 @@
 use Rattle.std.proofs.Common.{codes, ◌++◌}
-use Rattle.pc_run.specs.Refusals.{words_of, line_text, further_text}
+use Rattle.pc_run.specs.Refusals.{words_of, refused_line_text, further_text}
 use Rattle.pc_writer.proofs.InTurn.{Writes-then, Writes-cut, Writes-same}
 use Rattle.pc_run.proofs.refusal.write_refusal.Goals as goal
 
 pub returns-in_err-write_text : goal.returns-in_err-write_text
 returns-in_err-write_text g c =
-    Writes-cut c.from_residual.result (words_of c.args.refusal ++ (line_text c.args.line ++ (further_text c.args.refusal ++ codes "\n"))) c.from_residual.ensures.0 c.in_err-write_text.ensures
+    Writes-cut c.from_residual.result (words_of c.args.refusal ++ (refused_line_text c.args.line ++ (further_text c.args.refusal ++ codes "\n"))) c.from_residual.ensures.0 c.in_err-write_text.ensures
 
 pub returns-in_err-write_text-2 : goal.returns-in_err-write_text-2
 returns-in_err-write_text-2 g c =
     Writes-then c.in_ok-write_text.ensures
-    (Writes-cut c.from_residual-in_err-write_text-2.result (line_text c.args.line ++ (further_text c.args.refusal ++ codes "\n")) c.from_residual-in_err-write_text-2.ensures.0 (Writes-same c.words.ensures c.in_err-write_text-2.ensures))
+    (Writes-cut c.from_residual-in_err-write_text-2.result (refused_line_text c.args.line ++ (further_text c.args.refusal ++ codes "\n")) c.from_residual-in_err-write_text-2.ensures.0 (Writes-same c.words.ensures c.in_err-write_text-2.ensures))
 
 pub returns-in_err-write_line : goal.returns-in_err-write_line
 returns-in_err-write_line g c =

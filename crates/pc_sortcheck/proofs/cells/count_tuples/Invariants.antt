@@ -1,5 +1,5 @@
 use Rattle.std.proofs.Common.{◌≡◌, ◌*◌, ◌^◌, ◌≤◌, map, drop}
-use Rattle.pc_sheet.specs.Truth.{size_of, product}
+use Rattle.pc_sheet.specs.Sizes.{size_of, product}
 use Rattle.pc_sortcheck.proofs.cells.count_tuples.Given as goal
 
 abbrev pub invariant-loop-sort : goal.invariant-loop-sort

@@ -1,7 +1,7 @@
 use Rattle.std.proofs.Common.{◌≤◌, ◌+◌, List, length, map, All, sym, subst, rules}
 use Rattle.std.proofs.lemmas.Result.{err_from_is_err_and}
 use Rattle.pc_syntax.specs.Tree as tree
-use Rattle.pc_sheet.specs.Truth.{product, size_of}
+use Rattle.pc_sheet.specs.Sizes.{product, size_of}
 use Rattle.pc_sheet.specs.Entailment.{cell_sizes}
 use Rattle.pc_sheet.specs.WellFormed.{IsDeclaredSort}
 use Rattle.pc_sheet.specs.declared.ids.SortId.{SortId}

@@ -1,5 +1,5 @@
 use Rattle.std.proofs.Common.{◌≡◌, ℕ, subst, arith, map}
-use Rattle.pc_sheet.specs.Truth.{size_of}
+use Rattle.pc_sheet.specs.Sizes.{size_of}
 use Rattle.pc_sheet.specs.Cells.{values_below}
 use Rattle.pc_sheet.specs.Entailment.{IsImplied}
 use Rattle.pc_writer.specs.Spelling.{sort_of}

@@ -2,7 +2,7 @@ use Rattle.std.proofs.Common.{refl, subst, sym, List, ℕ, ℤ, w64, to_z, of_z,
 use Rattle.std.proofs.lemmas.Result.{err_from_is_err_and}
 use Rattle.std.proofs.lemmas.Int.{to_z-of_z}
 use Rattle.pc_formula.specs.Word.{name}
-use Rattle.pc_syntax.specs.Line.{IsRange}
+use Rattle.pc_syntax.specs.Line.{IsRangeDeclared}
 use Rattle.pc_syntax.proofs.ReadLine.{differs}
 use Rattle.pc_syntax.proofs.Sorts.{no_names, no_sort, no_range, a_range}
 use Rattle.pc_syntax.proofs.declaration.sort.Goals as goal
@@ -28,6 +28,6 @@ returns-clause-told c =
     let low : to_z w64 (of_z w64 c.in_ok-low.low) ≡ c.in_ok-low.low = to_z-of_z w64 c.in_ok-low.low (search rules) in
     let high : to_z w64 (of_z w64 c.in_ok-low.high) ≡ c.in_ok-low.high = to_z-of_z w64 c.in_ok-low.high (search rules) in (
       refl,
-      subst (λ (n : List ℕ). IsRange c.args.words.now n (to_z w64 (of_z w64 c.in_ok-low.low)) (to_z w64 (of_z w64 c.in_ok-low.high))) (sym c.in_ok-name.ensures)
-          (subst (λ (l : ℤ). IsRange c.args.words.now c.in-Some.text.now l (to_z w64 (of_z w64 c.in_ok-low.high))) (sym low) (subst (λ (h : ℤ). IsRange c.args.words.now c.in-Some.text.now c.in_ok-low.low h) (sym high) told.1)),
+      subst (λ (n : List ℕ). IsRangeDeclared c.args.words.now n (to_z w64 (of_z w64 c.in_ok-low.low)) (to_z w64 (of_z w64 c.in_ok-low.high))) (sym c.in_ok-name.ensures)
+          (subst (λ (l : ℤ). IsRangeDeclared c.args.words.now c.in-Some.text.now l (to_z w64 (of_z w64 c.in_ok-low.high))) (sym low) (subst (λ (h : ℤ). IsRangeDeclared c.args.words.now c.in-Some.text.now c.in_ok-low.low h) (sym high) told.1)),
     )

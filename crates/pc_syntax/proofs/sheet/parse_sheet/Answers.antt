@@ -1,7 +1,7 @@
 use Rattle.std.proofs.Common.{◌≡◌, Ok, Err, length, sym, ap, subst, arith, rules}
 use Rattle.std.proofs.lemmas.Result.{err_from_is_err_and}
 use Rattle.pc_syntax.specs.declared.tree.SheetFault.TheVariants.{NoBegin}
-use Rattle.pc_syntax.specs.Sheet.{lines_of}
+use Rattle.pc_syntax.specs.Sheet.{lines_of_text}
 use Rattle.pc_syntax.specs.Part.{declared, IsAtFaultIn}
 use Rattle.pc_syntax.specs.Told.{Blames}
 use Rattle.pc_syntax.proofs.Splitting.{no_lines}
@@ -29,14 +29,14 @@ returns-in_err-part-clause-told c =
     let p = err_from_is_err_and c.from_residual.result c.from_residual.ensures.1 in
     let same : p.0 ≡ c.in_err-part.field-0.0 = cc p.2 in
     let faults = subst (λ f. Blames f c.lines.number (λ e. IsAtFaultIn c.lines.part c.split_line.result.0.now e)) (sym same) c.in_err-part.ensures in
-    blamed c.args.bytes.now c.lines.part c.lines.number (lines_of c.lines.rest.now) (declared c.lines.declarations.items) c.lines.invariant.progress c.split_line.result.0.now (lines_of c.split_line.result.1.now) c.split_line.ensures.lines p.0 faults c.from_residual.result p.1
+    blamed c.args.bytes.now c.lines.part c.lines.number (lines_of_text c.lines.rest.now) (declared c.lines.declarations.items) c.lines.invariant.progress c.split_line.result.0.now (lines_of_text c.split_line.result.1.now) c.split_line.ensures.lines p.0 faults c.from_residual.result p.1
 
 pub returns-in_err-part-clause-only : goal.returns-in_err-part-clause-only
 returns-in_err-part-clause-only c =
     let p = err_from_is_err_and c.from_residual.result c.from_residual.ensures.1 in
     let same : p.0 ≡ c.in_err-part.field-0.0 = cc p.2 in
     let faults = subst (λ f. Blames f c.lines.number (λ e. IsAtFaultIn c.lines.part c.split_line.result.0.now e)) (sym same) c.in_err-part.ensures in
-    tells c.args.bytes.now c.from_residual.result (blamed c.args.bytes.now c.lines.part c.lines.number (lines_of c.lines.rest.now) (declared c.lines.declarations.items) c.lines.invariant.progress c.split_line.result.0.now (lines_of c.split_line.result.1.now) c.split_line.ensures.lines p.0 faults c.from_residual.result p.1)
+    tells c.args.bytes.now c.from_residual.result (blamed c.args.bytes.now c.lines.part c.lines.number (lines_of_text c.lines.rest.now) (declared c.lines.declarations.items) c.lines.invariant.progress c.split_line.result.0.now (lines_of_text c.split_line.result.1.now) c.split_line.ensures.lines p.0 faults c.from_residual.result p.1)
 
 pub returns-then-not-is_end-clause-told : goal.returns-then-not-is_end-clause-told
 returns-then-not-is_end-clause-told c =

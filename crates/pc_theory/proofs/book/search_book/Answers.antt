@@ -3,7 +3,7 @@ use Rattle.pc_sheet.specs.Entailment.{cell_sizes}
 use Rattle.pc_ground.specs.GroundView.{Grounded}
 use Rattle.pc_names.specs.Listed.{NameLists}
 use Rattle.pc_parts.specs.Components.{parts_of}
-use Rattle.pc_reason.specs.Refutations.{Refutes}
+use Rattle.pc_reason.specs.Refutations.{RefutesRules}
 use Rattle.pc_theory.specs.Books.{IsPartCause}
 use Rattle.pc_theory.specs.declared.book.PartFault.{PartFault}
 use Rattle.pc_theory.proofs.Books.{ready_of, few_enough, theory_of, refuted_rules}
@@ -41,6 +41,6 @@ returns-in-Err-Inconsistent-clause-fault c =
     let names : Grounded → NameLists = λ g. g.names in
     let refutes = subst (λ (f : PartFault). IsPartCause sheet c.args.budget f) fault.field-0-is fault.ensures.fault in (
       c.in_ok-ground.ensures.small,
-      subst (λ (ns : NameLists). Refutes sheet ns fault.log fault.span) (sym (c.into_names.ensures ∙ ap names c.in_ok-ground.ensures.ok)) refutes,
+      subst (λ (ns : NameLists). RefutesRules sheet ns fault.log fault.span) (sym (c.into_names.ensures ∙ ap names c.in_ok-ground.ensures.ok)) refutes,
       refuted_rules c.certificates_are_sound.ensures sheet fault.log fault.span refutes,
     )

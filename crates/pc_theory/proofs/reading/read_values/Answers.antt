@@ -4,7 +4,7 @@ use Rattle.std.proofs.lemmas.List.{get_or_default}
 use Rattle.std.proofs.lemmas.List.Elements.{All-get_or, Contains-get_or}
 use Rattle.pc_sheet.specs.Entailment.{AreWithin}
 use Rattle.pc_sheet.specs.declared.ids.CellId.{CellId}
-use Rattle.pc_solver.specs.Answers.{value_in}
+use Rattle.pc_solver.specs.Answers.{truth_in}
 use Rattle.pc_theory.proofs.ValuesRead.{within_length, within_set, read_some, read_none, reads_all, off_cells}
 use Rattle.pc_theory.proofs.reading.read_values.Goals.{in-Some, in_default}
 use Rattle.pc_theory.proofs.reading.read_values.Goals as goal
@@ -26,7 +26,7 @@ loop-cell-preserved c =
     let here : CellId = get_or cells i first in
     let there : Contains cells here = Contains-get_or cells i first c.loop-cell-test.true in
     let low : here.0 < length sizes = All-get_or (λ (x : CellId). x.0 < length sizes) cells i first c.loop-cell-test.true c.requires.pairs.below in
-    let v = value_in c.args.solver.now.trues in
+    let v = truth_in c.args.solver.now.trues in
     let long : here.0 < length c.loop-cell.base = omega (arith, low, within_length sizes c.loop-cell.base c.loop-cell.invariant.within) in
     elim c.match-first_true.branch [
       | in-Some w ↦
@@ -51,7 +51,7 @@ loop-cell-preserved c =
 
 pub returns-clause-reads : goal.returns-clause-reads
 returns-clause-reads c a within reads =
-    reads_all c.args.ground.now.sizes c.args.cells.now (value_in c.args.solver.now.trues) a within reads c.loop-cell.base (λ k d l. c.loop-cell.invariant.reads a within reads k d (omega (arith, l, c.loop-cell-test.false)))
+    reads_all c.args.ground.now.sizes c.args.cells.now (truth_in c.args.solver.now.trues) a within reads c.loop-cell.base (λ k d l. c.loop-cell.invariant.reads a within reads k d (omega (arith, l, c.loop-cell-test.false)))
 
 pub first_true-requires-clause-pairs : goal.first_true-requires-clause-pairs
 first_true-requires-clause-pairs c x below = c.requires.pairs.own (get_or c.args.cells.now c.loop-cell.cell-index first) x (Contains-get_or c.args.cells.now c.loop-cell.cell-index first c.loop-cell-test.true) below

@@ -6,7 +6,7 @@ use Rattle.pc_components.specs.View.{number_of}
 use Rattle.pc_parts.specs.Laws.{AgreeAt}
 use Rattle.pc_sheet.specs.Entailment.{AreWithin}
 use Rattle.pc_sheet.specs.declared.ids.ValueId.{ValueId}
-use Rattle.pc_solver.specs.Answers.{value_in}
+use Rattle.pc_solver.specs.Answers.{truth_in}
 use Rattle.pc_solver.specs.Solver.{SuspendedView}
 use Rattle.pc_theory.specs.inside.Calling.{EndSays}
 use Rattle.pc_theory.specs.inside.Starting.{ArePlaces, AreStarted}
@@ -42,7 +42,7 @@ returns-in_ok-push-in-Met-2-clause-started c =
     let same = ap sizes c.requires.ready.ground_is in
     let assigns = subst (λ (ns : List ℕ). AreWithin ns base) same c.read_values.ensures.within in
     let reads =
-    subst (λ (ns : List ℕ). (v : List ValueId) → AreWithin ns v → HasValues ns (map number_of cells) (value_in solver.trues) v → AgreeAt (Contains (map number_of cells)) v base) same c.read_values.ensures.reads
+    subst (λ (ns : List ℕ). (v : List ValueId) → AreWithin ns v → HasValues ns (map number_of cells) (truth_in solver.trues) v → AgreeAt (Contains (map number_of cells)) v base) same c.read_values.ensures.reads
     in
     let next =
     started_next c.parts_are_searched.ensures a.task.book.now a.task.ground.now a.task.components.now c.requires.ready a.spent.now c.len-number.result a.base.now base a.parts.now.items a.solvers.now.items cells _ _

@@ -1,5 +1,5 @@
 use Rattle.std.proofs.Common.{◌∙◌, ap}
-use Rattle.pc_sheet.specs.Truth.{argument_sorts}
+use Rattle.pc_sheet.specs.Sizes.{argument_sorts}
 use Rattle.pc_writer.specs.Spelling.{application_of, family_of, separated_arguments}
 use Rattle.pc_writer.proofs.CellLemmas.{cell_name_is, cell_sorts_are, family_there}
 use Rattle.pc_writer.proofs.InTurn.{Writes-then, Writes-cut, Writes-same}

@@ -1,5 +1,5 @@
 use Rattle.std.proofs.Common.{arith, ◌≤◌}
-use Rattle.pc_sheet.specs.Truth.{size_of, values_at}
+use Rattle.pc_sheet.specs.Sizes.{size_of, values_at}
 use Rattle.pc_sheet.specs.WellSorted.{names_of_values}
 use Rattle.pc_writer.specs.SheetText.{spaced}
 use Rattle.pc_writer.proofs.Universe.{name_at, length-names, size_within}

@@ -1,6 +1,6 @@
 use Rattle.std.proofs.Common.{take, Ok}
 use Rattle.std.specs.List.{flat_map}
-use Rattle.pc_sheet.specs.Truth.{values_at}
+use Rattle.pc_sheet.specs.Sizes.{values_at}
 use Rattle.pc_sheet.specs.WellSorted.{names_of_values}
 use Rattle.pc_writer.specs.SheetText.{spaced}
 use Rattle.pc_port.specs.declared.source.Failed.{Failed}

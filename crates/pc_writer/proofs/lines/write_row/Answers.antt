@@ -1,6 +1,6 @@
 use Rattle.std.proofs.Common.{ap, map, ◌≡◌, [], codes, sym, subst}
 use Rattle.pc_sheet.specs.Entailment.{AreWithin}
-use Rattle.pc_sheet.specs.Truth.{size_of}
+use Rattle.pc_sheet.specs.Sizes.{size_of}
 use Rattle.pc_writer.specs.FormulaText.{table_at}
 use Rattle.pc_writer.specs.Spelling.{joined, value_texts}
 use Rattle.pc_writer.proofs.Names.{at_place}

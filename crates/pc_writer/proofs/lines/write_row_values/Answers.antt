@@ -1,7 +1,7 @@
 use Rattle.std.proofs.Common.{codes, map, arith, length, ◌≡◌}
 use Rattle.std.proofs.lemmas.List.{length-map}
 use Rattle.std.proofs.lemmas.Option.{slice_get-get_or}
-use Rattle.pc_sheet.specs.Truth.{size_of}
+use Rattle.pc_sheet.specs.Sizes.{size_of}
 use Rattle.pc_sheet.specs.declared.ids.SortId.{SortId}
 use Rattle.pc_sheet.specs.declared.ids.ValueId.{ValueId}
 use Rattle.pc_writer.specs.Spelling.{value_texts}

@@ -4,7 +4,7 @@ use Rattle.std.proofs.lemmas.List.{length-map}
 use Rattle.std.proofs.lemmas.List.Elements.{All-get_or}
 use Rattle.std.proofs.lemmas.Option.{slice_get-map, slice_get_within, get_or_from_slice_get}
 use Rattle.pc_sheet.specs.Entailment.{AreWithin}
-use Rattle.pc_sheet.specs.Truth.{size_of}
+use Rattle.pc_sheet.specs.Sizes.{size_of}
 use Rattle.pc_writer.specs.FormulaText.{table_at}
 use Rattle.pc_writer.specs.SheetText.{ended, row_line, row_lines}
 use Rattle.pc_writer.proofs.Names.{at_place, place_there}

@@ -1,7 +1,7 @@
 use Rattle.std.proofs.Common.{◌≡◌, ℕ, ◌+◌, ◌-◌, ◌≤◌, List, ◌++◌, length, take, arith, sym, ◌∙◌, ap, subst}
 use Rattle.std.proofs.lemmas.Grind.{common_steps}
 use Rattle.std.specs.Prelude.{slice_range}
-use Rattle.pc_lines.specs.Reader.{ReaderState, Moves, IsCut}
+use Rattle.pc_lines.specs.Reader.{ReaderState, Moves, IsTakenUpTo}
 use Rattle.pc_lines.proofs.Held.{length_held, held_goes_on, front_of_held, after_cut}
 use Rattle.pc_lines.proofs.reader.LineReader.take_part.Goals as goal
 
@@ -40,6 +40,6 @@ returns-clause-part c =
     (omega (arith, ap length line_is))
     (subst (λ (l : List ℕ). count ≤ length l) same c.cut-count.ensures.within)
     c.requires.open_line
-    (subst (λ (l : List ℕ). IsCut c.cut-count.result.1 (c.args.limit - c.len.result) l count) same c.cut-count.ensures.part)
+    (subst (λ (l : List ℕ). IsTakenUpTo c.cut-count.result.1 (c.args.limit - c.len.result) l count) same c.cut-count.ensures.part)
     (m.line ∙ ap (λ (l : List ℕ). c.args.self.now.line ++ take count l) (sym held))
     (m.held ∙ ap (λ (l : List ℕ). take count l ++ slice_range chunk (from + count) to) (sym held))

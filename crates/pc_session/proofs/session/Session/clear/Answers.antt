@@ -7,7 +7,7 @@ use Rattle.pc_sheet.specs.declared.ids.CellId.{CellId}
 use Rattle.pc_sheet.specs.declared.ids.Entry.{Entry}
 use Rattle.pc_cache.specs.Rows.{Cached, TargetRow}
 use Rattle.pc_components.specs.View.{Kept}
-use Rattle.pc_edits.specs.Edits.{Lacks}
+use Rattle.pc_edits.specs.Edits.{HasNoEntryOf}
 use Rattle.pc_logic.specs.Edits.{without_entry}
 use Rattle.pc_theory.specs.Theories.{TheoryView}
 use Rattle.pc_session.specs.Answers.{IsSpare, IsUnused, OthersStay, Stay, Steps}
@@ -42,7 +42,7 @@ clear_unused-requires-clause-unused c =
 
 pub returns-then-not-rests_on-clause-no_entry : goal.returns-then-not-rests_on-clause-no_entry
 returns-then-not-rests_on-clause-no_entry c lacks =
-    absurd (not_lacking c.self.inside.state.book.entries c.args.cell c.in-Some.entry (subst (λ (es : List Entry). Contains es c.in-Some.entry) c.entries.ensures.items c.in-Some.ensures.found) c.in-Some.ensures.of_cell (let P : SessionView → Type 0 = λ v. Lacks v.sheet.entries c.args.cell in subst P (sym c.self.view_is) lacks))
+    absurd (not_lacking c.self.inside.state.book.entries c.args.cell c.in-Some.entry (subst (λ (es : List Entry). Contains es c.in-Some.entry) c.entries.ensures.items c.in-Some.ensures.found) c.in-Some.ensures.of_cell (let P : SessionView → Type 0 = λ v. HasNoEntryOf v.sheet.entries c.args.cell in subst P (sym c.self.view_is) lacks))
 
 pub returns-then-not-rests_on-clause-sheet : goal.returns-then-not-rests_on-clause-sheet
 returns-then-not-rests_on-clause-sheet c =
@@ -154,7 +154,7 @@ returns-clause-arena c =
 
 pub returns-clause-no_entry : goal.returns-clause-no_entry
 returns-clause-no_entry c lacks =
-    absurd (not_lacking c.self.inside.state.book.entries c.args.cell c.in-Some.entry (subst (λ (es : List Entry). Contains es c.in-Some.entry) c.entries.ensures.items c.in-Some.ensures.found) c.in-Some.ensures.of_cell (let P : SessionView → Type 0 = λ v. Lacks v.sheet.entries c.args.cell in subst P (sym c.self.view_is) lacks))
+    absurd (not_lacking c.self.inside.state.book.entries c.args.cell c.in-Some.entry (subst (λ (es : List Entry). Contains es c.in-Some.entry) c.entries.ensures.items c.in-Some.ensures.found) c.in-Some.ensures.of_cell (let P : SessionView → Type 0 = λ v. HasNoEntryOf v.sheet.entries c.args.cell in subst P (sym c.self.view_is) lacks))
 
 pub returns-clause-unused : goal.returns-clause-unused
 returns-clause-unused c e there of_cell unused =

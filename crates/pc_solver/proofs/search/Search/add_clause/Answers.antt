@@ -3,7 +3,7 @@ use Rattle.pc_lits.specs.declared.literal.Lit.{Lit}
 use Rattle.pc_lits.specs.Literals.{negated}
 use Rattle.pc_lits.specs.Steps.{IsTautology}
 use Rattle.pc_propagate.specs.declared.clauses.ClauseRef.{ClauseRef}
-use Rattle.pc_propagate.specs.Propagation.{IsConflict}
+use Rattle.pc_propagate.specs.Propagation.{IsFalsified}
 use Rattle.pc_propagate.specs.Refs.{IsRef}
 use Rattle.pc_solver.proofs.TurnLemmas.{conflict_same}
 use Rattle.pc_solver.specs.Clauses.{IsKnown, IsOverOwn}
@@ -19,7 +19,7 @@ analyze-requires-clause-level c = rw (c.axioms.ensures.is, c.more.ensures) (leve
 
 pub analyze-requires-clause-conflict : goal.analyze-requires-clause-conflict
 analyze-requires-clause-conflict c =
-    conflict_same c.self.inside.trail.entries c.args.conflict _ _ _ _ c.axioms.ensures.is c.more.ensures (subst (λ (s : SearchView). IsConflict s.clauses.axioms s.clauses.more s.trail.entries c.args.conflict) (sym c.self.view_is) c.requires.conflict)
+    conflict_same c.self.inside.trail.entries c.args.conflict _ _ _ _ c.axioms.ensures.is c.more.ensures (subst (λ (s : SearchView). IsFalsified s.clauses.axioms s.clauses.more s.trail.entries c.args.conflict) (sym c.self.view_is) c.requires.conflict)
 
 pub returns-in_err-learned-clause-learns : goal.returns-in_err-learned-clause-learns
 returns-in_err-learned-clause-learns c = learn_nothing c.args.self.now c.args.tally.now c.args.log.now c.requires.log

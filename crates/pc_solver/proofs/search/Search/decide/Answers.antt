@@ -1,6 +1,6 @@
 use Rattle.std.proofs.Common.{None, Some, subst, refl}
 use Rattle.std.specs.Prelude.{OnErr, IfOk}
-use Rattle.pc_propagate.specs.declared.trail.Entry.{Entry}
+use Rattle.pc_propagate.specs.declared.trail.TrailEntry.{TrailEntry}
 use Rattle.pc_propagate.specs.Quiet.{IsQuiet}
 use Rattle.pc_solver.specs.declared.outcome.Outcome.TheVariants.{Sat}
 use Rattle.pc_solver.specs.inside.Search.{SearchView, IsUnderWay, Advances}
@@ -17,7 +17,7 @@ pub returns-in-Place-clause-ok : goal.returns-in-Place-clause-ok
 returns-in-Place-clause-ok c =
     let s = c.next_decision-next.new.self in
     let same = c.next_decision-next.ensures.same in
-    let e : Entry = record { literal = c.in-Place.lit; reason = None } in
+    let e : TrailEntry = record { literal = c.in-Place.lit; reason = None } in
     let under_way : IsUnderWay s c.args.assumed.now c.args.log.now = rw same c.requires.under_way in
     subst (λ (x : SearchView). Turns x c.place.new.self c.args.assumed.now c.args.tally.now c.place.new.tally c.args.log.now c.args.log.now c.after_placing.result) same
     (placed_turn s c.place.new.self e c.args.assumed.now c.args.log.now c.args.tally.now c.place.new.tally c.place.result c.after_placing.result c.after_placing.ensures c.place.ensures.clauses c.place.ensures.placed under_way

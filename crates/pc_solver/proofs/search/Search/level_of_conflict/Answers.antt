@@ -1,5 +1,5 @@
 use Rattle.std.proofs.Common.{sym, subst}
-use Rattle.pc_propagate.specs.Propagation.{IsConflict}
+use Rattle.pc_propagate.specs.Propagation.{IsFalsified}
 use Rattle.pc_propagate.specs.Refs.{clause_at}
 use Rattle.pc_analyze.specs.Levels.{IsHighestLevel}
 use Rattle.pc_solver.specs.inside.Search.{SearchView}
@@ -8,7 +8,7 @@ use Rattle.pc_solver.proofs.search.Search.level_of_conflict.Goals as goal
 
 pub conflict_level-requires : goal.conflict_level-requires
 conflict_level-requires c =
-    conflict_same c.self.inside.trail.entries c.args.conflict _ _ _ _ c.axioms.ensures.is c.more.ensures (subst (λ (s : SearchView). IsConflict s.clauses.axioms s.clauses.more s.trail.entries c.args.conflict) (sym c.self.view_is) c.requires)
+    conflict_same c.self.inside.trail.entries c.args.conflict _ _ _ _ c.axioms.ensures.is c.more.ensures (subst (λ (s : SearchView). IsFalsified s.clauses.axioms s.clauses.more s.trail.entries c.args.conflict) (sym c.self.view_is) c.requires)
 
 pub returns : goal.returns
 returns c =

@@ -3,7 +3,7 @@ use Rattle.pc_lits.specs.Literals.{negated}
 use Rattle.pc_lits.specs.Steps.{IsGoodStep}
 use Rattle.pc_propagate.specs.declared.clauses.ClauseRef.{ClauseRef}
 use Rattle.pc_propagate.specs.Entries.{falses}
-use Rattle.pc_propagate.specs.Refs.{clauses_at}
+use Rattle.pc_propagate.specs.Refs.{clauses_of_refs}
 use Rattle.pc_analyze.specs.Learning.{AreDecisionsAmong}
 use Rattle.pc_solver.specs.inside.Search.{SearchView}
 use Rattle.pc_solver.proofs.EndLemmas.{decisions_assumed}
@@ -19,7 +19,7 @@ refute-requires-clause-references c = subst (λ (s : SearchView). All (λ (r : C
 
 pub refute-requires-clause-good : goal.refute-requires-clause-good
 refute-requires-clause-good c =
-    subst (λ (s : SearchView). IsGoodStep negated c.in_ok-last.last.clause.items (clauses_at s.clauses.axioms s.clauses.more c.in_ok-last.last.hints.items)) c.self.view_is
+    subst (λ (s : SearchView). IsGoodStep negated c.in_ok-last.last.clause.items (clauses_of_refs s.clauses.axioms s.clauses.more c.in_ok-last.last.hints.items)) c.self.view_is
     (good_same _ _ _ _ c.in_ok-last.last.hints.items c.in_ok-last.last.clause.items c.axioms.ensures.is c.more.ensures c.in_ok-last.ensures.good)
 
 pub refute-requires-clause-over_own : goal.refute-requires-clause-over_own

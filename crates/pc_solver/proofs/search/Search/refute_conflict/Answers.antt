@@ -2,8 +2,8 @@ use Rattle.std.proofs.Common.{sym, subst, Contains, All}
 use Rattle.pc_lits.specs.Literals.{negated}
 use Rattle.pc_lits.specs.Steps.{IsGoodStep}
 use Rattle.pc_propagate.specs.declared.clauses.ClauseRef.{ClauseRef}
-use Rattle.pc_propagate.specs.Propagation.{IsConflict}
-use Rattle.pc_propagate.specs.Refs.{clause_at, clauses_at}
+use Rattle.pc_propagate.specs.Propagation.{IsFalsified}
+use Rattle.pc_propagate.specs.Refs.{clause_at, clauses_of_refs}
 use Rattle.pc_analyze.specs.Levels.{IsHighestLevel}
 use Rattle.pc_solver.specs.inside.Search.{SearchView}
 use Rattle.pc_solver.proofs.SearchLemmas.{on_err}
@@ -15,7 +15,7 @@ empty_clause-requires-clause-attached c = subst (λ (s : SearchView). Contains s
 
 pub empty_clause-requires-clause-conflict : goal.empty_clause-requires-clause-conflict
 empty_clause-requires-clause-conflict c =
-    conflict_same c.self.inside.trail.entries c.args.conflict _ _ _ _ c.axioms.ensures.is c.more.ensures (subst (λ (s : SearchView). IsConflict s.clauses.axioms s.clauses.more s.trail.entries c.args.conflict) (sym c.self.view_is) c.requires.conflict)
+    conflict_same c.self.inside.trail.entries c.args.conflict _ _ _ _ c.axioms.ensures.is c.more.ensures (subst (λ (s : SearchView). IsFalsified s.clauses.axioms s.clauses.more s.trail.entries c.args.conflict) (sym c.self.view_is) c.requires.conflict)
 
 pub empty_clause-requires-clause-level : goal.empty_clause-requires-clause-level
 empty_clause-requires-clause-level c =
@@ -27,7 +27,7 @@ refute-requires-clause-references c = subst (λ (s : SearchView). All (λ (r : C
 
 pub refute-requires-clause-good : goal.refute-requires-clause-good
 refute-requires-clause-good c =
-    subst (λ (s : SearchView). IsGoodStep negated c.in_ok-last.last.clause.items (clauses_at s.clauses.axioms s.clauses.more c.in_ok-last.last.hints.items)) c.self.view_is
+    subst (λ (s : SearchView). IsGoodStep negated c.in_ok-last.last.clause.items (clauses_of_refs s.clauses.axioms s.clauses.more c.in_ok-last.last.hints.items)) c.self.view_is
     (good_same _ _ _ _ c.in_ok-last.last.hints.items c.in_ok-last.last.clause.items c.axioms.ensures.is c.more.ensures c.in_ok-last.ensures.learned.good)
 
 pub refute-requires-clause-over_own : goal.refute-requires-clause-over_own
