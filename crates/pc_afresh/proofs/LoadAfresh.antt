@@ -4,7 +4,7 @@ use Rattle.pc_sheet.specs.Sheet.{Sheet}
 use Rattle.pc_sheet.specs.WellFormed.{IsWellFormed}
 use Rattle.pc_writer.specs.SheetText.{ended}
 use Rattle.pc_sortcheck.specs.Declaring.{ReadsAs}
-use Rattle.pc_declared.specs.Declared.{TextsReadBack}
+use Rattle.pc_canonical.specs.Declared.{TextsReadBack}
 use Rattle.pc_display.specs.OneDisplay.{HasOneText, SheetHasOneDisplay}
 use Rattle.pc_spreadsheet.specs.Judgement.{State, Starts, SheetVerdict, opens, rejects, PageKind, lines_page, grid_page, json_page, text_page, why_page}
 use Rattle.pc_spreadsheet.specs.Pages.{PageSays}

@@ -11,7 +11,7 @@ use Rattle.pc_sheet.specs.Weight.{cell_weight, rule_weight}
 use Rattle.pc_logic.specs.Edits.{without_rule}
 use Rattle.pc_lines.specs.Lines as a_line
 use Rattle.pc_syntax.specs.Tree.{Asked}
-use Rattle.pc_run.specs.Answer.{Answer, silent, accepted, shown, refused, no_memory}
+use Rattle.pc_transcript.specs.Answer.{Answer, silent, accepted, shown, refused, no_memory}
 use Rattle.pc_spreadsheet.specs.Judgement.{State, IsLight, Task, entering, clearing, adding, dropping, budgeting, asking, showing, showing_grid, showing_json, dumping, IsTaskOf, IsEdit, state_after}
 use Rattle.pc_spreadsheet.specs.Allowed.{Notes, Allows, as_judged, as_contradiction, as_spent}
 use Rattle.pc_spreadsheet.specs.Laws.{StartsAreWellFormed, AnswersKeepForm}

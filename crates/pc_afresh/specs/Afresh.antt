@@ -3,8 +3,8 @@ use Rattle.std.specs.Prelude.{◌≡◌, ◌↔◌, ℕ, List}
 use Rattle.pc_sheet.specs.Sheet.{Sheet}
 use Rattle.pc_sheet.specs.MaximalSets.{AreRulesConsistent}
 use Rattle.pc_sheet.specs.WellFormed.{IsWellFormed}
-use Rattle.pc_run.specs.Answer.{Answer}
-use Rattle.pc_run.specs.Transcript.{Transcript, Legal}
+use Rattle.pc_transcript.specs.Answer.{Answer}
+use Rattle.pc_transcript.specs.Transcript.{Transcript, Legal}
 use Rattle.pc_spreadsheet.specs.Judgement.{State, IsLight, Starts, PageKind, lines_page, grid_page, json_page, text_page}
 use Rattle.pc_spreadsheet.specs.Allowed.{Notes, Allows}
 use Rattle.pc_spreadsheet.specs.Pages.{PageSays}

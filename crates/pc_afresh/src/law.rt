@@ -1,7 +1,7 @@
 //! Laws over the judgement, each the contract of a function that does nothing.
 ghost use Rattle.pc_afresh.specs.Afresh.{AnswersKeepOpen, DumpsStartAgain, LoadedAfreshShowsTheSame, RunsLoadAfresh, StartsAreOpen, TranscriptsKeepOpen};
 
-use pc_declared::texts_read_back;
+use pc_canonical::texts_read_back;
 use pc_display::sheet_has_one_display;
 use pc_spreadsheet::{states_are_well_formed, texts_have_one_verdict};
 

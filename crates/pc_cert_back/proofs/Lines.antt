@@ -11,11 +11,11 @@ use Rattle.pc_formula.specs.Word.{Word, name, sign}
 use Rattle.pc_accept.specs.Accepts.{Line, Claim, implied, inconsistent, Certificate}
 use Rattle.pc_accept.specs.Writable.{IsLineOf, IsClaimOf}
 use Rattle.pc_writer.specs.Spelling.{cell_text, value_text, sort_of, entry_text}
-use Rattle.pc_read_back.proofs.Cuts.{Cuts, blank}
-use Rattle.pc_read_back.proofs.Cutting.{Ends, space, cut_name}
-use Rattle.pc_read_back.proofs.CuttingStatements.{all_letters, letters}
-use Rattle.pc_read_back.proofs.Signs.{cut_op}
-use Rattle.pc_read_back.proofs.Unbroken.{is_line_end, cuts_unbroken}
+use Rattle.pc_canonical.proofs.Cuts.{Cuts, blank}
+use Rattle.pc_canonical.proofs.Cutting.{Ends, space, cut_name}
+use Rattle.pc_canonical.proofs.CuttingStatements.{all_letters, letters}
+use Rattle.pc_canonical.proofs.Signs.{cut_op}
+use Rattle.pc_canonical.proofs.Unbroken.{is_line_end, cuts_unbroken}
 use Rattle.pc_cert.specs.Written.{heading, claims, claims_inconsistent, uses, assigns, derives, ends, WrittenLine, SaidLine}
 use Rattle.pc_cert.specs.Texts.{texts_of, SpellsThis}
 use Rattle.pc_cert.specs.Line.{IsCertificateLine, IsWordPair, StartsWithText, equality}
@@ -25,7 +25,7 @@ use Rattle.pc_cert_text.specs.CertificateText.{number_text, behind_blank, deriva
 use Rattle.pc_cert_back.specs.Said.{part_of, claim_said}
 use Rattle.pc_cert_back.proofs.Marks.{IsFree, free_join, IsWordText, number_text_is}
 use Rattle.pc_cert_back.proofs.Words.{texts_more}
-use Rattle.pc_declared.proofs.Entries.{entry_stands}
+use Rattle.pc_canonical.proofs.Entries.{entry_stands}
 use Rattle.pc_cert_back.proofs.Spelled.{pair_of, spelled_words, spell_entry}
 use Rattle.pc_cert_back.proofs.Parts.{line_reads, number_word}
 

@@ -15,8 +15,8 @@ use Rattle.pc_accept.specs.Accepts as accepts
 use Rattle.pc_accept.specs.Writable.{IsPathOf, IsSymbolOf, IsAxiomOf, IsLineOf}
 use Rattle.pc_writer.specs.Spelling.{value_text, sort_of}
 use Rattle.pc_writer.proofs.CellLemmas.{entered_cell, entered_value}
-use Rattle.pc_read_back.specs.Declarations.{written_value, written_cell}
-use Rattle.pc_read_back.proofs.Unbroken.{is_line_end}
+use Rattle.pc_canonical.specs.Declarations.{written_value, written_cell}
+use Rattle.pc_canonical.proofs.Unbroken.{is_line_end}
 use Rattle.pc_cert.specs.Written.{WrittenPart, written_some, written_one, written_rule, written_node_clause, written_atom, written_step, CertificatePart, taken}
 use Rattle.pc_cert.specs.Texts.{texts_of, AreAll, IsReadText, IsNumberText, IsLiteralText}
 use Rattle.pc_cert.specs.Line.{FollowsPart, part_word}
@@ -25,8 +25,8 @@ use Rattle.pc_cert_text.specs.CertificateText.{number_text, tight_cell_text, rea
 use Rattle.pc_cert_back.specs.Said.{part_of}
 use Rattle.pc_cert_back.proofs.Marks.{IsFree, free_join, number_plain, number_some, number_text_is, IsWordText, plain_word}
 use Rattle.pc_cert_back.proofs.Words.{texts_more, texts_last, texts_behind, texts_between, AreWordTexts, whole_behind}
-use Rattle.pc_declared.proofs.Entries.{cell_stands, entry_stands}
-use Rattle.pc_declared.proofs.Values.{value_stands}
+use Rattle.pc_canonical.proofs.Entries.{cell_stands, entry_stands}
+use Rattle.pc_canonical.proofs.Values.{value_stands}
 use Rattle.pc_cert_back.proofs.Standing.{rule_stands}
 use Rattle.pc_cert_back.proofs.Spelled.{pair_of, value_text_is, value_plain, value_some, cell_text_is, cell_plain, cell_some, read_text_is, read_word}
 use Rattle.pc_cert_back.proofs.Paths.{name_text_is, name_word, written_path, path_text_is, path_word, node_stands, written_literal, literal_spelled, literal_stands}

@@ -15,13 +15,13 @@ use Rattle.pc_accept.specs.Writable.{IsPathOf, IsSymbolOf}
 use Rattle.pc_cert.specs.Written.{WrittenPath, WrittenSymbol, written_pair, written_node, WrittenLiteral}
 use Rattle.pc_cert.specs.Texts.{AreAll, IsNumberText, IsNameText, IsPathText, IsSymbolText, IsLiteralText, starts_with_byte, is_negated}
 use Rattle.pc_cert.specs.Meaning.{IsNodeNamed, IsSymbolNamed, IsLiteralNamed}
-use Rattle.pc_read_back.proofs.Cutting.{name_nonempty}
-use Rattle.pc_read_back.proofs.Scalars.{name_utf8}
-use Rattle.pc_read_back.proofs.Unbroken.{is_line_end}
+use Rattle.pc_canonical.proofs.Cutting.{name_nonempty}
+use Rattle.pc_canonical.proofs.Scalars.{name_utf8}
+use Rattle.pc_canonical.proofs.Unbroken.{is_line_end}
 use Rattle.pc_cert_text.specs.CertificateText.{number_text, name_of_found_rule, name_of_rule_at, path_text, symbol_text, claim_sign_text, literal_text}
 use Rattle.pc_cert_back.proofs.Marks.{IsFree, IsPlain, is_mark, free_join, free_each, neither, name_plain, number_plain, number_text_is, IsWordText, plain_word, none, blanks_free, ends_free, slashes_free}
 use Rattle.pc_cert_back.proofs.Spelled.{pair_of, read_text_is, read_plain, read_word}
-use Rattle.pc_declared.proofs.Entries.{entry_stands}
+use Rattle.pc_canonical.proofs.Entries.{entry_stands}
 use Rattle.pc_cert_back.proofs.Standing.{rule_stands, element_at}
 use Rattle.pc_cert_text.proofs.LineLemmas.{all_at}
 use Rattle.pc_cert_text.proofs.TextLemmas.{rule_there}

@@ -1,6 +1,7 @@
 -- The verdict on a derivation, from the lines that a scratch was prepared for.
 use Rattle.std.proofs.Common.{◌≡◌, ℕ, ◌+◌, ◌<◌, ◌≤◌, Bool, true, false, MatchBool, IsTrue, List, [], ◌∷◌, ◌++◌, map, take, drop, length, get_or, All, refl, ap, sym, ◌∙◌, subst, zero-add, arith}
 use Rattle.std.proofs.lemmas.List.{take_all, length-map, length-take-le, get_or-map, get_or-take}
+use Rattle.pc_lits.specs.Hints.{clauses_at}
 use Rattle.pc_lits.specs.declared.literal.Lit.{Lit}
 use Rattle.pc_lits.specs.Steps.{IsGoodStep}
 use Rattle.pc_sheet.specs.Sheet.{Sheet}
@@ -65,7 +66,7 @@ module _ (sheet : Sheet) (symbols more : List Symbol) (distinct : AreSymbolsDist
       let same : map (literal_of names) (get_or clauses i []) ≡ map (literal_of symbols) clause.items = ap (map (literal_of names)) is ∙ sym (kept_names symbols more clause.items is_over) in
       let places = places_meant i hints.items in
       let step = (named_step names distinct (get_or clauses i []) clauses places (all_below i (length clauses) places (omega arith) good.0) (within i [] here) within).0 good.1 in
-      (clause_at i less ∙ same, good.0, subst (λ c. IsGoodStep opposite c (accepts.clauses_at named_clauses places)) same step)
+      (clause_at i less ∙ same, good.0, subst (λ c. IsGoodStep opposite c (clauses_at named_clauses places)) same step)
 
   good_part : (i : ℕ) (part : CertPart) → i < length lines → IsPartOver sheet symbols part → IsPrepared sheet names (get_or clauses i []) (get_or axioms i false) part
       → (c : List Literal) → IsLineClause sheet named_clauses i (line_of i (part_of symbols part)) c → IsGoodPart clauses axioms i part
@@ -75,7 +76,7 @@ module _ (sheet : Sheet) (symbols more : List Symbol) (distinct : AreSymbolsDist
       let same : map (literal_of names) (get_or clauses i []) ≡ map (literal_of symbols) clause.items = ap (map (literal_of names)) is ∙ sym (kept_names symbols more clause.items is_over) in
       let places = places_meant i hints.items in
       let both = named_step names distinct (get_or clauses i []) clauses places (all_below i (length clauses) places (omega arith) h.1) (within i [] here) within in
-      (h.1, both.1 (subst (λ c. IsGoodStep opposite c (accepts.clauses_at named_clauses places)) (sym same) h.2))
+      (h.1, both.1 (subst (λ c. IsGoodStep opposite c (clauses_at named_clauses places)) (sym same) h.2))
 
   part_at : (i : ℕ) → i < length lines → get_or parts i no_part ≡ numbered_part_of symbols (get_or lines i no_line)
   part_at i less = get_or-map (numbered_part_of symbols) lines i no_line no_part less

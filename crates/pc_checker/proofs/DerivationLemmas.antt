@@ -4,7 +4,7 @@ use Rattle.std.proofs.lemmas.Option.{get_or_from_slice_get}
 use Rattle.pc_lits.specs.declared.literal.Lit.{Lit}
 use Rattle.pc_lits.specs.Literals.{negated}
 use Rattle.pc_lits.specs.Steps.{IsGoodStep}
-use Rattle.pc_values.specs.Hints.{clauses_at}
+use Rattle.pc_lits.specs.Hints.{clauses_at}
 use Rattle.pc_checker.specs.inside.Numbers.{IsNumberUpTo, places_of}
 use Rattle.pc_checker.specs.inside.Parts.{places_meant, IsStepBy, EndsAmong}
 use Rattle.pc_checker.proofs.HintLemmas.{earlier, same_places}

@@ -9,7 +9,7 @@ use Rattle.pc_lits.specs.Steps.{IsGoodStep}
 use Rattle.pc_lits.proofs.LitLemmas.{same_parts}
 use Rattle.pc_lits.proofs.Renamed.{good_step_named}
 use Rattle.pc_lits.proofs.Elements.{contains_map, contains_mapped}
-use Rattle.pc_values.specs.Hints.{clauses_at}
+use Rattle.pc_lits.specs.Hints.{clauses_at}
 use Rattle.pc_sheet.specs.Sheet.{Sheet}
 use Rattle.pc_accept.specs.Literals.{Symbol, node, Literal, opposite}
 use Rattle.pc_accept.specs.Accepts as accepts
@@ -118,7 +118,7 @@ line_at i (p ∷ ps) (suc k) d e within =
     line_at (i + 1) ps k d e (omega arith) ∙ ap n (let same : (i + 1) + k ≡ i + suc k = omega arith in same)
 
 -- the clause of a line rests on the clauses of earlier lines alone
-same_clauses : (cs ds : List (List Literal)) (i : ℕ) (hints : List ℕ) → ((j : ℕ) → j < i → get_or cs j [] ≡ get_or ds j []) → All (λ h. h < i) hints → accepts.clauses_at cs hints ≡ accepts.clauses_at ds hints
+same_clauses : (cs ds : List (List Literal)) (i : ℕ) (hints : List ℕ) → ((j : ℕ) → j < i → get_or cs j [] ≡ get_or ds j []) → All (λ h. h < i) hints → clauses_at cs hints ≡ clauses_at ds hints
 same_clauses cs ds i [] same all = refl
 same_clauses cs ds i (h ∷ hs) same all =
     let first = same h (All-head (λ h. h < i) h hs all) in

@@ -4,7 +4,7 @@ use Rattle.std.proofs.lemmas.Option.{slice_get-get_or}
 use Rattle.std.proofs.lemmas.List.{length-map, get_or-map}
 use Rattle.std.proofs.lemmas.List.Elements.{All-weaker, All-map, All-head, All-tail}
 use Rattle.pc_lits.specs.declared.literal.Lit.{Lit}
-use Rattle.pc_values.specs.Hints.{clauses_at}
+use Rattle.pc_lits.specs.Hints.{clauses_at}
 use Rattle.pc_cert.specs.Text.{place_meant}
 use Rattle.pc_checker.specs.inside.Numbers.{IsNumberUpTo, places_of}
 use Rattle.pc_checker.specs.inside.Parts.{places_meant}

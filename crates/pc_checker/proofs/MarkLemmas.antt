@@ -6,7 +6,7 @@ use Rattle.std.proofs.lemmas.List.{take_more, length-set, get_or-set_same, get_o
 use Rattle.std.proofs.lemmas.List.Elements.{Contains-push, Contains-push_cases, Contains-append_left}
 use Rattle.pc_lits.specs.declared.literal.Lit.{Lit}
 use Rattle.pc_lits.proofs.LitLemmas.{same_parts}
-use Rattle.pc_values.specs.Values.{IsInRange, value_of}
+use Rattle.pc_lits.specs.Values.{IsInRange, value_of}
 use Rattle.pc_checker.specs.inside.Parts.{IsAmongOf, AreMarked}
 
 pub same_sign : (a b : Bool) → beq a b ≡ true → a ≡ b

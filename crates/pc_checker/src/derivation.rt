@@ -2,14 +2,13 @@
 
 ghost use Rattle.std.specs.Prelude.{◌≡◌, ◌<◌, ◌↔◌, All, Contains, IsTrue, List, length};
 ghost use Rattle.pc_lits.specs.declared.literal.Lit.{Lit as TheLit};
-ghost use Rattle.pc_values.specs.Values.{IsInRange};
+ghost use Rattle.pc_lits.specs.Values.{IsInRange};
 ghost use Rattle.pc_checker.specs.inside.Parts.{IsStepBy, IsGoodPart, IsFirstBad, EndsAmong, IsAmongOf, AreMarked};
 
 use crate::hints::{HintsByNumber, are_earlier};
 use crate::line_clauses::LineClauses;
 use pc_cert::{CertLine, CertPart};
-use pc_lits::Lit;
-use pc_values::{Values, is_good_step};
+use pc_lits::{Lit, Values, is_good_step};
 
 /// The first line that is neither marked as an axiom nor a good step by earlier lines.
 pub(crate) fn first_bad(

@@ -1,13 +1,12 @@
 //! The clauses that hints name by the numbers of lines.
 
 ghost use Rattle.std.specs.Prelude.{◌≡◌, ◌<◌, ◌↔◌, ◌-◌, All, IsTrue, length, map};
-ghost use Rattle.pc_values.specs.Hints.{clauses_at};
+ghost use Rattle.pc_lits.specs.Hints.{clauses_at};
 ghost use Rattle.pc_checker.specs.inside.Numbers.{IsNumberUpTo, places_of};
 ghost use Rattle.pc_checker.specs.inside.Parts.{places_meant};
 
 use crate::line_clauses::LineClauses;
-use pc_lits::Lit;
-use pc_values::Hints;
+use pc_lits::{Hints, Lit};
 
 /// The clauses of lines by their numbers, from 1, in the order of the numbers.
 #[derive(Clone, Copy)]

@@ -18,8 +18,8 @@ use crate::scratch::Scratch;
 use crate::shared::Shared;
 use crate::taken::write_axiom;
 use pc_cert::{Cert, CertLine, CertPart, Claim, Numbering, Said, Symbol};
+use pc_lits::Values;
 use pc_logic::{Assignment, Book};
-use pc_values::Values;
 use std::alloc::{AllocError, Global};
 
 // A line's part, an earlier line that takes the same axiom, if there is one, and what was answered for the earlier lines.

@@ -1,10 +1,9 @@
 //! What a check needs of memory.
 
 use crate::line_clauses::LineClauses;
-use pc_lits::Lit;
+use pc_lits::{Lit, Values};
 use pc_logic::Assignment;
 use pc_sheet::ValueId;
-use pc_values::Values;
 
 /// What is prepared for the check of one certificate, so that the check itself takes no memory. The symbols of all
 /// clauses have numbers, the certificate's own first.

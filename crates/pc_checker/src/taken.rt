@@ -13,11 +13,10 @@ ghost use Rattle.pc_checker.specs.inside.Written.{IsAxiomWritten};
 use crate::axiom::{write_reads, write_values};
 use crate::draft::ClauseDraft;
 use crate::node::write_node;
-use pc_lits::{Lit, Var};
+use pc_lits::{Lit, Values, Var};
 use pc_logic::{Book, eval_partial, node_at};
 use pc_names::AxiomName;
 use pc_sheet::{Entry, NodeKind, NodePath};
-use pc_values::Values;
 use std::alloc::{AllocError, Global};
 
 /// Writes the axiom's clause, and answers whether the book has that axiom. The marks have room for each cell, and what

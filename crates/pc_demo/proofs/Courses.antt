@@ -7,16 +7,16 @@ use Rattle.pc_port.specs.Port.{AppendsFront}
 use Rattle.pc_gen.specs.Text.{generated_text}
 use Rattle.pc_generated.specs.Sheet.{generated_sheet}
 use Rattle.pc_sheet.specs.Sheet.{Sheet}
-use Rattle.pc_run.specs.declared.machine.LoadStop.{LoadStop}
-use Rattle.pc_run.specs.declared.machine.LoadStop.TheVariants.{Refused, Memory}
-use Rattle.pc_run.specs.declared.refusal.SheetRefusal.{SheetRefusal}
-use Rattle.pc_run.specs.declared.serve.Marks.{Marks}
-use Rattle.pc_run.specs.declared.status.Status.{Status}
-use Rattle.pc_run.specs.declared.status.Status.TheVariants as status
-use Rattle.pc_run.specs.Refusals.{sheet_refusal_text}
-use Rattle.pc_run.specs.Answer.{Printing, printed, StopsBy, is_refused, is_no_memory}
-use Rattle.pc_run.specs.Transcript.{worse_of, status_of}
-use Rattle.pc_run.specs.Run.{IsPrinted, AppendsPart, TellsAtEnd, TellsStop, sheet_memory_text}
+use Rattle.pc_transcript.specs.declared.machine.LoadStop.{LoadStop}
+use Rattle.pc_transcript.specs.declared.machine.LoadStop.TheVariants.{Refused, Memory}
+use Rattle.pc_transcript.specs.declared.refusal.SheetRefusal.{SheetRefusal}
+use Rattle.pc_transcript.specs.declared.serve.Marks.{Marks}
+use Rattle.pc_transcript.specs.declared.status.Status.{Status}
+use Rattle.pc_transcript.specs.declared.status.Status.TheVariants as status
+use Rattle.pc_transcript.specs.Refusals.{sheet_refusal_text}
+use Rattle.pc_transcript.specs.Answer.{Printing, printed, StopsBy, is_refused, is_no_memory}
+use Rattle.pc_transcript.specs.Transcript.{worse_of, status_of}
+use Rattle.pc_transcript.specs.Run.{IsPrinted, AppendsPart, TellsAtEnd, TellsStop, sheet_memory_text}
 use Rattle.pc_spreadsheet.specs.Judgement.{State, Starts}
 use Rattle.pc_spreadsheet.specs.Allowed.{Notes, RefusesText}
 use Rattle.pc_spreadsheet.specs.Pages.{IsCertificateAgainst}

@@ -6,13 +6,13 @@ use Rattle.std.specs.List.{flat_map}
 use Rattle.pc_gen.specs.Text.{generated_text, up_to}
 use Rattle.pc_generated.specs.Sheet.{generated_sheet}
 use Rattle.pc_sheet.specs.Sheet.{Sheet}
-use Rattle.pc_run.specs.declared.status.Status.{Status}
-use Rattle.pc_run.specs.declared.status.Status.TheVariants.{Done, SomeRefused, Usage, SheetRefused, ReadFault, WriteFault, Memory, TooLong, CertRefused}
-use Rattle.pc_run.specs.declared.refusal.SheetRefusal.{SheetRefusal}
-use Rattle.pc_run.specs.Refusals.{sheet_refusal_text}
-use Rattle.pc_run.specs.Answer.{Answer, accepted, answer_text, Printing, printed}
-use Rattle.pc_run.specs.Transcript.{Transcript, Legal, lines, status_of}
-use Rattle.pc_run.specs.Run.{IsPrinted, sheet_memory_text}
+use Rattle.pc_transcript.specs.declared.status.Status.{Status}
+use Rattle.pc_transcript.specs.declared.status.Status.TheVariants.{Done, SomeRefused, Usage, SheetRefused, ReadFault, WriteFault, Memory, TooLong, CertRefused}
+use Rattle.pc_transcript.specs.declared.refusal.SheetRefusal.{SheetRefusal}
+use Rattle.pc_transcript.specs.Refusals.{sheet_refusal_text}
+use Rattle.pc_transcript.specs.Answer.{Answer, accepted, answer_text, Printing, printed}
+use Rattle.pc_transcript.specs.Transcript.{Transcript, Legal, lines, status_of}
+use Rattle.pc_transcript.specs.Run.{IsPrinted, sheet_memory_text}
 use Rattle.pc_spreadsheet.specs.Judgement.{State, Starts}
 use Rattle.pc_spreadsheet.specs.Allowed.{Notes, Allows, RefusesText}
 use Rattle.pc_spreadsheet.specs.Summary.{IsSummary}

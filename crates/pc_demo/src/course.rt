@@ -1,8 +1,8 @@
 //! A demonstration, from its number of blocks to its status.
 ghost use Rattle.std.specs.Prelude.{◌≡◌, ◌≢◌, ◌≤◌, ℕ, List, codes};
 ghost use Rattle.pc_port.specs.Port.{Rose};
-ghost use Rattle.pc_run.specs.Run.{TellsAtEnd};
-ghost use Rattle.pc_run.specs.Transcript.{worse_of};
+ghost use Rattle.pc_transcript.specs.Run.{TellsAtEnd};
+ghost use Rattle.pc_transcript.specs.Transcript.{worse_of};
 ghost use Rattle.pc_demo.specs.Demonstration.{Demonstrated, SumsUp};
 ghost use Rattle.pc_demo.specs.inside.Courses.{Begins, GoesOn};
 
@@ -12,8 +12,8 @@ use pc_gen::generated;
 use pc_generated::generated_texts_read_back;
 use pc_load::texts_have_one_outcome;
 use pc_port::{Failed, Sink};
-use pc_run::{MOST_BUDGET, Machine, Marks, Status, tell_no_memory_for_sheet, tell_stop};
 use pc_spreadsheet::{Spendings, Spreadsheet};
+use pc_transcript::{MOST_BUDGET, Machine, Marks, Status, tell_no_memory_for_sheet, tell_stop};
 use std::alloc::Global;
 
 // Sums the sheet up in the end.

@@ -1,7 +1,7 @@
 // Laws over the definitions, each the contract of a function that does nothing.
 ghost use Rattle.pc_generated.specs.Laws.{GeneratedSheetsAreWellFormed, GeneratedSheetsWeigh, GeneratedTextsAreCanonical, GeneratedTextsReadBack};
 
-use pc_declared::texts_read_back;
+use pc_canonical::texts_read_back;
 use pc_sheet::cells_are_numbered_in_order;
 
 /// The generated sheet of 1 to 256 blocks is well formed.

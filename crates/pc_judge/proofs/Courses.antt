@@ -7,20 +7,20 @@ use Rattle.pc_port.specs.Shelf.{Files}
 use Rattle.pc_sheet.specs.Sheet.{Sheet}
 use Rattle.pc_checker.specs.declared.verdict.Verdict.{Verdict}
 use Rattle.pc_checker.specs.declared.verdict.Verdict.TheVariants.{UseNotEntered, BadValues, UseNotHeld, RuleBroken, BadAxiom, BadStep, WrongEnd, Accepted}
-use Rattle.pc_run.specs.declared.TheConstants.{SHEET_LIMIT}
-use Rattle.pc_run.specs.declared.refusal.SheetRefusal.{SheetRefusal}
-use Rattle.pc_run.specs.declared.status.Status.{Status}
-use Rattle.pc_run.specs.declared.status.Status.TheVariants.{Done, SheetRefused, ReadFault, WriteFault, Memory, TooLong, CertRefused}
-use Rattle.pc_run.specs.Refusals.{sheet_refusal_text}
-use Rattle.pc_run.specs.Answer.{printed}
-use Rattle.pc_run.specs.Transcript.{too_long_text}
-use Rattle.pc_run.specs.Run.{AppendsPart, IsPrinted, TellsAtEnd, memory_text, sheet_memory_text}
+use Rattle.pc_transcript.specs.declared.TheConstants.{SHEET_LIMIT}
+use Rattle.pc_transcript.specs.declared.refusal.SheetRefusal.{SheetRefusal}
+use Rattle.pc_transcript.specs.declared.status.Status.{Status}
+use Rattle.pc_transcript.specs.declared.status.Status.TheVariants.{Done, SheetRefused, ReadFault, WriteFault, Memory, TooLong, CertRefused}
+use Rattle.pc_transcript.specs.Refusals.{sheet_refusal_text}
+use Rattle.pc_transcript.specs.Answer.{printed}
+use Rattle.pc_transcript.specs.Transcript.{too_long_text}
+use Rattle.pc_transcript.specs.Run.{AppendsPart, IsPrinted, TellsAtEnd, memory_text, sheet_memory_text}
 use Rattle.pc_load.specs.Outcome.{HasFault}
 use Rattle.pc_judge.specs.declared.told.Told.{Told}
 use Rattle.pc_judge.specs.declared.told.Told.TheVariants as told
 use Rattle.pc_judge.specs.Judged.{IsJudged, told_text, status_of_told, status_of_verdict}
 use Rattle.pc_judge.specs.Input.{TakesAll, TakesSome, InputPassesLimit}
-use Rattle.pc_run.specs.Files.{AsksOnce, TakesFile, TakesLongFile, LacksMemoryForFile, HasLongFile}
+use Rattle.pc_transcript.specs.Files.{AsksOnce, TakesFile, TakesLongFile, LacksMemoryForFile, HasLongFile}
 use Rattle.pc_judge.specs.Checked.{StopsAtSheet, StopsAtCertificate, FileIsRefused, LacksMemoryForCheck, HasLongCertificate, Judges, CheckedFor, Checked}
 use Rattle.pc_sortcheck.specs.Declaring.{ReadsAs}
 

@@ -6,7 +6,7 @@ use Rattle.std.specs.Io.KnownBytes.{Consumes, Keeps, IsAtEnd}
 use Rattle.std.proofs.KnownBytes.{Consumes-trans, Consumes-kept}
 use Rattle.std.proofs.lemmas.List.{append-nil}
 use Rattle.pc_cert.specs.declared.TheConstants.{CERT_LIMIT}
-use Rattle.pc_judge.specs.declared.input.TheConstants.{CHUNK}
+use Rattle.pc_lines.specs.declared.TheConstants.{CHUNK}
 use Rattle.pc_judge.specs.declared.input.InputStop.{InputStop}
 use Rattle.pc_judge.specs.declared.input.InputStop.TheVariants.{Failed, TooLong, Memory}
 use Rattle.pc_judge.specs.Input.{TakesAll, TakesSome, InputPassesLimit, InputGives}

@@ -4,15 +4,15 @@ use Rattle.std.specs.Prelude.{◌≡◌, ℕ, ◌≤◌, ◌⊎◌, List, [], le
 use Rattle.std.specs.declared.option.Option.{Option}
 use Rattle.pc_port.specs.Shelf.{Files}
 use Rattle.pc_sheet.specs.Sheet.{Sheet}
-use Rattle.pc_run.specs.declared.TheConstants.{SHEET_LIMIT}
-use Rattle.pc_run.specs.declared.refusal.SheetRefusal.{SheetRefusal}
-use Rattle.pc_run.specs.declared.status.Status.{Status}
-use Rattle.pc_run.specs.declared.status.Status.TheVariants.{Done, SheetRefused, ReadFault, WriteFault, Memory, TooLong, CertRefused}
-use Rattle.pc_run.specs.Refusals.{sheet_refusal_text}
-use Rattle.pc_run.specs.Answer.{Printing, printed}
-use Rattle.pc_run.specs.Transcript.{too_long_text}
-use Rattle.pc_run.specs.Files.{TakesFile, LacksFile, LacksMemoryForFile, HasLongFile}
-use Rattle.pc_run.specs.Run.{IsPrinted, memory_text}
+use Rattle.pc_transcript.specs.declared.TheConstants.{SHEET_LIMIT}
+use Rattle.pc_transcript.specs.declared.refusal.SheetRefusal.{SheetRefusal}
+use Rattle.pc_transcript.specs.declared.status.Status.{Status}
+use Rattle.pc_transcript.specs.declared.status.Status.TheVariants.{Done, SheetRefused, ReadFault, WriteFault, Memory, TooLong, CertRefused}
+use Rattle.pc_transcript.specs.Refusals.{sheet_refusal_text}
+use Rattle.pc_transcript.specs.Answer.{Printing, printed}
+use Rattle.pc_transcript.specs.Transcript.{too_long_text}
+use Rattle.pc_transcript.specs.Files.{TakesFile, LacksFile, LacksMemoryForFile, HasLongFile}
+use Rattle.pc_transcript.specs.Run.{IsPrinted, memory_text}
 use Rattle.pc_load.specs.Outcome.{HasFault}
 use Rattle.pc_judge.specs.declared.told.Told.{Told}
 use Rattle.pc_judge.specs.Judged.{IsJudged, told_text, status_of_told}

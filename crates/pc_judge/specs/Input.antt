@@ -4,7 +4,7 @@ use Rattle.std.specs.declared.alloc.Global.{Global}
 use Rattle.std.specs.declared.option.Option.{Option}
 use Rattle.std.specs.Io.KnownBytes.{Consumes, IsAtEnd}
 use Rattle.pc_cert.specs.declared.TheConstants.{CERT_LIMIT}
-use Rattle.pc_judge.specs.declared.input.TheConstants.{CHUNK}
+use Rattle.pc_lines.specs.declared.TheConstants.{CHUNK}
 use Rattle.pc_judge.specs.declared.input.InputStop.{InputStop}
 use Rattle.pc_judge.specs.declared.input.InputStop.TheVariants.{Failed, TooLong, Memory}
 

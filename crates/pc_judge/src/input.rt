@@ -4,11 +4,9 @@ ghost use Rattle.pc_port.specs.Port.{Rose};
 ghost use Rattle.pc_judge.specs.Input.{InputGives};
 
 use pc_cert::CERT_LIMIT;
+use pc_lines::CHUNK;
 use pc_port::{Failed, Source};
 use std::alloc::{AllocError, Global};
-
-/// The most bytes that one read gives.
-pub const CHUNK: usize = 4096;
 
 /// Why an input was not read to its end.
 #[derive(Clone, Copy, Debug, PartialEq, Eq)]

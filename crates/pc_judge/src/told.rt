@@ -6,7 +6,7 @@ ghost use Rattle.pc_judge.specs.Judged.{IsToldOf, IsVerdictIn, at_line, judgemen
 use pc_checker::Verdict;
 use pc_logic::Book;
 use pc_port::{Failed, Sink};
-use pc_run::Status;
+use pc_transcript::Status;
 use pc_writer::{write_integer, write_text};
 
 /// What is told of a certificate's text. A line is one of that text, the first having the number 1.

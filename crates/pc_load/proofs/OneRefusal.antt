@@ -4,10 +4,10 @@ use Rattle.pc_elaborate.specs.declared.fault.SortFault.{SortFault}
 use Rattle.pc_elaborate.specs.declared.fault.SortFault.TheVariants as fault
 use Rattle.pc_elaborate.specs.declared.fault.Which.{Which}
 use Rattle.pc_elaborate.specs.declared.fault.Which.TheVariants as which
-use Rattle.pc_run.specs.declared.refusal.LimitWord.{LimitWord}
-use Rattle.pc_run.specs.declared.refusal.LimitWord.TheVariants.{Sorts, Values, Number, Tables, Families, Arity, Cells, Rows, Rules, Depth, Reads, Budget}
-use Rattle.pc_run.specs.declared.refusal.Refusal.{Refusal}
-use Rattle.pc_run.specs.declared.refusal.Refusal.TheVariants.{NotUtf8, Syntax, NoBegin, WrongVersion, UnknownName, DuplicateName, WrongArity, WrongSort, NotAValue, EmptySort, Limit, TooLarge, Inconsistent, Spent, NoEntry, DuplicateRule, NoRule, TooDeep}
+use Rattle.pc_transcript.specs.declared.refusal.LimitWord.{LimitWord}
+use Rattle.pc_transcript.specs.declared.refusal.LimitWord.TheVariants.{Sorts, Values, Number, Tables, Families, Arity, Cells, Rows, Rules, Depth, Reads, Budget}
+use Rattle.pc_transcript.specs.declared.refusal.Refusal.{Refusal}
+use Rattle.pc_transcript.specs.declared.refusal.Refusal.TheVariants.{NotUtf8, Syntax, NoBegin, WrongVersion, UnknownName, DuplicateName, WrongArity, WrongSort, NotAValue, EmptySort, Limit, TooLarge, Inconsistent, Spent, NoEntry, DuplicateRule, NoRule, TooDeep}
 use Rattle.pc_load.specs.Refusals.{IsSortRefusal, which_of}
 
 abbrev word_of : Which → LimitWord

@@ -3,9 +3,9 @@ ghost use Rattle.std.specs.Prelude.{◌≡◌, MatchOption};
 ghost use Rattle.pc_load.specs.Refusals.{IsSortRefusal, which_of};
 ghost use Rattle.pc_load.specs.inside.Loading.{IsSortFaultTold, load_fault_of, refused_for};
 
-use pc_run::{LimitWord, LoadFault, Refusal, SheetRefusal};
 use pc_sortcheck::{SheetSortFault, SortFault, Which};
 use pc_syntax::SheetFault;
+use pc_transcript::{LimitWord, LoadFault, Refusal, SheetRefusal};
 
 // The word for what a limit is put on.
 fn limit_word(which: Which) -> LimitWord

@@ -23,8 +23,7 @@ ghost use Rattle.pc_propagate.specs.inside.Steady.{IsWoken};
 
 use crate::clauses::ClauseRef;
 use crate::pairs::Pairs;
-use pc_lits::{Lit, Tally, Var};
-use pc_values::{Left, Values, left_of};
+use pc_lits::{Left, Lit, Tally, Values, Var, left_of};
 use std::alloc::{AllocError, Global};
 use std::marker::Model;
 

@@ -1,8 +1,8 @@
 -- A demonstration reads nothing.
 use Rattle.std.proofs.Common.{◌≢◌, ℕ, subst}
-use Rattle.pc_run.specs.declared.status.Status.{Status}
-use Rattle.pc_run.specs.declared.status.Status.TheVariants.{ReadFault}
-use Rattle.pc_run.specs.Answer.{Printing}
+use Rattle.pc_transcript.specs.declared.status.Status.{Status}
+use Rattle.pc_transcript.specs.declared.status.Status.TheVariants.{ReadFault}
+use Rattle.pc_transcript.specs.Answer.{Printing}
 use Rattle.pc_spreadsheet.specs.Allowed.{Notes}
 use Rattle.pc_demo.specs.Demonstration.{Goes}
 

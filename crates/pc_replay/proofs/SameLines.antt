@@ -8,7 +8,7 @@ use Rattle.pc_lines.proofs.Ends.{text_of-open}
 use Rattle.pc_syntax.specs.Sheet as sheet
 use Rattle.pc_syntax.specs.Line as a_line
 use Rattle.pc_syntax.specs.Line.{begins, begin_line, spelled_line}
-use Rattle.pc_run.specs.SheetPart.{IsBeginLine}
+use Rattle.pc_transcript.specs.SheetPart.{IsBeginLine}
 
 -- ---- one byte more in front
 

@@ -4,12 +4,12 @@ use Rattle.std.specs.declared.option.Option.{Option}
 use Rattle.pc_port.specs.Port.{Rose}
 use Rattle.pc_port.specs.Shelf.{Files}
 use Rattle.pc_words.specs.Words.{Mode, replays, edits, checks, demonstrates, Request, FitsWords, FitNothing}
-use Rattle.pc_run.specs.declared.status.Status.{Status}
-use Rattle.pc_run.specs.declared.status.Status.TheVariants.{Usage, Memory}
+use Rattle.pc_transcript.specs.declared.status.Status.{Status}
+use Rattle.pc_transcript.specs.declared.status.Status.TheVariants.{Usage, Memory}
 use Rattle.pc_writer.specs.SheetText.{ended}
-use Rattle.pc_run.specs.Edit.{Edited}
-use Rattle.pc_run.specs.Files.{AsksOnce}
-use Rattle.pc_run.specs.Run.{Replayed, TellsAtEnd, memory_text}
+use Rattle.pc_transcript.specs.Edit.{Edited}
+use Rattle.pc_transcript.specs.Files.{AsksOnce}
+use Rattle.pc_transcript.specs.Run.{Replayed, TellsAtEnd, memory_text}
 use Rattle.pc_judge.specs.Checked.{Checked}
 use Rattle.pc_demo.specs.Demonstration.{Demonstrated}
 use Rattle.pc_spreadsheet.specs.Judgement.{Starts}

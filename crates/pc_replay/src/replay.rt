@@ -1,15 +1,15 @@
 // The top call.
 ghost use Rattle.std.specs.Prelude.{◌≡◌, ◌≢◌, ◌≤◌, ◌⊎◌, map, string_bytes};
 ghost use Rattle.pc_port.specs.Port.{Rose};
-ghost use Rattle.pc_run.specs.Run.{TellsAtEnd};
+ghost use Rattle.pc_transcript.specs.Run.{TellsAtEnd};
 ghost use Rattle.pc_words.specs.View.{mode_of};
 ghost use Rattle.pc_replay.specs.Run.{AskForFile, AskForInput, HasBlocks, HasFile, ReadsAtFault, ReadsInput, Runs, RunsIn, usage_text};
 
 use pc_demo::demo;
 use pc_judge::check_file;
 use pc_port::{Shelf, Sink, Source};
-use pc_run::{MOST_BUDGET, Resources, Status, edit, end_with, replay, tell_no_memory};
 use pc_spreadsheet::{Spendings, Spreadsheet};
+use pc_transcript::{MOST_BUDGET, Resources, Status, edit, end_with, replay, tell_no_memory};
 use pc_words::{Mode, Request, WordsFault, read};
 use std::alloc::Global;
 

@@ -3,7 +3,7 @@
 ghost use Rattle.std.specs.Prelude.{◌<◌, ◌≢◌, length, slice_index, None};
 
 use pc_port::{Failed, MemoryShelf, MemorySink, MemorySource, Sink, Source};
-use pc_run::{
+use pc_transcript::{
     Counts, LINE_LIMIT, LimitWord, LoadStop, MAX_LINES, MOST_BUDGET, Machine, Refusal, Reply,
     Resources, SHEET_LIMIT, SheetRefusal, Status, edit, replay,
 };

@@ -39,7 +39,7 @@ fn is_stale(
     removed: Option<Entry>,
     added: bool,
 ) -> bool
-    ensures { result ≡ is_stale removed added (row_of cache.now.rows target_of_value) }
+    ensures { result ≡ is_stale removed added (row_of cache.now.rows target) }
 {
     match cache.reason(names, target) {
         None => added,

@@ -2,8 +2,7 @@
 use pc_lits::laws::{
     good_steps_are_sound, good_steps_follow, good_steps_keep_under_names, worked_steps,
 };
-use pc_lits::{ClauseStore, Lit, Tally, Var};
-use pc_values::{HintsAt, Values, is_good_step};
+use pc_lits::{ClauseStore, HintsAt, Lit, Tally, Values, Var, is_good_step};
 use std::alloc::{AllocError, Global};
 use std::test::Fail;
 

@@ -10,9 +10,9 @@ use Rattle.pc_syntax.specs.Spelling.{IsSpelled}
 use Rattle.pc_syntax.specs.Tree.{Asked, asks_show, asks_grid, asks_dump}
 use Rattle.pc_syntax.specs.Command.{CommandReading, no_command, asks, IsCommandReading, empty_command, spelled_command, command_keyword, FollowsCommand, TakesNoMemory}
 use Rattle.pc_syntax.specs.Told.{IsCommandTold}
-use Rattle.pc_run.specs.declared.refusal.Refusal.{Refusal}
-use Rattle.pc_run.specs.declared.machine.Reply.TheVariants.{Silent, Accepted, Shown, Refused, Memory}
-use Rattle.pc_run.specs.Answer.{Answer, silent, IsToldBehind, IsAnswer, CanBeTold}
+use Rattle.pc_transcript.specs.declared.refusal.Refusal.{Refusal}
+use Rattle.pc_transcript.specs.declared.machine.Reply.TheVariants.{Silent, Accepted, Shown, Refused, Memory}
+use Rattle.pc_transcript.specs.Answer.{Answer, silent, IsToldBehind, IsAnswer, CanBeTold}
 use Rattle.pc_sheet.specs.Sheet.{Sheet}
 use Rattle.pc_spreadsheet.specs.Judgement.{State, for_utf8, for_depth, for_syntax, for_asked}
 use Rattle.pc_spreadsheet.specs.Pages.{IsPage, CanShow, IsCertificateAgainst, kind_of}

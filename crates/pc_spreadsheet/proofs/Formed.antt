@@ -8,7 +8,7 @@ use Rattle.pc_logic.proofs.BookLemmas.{with_entries}
 use Rattle.pc_logic.proofs.EditLemmas.{rules_stay}
 use Rattle.pc_logic.proofs.EntryLemmas.{entries_stay, entries_left}
 use Rattle.pc_one_reading.proofs.Entries.{entry_of}
-use Rattle.pc_run.specs.Answer.{silent, accepted, shown, refused, no_memory}
+use Rattle.pc_transcript.specs.Answer.{silent, accepted, shown, refused, no_memory}
 use Rattle.pc_sortcheck.specs.Laws.{SheetsAreWellFormed}
 use Rattle.pc_spreadsheet.specs.Judgement.{State, Task, entering, clearing, adding, dropping, budgeting, asking, showing, showing_grid, showing_json, dumping, IsTaskOf, IsEdit, state_after}
 use Rattle.pc_spreadsheet.specs.Allowed.{Notes, as_judged, as_contradiction, as_spent}

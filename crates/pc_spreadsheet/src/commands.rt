@@ -3,7 +3,7 @@ ghost use Rattle.std.specs.Prelude.{◌≤◌, length};
 ghost use Rattle.pc_syntax.specs.Command.{asks};
 ghost use Rattle.pc_syntax.specs.Sized.{IsNestedReading, IsSizedReading};
 ghost use Rattle.pc_syntax.specs.Tree.{asked_of, asks_budget, asks_why, cell_of, value_of};
-ghost use Rattle.pc_run.specs.Answer.{Answer, CanBeTold, IsAnswer};
+ghost use Rattle.pc_transcript.specs.Answer.{Answer, CanBeTold, IsAnswer};
 ghost use Rattle.pc_spreadsheet.specs.Allowed.{Allows, Notes};
 ghost use Rattle.pc_spreadsheet.specs.Commands.{Explains, Obeys, ShowsJson, state_of};
 ghost use Rattle.pc_spreadsheet.specs.Pages.{CanShow, IsCertificateAgainst, IsPage};
@@ -17,10 +17,10 @@ use crate::spending::Told;
 use pc_display::json;
 use pc_logic::Book;
 use pc_reason::Reasons;
-use pc_run::{LimitWord, MOST_BUDGET, Refusal, Reply};
 use pc_session::{Session, Spendings};
 use pc_sheet::Target;
 use pc_syntax::{CellTree, Command, ValueTree, parse_command};
+use pc_transcript::{LimitWord, MOST_BUDGET, Refusal, Reply};
 use std::alloc::{AllocError, Global};
 
 // Asks why the cell has the value, or why it hasn't.

@@ -19,11 +19,11 @@ use crate::spending::{Told, note_spent, parted};
 use pc_elaborate::trees_have_one_outcome;
 use pc_logic::{Book, Entry, Name, Rule};
 use pc_reason::Reasons;
-use pc_run::Reply;
 use pc_session::{Session, Spending, Spendings};
 use pc_sheet::CellId;
 use pc_sortcheck::{check_rule, find_cell};
 use pc_syntax::{CellTree, RuleTree, ValueTree};
+use pc_transcript::Reply;
 use std::alloc::{AllocError, Global};
 
 // Entering has spent too much.

@@ -3,15 +3,15 @@ ghost use Rattle.std.specs.Prelude.{◌≡◌, ◌≤◌, None, length, MatchRes
 ghost use Rattle.pc_theory.specs.Spendings.{IsLawful};
 ghost use Rattle.pc_spreadsheet.specs.Judgement.{Starts, of_whole};
 ghost use Rattle.pc_spreadsheet.specs.inside.Loading.{IsNotLoaded, NotesLoad, OpensAs};
-ghost use Rattle.pc_run.specs.declared.machine.LoadStop.TheVariants.{Refused};
+ghost use Rattle.pc_transcript.specs.declared.machine.LoadStop.TheVariants.{Refused};
 
 use crate::spending::counts_of;
 use crate::spreadsheet::Spreadsheet;
 use pc_load::load_book;
 use pc_logic::Book;
 use pc_reason::Refutation;
-use pc_run::{LoadFault, LoadStop, MOST_BUDGET, Refusal, SHEET_LIMIT, SheetRefusal};
 use pc_session::{LoadRefused, Session, Spending, Spendings};
+use pc_transcript::{LoadFault, LoadStop, MOST_BUDGET, Refusal, SHEET_LIMIT, SheetRefusal};
 use std::alloc::{AllocError, Global};
 
 // The refusal of a sheet as a whole, with what shows that it is right.

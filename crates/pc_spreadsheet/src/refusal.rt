@@ -4,9 +4,9 @@ ghost use Rattle.pc_spreadsheet.specs.Commands.{IsToldAs, reply_to};
 
 use crate::spending::Told;
 use pc_load::refusal_of;
-use pc_run::{Refusal, Reply};
 use pc_sortcheck::SortFault;
 use pc_syntax::CommandFault;
+use pc_transcript::{Refusal, Reply};
 
 /// How a fault of a command's names or sorts is told.
 pub(crate) fn refuse(fault: SortFault) -> Told

@@ -8,8 +8,8 @@ use crate::pages::{has_certificate, write_certificate, write_page};
 use crate::summary::{Summary, sum_up};
 use pc_port::{Failed, Sink};
 use pc_reason::Refutation;
-use pc_run::{LoadStop, Machine, Reply};
 use pc_session::{Session, Spendings};
+use pc_transcript::{LoadStop, Machine, Reply};
 use std::alloc::Global;
 use std::marker::Model;
 

@@ -1,11 +1,11 @@
 -- Legal and illegal transcripts of two lines, over a state that is a number: `count` adds one, and `show` tells whether it is 0.
 use Rattle.std.specs.Prelude.{◌≡◌, ℕ, zero, suc, ◌+◌, List, [], ◌∷◌, ◌++◌, codes}
 use Rattle.std.specs.declared.option.Option.TheVariants.{Some}
-use Rattle.pc_run.specs.declared.refusal.Refusal.TheVariants.{NoRule}
-use Rattle.pc_run.specs.declared.status.Status.TheVariants.{Done, SomeRefused}
-use Rattle.pc_run.specs.Answer.{Answer, silent, accepted, shown, refused, no_memory, printed}
+use Rattle.pc_transcript.specs.declared.refusal.Refusal.TheVariants.{NoRule}
+use Rattle.pc_transcript.specs.declared.status.Status.TheVariants.{Done, SomeRefused}
+use Rattle.pc_transcript.specs.Answer.{Answer, silent, accepted, shown, refused, no_memory, printed}
 use Rattle.pc_writer.specs.SheetText.{ended}
-use Rattle.pc_run.specs.Transcript.{Legal, status_of, output_of, AnswersAll}
+use Rattle.pc_transcript.specs.Transcript.{Legal, status_of, output_of, AnswersAll}
 
 -- what is shown
 abbrev pub told : ℕ → List ℕ

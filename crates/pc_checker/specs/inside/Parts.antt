@@ -7,8 +7,8 @@ use Rattle.pc_sheet.specs.declared.ids.Entry.{Entry}
 use Rattle.pc_lits.specs.declared.literal.Lit.{Lit}
 use Rattle.pc_lits.specs.Literals.{negated}
 use Rattle.pc_lits.specs.Steps.{IsGoodStep}
-use Rattle.pc_values.specs.Hints.{clauses_at}
-use Rattle.pc_values.specs.Values.{MakesTrue, IsInRange}
+use Rattle.pc_lits.specs.Hints.{clauses_at}
+use Rattle.pc_lits.specs.Values.{MakesTrue, IsInRange}
 use Rattle.pc_accept.specs.Accepts.{AreInCellOrder}
 use Rattle.pc_cert.specs.declared.cert.CertPart.{CertPart}
 use Rattle.pc_cert.specs.declared.cert.CertPart.TheVariants.{Axiom, Step}

@@ -3,9 +3,9 @@ use Rattle.std.specs.Prelude.{◌≡◌, ℕ, List, ◌++◌, codes}
 use Rattle.std.specs.declared.option.Option.{Option}
 use Rattle.std.specs.Io.KnownBytes.{Appends}
 use Rattle.pc_port.specs.Port.{AppendsFront}
-use Rattle.pc_run.specs.declared.status.Status.{Status}
-use Rattle.pc_run.specs.declared.status.Status.TheVariants.{WriteFault}
-use Rattle.pc_run.specs.Transcript.{Transcript, status_of}
+use Rattle.pc_transcript.specs.declared.status.Status.{Status}
+use Rattle.pc_transcript.specs.declared.status.Status.TheVariants.{WriteFault}
+use Rattle.pc_transcript.specs.Transcript.{Transcript, status_of}
 use Rattle.pc_spreadsheet.specs.Judgement.{State}
 use Rattle.pc_spreadsheet.specs.Allowed.{Notes}
 use Rattle.pc_demo.specs.Demonstration.{Clears, SumsUp, told_in}

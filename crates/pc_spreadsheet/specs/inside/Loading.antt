@@ -8,12 +8,12 @@ use Rattle.pc_sheet.specs.MaximalSets.{AreRulesConsistent}
 use Rattle.pc_sheet.specs.Weight.{weight}
 use Rattle.pc_theory.specs.declared.spending.Spending.{Spending}
 use Rattle.pc_session.specs.Views as session
-use Rattle.pc_run.specs.declared.machine.LoadStop.{LoadStop}
-use Rattle.pc_run.specs.declared.machine.LoadStop.TheVariants.{Refused, Memory}
-use Rattle.pc_run.specs.declared.refusal.Counts.{Counts}
-use Rattle.pc_run.specs.declared.refusal.SheetRefusal.{SheetRefusal}
-use Rattle.pc_run.specs.declared.refusal.Refusal.TheVariants.{TooLarge, Inconsistent, Spent}
-use Rattle.pc_run.specs.Answer.{StopsBy}
+use Rattle.pc_transcript.specs.declared.machine.LoadStop.{LoadStop}
+use Rattle.pc_transcript.specs.declared.machine.LoadStop.TheVariants.{Refused, Memory}
+use Rattle.pc_transcript.specs.declared.refusal.Counts.{Counts}
+use Rattle.pc_transcript.specs.declared.refusal.SheetRefusal.{SheetRefusal}
+use Rattle.pc_transcript.specs.declared.refusal.Refusal.TheVariants.{TooLarge, Inconsistent, Spent}
+use Rattle.pc_transcript.specs.Answer.{StopsBy}
 use Rattle.pc_spreadsheet.specs.Judgement.{State, IsLight, of_whole}
 use Rattle.pc_spreadsheet.specs.Pages.{IsCertificateAgainst}
 use Rattle.pc_spreadsheet.specs.Allowed.{Notes, told_counts_of, IsLawfullySpent, RefusesText}

@@ -1,5 +1,5 @@
 use Rattle.std.proofs.Common.{All, length, arith}
-use Rattle.pc_values.specs.Values.{IsInRange}
+use Rattle.pc_lits.specs.Values.{IsInRange}
 use Rattle.pc_checker.proofs.HintLemmas.{hints_are, up_to_more}
 use Rattle.pc_checker.proofs.DerivationLemmas.{step_is}
 use Rattle.pc_checker.proofs.derivation.is_step.Goals as goal

@@ -2,7 +2,7 @@ use Rattle.std.proofs.Common.{◌+◌, ◌<◌, Bool, Option, None, Some, take, 
 use Rattle.std.proofs.lemmas.Bool.{false≢true}
 use Rattle.std.proofs.lemmas.List.{take_all, length-set, length-replicate}
 use Rattle.pc_sheet.specs.Entailment.{HaveDistinctCells}
-use Rattle.pc_values.specs.Values.{MakesTrue}
+use Rattle.pc_lits.specs.Values.{MakesTrue}
 use Rattle.pc_checker.proofs.ClaimLemmas.{first_entry}
 use Rattle.pc_checker.proofs.ReadLemmas.{AreReadMarked, mark_of, marked_more, distinct_more, repeated}
 use Rattle.pc_checker.proofs.taken.have_distinct_cells.Goals as goal

@@ -1,0 +1,116 @@
+-- The canonical text of a sheet is read as its declarations.
+use Rattle.std.proofs.Common.{◌≡◌, ℕ, true, false, List, [], ◌∷◌, ◌++◌, map, codes, slice_index_or, refl, subst, sym}
+use Rattle.std.proofs.lemmas.List.{append_assoc, map-append}
+use Rattle.std.proofs.lemmas.List.Elements.{All-get_or, Contains-append_right}
+use Rattle.std.specs.List.{flat_map, AllByRecursion}
+use Rattle.pc_sheet.specs.Sheet.{Sheet, Universe, Values, listed, range, NamedStatement}
+use Rattle.pc_sheet.specs.Sizes.{size_of}
+use Rattle.pc_sheet.specs.Entailment.{AreWithin}
+use Rattle.pc_sheet.specs.WellFormed.{AreWellFormedValues, IsWellFormedUniverse, IsWellFormedTable, IsWellFormedFamily, IsWellFormedRule, AreWellFormedRules, IsEntryOf, AreWellFormedEntries, IsWellFormed}
+use Rattle.pc_sheet.specs.WellSorted.{names_of_values}
+use Rattle.pc_sheet.specs.declared.ids.SortId.{SortId}
+use Rattle.pc_sheet.specs.declared.ids.Entry.{Entry}
+use Rattle.pc_syntax.specs.Tree.{Declared}
+use Rattle.pc_syntax.specs.Line.{LineForm, heading, declares, begins}
+use Rattle.pc_syntax.specs.Sheet.{is_rule, is_of_universe, is_open, AreStanding, whole, lines_of_text, IsSheet}
+use Rattle.pc_writer.specs.SheetText.{sort_line, table_line, row_line, row_lines, family_line, rule_line, enter_line, universe_lines, sheet_lines, sheet_text}
+use Rattle.pc_canonical.specs.Declarations.{values_declaration, sort_declaration, table_declaration, row_declaration, row_declarations, family_declaration, rule_declaration, entry_declaration, universe_declarations, declarations_of, numbered_declarations}
+use Rattle.pc_canonical.proofs.Lines.{heading_reads_back, begin_reads_back, values_read_back, table_reads_back, row_reads_back, family_reads_back, rule_reads_back, entry_reads_back}
+use Rattle.pc_canonical.proofs.Spelled.{family_named, table_named, sort_named, in_sort}
+use Rattle.pc_canonical.proofs.Standing.{AreDeclared, declared_append, declared_unbroken, unbroken_append, declared_map, declared_each, declared_flat_map, all_append, all_map, all_flat_map, stand_before_rules, stand_anywhere, numbered_by_line, has_begin}
+use Rattle.pc_canonical.proofs.Unbroken.{AreUnbroken, lines_are}
+
+-- ---- none of the universe's declarations is a rule
+
+abbrev IsNoRule : Declared → Type 0
+IsNoRule d = is_rule d ≡ false
+
+abbrev IsOutside : Declared → Type 0
+IsOutside d = is_of_universe d ≡ false
+
+values_no_rule : (n : List ℕ) (v : Values) → is_rule (values_declaration n v) ≡ false
+values_no_rule n (listed names) = refl
+values_no_rule n (range low high) = refl
+
+universe_no_rule : (u : Universe) → AllByRecursion IsNoRule (universe_declarations u)
+universe_no_rule u =
+    let rows = flat_map (row_declarations u) u.tables in
+    let families = map (family_declaration u) u.families in
+    let tables = map (table_declaration u) u.tables in
+    all_append IsNoRule (map sort_declaration u.sorts) (tables ++ (rows ++ families)) (all_map IsNoRule sort_declaration u.sorts (λ s. values_no_rule s.name s.values))
+    (all_append IsNoRule tables (rows ++ families) (all_map IsNoRule (table_declaration u) u.tables (λ t. refl))
+    (all_append IsNoRule rows families (all_flat_map IsNoRule (row_declarations u) u.tables (λ t. all_map IsNoRule (row_declaration u t) t.rows (λ r. refl))) (all_map IsNoRule (family_declaration u) u.families (λ f. refl))))
+
+-- ---- each line of a well-formed sheet
+
+module _ (u : Universe) (formed : IsWellFormedUniverse u) where
+  sorts_declared : AreDeclared (map sort_line u.sorts) (map sort_declaration u.sorts)
+  sorts_declared = declared_map (record { name = []; values = listed [] }) sort_line sort_declaration u.sorts (λ i below.
+      let s = slice_index_or u.sorts i (record { name = []; values = listed [] }) in
+      let id : SortId = record { 0 = i } in
+      values_read_back s.name s.values (sort_named u formed id below) (All-get_or (λ sort. AreWellFormedValues sort.values) u.sorts i (record { name = []; values = listed [] }) below formed.sorts)
+      (λ m there. in_sort u formed id m below (Contains-append_right (s.name ∷ []) (names_of_values s.values) m there)))
+
+  tables_declared : AreDeclared (map (table_line u) u.tables) (map (table_declaration u) u.tables)
+  tables_declared = declared_map (record { name = []; sorts = []; rows = [] }) (table_line u) (table_declaration u) u.tables (λ i below.
+      table_reads_back u formed (slice_index_or u.tables i (record { name = []; sorts = []; rows = [] })) (table_named u formed (record { 0 = i }) below) (All-get_or (IsWellFormedTable u) u.tables i (record { name = []; sorts = []; rows = [] }) below formed.tables))
+
+  rows_declared : AreDeclared (flat_map (row_lines u) u.tables) (flat_map (row_declarations u) u.tables)
+  rows_declared = declared_flat_map (record { name = []; sorts = []; rows = [] }) (row_lines u) (row_declarations u) u.tables (λ i below.
+      let t = slice_index_or u.tables i (record { name = []; sorts = []; rows = [] }) in
+      let well : IsWellFormedTable u t = All-get_or (IsWellFormedTable u) u.tables i (record { name = []; sorts = []; rows = [] }) below formed.tables in
+      declared_each (AreWithin (map (size_of u) t.sorts)) (row_line u t) (row_declaration u t) t.rows (λ vs within. row_reads_back u formed t vs (table_named u formed (record { 0 = i }) below) well.some_argument within) well.rows)
+
+  families_declared : AreDeclared (map (family_line u) u.families) (map (family_declaration u) u.families)
+  families_declared = declared_map (record { name = []; sorts = []; result_sort = record { 0 = 0 } }) (family_line u) (family_declaration u) u.families (λ i below.
+      family_reads_back u formed (slice_index_or u.families i (record { name = []; sorts = []; result_sort = record { 0 = 0 } })) (family_named u formed (record { 0 = i }) below) (All-get_or (IsWellFormedFamily u) u.families i (record { name = []; sorts = []; result_sort = record { 0 = 0 } }) below formed.families))
+
+  universe_declared : AreDeclared (universe_lines u) (universe_declarations u)
+  universe_declared = declared_append _ _ _ _ sorts_declared (declared_append _ _ _ _ tables_declared (declared_append _ _ _ _ rows_declared families_declared))
+
+  rules_declared : (rules : List NamedStatement) → AreWellFormedRules u rules → AreDeclared (map (rule_line u) rules) (map (rule_declaration u) rules)
+  rules_declared rules well = declared_each (IsWellFormedRule u) (rule_line u) (rule_declaration u) rules (λ r each. rule_reads_back u r formed each) well.each
+
+  entries_declared : (entries : List Entry) → AreWellFormedEntries u entries → AreDeclared (map (enter_line u) entries) (map (entry_declaration u) entries)
+  entries_declared entries well = declared_each (IsEntryOf u) (enter_line u) (entry_declaration u) entries (entry_reads_back u formed) well.each
+
+-- ---- the whole text
+
+-- the forms of a sheet's lines
+forms_of : List Declared → List LineForm
+forms_of ds = heading 1 ∷ (map declares ds ++ begins ∷ [])
+
+part_forms : (first second third : List Declared) (end : List LineForm) → map declares first ++ (map declares second ++ (map declares third ++ end)) ≡ map declares (first ++ (second ++ third)) ++ end
+part_forms first second third end = simp (map-append, append_assoc)
+
+module _ (s : Sheet) (well : IsWellFormed s) where
+  all_unbroken : AreUnbroken (sheet_lines s)
+  all_unbroken =
+      let u = s.universe in
+      let rules = map (rule_line u) s.rules in
+      let entries = map (enter_line u) s.entries in (
+        heading_reads_back.whole,
+        unbroken_append (universe_lines u) (rules ++ (entries ++ codes "begin" ∷ [])) (declared_unbroken _ _ (universe_declared u well.universe))
+            (unbroken_append rules (entries ++ codes "begin" ∷ []) (declared_unbroken _ _ (rules_declared u well.universe s.rules well.rules))
+            (unbroken_append entries (codes "begin" ∷ []) (declared_unbroken _ _ (entries_declared u well.universe s.entries well.entries)) (begin_reads_back.whole, tt))),
+      )
+
+  all_stand : AreStanding [] (sheet_lines s) (forms_of (declarations_of s))
+  unfolding forms_of
+  all_stand =
+      let u = s.universe in
+      let rules = map (rule_declaration u) s.rules in
+      let entries = map (entry_declaration u) s.entries in
+      let behind_entries : (before : List LineForm) → is_open before ≡ true → AreStanding before (codes "begin" ∷ []) (begins ∷ []) = λ before is. (begin_reads_back.is, is, tt) in
+      let behind_rules = λ (before : List LineForm) (is : is_open before ≡ true). stand_anywhere _ _ (entries_declared u well.universe s.entries well.entries) (all_map IsOutside (entry_declaration u) s.entries (λ e. refl)) before is _ _ behind_entries in
+      let behind_universe = λ (before : List LineForm) (is : is_open before ≡ true). stand_anywhere _ _ (rules_declared u well.universe s.rules well.rules) (all_map IsOutside (rule_declaration u) s.rules (λ r. refl)) before is _ _ behind_rules in
+      let standing = stand_before_rules _ _ (universe_declared u well.universe) (universe_no_rule u) (heading 1 ∷ []) refl refl _ _ behind_universe in
+      (heading_reads_back.is, refl, subst (AreStanding (heading 1 ∷ []) _) (part_forms (universe_declarations u) rules entries (begins ∷ [])) standing)
+
+  pub sheet_reads_back : IsSheet (sheet_text s) (numbered_declarations s)
+  unfolding forms_of
+  sheet_reads_back =
+      let ds = declarations_of s in
+      let forms = forms_of ds in
+      let standing : AreStanding [] (lines_of_text (sheet_text s)) forms = subst (λ ls. AreStanding [] ls forms) (sym (lines_are (sheet_lines s) all_unbroken)) all_stand in
+      subst (λ l. IsSheet (sheet_text s) l) (numbered_by_line ds 2) (whole forms standing (has_begin (heading 1 ∷ map declares ds)))

@@ -1,0 +1,4 @@
+pub mod Tree
+pub mod ReadBack
+pub mod Declarations
+pub mod Declared

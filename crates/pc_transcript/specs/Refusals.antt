@@ -1,0 +1,73 @@
+-- Why texts are refused, and how that is told.
+use Rattle.std.specs.Prelude.{ℕ, List, [], ◌++◌, codes, decimal}
+use Rattle.std.specs.declared.option.Option.{Option}
+use Rattle.std.specs.declared.option.Option.TheVariants.{Some, None}
+use Rattle.pc_transcript.specs.declared.refusal.Refusal.{Refusal}
+use Rattle.pc_transcript.specs.declared.refusal.Refusal.TheVariants.{NotUtf8, Syntax, NoBegin, WrongVersion, UnknownName, DuplicateName, WrongArity, WrongSort, NotAValue, EmptySort, Limit, TooLarge, Inconsistent, Spent, NoEntry, DuplicateRule, NoRule, TooDeep}
+use Rattle.pc_transcript.specs.declared.refusal.Counts.{Counts}
+use Rattle.pc_transcript.specs.declared.refusal.LimitWord.{LimitWord}
+use Rattle.pc_transcript.specs.declared.refusal.LimitWord.TheVariants.{Sorts, Values, Number, Tables, Families, Arity, Cells, Rows, Rules, Depth, Reads, Budget}
+use Rattle.pc_transcript.specs.declared.refusal.SheetRefusal.{SheetRefusal}
+
+-- the number and the word of a refusal
+abbrev pub words_of : Refusal → List ℕ
+words_of NotUtf8 = codes "1 not-utf8"
+words_of Syntax = codes "2 syntax"
+words_of NoBegin = codes "3 no-begin"
+words_of WrongVersion = codes "4 wrong-version"
+words_of UnknownName = codes "5 unknown-name"
+words_of DuplicateName = codes "6 duplicate-name"
+words_of WrongArity = codes "7 wrong-arity"
+words_of WrongSort = codes "8 wrong-sort"
+words_of NotAValue = codes "9 not-a-value"
+words_of EmptySort = codes "10 empty-sort"
+words_of (Limit word) = codes "11 limit"
+words_of TooLarge = codes "12 too-large"
+words_of Inconsistent = codes "13 inconsistent"
+words_of (Spent counts) = codes "14 spent"
+words_of NoEntry = codes "16 no-entry"
+words_of DuplicateRule = codes "17 duplicate-rule"
+words_of NoRule = codes "18 no-rule"
+words_of TooDeep = codes "21 too-deep"
+
+-- what a limit is put on
+abbrev pub limit_word_of : LimitWord → List ℕ
+limit_word_of Sorts = codes "sorts"
+limit_word_of Values = codes "values"
+limit_word_of Number = codes "number"
+limit_word_of Tables = codes "tables"
+limit_word_of Families = codes "families"
+limit_word_of Arity = codes "arity"
+limit_word_of Cells = codes "cells"
+limit_word_of Rows = codes "rows"
+limit_word_of Rules = codes "rules"
+limit_word_of Depth = codes "depth"
+limit_word_of Reads = codes "reads"
+limit_word_of Budget = codes "budget"
+
+-- what a search has spent: literals placed, clauses learned and calls of solvers
+abbrev pub counts_text : Counts → List ℕ
+counts_text counts = codes " placed=" ++ (decimal counts.placed ++ (codes " learned=" ++ (decimal counts.learned ++ (codes " calls=" ++ decimal counts.calls))))
+
+-- what is told further: the word of a limit, or what was spent
+abbrev pub further_text : Refusal → List ℕ
+further_text (Limit word) = codes " " ++ limit_word_of word
+further_text (Spent counts) = counts_text counts
+further_text refusal = []
+
+-- the line that a sheet's refusal is for, where it is for one
+abbrev pub refused_line_text : Option ℕ → List ℕ
+refused_line_text None = []
+refused_line_text (Some number) = codes " line " ++ decimal number
+
+-- how a refusal is told in a line that begins so, with the line of the sheet that it is for, where it is for one
+abbrev pub told_text : List ℕ → Refusal → Option ℕ → List ℕ
+told_text beginning refusal line = beginning ++ (words_of refusal ++ (refused_line_text line ++ (further_text refusal ++ codes "\n")))
+
+-- how a refused command is told
+abbrev pub refusal_text : Refusal → List ℕ
+refusal_text refusal = told_text (codes "refused ") refusal None
+
+-- how a refused sheet is told
+abbrev pub sheet_refusal_text : SheetRefusal → List ℕ
+sheet_refusal_text refused = told_text (codes "sheet refused ") refused.refusal refused.line

@@ -1,0 +1,49 @@
+// The sheet of a file and commands on it, from the file's name to the status.
+ghost use Rattle.std.specs.Prelude.{◌≡◌, ◌≢◌};
+ghost use Rattle.pc_port.specs.Port.{Rose};
+ghost use Rattle.pc_transcript.specs.Files.{AsksOnce, FailsToRead};
+ghost use Rattle.pc_transcript.specs.Edit.{Edited};
+
+use crate::file::take_file;
+use crate::machine::Machine;
+use crate::resources::Resources;
+use crate::run::open;
+use crate::sheet::SheetStop;
+use crate::tell::{tell_no_memory, tell_no_memory_for_sheet, tell_too_long};
+use crate::{LINE_LIMIT, Status};
+use pc_lines::LineReader;
+use pc_port::{Shelf, Sink, Source};
+
+/// Runs the commands on the input, on the sheet in the shelf's file of that name.
+///
+/// The file's bytes come first and their number, then the sheet, whose load and each edit may do as many propagations as the
+/// budget says; then each command line is answered before the input is read on. Up to the commands the input is left as it
+/// was. What is printed, how much of the input was taken, and what was noted, the clause `edited` says by the status.
+pub fn edit<M: Machine, I: Source, H: Shelf, O: Sink>(
+    resources: Resources,
+    file: &str,
+    input: &mut I,
+    shelf: &mut H,
+    out: &mut O,
+    notes: &mut M::Notes,
+) -> Status
+    ensures edited { Edited (M.IsSheet resources.budget) (M.RefusesText resources.budget) M.Allows (H.kept shelf.old) file.now result (H.asked shelf.old) (H.asked shelf.new) notes.old notes.new (I.left input.old) (I.left input.new) (O.given out.old) (O.given out.new) }
+    ensures asked { AsksOnce file.now (H.asked shelf.old) (H.asked shelf.new) }
+    ensures kept { H.kept shelf.new ≡ H.kept shelf.old }
+
+    // A read fault is the shelf's, before the input is read, or the input's, after the shelf gave its file.
+    ensures read_fault { result ≡ Status.ReadFault → FailsToRead I.faults input.old input.new (H.faults shelf.old) (H.faults shelf.new) }
+    ensures no_read_fault { result ≢ Status.ReadFault → (I.faults input.new ≡ I.faults input.old) × (H.faults shelf.new ≡ H.faults shelf.old) }
+    ensures write_fault { result ≡ Status.WriteFault → Rose (O.faults out.old) (O.faults out.new) }
+    ensures no_write_fault { result ≢ Status.WriteFault → O.faults out.new ≡ O.faults out.old }
+{
+    let Ok(mut reader) = LineReader::new(resources.alloc, LINE_LIMIT) else {
+        return tell_no_memory(out);
+    };
+    match take_file(resources.alloc, file, shelf) {
+        Ok(sheet) => open::<M, I, O>(resources, &sheet, &mut reader, notes, input, out),
+        Err(SheetStop::Failed) => Status::ReadFault,
+        Err(SheetStop::TooLong) => tell_too_long(out),
+        Err(SheetStop::Memory) => tell_no_memory_for_sheet(out),
+    }
+}

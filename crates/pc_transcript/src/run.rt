@@ -1,0 +1,86 @@
+// A sheet and its commands, from the first byte to the status.
+ghost use Rattle.std.specs.Prelude.{◌≡◌, ◌≢◌, ◌≤◌, length};
+ghost use Rattle.pc_port.specs.Port.{Rose};
+ghost use Rattle.pc_lines.specs.Reader.{coming};
+ghost use Rattle.pc_transcript.specs.Run.{GoesOn, Replayed};
+
+use crate::commands::answer_all;
+use crate::machine::Machine;
+use crate::resources::Resources;
+use crate::sheet::{SheetStop, take_sheet};
+use crate::showing::tell_stop;
+use crate::tell::{tell_no_memory, tell_no_memory_for_sheet, tell_too_long};
+use crate::{LINE_LIMIT, SHEET_LIMIT, Status};
+use pc_lines::LineReader;
+use pc_port::{Sink, Source};
+
+/// Reads the sheet, and then answers each command line that is still to come.
+pub(crate) fn open<M: Machine, I: Source, O: Sink>(
+    resources: Resources,
+    sheet: &[u8],
+    reader: &mut LineReader,
+    notes: &mut M::Notes,
+    input: &mut I,
+    out: &mut O,
+) -> Status
+    requires longest { LINE_LIMIT ≤ reader.old.longest }
+    requires small { length sheet.now ≤ SHEET_LIMIT }
+    ensures goes_on { GoesOn (M.IsSheet resources.budget) (M.RefusesText resources.budget) M.Allows sheet.now result notes.old notes.new (coming reader.old (I.left input.old)) (I.left input.old) (I.left input.new) (O.given out.old) (O.given out.new) }
+    ensures read_fault { result ≡ Status.ReadFault → Rose (I.faults input.old) (I.faults input.new) }
+    ensures no_read_fault { result ≢ Status.ReadFault → I.faults input.new ≡ I.faults input.old }
+    ensures write_fault { result ≡ Status.WriteFault → Rose (O.faults out.old) (O.faults out.new) }
+    ensures no_write_fault { result ≢ Status.WriteFault → O.faults out.new ≡ O.faults out.old }
+{
+    match M::load(resources.alloc, sheet, resources.budget, notes) {
+        Ok(mut machine) => answer_all(resources.alloc, reader, &mut machine, notes, input, out),
+        Err(stop) => tell_stop::<M, O>(resources.alloc, &stop, out),
+    }
+}
+
+// Takes the sheet's part of the input, and goes on from there.
+fn replay_from<M: Machine, I: Source, O: Sink>(
+    resources: Resources,
+    reader: &mut LineReader,
+    notes: &mut M::Notes,
+    input: &mut I,
+    out: &mut O,
+) -> Status
+    requires longest { reader.old.longest ≡ SHEET_LIMIT }
+    ensures replayed { Replayed (M.IsSheet resources.budget) (M.RefusesText resources.budget) M.Allows result notes.old notes.new (coming reader.old (I.left input.old)) (I.left input.new) (O.given out.old) (O.given out.new) }
+    ensures read_fault { result ≡ Status.ReadFault → Rose (I.faults input.old) (I.faults input.new) }
+    ensures no_read_fault { result ≢ Status.ReadFault → I.faults input.new ≡ I.faults input.old }
+    ensures write_fault { result ≡ Status.WriteFault → Rose (O.faults out.old) (O.faults out.new) }
+    ensures no_write_fault { result ≢ Status.WriteFault → O.faults out.new ≡ O.faults out.old }
+{
+    match take_sheet(resources.alloc, reader, input) {
+        Ok(sheet) => open::<M, I, O>(resources, &sheet, reader, notes, input, out),
+        Err(SheetStop::Failed) => Status::ReadFault,
+        Err(SheetStop::TooLong) => tell_too_long(out),
+        Err(SheetStop::Memory) => tell_no_memory_for_sheet(out),
+    }
+}
+
+/// Runs a sheet and its commands, both on the input.
+///
+/// It takes the sheet, up to its `begin` line, whose load and each edit may do as many propagations as the budget says, and
+/// then answers each command line before it reads on. What is printed, how much of the input was taken, and what was noted,
+/// the clause `replayed` says by the status.
+pub fn replay<M: Machine, I: Source, O: Sink>(
+    resources: Resources,
+    input: &mut I,
+    out: &mut O,
+    notes: &mut M::Notes,
+) -> Status
+    ensures replayed { Replayed (M.IsSheet resources.budget) (M.RefusesText resources.budget) M.Allows result notes.old notes.new (I.left input.old) (I.left input.new) (O.given out.old) (O.given out.new) }
+
+    // A fault is told only where that device was at fault.
+    ensures read_fault { result ≡ Status.ReadFault → Rose (I.faults input.old) (I.faults input.new) }
+    ensures no_read_fault { result ≢ Status.ReadFault → I.faults input.new ≡ I.faults input.old }
+    ensures write_fault { result ≡ Status.WriteFault → Rose (O.faults out.old) (O.faults out.new) }
+    ensures no_write_fault { result ≢ Status.WriteFault → O.faults out.new ≡ O.faults out.old }
+{
+    let Ok(mut reader) = LineReader::new(resources.alloc, SHEET_LIMIT) else {
+        return tell_no_memory(out);
+    };
+    replay_from::<M, I, O>(resources, &mut reader, notes, input, out)
+}

@@ -1,4 +1,0 @@
-pub mod StampLemmas
-pub mod AgreeLemmas
-pub mod ScanLemmas
-pub mod StepLemmas

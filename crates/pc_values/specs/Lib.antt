@@ -1,4 +1,0 @@
-pub mod Stamped
-pub mod Values
-pub mod Scan
-pub mod Hints
