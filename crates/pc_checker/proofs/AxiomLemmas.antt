@@ -13,10 +13,10 @@ use Rattle.pc_sheet.specs.declared.ids.Entry.{Entry}
 use Rattle.pc_sheet.specs.declared.nodes.NodeKind.{NodeKind}
 use Rattle.pc_sheet.specs.declared.nodes.NodeKind.TheVariants.{And, Or}
 use Rattle.pc_accept.specs.Literals.{Symbol, node, Literal, positive}
-use Rattle.pc_accept.specs.Axioms.{axiom_rule, axiom_node, axiom_atom, how_many, each_below, clauses_of_node, child_of, IsAtNumber, negated_entry}
+use Rattle.pc_accept.specs.Axioms.{axiom_rule, axiom_node, axiom_atom, each_below, clauses_of_kind, clauses_of_node, child_of, IsAtNumber, negated_entry}
 use Rattle.pc_checker.specs.Drafts.{Draft, IsLiteralWritten, AreWritten}
 use Rattle.pc_cert.specs.Numbered.{StartsWith}
-use Rattle.pc_checker.specs.inside.Written.{IsAxiomWritten, IsNumberWritten, clauses_of_kind, clauses_of_many}
+use Rattle.pc_checker.specs.inside.Written.{IsAxiomWritten, IsNumberWritten, clauses_of_many}
 use Rattle.pc_checker.proofs.ClaimLemmas.{some_and}
 use Rattle.pc_checker.proofs.DraftLemmas.{nothing_written, one_more_written, more_written}
 
@@ -86,21 +86,6 @@ module _ (p : Symbol) (child : ℕ → Symbol) (sign : Bool) (n : ℕ) where
 
 -- ---- nodes by their kind
 
-same_count : (ss : Statements) → how_many ss ≡ parts_in ss
-same_count no_statements = refl
-same_count (statement s ss) = let rest = same_count ss in ap suc rest ∙ (let plus : suc (parts_in ss) ≡ 1 + parts_in ss = omega arith in plus)
-
-by_kind : (u : Universe) (p : Symbol) (child : ℕ → Symbol) (s : Statement) → clauses_of_node p child u s ≡ clauses_of_kind p child (kind_of u s)
-by_kind u p child (compare left op right) = refl
-by_kind u p child (in_table t args) = refl
-by_kind u p child (negation s) = refl
-by_kind u p child (all_of ss) = ap (λ n. clauses_of_kind p child (And n)) (same_count ss)
-by_kind u p child (some_of ss) = ap (λ n. clauses_of_kind p child (Or n)) (same_count ss)
-by_kind u p child (implies s t) = refl
-by_kind u p child (iff s t) = refl
-by_kind u p child (for_all name s body) = refl
-by_kind u p child (exists name s body) = refl
-
 module _ (sheet : Sheet) (r : ℕ) (path : List ℕ) where
   abbrev kinds : NodeKind → List (List Literal)
   kinds k = clauses_of_kind (node r path) (child_of r path) k
@@ -113,7 +98,7 @@ module _ (sheet : Sheet) (r : ℕ) (path : List ℕ) where
       → IsAtNumber (kinds kind) i c ↔ IsSomeAnd o (λ n. IsAtNumber (clauses_of_node (node r path) (child_of r path) u n.1) i c)
   axiom_by None kind i c at = absurd (none-some kind at)
   axiom_by (Some n) kind i c at =
-      let same : clauses_of_node (node r path) (child_of r path) u n.1 ≡ kinds kind = by_kind u (node r path) (child_of r path) n.1 ∙ ap kinds (same_Some (kind_of u n.1) kind at) in
+      let same : clauses_of_node (node r path) (child_of r path) u n.1 ≡ kinds kind = ap kinds (same_Some (kind_of u n.1) kind at) in
       (λ h. subst (λ cs. IsAtNumber cs i c) (sym same) h, λ h. subst (λ cs. IsAtNumber cs i c) same h)
 
   pub node_written : (kind : NodeKind) (i : ℕ) (old new : Draft) (good : Bool) → kind_at sheet r path ≡ Some kind → IsNumberWritten (kinds kind) i old new good → IsAxiomWritten sheet (axiom_node r path i) old new good

@@ -1,10 +1,10 @@
 //! The clauses of nodes that are no atoms.
 
 ghost use Rattle.std.specs.Prelude.{◌≡◌, [], IfOk};
-ghost use Rattle.pc_accept.specs.Axioms.{child_of};
+ghost use Rattle.pc_accept.specs.Axioms.{child_of, clauses_of_kind};
 ghost use Rattle.pc_accept.specs.Literals.{node};
 ghost use Rattle.pc_sheet.specs.declared.nodes.NodeKind.{NodeKind};
-ghost use Rattle.pc_checker.specs.inside.Written.{IsNumberWritten, clauses_of_kind, clauses_of_many};
+ghost use Rattle.pc_checker.specs.inside.Written.{IsNumberWritten, clauses_of_many};
 
 use crate::axiom::{write_children, write_parts};
 use crate::draft::ClauseDraft;

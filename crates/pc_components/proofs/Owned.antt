@@ -6,6 +6,7 @@ use Rattle.std.proofs.lemmas.Option.{slice_get_within}
 use Rattle.std.proofs.lemmas.List.{length-append, length-map}
 use Rattle.std.proofs.lemmas.List.Elements.{All-nil, All-cons, All-append, All-contains, Contains-append_cases}
 use Rattle.std.proofs.lemmas.List.FromFn.{length-map-range_with_len}
+use Rattle.pc_sheet.specs.WellSorted.{parts_in}
 use Rattle.pc_sheet.specs.Sheet.{Universe, NamedStatement, Statement, Statements, no_statements, statement, compare, in_table, negation, all_of, some_of, implies, iff, for_all, exists}
 use Rattle.pc_sheet.specs.Truth.{Scope}
 use Rattle.pc_sheet.specs.Sizes.{size_of}
@@ -14,7 +15,7 @@ use Rattle.pc_sheet.specs.Nodes.{Node, part_at}
 use Rattle.pc_sheet.specs.declared.ids.SortId.{SortId}
 use Rattle.pc_sheet.specs.declared.ids.ValueId.{ValueId}
 use Rattle.pc_accept.specs.Literals.{Literal, node, negative, positive}
-use Rattle.pc_accept.specs.Axioms.{Axiom, axiom_some, axiom_one, axiom_rule, axiom_node, axiom_atom, how_many, each_below, clauses_of_all, child_of}
+use Rattle.pc_accept.specs.Axioms.{Axiom, axiom_some, axiom_one, axiom_rule, axiom_node, axiom_atom, each_below, clauses_of_all, child_of}
 use Rattle.pc_parts.specs.Pieces.{Piece, piece, pieces_below, pieces_of_parts, pieces_from, pieces}
 use Rattle.pc_parts.specs.Leaves.{cells_of, cells_under}
 use Rattle.pc_laws.proofs.Elements.{contains_first, contains_later, contains_cases, contains_none, contains_map, contains_mapped, all_from, values_each, value_there, there_value}
@@ -192,13 +193,13 @@ list_at h n j o is =
 module _ (u : Universe) (number : List ℕ → ℕ) where
   -- of a list for each child and an empty one
   child_at : (scope : Scope) (ss : Statements) (j : ℕ) (o : List ℕ) → slice_get (parts_of_children u number scope ss ++ [] ∷ []) j ≡ Some o
-      → ((n : Node) × (part_at scope ss j ≡ Some n) × (parts_under u number n.0 n.1 ≡ o)) ⊎ ((j ≡ how_many ss) × (o ≡ []))
+      → ((n : Node) × (part_at scope ss j ≡ Some n) × (parts_under u number n.0 n.1 ≡ o)) ⊎ ((j ≡ parts_in ss) × (o ≡ []))
   child_at scope no_statements zero o is = inr (refl, sym (same_some is))
   child_at scope no_statements (suc j) o is = absurd (cc)
   child_at scope (statement s ss) zero o is = inl ((scope, s), refl, same_some is)
   child_at scope (statement s ss) (suc j) o is = elim (child_at scope ss j o is) [ inl h ↦ inl h | inr h ↦ inr (ap suc h.0, h.1) ]
 
-  many_children : (scope : Scope) (ss : Statements) → length (parts_of_children u number scope ss) ≡ how_many ss
+  many_children : (scope : Scope) (ss : Statements) → length (parts_of_children u number scope ss) ≡ parts_in ss
   many_children scope no_statements = refl
   many_children scope (statement s ss) = ap suc (many_children scope ss)
 
@@ -329,10 +330,10 @@ module _ (u : Universe) (number : List ℕ → ℕ) where
       owned path scope (all_of ss) =
           let big = pieces_of_parts u r path scope 0 ss in
           let none : List ℕ = [] in
-          let cs = clauses_of_all (node r path) (child_of r path) (how_many ss) in
+          let cs = clauses_of_all (node r path) (child_of r path) (parts_in ss) in
           let lists = parts_of_children u number scope ss in
           zip_append (Own big) (numbered_axioms r path 1 cs) (parts_axioms u r path scope 0 ss) (lists ++ none ∷ []) (owners_of_parts u number r path scope 0 ss)
-          (numbered_zip (Own big) r path 1 cs (lists ++ none ∷ []) (many_clauses path (how_many ss) ∙ ap (λ k. k + 1) (sym (many_children scope ss)) ∙ sym (length-append lists (none ∷ []))) (λ j o clause is. part_way path scope ss j o clause is))
+          (numbered_zip (Own big) r path 1 cs (lists ++ none ∷ []) (many_clauses path (parts_in ss) ∙ ap (λ k. k + 1) (sym (many_children scope ss)) ∙ sym (length-append lists (none ∷ []))) (λ j o clause is. part_way path scope ss j o clause is))
           (owned_parts path scope 0 ss big
           (λ j n is p h. in_parts u r path scope 0 ss j n p is h)
           (λ j n is x cells i p h t.

@@ -2,11 +2,12 @@
 use Rattle.std.proofs.Common.{◌≡◌, ℕ, zero, suc, ◌+◌, inl, inr, List, [], ◌∷◌, ◌++◌, map, All, Contains, Some, slice_get, arith, refl, sym, subst, zero-add}
 use Rattle.std.specs.List.{range_with_len}
 use Rattle.std.proofs.lemmas.List.Elements.{All-nil, All-cons, All-append, All-map, Contains-append_left, Contains-append_right, Contains-push_cases}
+use Rattle.pc_sheet.specs.WellSorted.{parts_in}
 use Rattle.pc_sheet.specs.Sheet.{Universe, Sheet, Statement, compare, in_table, negation, all_of, some_of, implies, iff, for_all, exists}
 use Rattle.pc_sheet.specs.Sizes.{size_of}
 use Rattle.pc_sheet.specs.Entailment.{cell_sizes}
 use Rattle.pc_accept.specs.Literals.{Symbol, Literal, positive, negative}
-use Rattle.pc_accept.specs.Axioms.{Axiom, axiom_some, axiom_one, axiom_rule, axiom_node, axiom_atom, how_many, each_below, clauses_of_node}
+use Rattle.pc_accept.specs.Axioms.{Axiom, axiom_some, axiom_one, axiom_rule, axiom_node, axiom_atom, each_below, clauses_of_node}
 use Rattle.pc_laws.proofs.Elements.{contains_cases, contains_none, all_from}
 use Rattle.pc_ground.specs.Ground.{GroundAxiom, some_axiom, one_axiom, one_axioms, cell_axioms, cells_axioms, rules_axioms, axioms}
 use Rattle.pc_ground.proofs.Lists.{there_each}
@@ -48,8 +49,8 @@ module _ (In : Symbol → Type 0) (p : Symbol) (c : ℕ → Symbol) (here : In p
   node_symbols u (negation s) =
       of_first (negative p ∷ negative (c 0) ∷ []) ((positive p ∷ positive (c 0) ∷ []) ∷ []) (two (negative p) (negative (c 0)) here (each 0))
       (of_first (positive p ∷ positive (c 0) ∷ []) [] (two (positive p) (positive (c 0)) here (each 0)) of_none)
-  node_symbols u (all_of ss) = joined (λ k. negative p ∷ positive (c k) ∷ []) (positive p) (λ k. negative (c k)) (how_many ss) (λ k. two (negative p) (positive (c k)) here (each k)) here each
-  node_symbols u (some_of ss) = joined (λ k. positive p ∷ negative (c k) ∷ []) (negative p) (λ k. positive (c k)) (how_many ss) (λ k. two (positive p) (negative (c k)) here (each k)) here each
+  node_symbols u (all_of ss) = joined (λ k. negative p ∷ positive (c k) ∷ []) (positive p) (λ k. negative (c k)) (parts_in ss) (λ k. two (negative p) (positive (c k)) here (each k)) here each
+  node_symbols u (some_of ss) = joined (λ k. positive p ∷ negative (c k) ∷ []) (negative p) (λ k. positive (c k)) (parts_in ss) (λ k. two (positive p) (negative (c k)) here (each k)) here each
   node_symbols u (implies s t) =
       of_first (negative p ∷ negative (c 0) ∷ positive (c 1) ∷ []) ((positive p ∷ positive (c 0) ∷ []) ∷ (positive p ∷ negative (c 1) ∷ []) ∷ []) (three (negative p) (negative (c 0)) (positive (c 1)) here (each 0) (each 1))
       (of_first (positive p ∷ positive (c 0) ∷ []) ((positive p ∷ negative (c 1) ∷ []) ∷ []) (two (positive p) (positive (c 0)) here (each 0))

@@ -3,13 +3,14 @@ use Rattle.std.proofs.Common.{◌≡◌, ℕ, zero, suc, ◌+◌, ◌<◌, Bool,
 use Rattle.std.specs.List.{flat_map, range_with_len}
 use Rattle.std.proofs.lemmas.Bool.Decides.{Decides-ltb}
 use Rattle.std.proofs.lemmas.List.Elements.{All-contains, Contains-append_left}
+use Rattle.pc_sheet.specs.WellSorted.{parts_in}
 use Rattle.pc_sheet.specs.Sheet.{Universe, Sheet, NamedStatement, Statement, Statements, no_statements, statement, compare, in_table, negation, all_of, some_of, implies, iff, for_all, exists}
 use Rattle.pc_sheet.specs.Truth.{Scope}
 use Rattle.pc_sheet.specs.Sizes.{size_of}
 use Rattle.pc_sheet.specs.Cells.{values_below}
 use Rattle.pc_sheet.specs.Nodes.{Node, part_at, child, node_from, root_of, node_at}
 use Rattle.pc_accept.specs.Literals.{Symbol, Literal, node, positive, negative}
-use Rattle.pc_accept.specs.Axioms.{axiom_node, how_many, each_below, clauses_of_all, clauses_of_node, child_of}
+use Rattle.pc_accept.specs.Axioms.{axiom_node, each_below, clauses_of_all, clauses_of_node, child_of}
 use Rattle.pc_parts.specs.Pieces.{Piece, pieces, IsJoint, LeadsTo, IsPiece}
 use Rattle.pc_laws.proofs.Elements.{contains_first, contains_later}
 use Rattle.pc_parts.proofs.Listed.{all_reached, root_is}
@@ -82,7 +83,7 @@ each_slice f a zero k rest l = absurd (omega (arith, l))
 each_slice f a (suc n) zero rest l = let e : a ≡ a + 0 = omega arith in ap (λ i. Some (f i)) e
 each_slice f a (suc n) (suc k) rest l = let e : a + 1 + k ≡ a + suc k = omega arith in each_slice f (a + 1) n k rest (omega (arith, l)) ∙ ap (λ i. Some (f i)) e
 
-pub part_below : (scope : Scope) (ss : Statements) (k : ℕ) (n : Node) → part_at scope ss k ≡ Some n → k < how_many ss
+pub part_below : (scope : Scope) (ss : Statements) (k : ℕ) (n : Node) → part_at scope ss k ≡ Some n → k < parts_in ss
 part_below scope no_statements k n h = absurd (cc)
 part_below scope (statement s ss) zero n h = omega arith
 part_below scope (statement s ss) (suc k) n h = let below = part_below scope ss k n h in omega arith
@@ -102,7 +103,7 @@ module _ (u : Universe) (p : Symbol) (c : ℕ → Symbol) where
   joint_clause scope (compare left op right) j k n h = absurd j
   joint_clause scope (in_table t xs) j k n h = absurd j
   joint_clause scope (negation s) j k n h = absurd j
-  joint_clause scope (all_of ss) j k n h = all_slice (how_many ss) k (part_below scope ss k n h)
+  joint_clause scope (all_of ss) j k n h = all_slice (parts_in ss) k (part_below scope ss k n h)
   joint_clause scope (some_of ss) j k n h = absurd j
   joint_clause scope (implies s t) j k n h = absurd j
   joint_clause scope (iff s t) j k n h = absurd j

@@ -17,7 +17,7 @@ use Rattle.pc_sheet.specs.declared.ids.SortId.{SortId}
 use Rattle.pc_sheet.specs.declared.ids.TableId.{TableId}
 use Rattle.pc_elaborate.specs.declared.fault.SortFault.{SortFault}
 use Rattle.pc_elaborate.specs.declared.fault.SortFault.TheVariants.{WrongArity, WrongSort, Limit}
-use Rattle.pc_elaborate.specs.declared.fault.Which.TheVariants.{Reads}
+use Rattle.pc_sheet.specs.declared.limits.Limited.TheVariants.{Reads}
 use Rattle.pc_elaborate.specs.declared.sides.Kind.{Kind}
 use Rattle.pc_elaborate.specs.Outcome.{HasUniqueNames}
 use Rattle.pc_elaborate.specs.inside.Scope.{IsScope}

@@ -12,7 +12,7 @@ use Rattle.pc_logic.specs.declared.names.Named.TheVariants as names
 use Rattle.pc_logic.proofs.NamesLemmas.{name_is_declared}
 use Rattle.pc_elaborate.specs.declared.fault.SortFault.{SortFault}
 use Rattle.pc_elaborate.specs.declared.fault.SortFault.TheVariants.{DuplicateName, Limit}
-use Rattle.pc_elaborate.specs.declared.fault.Which.TheVariants.{Depth}
+use Rattle.pc_sheet.specs.declared.limits.Limited.TheVariants.{Depth}
 use Rattle.pc_elaborate.specs.Outcome.{HasUniqueNames, HasOneOutcome}
 use Rattle.pc_elaborate.specs.inside.Scope.{IsScope}
 use Rattle.pc_elaborate.specs.Elaboration.{IsSortNamed, IsStatement, AreStatements, AreArguments}

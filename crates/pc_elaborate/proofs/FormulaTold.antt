@@ -19,7 +19,7 @@ use Rattle.pc_sheet.specs.declared.ids.SortId.{SortId}
 use Rattle.pc_elaborate.specs.declared.fault.SortFault.{SortFault}
 use Rattle.pc_elaborate.specs.declared.fault.SortFault.TheVariants as faults
 use Rattle.pc_elaborate.specs.declared.fault.SortFault.TheVariants.{DuplicateName, Limit}
-use Rattle.pc_elaborate.specs.declared.fault.Which.TheVariants.{Depth}
+use Rattle.pc_sheet.specs.declared.limits.Limited.TheVariants.{Depth}
 use Rattle.pc_elaborate.specs.Tests.{no_test}
 use Rattle.pc_elaborate.specs.Outcome.{HasUniqueNames, IsFoundOrFault}
 use Rattle.pc_elaborate.specs.inside.Scope.{IsScope}
@@ -67,7 +67,7 @@ module _ (u : Universe) (unique : HasUniqueNames u) (f : tree.Formula) where
   fault_never s h k faults.WrongSort m = law s h k faults.WrongSort m
   fault_never s h k faults.NotAValue m = law s h k faults.NotAValue m
   fault_never s h k faults.EmptySort m = law s h k faults.EmptySort m
-  fault_never s h k (faults.Limit which) m = law s h k (faults.Limit which) m
+  fault_never s h k (faults.Limit limited) m = law s h k (faults.Limit limited) m
   fault_never s h k faults.Memory m = tt
 
   pub tells_only : (r : Result Formula SortFault) → IsFormulaTold u [] f r → (s : plain.Statement) → IsStatement u [] f s → IsWellSorted u [] s → TellsStatement r s

@@ -45,7 +45,7 @@ fault_of Fails faults.WrongArity h = h
 fault_of Fails faults.WrongSort h = h
 fault_of Fails faults.NotAValue h = h
 fault_of Fails faults.EmptySort h = h
-fault_of Fails (faults.Limit which) h = h
+fault_of Fails (faults.Limit limited) h = h
 fault_of Fails faults.Memory h = tt
 
 pub fault_from : (Fails Others : SortFault → Type 0) → ((e : SortFault) → Fails e → Others e) → (e : SortFault) → IsFaultOf Fails e → IsFaultOf Others e
@@ -55,7 +55,7 @@ fault_from Fails Others f faults.WrongArity h = f faults.WrongArity h
 fault_from Fails Others f faults.WrongSort h = f faults.WrongSort h
 fault_from Fails Others f faults.NotAValue h = f faults.NotAValue h
 fault_from Fails Others f faults.EmptySort h = f faults.EmptySort h
-fault_from Fails Others f (faults.Limit which) h = f (faults.Limit which) h
+fault_from Fails Others f (faults.Limit limited) h = f (faults.Limit limited) h
 fault_from Fails Others f faults.Memory h = tt
 
 -- ---- views

@@ -15,7 +15,7 @@ use Rattle.pc_logic.specs.declared.names.Named.TheVariants as names
 use Rattle.pc_logic.proofs.NamesLemmas.{name_is_declared}
 use Rattle.pc_elaborate.specs.declared.fault.SortFault.{SortFault}
 use Rattle.pc_elaborate.specs.declared.fault.SortFault.TheVariants.{WrongArity, WrongSort, Limit}
-use Rattle.pc_elaborate.specs.declared.fault.Which.TheVariants.{Number, Reads}
+use Rattle.pc_sheet.specs.declared.limits.Limited.TheVariants.{Number, Reads}
 use Rattle.pc_elaborate.specs.Tests.{no_test, test, part}
 use Rattle.pc_elaborate.specs.Outcome.{HasUniqueNames}
 use Rattle.pc_elaborate.specs.inside.Scope.{IsScope}

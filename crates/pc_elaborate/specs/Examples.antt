@@ -5,7 +5,7 @@ use Rattle.pc_formula.specs.Tree as tree
 use Rattle.pc_formula.specs.Tree.{for_all, compare, named, integer, no_item}
 use Rattle.pc_sheet.specs.Sheet.{Universe, listed}
 use Rattle.pc_elaborate.specs.declared.fault.SortFault.TheVariants.{UnknownName, DuplicateName, WrongSort, Limit}
-use Rattle.pc_elaborate.specs.declared.fault.Which.TheVariants.{Number}
+use Rattle.pc_sheet.specs.declared.limits.Limited.TheVariants.{Number}
 use Rattle.pc_elaborate.specs.FormulaFaults.{IsFormulaFault}
 
 -- `c`, `g`, `p`, `r` and `z`

@@ -15,7 +15,7 @@ use Rattle.pc_sheet.specs.declared.ids.FamilyId.{FamilyId}
 use Rattle.pc_sheet.specs.declared.ids.ValueId.{ValueId}
 use Rattle.pc_elaborate.specs.declared.fault.SortFault.{SortFault}
 use Rattle.pc_elaborate.specs.declared.fault.SortFault.TheVariants.{UnknownName, DuplicateName, WrongArity, WrongSort, NotAValue, Limit}
-use Rattle.pc_elaborate.specs.declared.fault.Which.TheVariants.{Number, Depth, Reads}
+use Rattle.pc_sheet.specs.declared.limits.Limited.TheVariants.{Number, Depth, Reads}
 use Rattle.pc_elaborate.specs.Elaboration.{IsSortNamed, IsTableNamed, IsFamilyNamed, TakesArguments, StandsForValue, IsItem, IsArgument, AreArguments, IsSum, IsStatement}
 use Rattle.pc_elaborate.specs.Tests.{no_test, test, part}
 

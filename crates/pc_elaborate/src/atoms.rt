@@ -7,7 +7,7 @@ ghost use Rattle.pc_sheet.specs.WellFormed.{IsDeclaredSort};
 ghost use Rattle.pc_elaborate.specs.inside.Scope.{IsScope};
 ghost use Rattle.pc_elaborate.specs.Told.{IsFormulaTold, variables_of};
 
-use crate::fault::{SortFault, Which};
+use crate::fault::SortFault;
 use crate::items::arguments;
 use crate::names::find_table;
 use crate::reads::{reads_in_side, reads_in_terms};
@@ -15,7 +15,7 @@ use crate::scope::Variable;
 use crate::sides::{find_side, may_compare};
 use pc_formula::{ItemTree, SideTree};
 use pc_logic::{Book, Formula, Name, Op, SortId, TableId, well_formed};
-use pc_sheet::MOST_READS;
+use pc_sheet::{Limited, MOST_READS};
 use std::alloc::Global;
 
 /// What a comparison stands for.
@@ -36,7 +36,7 @@ pub(crate) fn comparison(
     let (left, kind) = find_side(alloc, book, variables, left)?;
     let (right, other) = find_side(alloc, book, variables, right)?;
     if MOST_READS < reads_in_side(&left) + reads_in_side(&right) {
-        return Err(SortFault::Limit(Which::Reads));
+        return Err(SortFault::Limit(Limited::Reads));
     }
     if !may_compare(kind, op, other) {
         return Err(SortFault::WrongSort);
@@ -73,7 +73,7 @@ pub(crate) fn table_atom(
     }
     let args = arguments(alloc, book, variables, sorts, args)?;
     if MOST_READS < reads_in_terms(&args) {
-        return Err(SortFault::Limit(Which::Reads));
+        return Err(SortFault::Limit(Limited::Reads));
     }
     Ok(Formula::InTable { table, args })
 }

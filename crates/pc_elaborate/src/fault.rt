@@ -1,37 +1,9 @@
 //! Why a tree isn't well sorted.
 ghost use Rattle.std.specs.Prelude.{◌≡◌};
 
+use pc_sheet::Limited;
 use std::alloc::{AllocError, AllocFailed};
 use thiserror::Error;
-
-/// What a limit is put on.
-#[derive(Clone, Copy, Debug, PartialEq, Eq)]
-pub enum Which {
-    /// The sorts of a sheet.
-    Sorts,
-    /// The values of a sort.
-    Values,
-    /// The size of a bound of a range, or of a whole number in a comparison.
-    Number,
-    /// The tables of a sheet.
-    Tables,
-    /// The families of a sheet.
-    Families,
-    /// The arguments of a table or family.
-    Arity,
-    /// The cells of a sheet.
-    Cells,
-    /// The rows of all tables.
-    Rows,
-    /// The rules of a sheet.
-    Rules,
-    /// The quantifiers around one place.
-    Depth,
-    /// The cell applications that are written in one atom.
-    Reads,
-    /// The propagations of an edit.
-    Budget,
-}
 
 /// Why a tree isn't well sorted, or not within the limits.
 #[derive(Debug, Drop, Error)]
@@ -56,7 +28,7 @@ pub enum SortFault {
     EmptySort,
     /// A limit is passed.
     #[error("limit")]
-    Limit(Which),
+    Limit(Limited),
     /// Memory was wanted.
     #[error("memory")]
     Memory,

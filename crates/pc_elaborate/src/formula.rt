@@ -14,12 +14,12 @@ ghost use Rattle.pc_elaborate.specs.Told.{AreFormulasTold, IsBoxedTold, IsFormul
 ghost use Rattle.pc_elaborate.specs.declared.fault.SortFault.{SortFault};
 
 use crate::atoms::{comparison, table_atom};
-use crate::fault::{SortFault, Which};
+use crate::fault::SortFault;
 use crate::names::find_sort;
 use crate::scope::{Variable, variable_named, with_variable};
 use pc_formula::FormulaTree;
 use pc_logic::{Book, Formula, Name, SortId, well_formed};
-use pc_sheet::MOST_DEPTH;
+use pc_sheet::{Limited, MOST_DEPTH};
 use std::alloc::Global;
 
 /// The sort of a quantifier's variable, which is a new one.
@@ -33,7 +33,7 @@ fn variable_sort(
     ensures { IsVariableTold book.now.universe (variables_of variables.now) name.now sort.now result }
 {
     if variables.len() == MOST_DEPTH {
-        return Err(SortFault::Limit(Which::Depth));
+        return Err(SortFault::Limit(Limited::Depth));
     }
     match book.look_up(name.as_str()) {
         Some(_declared) => Err(SortFault::DuplicateName),

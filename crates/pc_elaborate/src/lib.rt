@@ -13,7 +13,7 @@ mod scope;
 mod sides;
 
 pub use cells::{find_cell, find_sort_value, find_value, find_values};
-pub use fault::{SortFault, Which};
+pub use fault::SortFault;
 pub use formula::check_formula;
 pub use law::{trees_have_one_outcome, worked_faults};
 pub use names::{

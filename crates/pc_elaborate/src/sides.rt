@@ -8,12 +8,12 @@ ghost use Rattle.pc_sheet.specs.WellSorted.{IsEquality, Variables};
 ghost use Rattle.pc_elaborate.specs.inside.Scope.{IsScope};
 ghost use Rattle.pc_elaborate.specs.Told.{AreAddedTold, IsKindOf, IsSideItemTold, IsSideTold, MayCompare, MayStand, variables_of};
 
-use crate::fault::{SortFault, Which};
+use crate::fault::SortFault;
 use crate::items::named_item;
 use crate::scope::Variable;
 use pc_formula::{ItemTree, SideTree};
 use pc_logic::{Book, Name, Op, Side, Sign, SortId, Term, well_formed};
-use pc_sheet::LARGEST_NUMBER;
+use pc_sheet::{LARGEST_NUMBER, Limited};
 use std::alloc::Global;
 
 /// What is compared: whole numbers, or values of a listed sort.
@@ -71,7 +71,7 @@ fn number_item(n: i64) -> Result<(Term, Kind), SortFault>
     ensures { (u : Universe) (vs : Variables) (several : Bool) → IsSideItemTold u vs several (integer n) result }
 {
     if n < -LARGEST_NUMBER || LARGEST_NUMBER < n {
-        return Err(SortFault::Limit(Which::Number));
+        return Err(SortFault::Limit(Limited::Number));
     }
     Ok((Term::Number(n as i32), Kind::Integer))
 }

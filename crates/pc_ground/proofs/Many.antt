@@ -3,6 +3,7 @@ use Rattle.std.proofs.Common.{◌≡◌, ℕ, zero, suc, ◌+◌, ◌*◌, ◌<�
 use Rattle.std.specs.List.{flat_map, range_with_len}
 use Rattle.std.proofs.lemmas.List.{length-map}
 use Rattle.std.proofs.lemmas.List.Elements.{All-map, All-contains, All-contains_itself, All-weaker}
+use Rattle.pc_sheet.specs.WellSorted.{parts_in}
 use Rattle.pc_lits.proofs.Elements.{contains_map}
 use Rattle.std.proofs.lemmas.List.FromFn.{length-map-range_with_len}
 use Rattle.std.proofs.lemmas.List.Sums.{sum_by-cons, sum_by-append}
@@ -16,7 +17,7 @@ use Rattle.pc_sheet.specs.Readings.{Leaf, leaves_of}
 use Rattle.pc_sheet.specs.Weight.{weight}
 use Rattle.pc_sheet.specs.declared.ids.ValueId.{ValueId}
 use Rattle.pc_accept.specs.Literals.{Symbol, Literal, node}
-use Rattle.pc_accept.specs.Axioms.{axiom_node, how_many, each_below, clauses_of_all, clauses_of_some, clauses_of_node, child_of}
+use Rattle.pc_accept.specs.Axioms.{axiom_node, each_below, clauses_of_all, clauses_of_some, clauses_of_node, child_of}
 use Rattle.pc_ground.specs.Variables.{variables, variable_count, number}
 use Rattle.pc_ground.specs.Ground.{GroundAxiom, some_axiom, one_axiom, one_axioms, cell_axioms, cells_axioms, leaf_axiom, numbered_axioms, own_axioms, node_axioms, parts_axioms, root_axiom, rule_axioms, rules_axioms, axioms, lit_of, clause_of_axiom, clauses}
 use Rattle.pc_ground.proofs.Lists.{flat_push, range_each}
@@ -93,11 +94,11 @@ module _ (u : Universe) (r : ℕ) where
     nodes path scope (negation s) = two (own_axioms u r path (negation s)) _ (own_few path (negation s) 2 4 refl refl (omega arith)) (nodes (path ++ 0 ∷ []) scope s)
     nodes path scope (all_of ss) =
         two (own_axioms u r path (all_of ss)) _
-        (own_few path (all_of ss) (how_many ss + 1) (3 * how_many ss + 1) (joined _ _ (how_many ss)) (all_own u r (node r path) (child_of r path) (how_many ss)) (omega arith))
+        (own_few path (all_of ss) (parts_in ss + 1) (3 * parts_in ss + 1) (joined _ _ (parts_in ss)) (all_own u r (node r path) (child_of r path) (parts_in ss)) (omega arith))
         (parts_few path scope 0 ss)
     nodes path scope (some_of ss) =
         two (own_axioms u r path (some_of ss)) _
-        (own_few path (some_of ss) (how_many ss + 1) (3 * how_many ss + 1) (joined _ _ (how_many ss)) (some_own u r (node r path) (child_of r path) (how_many ss)) (omega arith))
+        (own_few path (some_of ss) (parts_in ss + 1) (3 * parts_in ss + 1) (joined _ _ (parts_in ss)) (some_own u r (node r path) (child_of r path) (parts_in ss)) (omega arith))
         (parts_few path scope 0 ss)
     nodes path scope (implies s t) =
         two (own_axioms u r path (implies s t)) _ (own_few path (implies s t) 3 7 refl refl (omega arith))

@@ -16,7 +16,7 @@ use Rattle.pc_sheet.specs.WellSorted.{Variables, parts_in, IsWellSorted, AreWell
 use Rattle.pc_sheet.specs.declared.ids.CellId.{CellId}
 use Rattle.pc_sheet.specs.declared.ids.ValueId.{ValueId}
 use Rattle.pc_accept.specs.Literals.{Symbol, pair, node, Literal, negative}
-use Rattle.pc_accept.specs.Axioms.{Axiom, axiom_some, axiom_one, axiom_rule, axiom_node, axiom_atom, IsClauseOf, IsAtNumber, how_many, each_below, clauses_of_node, child_of}
+use Rattle.pc_accept.specs.Axioms.{Axiom, axiom_some, axiom_one, axiom_rule, axiom_node, axiom_atom, IsClauseOf, IsAtNumber, each_below, clauses_of_node, child_of}
 use Rattle.pc_accept.specs.Writable.{IsPathOf, IsSymbolOf, IsAxiomOf}
 use Rattle.pc_ground.specs.Variables.{pair_at, pairs_from, nodes_below, parts_below, nodes_from, variables}
 use Rattle.pc_ground.specs.Ground.{GroundAxiom, axioms}
@@ -36,10 +36,6 @@ some_within xs i P h = by (slice_get xs i) refl h
     by : (o : Option _) → slice_get xs i ≡ o → IsSomeAnd o P → i < length xs
     by None at h = absurd h
     by (Some x) at h = slice_get_within xs i x at
-
-parts_many : (ss : Statements) → how_many ss ≡ parts_in ss
-parts_many no_statements = refl
-parts_many (statement s ss) = omega (arith, parts_many ss)
 
 module _ (sheet : Sheet) (formed : IsWellFormed sheet) where
   abbrev u : Universe
@@ -200,11 +196,11 @@ module _ (sheet : Sheet) (formed : IsWellFormed sheet) where
   many_clauses p c (scope, compare left op right) sorted = omega arith
   many_clauses p c (scope, in_table t xs) sorted = omega arith
   many_clauses p c (scope, negation s) sorted = omega arith
-  many_clauses p c (scope, all_of ss) (vs, h) = few (how_many ss) _ _ (omega (arith, parts_many ss, h.0.1))
+  many_clauses p c (scope, all_of ss) (vs, h) = few (parts_in ss) _ _ (omega (arith, h.0.1))
     where
       few : (n : ℕ) (f : ℕ → List Literal) (last : List Literal) → n < 4194304 → length (each_below n f ++ last ∷ []) < 2 ^ 32
       few n f last small = omega (arith, length-append (each_below n f) (last ∷ []), length-map-range_with_len f 0 n, small)
-  many_clauses p c (scope, some_of ss) (vs, h) = few (how_many ss) _ _ (omega (arith, parts_many ss, h.0.1))
+  many_clauses p c (scope, some_of ss) (vs, h) = few (parts_in ss) _ _ (omega (arith, h.0.1))
     where
       few : (n : ℕ) (f : ℕ → List Literal) (last : List Literal) → n < 4194304 → length (each_below n f ++ last ∷ []) < 2 ^ 32
       few n f last small = omega (arith, length-append (each_below n f) (last ∷ []), length-map-range_with_len f 0 n, small)

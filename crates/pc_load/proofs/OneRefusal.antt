@@ -1,42 +1,10 @@
 -- That a refusal tells one fault, and a fault has one refusal.
-use Rattle.std.proofs.Common.{◌≡◌, Option, Some, None, refl, sym, ap, ◌∙◌}
+use Rattle.std.proofs.Common.{◌≡◌, Option, Some, None, sym, ap, ◌∙◌}
 use Rattle.pc_elaborate.specs.declared.fault.SortFault.{SortFault}
 use Rattle.pc_elaborate.specs.declared.fault.SortFault.TheVariants as fault
-use Rattle.pc_elaborate.specs.declared.fault.Which.{Which}
-use Rattle.pc_elaborate.specs.declared.fault.Which.TheVariants as which
-use Rattle.pc_transcript.specs.declared.refusal.LimitWord.{LimitWord}
-use Rattle.pc_transcript.specs.declared.refusal.LimitWord.TheVariants.{Sorts, Values, Number, Tables, Families, Arity, Cells, Rows, Rules, Depth, Reads, Budget}
 use Rattle.pc_transcript.specs.declared.refusal.Refusal.{Refusal}
 use Rattle.pc_transcript.specs.declared.refusal.Refusal.TheVariants.{NotUtf8, Syntax, NoBegin, WrongVersion, UnknownName, DuplicateName, WrongArity, WrongSort, NotAValue, EmptySort, Limit, TooLarge, Inconsistent, Spent, NoEntry, DuplicateRule, NoRule, TooDeep}
-use Rattle.pc_load.specs.Refusals.{IsSortRefusal, which_of}
-
-abbrev word_of : Which → LimitWord
-word_of which.Sorts = Sorts
-word_of which.Values = Values
-word_of which.Number = Number
-word_of which.Tables = Tables
-word_of which.Families = Families
-word_of which.Arity = Arity
-word_of which.Cells = Cells
-word_of which.Rows = Rows
-word_of which.Rules = Rules
-word_of which.Depth = Depth
-word_of which.Reads = Reads
-word_of which.Budget = Budget
-
-back : (word : LimitWord) → word_of (which_of word) ≡ word
-back Sorts = refl
-back Values = refl
-back Number = refl
-back Tables = refl
-back Families = refl
-back Arity = refl
-back Cells = refl
-back Rows = refl
-back Rules = refl
-back Depth = refl
-back Reads = refl
-back Budget = refl
+use Rattle.pc_load.specs.Refusals.{IsSortRefusal}
 
 abbrev refusal_of : SortFault → Option Refusal
 refusal_of fault.UnknownName = Some UnknownName
@@ -45,7 +13,7 @@ refusal_of fault.WrongArity = Some WrongArity
 refusal_of fault.WrongSort = Some WrongSort
 refusal_of fault.NotAValue = Some NotAValue
 refusal_of fault.EmptySort = Some EmptySort
-refusal_of (fault.Limit which) = Some (Limit (word_of which))
+refusal_of (fault.Limit limited) = Some (Limit limited)
 refusal_of fault.Memory = None
 
 told : (e : SortFault) (refusal : Refusal) → IsSortRefusal e refusal → refusal_of e ≡ Some refusal
@@ -55,7 +23,7 @@ told e WrongArity is = ap refusal_of is
 told e WrongSort is = ap refusal_of is
 told e NotAValue is = ap refusal_of is
 told e EmptySort is = ap refusal_of is
-told e (Limit word) is = ap refusal_of is ∙ ap (λ (w : LimitWord). Some (Limit w)) (back word)
+told e (Limit limited) is = ap refusal_of is
 told e NotUtf8 is = absurd is
 told e Syntax is = absurd is
 told e NoBegin is = absurd is

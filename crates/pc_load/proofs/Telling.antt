@@ -57,5 +57,5 @@ of_fault Fails sort_fault.WrongArity is = is
 of_fault Fails sort_fault.WrongSort is = is
 of_fault Fails sort_fault.NotAValue is = is
 of_fault Fails sort_fault.EmptySort is = is
-of_fault Fails (sort_fault.Limit which) is = is
+of_fault Fails (sort_fault.Limit limited) is = is
 of_fault Fails sort_fault.Memory is = tt

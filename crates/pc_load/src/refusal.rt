@@ -1,31 +1,11 @@
 //! How faults of texts, of names and of sorts are told.
 ghost use Rattle.std.specs.Prelude.{◌≡◌, MatchOption};
-ghost use Rattle.pc_load.specs.Refusals.{IsSortRefusal, which_of};
+ghost use Rattle.pc_load.specs.Refusals.{IsSortRefusal};
 ghost use Rattle.pc_load.specs.inside.Loading.{IsSortFaultTold, load_fault_of, refused_for};
 
-use pc_sortcheck::{SheetSortFault, SortFault, Which};
+use pc_sortcheck::{SheetSortFault, SortFault};
 use pc_syntax::SheetFault;
-use pc_transcript::{LimitWord, LoadFault, Refusal, SheetRefusal};
-
-// The word for what a limit is put on.
-fn limit_word(which: Which) -> LimitWord
-    ensures { which_of result ≡ which }
-{
-    match which {
-        Which::Sorts => LimitWord::Sorts,
-        Which::Values => LimitWord::Values,
-        Which::Number => LimitWord::Number,
-        Which::Tables => LimitWord::Tables,
-        Which::Families => LimitWord::Families,
-        Which::Arity => LimitWord::Arity,
-        Which::Cells => LimitWord::Cells,
-        Which::Rows => LimitWord::Rows,
-        Which::Rules => LimitWord::Rules,
-        Which::Depth => LimitWord::Depth,
-        Which::Reads => LimitWord::Reads,
-        Which::Budget => LimitWord::Budget,
-    }
-}
+use pc_transcript::{LoadFault, Refusal, SheetRefusal};
 
 /// The refusal that tells a fault of names or sorts, or `None` where memory was wanted.
 pub fn refusal_of(fault: SortFault) -> Option<Refusal>
@@ -38,7 +18,7 @@ pub fn refusal_of(fault: SortFault) -> Option<Refusal>
         SortFault::WrongSort => Some(Refusal::WrongSort),
         SortFault::NotAValue => Some(Refusal::NotAValue),
         SortFault::EmptySort => Some(Refusal::EmptySort),
-        SortFault::Limit(which) => Some(Refusal::Limit(limit_word(which))),
+        SortFault::Limit(limited) => Some(Refusal::Limit(limited)),
         SortFault::Memory => None,
     }
 }

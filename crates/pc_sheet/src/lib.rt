@@ -17,8 +17,8 @@ pub use laws::{
     what_is_well_sorted_has_a_meaning,
 };
 pub use limits::{
-    LARGEST_NUMBER, MOST_ARGUMENTS, MOST_CELLS, MOST_DEPTH, MOST_FAMILIES, MOST_READS, MOST_ROWS,
-    MOST_RULES, MOST_SORTS, MOST_TABLES, MOST_VALUES, MOST_WEIGHT,
+    LARGEST_NUMBER, Limited, MOST_ARGUMENTS, MOST_CELLS, MOST_DEPTH, MOST_FAMILIES, MOST_READS,
+    MOST_ROWS, MOST_RULES, MOST_SORTS, MOST_TABLES, MOST_VALUES, MOST_WEIGHT,
 };
 pub use meaning::Meaning;
 pub use nodes::{NodeKind, NodePath};

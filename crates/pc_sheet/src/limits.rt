@@ -1,4 +1,5 @@
-//! The limits of a sheet.
+//! The limits of a sheet, and the words for what they are put on.
+ghost use Rattle.std.specs.Prelude.{◌≡◌};
 
 /// The most sorts.
 pub const MOST_SORTS: usize = 256;
@@ -35,3 +36,32 @@ pub const MOST_READS: usize = 16;
 
 /// The most literals of a sheet's axioms.
 pub const MOST_WEIGHT: u64 = 4_000_000;
+
+/// What a limit is put on.
+#[derive(Clone, Copy, Debug, PartialEq, Eq)]
+pub enum Limited {
+    /// The sorts of a sheet.
+    Sorts,
+    /// The values of a sort.
+    Values,
+    /// The size of a bound of a range, or of a whole number in a comparison.
+    Number,
+    /// The tables of a sheet.
+    Tables,
+    /// The families of a sheet.
+    Families,
+    /// The arguments of a table or family.
+    Arity,
+    /// The cells of a sheet.
+    Cells,
+    /// The rows of all tables.
+    Rows,
+    /// The rules of a sheet.
+    Rules,
+    /// The quantifiers around one place.
+    Depth,
+    /// The cell applications that are written in one atom.
+    Reads,
+    /// The propagations of an edit.
+    Budget,
+}

@@ -13,7 +13,7 @@ use Rattle.pc_logic.specs.declared.names.Named.TheVariants as named
 use Rattle.pc_logic.proofs.NamesLemmas.{name_is_declared}
 use Rattle.pc_elaborate.specs.declared.fault.SortFault.{SortFault}
 use Rattle.pc_elaborate.specs.declared.fault.SortFault.TheVariants.{DuplicateName, WrongArity, EmptySort, Limit}
-use Rattle.pc_elaborate.specs.declared.fault.Which.TheVariants.{Sorts, Values, Number, Tables, Families, Arity, Cells, Rows, Rules}
+use Rattle.pc_sheet.specs.declared.limits.Limited.TheVariants.{Sorts, Values, Number, Tables, Families, Arity, Cells, Rows, Rules}
 use Rattle.pc_elaborate.specs.Elaboration.{IsSortNamed, IsTableNamed, StandsForValue, AreValuesOf, IsCell}
 use Rattle.pc_elaborate.specs.FormulaFaults.{IsSomeSort, IsSomeTable, IsNameFault, IsSortNameFault, AreValuesFault, IsSortedFormula, IsFormulaFault, IsCellFault, IsValueFault}
 use Rattle.pc_elaborate.specs.Laws.{HaveOneOutcome}

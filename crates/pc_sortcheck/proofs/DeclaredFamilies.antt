@@ -13,7 +13,7 @@ use Rattle.pc_logic.specs.Edits.{family_from, with_family}
 use Rattle.pc_logic.proofs.CountLemmas.{sizes_count}
 use Rattle.pc_elaborate.specs.declared.fault.SortFault.{SortFault}
 use Rattle.pc_elaborate.specs.declared.fault.SortFault.TheVariants.{Limit}
-use Rattle.pc_elaborate.specs.declared.fault.Which.TheVariants.{Cells}
+use Rattle.pc_sheet.specs.declared.limits.Limited.TheVariants.{Cells}
 use Rattle.pc_elaborate.specs.Elaboration.{IsSortNamed}
 use Rattle.pc_elaborate.specs.FormulaFaults.{IsSortNameFault}
 use Rattle.pc_sortcheck.specs.Declaring.{Declares, AreSortsNamed}

@@ -9,7 +9,7 @@ use Rattle.pc_sheet.specs.WellFormed.{IsWellFormed, rule_name}
 use Rattle.pc_sheet.specs.WellSorted.{IsWellSorted}
 use Rattle.pc_elaborate.specs.declared.fault.SortFault.{SortFault}
 use Rattle.pc_elaborate.specs.declared.fault.SortFault.TheVariants.{DuplicateName, Limit}
-use Rattle.pc_elaborate.specs.declared.fault.Which.TheVariants.{Rules}
+use Rattle.pc_sheet.specs.declared.limits.Limited.TheVariants.{Rules}
 use Rattle.pc_elaborate.specs.Elaboration.{IsStatement}
 use Rattle.pc_elaborate.specs.Tests.{no_test}
 use Rattle.pc_sortcheck.specs.Declaring.{Declares}

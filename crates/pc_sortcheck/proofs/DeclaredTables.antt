@@ -11,7 +11,7 @@ use Rattle.pc_sheet.specs.declared.ids.TableId.{TableId}
 use Rattle.pc_sheet.specs.declared.ids.ValueId.{ValueId}
 use Rattle.pc_logic.specs.Edits.{table_from, with_table, with_row}
 use Rattle.pc_elaborate.specs.declared.fault.SortFault.TheVariants.{Limit}
-use Rattle.pc_elaborate.specs.declared.fault.Which.TheVariants.{Rows}
+use Rattle.pc_sheet.specs.declared.limits.Limited.TheVariants.{Rows}
 use Rattle.pc_elaborate.specs.Elaboration.{IsTableNamed, AreValuesOf}
 use Rattle.pc_elaborate.proofs.Values.{value_below, as_many_values}
 use Rattle.pc_sortcheck.specs.Declaring.{Declares, AreSortsNamed}

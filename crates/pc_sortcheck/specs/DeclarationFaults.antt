@@ -14,7 +14,7 @@ use Rattle.pc_sheet.specs.declared.ids.ValueId.{ValueId}
 use Rattle.pc_logic.specs.Edits.{family_from, with_family}
 use Rattle.pc_elaborate.specs.declared.fault.SortFault.{SortFault}
 use Rattle.pc_elaborate.specs.declared.fault.SortFault.TheVariants.{DuplicateName, WrongArity, EmptySort, Limit}
-use Rattle.pc_elaborate.specs.declared.fault.Which.TheVariants.{Sorts, Values, Number, Tables, Families, Arity, Cells, Rows, Rules}
+use Rattle.pc_sheet.specs.declared.limits.Limited.TheVariants.{Sorts, Values, Number, Tables, Families, Arity, Cells, Rows, Rules}
 use Rattle.pc_elaborate.specs.Elaboration.{IsSortNamed, AreValuesOf, IsCell}
 use Rattle.pc_elaborate.specs.FormulaFaults.{IsDeclared, IsSomeSort, IsSomeTable, IsSortNameFault, IsNameFault, AreValuesFault, IsValueFault, IsCellFault, IsSortedFormula, IsFormulaFault}
 use Rattle.pc_elaborate.specs.Tests.{no_test, test, part}

@@ -13,9 +13,9 @@ ghost use Rattle.pc_sortcheck.specs.inside.Fits.{FamilyFits};
 
 use crate::names::{is_name, is_new, keeps_form};
 use crate::tables::find_sorts;
-use pc_elaborate::{SortFault, Which, find_cell, find_sort, find_value};
+use pc_elaborate::{SortFault, find_cell, find_sort, find_value};
 use pc_logic::{Book, Entry, Name, SortId};
-use pc_sheet::{MOST_ARGUMENTS, MOST_CELLS, MOST_FAMILIES};
+use pc_sheet::{Limited, MOST_ARGUMENTS, MOST_CELLS, MOST_FAMILIES};
 use pc_syntax::{CellTree, ValueTree};
 use std::alloc::Global;
 
@@ -27,10 +27,10 @@ fn test_family(book: &Book, name: &Name, sorts: &[Name]) -> Result<(), SortFault
         return Err(SortFault::DuplicateName);
     }
     if book.families() >= MOST_FAMILIES {
-        return Err(SortFault::Limit(Which::Families));
+        return Err(SortFault::Limit(Limited::Families));
     }
     if sorts.len() > MOST_ARGUMENTS {
-        return Err(SortFault::Limit(Which::Arity));
+        return Err(SortFault::Limit(Limited::Arity));
     }
     Ok(())
 }
@@ -84,7 +84,7 @@ pub(crate) fn declare_cell(
     let sorts = find_sorts(alloc, book, sorts)?;
     let result_sort = find_sort(book, result_sort)?;
     if !has_room_for_cells(book, &sorts) {
-        return Err(SortFault::Limit(Which::Cells));
+        return Err(SortFault::Limit(Limited::Cells));
     }
     let name = name.clone()?;
     book.add_family(name, sorts, result_sort)?;

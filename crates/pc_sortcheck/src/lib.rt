@@ -12,6 +12,6 @@ mod tables;
 
 pub use fault::SheetSortFault;
 pub use law::sheets_are_well_formed;
-pub use pc_elaborate::{SortFault, Which, find_cell, find_value};
+pub use pc_elaborate::{SortFault, find_cell, find_value};
 pub use rule::check_rule;
 pub use sheet::check_sheet;

@@ -16,9 +16,9 @@ ghost use Rattle.pc_sortcheck.specs.DeclarationFaults.{IsDeclarationFault, IsRul
 ghost use Rattle.pc_sortcheck.specs.Declaring.{Declares};
 
 use crate::names::{is_name, is_rule_name, keeps_form};
-use pc_elaborate::{SortFault, Which, check_formula};
+use pc_elaborate::{SortFault, check_formula};
 use pc_logic::{Book, Rule};
-use pc_sheet::MOST_RULES;
+use pc_sheet::{Limited, MOST_RULES};
 use pc_syntax::RuleTree;
 use std::alloc::Global;
 
@@ -35,7 +35,7 @@ pub fn check_rule(alloc: Global, book: &Book, tree: &RuleTree) -> Result<Rule, S
 {
     let formula = check_formula(alloc, book, &tree.formula)?;
     if book.rules().len() >= MOST_RULES {
-        return Err(SortFault::Limit(Which::Rules));
+        return Err(SortFault::Limit(Limited::Rules));
     }
     let name = tree.name.clone()?;
     Ok(Rule { name, formula })

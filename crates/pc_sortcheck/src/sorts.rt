@@ -9,9 +9,9 @@ ghost use Rattle.pc_sortcheck.specs.Declaring.{Declares};
 ghost use Rattle.pc_sortcheck.specs.inside.Fits.{ListFits, RangeFits};
 
 use crate::names::{are_names, are_new_values, copy_names, is_name, is_new, keeps_form};
-use pc_elaborate::{SortFault, Which};
+use pc_elaborate::SortFault;
 use pc_logic::{Book, Name};
-use pc_sheet::{LARGEST_NUMBER, MOST_SORTS, MOST_VALUES};
+use pc_sheet::{LARGEST_NUMBER, Limited, MOST_SORTS, MOST_VALUES};
 use std::alloc::Global;
 
 /// Whether there is room for one more sort.
@@ -29,13 +29,13 @@ fn test_list(book: &Book, name: &Name, values: &[Name]) -> Result<(), SortFault>
         return Err(SortFault::DuplicateName);
     }
     if !has_room_for_sort(book) {
-        return Err(SortFault::Limit(Which::Sorts));
+        return Err(SortFault::Limit(Limited::Sorts));
     }
     if values.is_empty() {
         return Err(SortFault::EmptySort);
     }
     if values.len() > MOST_VALUES {
-        return Err(SortFault::Limit(Which::Values));
+        return Err(SortFault::Limit(Limited::Values));
     }
     if !are_new_values(book, name, values) {
         return Err(SortFault::DuplicateName);
@@ -85,19 +85,19 @@ fn test_range(book: &Book, name: &Name, low: i64, high: i64) -> Result<(), SortF
         return Err(SortFault::DuplicateName);
     }
     if !has_room_for_sort(book) {
-        return Err(SortFault::Limit(Which::Sorts));
+        return Err(SortFault::Limit(Limited::Sorts));
     }
     if !is_small_number(low) {
-        return Err(SortFault::Limit(Which::Number));
+        return Err(SortFault::Limit(Limited::Number));
     }
     if !is_small_number(high) {
-        return Err(SortFault::Limit(Which::Number));
+        return Err(SortFault::Limit(Limited::Number));
     }
     if high < low {
         return Err(SortFault::EmptySort);
     }
     if high - low > 255 {
-        return Err(SortFault::Limit(Which::Values));
+        return Err(SortFault::Limit(Limited::Values));
     }
     Ok(())
 }

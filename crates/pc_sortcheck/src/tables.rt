@@ -9,9 +9,9 @@ ghost use Rattle.pc_sortcheck.specs.Declaring.{AreSortsNamed, Declares};
 ghost use Rattle.pc_sortcheck.specs.inside.Fits.{AreNoRowOf, AreRowOf, TableFits};
 
 use crate::names::{is_name, is_new, keeps_form};
-use pc_elaborate::{SortFault, Which, find_sort, find_table, find_values};
+use pc_elaborate::{SortFault, find_sort, find_table, find_values};
 use pc_logic::{Book, Name, SortId, TableId, ValueId};
-use pc_sheet::{MOST_ARGUMENTS, MOST_ROWS, MOST_TABLES};
+use pc_sheet::{Limited, MOST_ARGUMENTS, MOST_ROWS, MOST_TABLES};
 use pc_syntax::ValueTree;
 use std::alloc::Global;
 
@@ -38,13 +38,13 @@ fn test_table(book: &Book, name: &Name, sorts: &[Name]) -> Result<(), SortFault>
         return Err(SortFault::DuplicateName);
     }
     if book.tables() >= MOST_TABLES {
-        return Err(SortFault::Limit(Which::Tables));
+        return Err(SortFault::Limit(Limited::Tables));
     }
     if sorts.is_empty() {
-        return Err(SortFault::Limit(Which::Arity));
+        return Err(SortFault::Limit(Limited::Arity));
     }
     if sorts.len() > MOST_ARGUMENTS {
-        return Err(SortFault::Limit(Which::Arity));
+        return Err(SortFault::Limit(Limited::Arity));
     }
     Ok(())
 }
@@ -145,7 +145,7 @@ pub(crate) fn declare_row(
     let table = find_table(book, name)?;
     let row = find_row(alloc, book, table, values)?;
     if !has_room_for_row(book, table, &row) {
-        return Err(SortFault::Limit(Which::Rows));
+        return Err(SortFault::Limit(Limited::Rows));
     }
     book.add_row(table, &row)?;
     Ok(())

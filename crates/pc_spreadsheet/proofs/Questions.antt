@@ -4,10 +4,10 @@ use Rattle.pc_syntax.specs.Tree.{Cell, Value, asks_why, asks_json, asks_budget}
 use Rattle.pc_sheet.specs.Sheet.{Sheet}
 use Rattle.pc_reason.specs.Reasons.{IsTargetOf}
 use Rattle.pc_elaborate.specs.declared.fault.SortFault.TheVariants as fault
-use Rattle.pc_elaborate.specs.declared.fault.Which.TheVariants as which
+use Rattle.pc_sheet.specs.declared.limits.Limited.TheVariants as limited
 use Rattle.pc_session.specs.Views.{SessionView}
 use Rattle.pc_transcript.specs.declared.machine.Reply.TheVariants.{Accepted, Refused}
-use Rattle.pc_transcript.specs.declared.refusal.LimitWord.TheVariants.{Budget}
+use Rattle.pc_sheet.specs.declared.limits.Limited.TheVariants.{Budget}
 use Rattle.pc_transcript.specs.declared.refusal.Refusal.TheVariants.{Limit}
 use Rattle.pc_spreadsheet.specs.Judgement.{State, IsBudget, budgets, budgeting, shows, why_page, showing_json, IsTaskOf, IsRefusalOf, by_fault}
 use Rattle.pc_spreadsheet.specs.Allowed.{Notes}
@@ -30,7 +30,7 @@ shown_json s n reply for_memory = (tt, refl)
 
 -- a budget out of bounds
 pub no_budget : (old : State × Notes) (n : ℕ) → ¬ IsBudget n → Obeys old (asks_budget n) (Refused (Limit Budget) None) old
-no_budget old n out = judged (by_fault (fault.Limit which.Budget) (inl (out, refl)) refl) refl refl
+no_budget old n out = judged (by_fault (fault.Limit limited.Budget) (inl (out, refl)) refl) refl refl
 
 -- a budget within them
 pub budgeted : (s s' : SessionView) (notes : Notes) (n : ℕ) → s' ≡ record s { budget = n } → IsBudget n → Obeys (state_of s, notes) (asks_budget n) Accepted (state_of s', notes)

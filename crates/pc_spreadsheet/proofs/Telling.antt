@@ -5,7 +5,7 @@ use Rattle.pc_syntax.specs.Tree.{Asked, Formula}
 use Rattle.pc_sheet.specs.Sheet.{Sheet}
 use Rattle.pc_elaborate.specs.declared.fault.SortFault.{SortFault}
 use Rattle.pc_elaborate.specs.declared.fault.SortFault.TheVariants as sort_fault
-use Rattle.pc_elaborate.specs.declared.fault.Which.TheVariants.{Rules}
+use Rattle.pc_sheet.specs.declared.limits.Limited.TheVariants.{Rules}
 use Rattle.pc_elaborate.specs.FormulaFaults.{IsSortedFormula}
 use Rattle.pc_elaborate.specs.Tests.{no_test}
 use Rattle.pc_elaborate.specs.Told.{IsFaultOf}

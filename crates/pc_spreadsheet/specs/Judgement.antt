@@ -16,7 +16,7 @@ use Rattle.pc_logic.specs.Edits.{entered, without_rule}
 use Rattle.pc_logic.specs.Edits as edits
 use Rattle.pc_elaborate.specs.declared.fault.SortFault.{SortFault}
 use Rattle.pc_elaborate.specs.declared.fault.SortFault.TheVariants as fault
-use Rattle.pc_elaborate.specs.declared.fault.Which.TheVariants as which
+use Rattle.pc_sheet.specs.declared.limits.Limited.TheVariants as limited
 use Rattle.pc_elaborate.specs.Elaboration.{IsEntryNamed, IsCellNamed, IsStatement}
 use Rattle.pc_elaborate.specs.FormulaFaults.{IsCellFault}
 use Rattle.pc_elaborate.specs.Tests.{no_test, test}
@@ -152,7 +152,7 @@ IsAskedFault sheet (asks_enter c v) = IsDeclarationFault sheet (enter c v)
 IsAskedFault sheet (asks_why c v holds) = IsDeclarationFault sheet (enter c v)
 IsAskedFault sheet (asks_clear c) = IsCellFault sheet.universe c
 IsAskedFault sheet (asks_rule n f) = IsRuleFault sheet f no_test
-IsAskedFault sheet (asks_budget n) = test (IsBudget n) (fault.Limit which.Budget) no_test
+IsAskedFault sheet (asks_budget n) = test (IsBudget n) (fault.Limit limited.Budget) no_test
 IsAskedFault sheet asked = no_test
 
 -- The command is refused so: for its names and sorts first; to clear a cell without an entry, to add a rule of a name that a rule has, to

@@ -20,7 +20,7 @@ use pc_reason::Reasons;
 use pc_session::{Session, Spendings};
 use pc_sheet::Target;
 use pc_syntax::{CellTree, Command, ValueTree, parse_command};
-use pc_transcript::{LimitWord, MOST_BUDGET, Refusal, Reply};
+use pc_transcript::{Limited, MOST_BUDGET, Refusal, Reply};
 use std::alloc::{AllocError, Global};
 
 // Asks why the cell has the value, or why it hasn't.
@@ -53,7 +53,7 @@ fn set_budget(session: &mut Session, number: u64) -> Told
     ensures { (notes : Notes) → Obeys (state_of session.old, notes) (asks_budget number) result (state_of session.new, notes) }
 {
     if number < 1 || number > MOST_BUDGET {
-        return Reply::Refused(Refusal::Limit(LimitWord::Budget), None);
+        return Reply::Refused(Refusal::Limit(Limited::Budget), None);
     }
     session.set_budget(number);
     Reply::Accepted

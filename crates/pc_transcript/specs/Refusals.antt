@@ -5,8 +5,8 @@ use Rattle.std.specs.declared.option.Option.TheVariants.{Some, None}
 use Rattle.pc_transcript.specs.declared.refusal.Refusal.{Refusal}
 use Rattle.pc_transcript.specs.declared.refusal.Refusal.TheVariants.{NotUtf8, Syntax, NoBegin, WrongVersion, UnknownName, DuplicateName, WrongArity, WrongSort, NotAValue, EmptySort, Limit, TooLarge, Inconsistent, Spent, NoEntry, DuplicateRule, NoRule, TooDeep}
 use Rattle.pc_transcript.specs.declared.refusal.Counts.{Counts}
-use Rattle.pc_transcript.specs.declared.refusal.LimitWord.{LimitWord}
-use Rattle.pc_transcript.specs.declared.refusal.LimitWord.TheVariants.{Sorts, Values, Number, Tables, Families, Arity, Cells, Rows, Rules, Depth, Reads, Budget}
+use Rattle.pc_sheet.specs.declared.limits.Limited.{Limited}
+use Rattle.pc_sheet.specs.declared.limits.Limited.TheVariants.{Sorts, Values, Number, Tables, Families, Arity, Cells, Rows, Rules, Depth, Reads, Budget}
 use Rattle.pc_transcript.specs.declared.refusal.SheetRefusal.{SheetRefusal}
 
 -- the number and the word of a refusal
@@ -21,7 +21,7 @@ words_of WrongArity = codes "7 wrong-arity"
 words_of WrongSort = codes "8 wrong-sort"
 words_of NotAValue = codes "9 not-a-value"
 words_of EmptySort = codes "10 empty-sort"
-words_of (Limit word) = codes "11 limit"
+words_of (Limit limited) = codes "11 limit"
 words_of TooLarge = codes "12 too-large"
 words_of Inconsistent = codes "13 inconsistent"
 words_of (Spent counts) = codes "14 spent"
@@ -31,7 +31,7 @@ words_of NoRule = codes "18 no-rule"
 words_of TooDeep = codes "21 too-deep"
 
 -- what a limit is put on
-abbrev pub limit_word_of : LimitWord → List ℕ
+abbrev pub limit_word_of : Limited → List ℕ
 limit_word_of Sorts = codes "sorts"
 limit_word_of Values = codes "values"
 limit_word_of Number = codes "number"
@@ -51,7 +51,7 @@ counts_text counts = codes " placed=" ++ (decimal counts.placed ++ (codes " lear
 
 -- what is told further: the word of a limit, or what was spent
 abbrev pub further_text : Refusal → List ℕ
-further_text (Limit word) = codes " " ++ limit_word_of word
+further_text (Limit limited) = codes " " ++ limit_word_of limited
 further_text (Spent counts) = counts_text counts
 further_text refusal = []
 

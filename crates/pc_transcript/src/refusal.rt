@@ -5,41 +5,13 @@ ghost use Rattle.pc_transcript.specs.Refusals.{counts_text, further_text, limit_
 
 use itoa::{Buffer, Integer};
 use pc_port::{Failed, Sink};
+use pc_sheet::Limited;
 use pc_writer::{write_integer, write_text};
 
 // How the line that tells a refusal begins, by what is refused.
 pub(crate) const COMMAND: &[u8] = b"refused ";
 
 pub(crate) const SHEET: &[u8] = b"sheet refused ";
-
-/// What a limit is put on, as a refusal names it.
-#[derive(Clone, Copy, Debug, PartialEq, Eq)]
-pub enum LimitWord {
-    /// The sorts of a sheet.
-    Sorts,
-    /// The values of a sort.
-    Values,
-    /// A bound of a range, or a whole number in a comparison.
-    Number,
-    /// The tables of a sheet.
-    Tables,
-    /// The families of a sheet.
-    Families,
-    /// The arguments of a table or family.
-    Arity,
-    /// The cells of a sheet.
-    Cells,
-    /// The rows of all tables.
-    Rows,
-    /// The rules of a sheet.
-    Rules,
-    /// The quantifiers around one place.
-    Depth,
-    /// The cell applications that are written in one atom.
-    Reads,
-    /// The propagations of an edit.
-    Budget,
-}
 
 /// What a search has spent.
 #[derive(Clone, Copy, Debug, PartialEq, Eq)]
@@ -76,7 +48,7 @@ pub enum Refusal {
     /// The sort has no value.
     EmptySort,
     /// A limit is passed.
-    Limit(LimitWord),
+    Limit(Limited),
     /// The sheet weighs too much, or would with that rule.
     TooLarge,
     /// No assignment makes every rule true, or would with that rule.
@@ -98,28 +70,6 @@ pub enum Refusal {
 pub struct SheetRefusal {
     pub refusal: Refusal,
     pub line: Option<u32>,
-}
-
-impl LimitWord {
-    // The word.
-    fn word(self) -> &'static [u8]
-        ensures { result.now ≡ limit_word_of self }
-    {
-        match self {
-            LimitWord::Sorts => b"sorts",
-            LimitWord::Values => b"values",
-            LimitWord::Number => b"number",
-            LimitWord::Tables => b"tables",
-            LimitWord::Families => b"families",
-            LimitWord::Arity => b"arity",
-            LimitWord::Cells => b"cells",
-            LimitWord::Rows => b"rows",
-            LimitWord::Rules => b"rules",
-            LimitWord::Depth => b"depth",
-            LimitWord::Reads => b"reads",
-            LimitWord::Budget => b"budget",
-        }
-    }
 }
 
 impl Refusal {
@@ -179,12 +129,32 @@ fn write_counts<O: Sink>(counts: Counts, out: &mut O) -> Result<(), Failed>
     write_count(b" calls=", counts.calls, out)
 }
 
+// The word for what a limit is put on.
+fn limit_word(limited: Limited) -> &'static [u8]
+    ensures { result.now ≡ limit_word_of limited }
+{
+    match limited {
+        Limited::Sorts => b"sorts",
+        Limited::Values => b"values",
+        Limited::Number => b"number",
+        Limited::Tables => b"tables",
+        Limited::Families => b"families",
+        Limited::Arity => b"arity",
+        Limited::Cells => b"cells",
+        Limited::Rows => b"rows",
+        Limited::Rules => b"rules",
+        Limited::Depth => b"depth",
+        Limited::Reads => b"reads",
+        Limited::Budget => b"budget",
+    }
+}
+
 // Writes the word of a limit.
-fn write_limit<O: Sink>(word: LimitWord, out: &mut O) -> Result<(), Failed>
-    ensures { Writes O.given O.faults out.old out.new result (codes " " ++ limit_word_of word) }
+fn write_limit<O: Sink>(limited: Limited, out: &mut O) -> Result<(), Failed>
+    ensures { Writes O.given O.faults out.old out.new result (codes " " ++ limit_word_of limited) }
 {
     write_text(b" ", out)?;
-    write_text(word.word(), out)
+    write_text(limit_word(limited), out)
 }
 
 // Writes what is told further of a refusal.
@@ -192,7 +162,7 @@ fn write_further<O: Sink>(refusal: Refusal, out: &mut O) -> Result<(), Failed>
     ensures { Writes O.given O.faults out.old out.new result (further_text refusal) }
 {
     match refusal {
-        Refusal::Limit(word) => write_limit(word, out),
+        Refusal::Limit(limited) => write_limit(limited, out),
         Refusal::Spent(counts) => write_counts(counts, out),
         _ => Ok(()),
     }

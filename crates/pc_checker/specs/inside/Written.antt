@@ -13,20 +13,6 @@ pub record IsAxiomWritten (sheet : Sheet) (a : Axiom) (old new : Draft) (good : 
   pub grows : StartsWith old.symbols new.symbols
   pub clause : MatchBool good (IsClauseOf sheet a new.clause) ((c : List Literal) → ¬ IsClauseOf sheet a c)
 
--- the clauses of a node of that kind, with its children
-abbrev pub clauses_of_kind : Symbol → (ℕ → Symbol) → NodeKind → List (List Literal)
-clauses_of_kind p child Atom = []
-clauses_of_kind p child Not = (negative p ∷ negative (child 0) ∷ []) ∷ (positive p ∷ positive (child 0) ∷ []) ∷ []
-clauses_of_kind p child (And n) = clauses_of_all p child n
-clauses_of_kind p child (Or n) = clauses_of_some p child n
-clauses_of_kind p child Implies =
-    (negative p ∷ negative (child 0) ∷ positive (child 1) ∷ []) ∷ (positive p ∷ positive (child 0) ∷ []) ∷ (positive p ∷ negative (child 1) ∷ []) ∷ []
-clauses_of_kind p child Iff =
-    (negative p ∷ negative (child 0) ∷ positive (child 1) ∷ []) ∷ (negative p ∷ positive (child 0) ∷ negative (child 1) ∷ []) ∷
-    (positive p ∷ positive (child 0) ∷ positive (child 1) ∷ []) ∷ (positive p ∷ negative (child 0) ∷ negative (child 1) ∷ []) ∷ []
-clauses_of_kind p child (ForAll n) = clauses_of_all p child n
-clauses_of_kind p child (Exists n) = clauses_of_some p child n
-
 -- more symbols are numbered, and the clause is the one of that number, from 1; or there is none
 pub record IsNumberWritten (clauses : List (List Literal)) (i : ℕ) (old new : Draft) (good : Bool) : Type 0 where
   pub grows : StartsWith old.symbols new.symbols
