@@ -1,5 +1,5 @@
 -- The worked cases hold.
-use Rattle.std.proofs.Common.{◌≡◌, ◌≢◌, ℕ, zero, suc, ◌<◌, ◌+◌, ◌-◌, ◌≤◌, inl, inr, true, false, pos, List, [], ◌∷◌, length, get_or, Option, Some, slice_get, sum_by, All, Contains, arith, ap, refl, sym, ◌∙◌, subst}
+use Rattle.std.proofs.Common.{◌≡◌, ◌≢◌, ℕ, zero, suc, ◌<◌, ◌-◌, inl, inr, false, pos, List, [], ◌∷◌, length, get_or, Option, Some, slice_get, sum_by, All, Contains, arith, ap, refl, sym, ◌∙◌, subst}
 use Rattle.std.proofs.lemmas.Int.{ints}
 use Rattle.std.proofs.lemmas.List.Elements.{All-nil, All-cons}
 use Rattle.std.proofs.lemmas.List.Sums.{sum_by-cons}
@@ -16,11 +16,11 @@ use Rattle.pc_sheet.specs.declared.ids.Entry.{Entry}
 use Rattle.pc_laws.specs.Examples.{red, green, entry, color_side}
 use Rattle.pc_laws.specs.Truths.{sort, blocks, x, single}
 use Rattle.pc_lits.specs.Steps.{IsTautology, Refutes}
-use Rattle.pc_lits.proofs.Elements.{contains_first}
+use Rattle.pc_lemmas.proofs.Elements.{contains_first}
 use Rattle.pc_accept.specs.Literals.{Literal, node, positive, opposite}
 use Rattle.pc_accept.specs.Axioms.{axiom_rule, IsAtomClause}
-use Rattle.pc_accept.specs.Accepts.{Line, taken, derived, IsLineClause, Accepts}
-use Rattle.pc_accept.specs.Worked.{WorkedPaths, WorkedReads, WorkedLimits, WorkedRanges, WorkedRefutation, more_x, adds_x, ranges, lowest, z_of_lowest, w, never, refuting, refutation}
+use Rattle.pc_accept.specs.Accepts.{Line, taken, IsLineClause, Accepts}
+use Rattle.pc_accept.specs.Worked.{WorkedPaths, WorkedReads, WorkedLimits, WorkedRanges, WorkedRefutation, more_x, ranges, z_of_lowest, w, never, refuting, refutation}
 
 pub worked_paths : WorkedPaths
 worked_paths = record { instance = refl; past_the_last = refl; below_an_atom = refl }

@@ -12,7 +12,7 @@ use Rattle.std.proofs.lemmas.List.Quantifiers.{all_pairs_push}
 use Rattle.std.proofs.lemmas.Slice.Eq.{slice_eq-Decides}
 use Rattle.indexmap.specs.IndexSet.{insert_key}
 use Rattle.pc_accept.specs.Literals.{Symbol}
-use Rattle.pc_lits.proofs.Elements.{contains_first, contains_later, contains_cases}
+use Rattle.pc_lemmas.proofs.Elements.{contains_first, contains_later, contains_cases}
 use Rattle.pc_cert.specs.Keys.{key_of, symbol_by, IsKey, symbol_of_key, IsNumberedAs}
 use Rattle.pc_cert.specs.KeysView.{AreKeys}
 

@@ -22,7 +22,8 @@ use Rattle.pc_cert_text.specs.CertificateText.{number_text, name_of_found_rule, 
 use Rattle.pc_cert_back.proofs.Marks.{IsFree, IsPlain, is_mark, free_join, free_each, neither, name_plain, number_plain, number_text_is, IsWordText, plain_word, none, blanks_free, ends_free, slashes_free}
 use Rattle.pc_cert_back.proofs.Spelled.{pair_of, read_text_is, read_plain, read_word}
 use Rattle.pc_canonical.proofs.Entries.{entry_stands}
-use Rattle.pc_cert_back.proofs.Standing.{rule_stands, element_at}
+use Rattle.pc_lemmas.proofs.Elements.{element_at}
+use Rattle.pc_cert_back.proofs.Standing.{rule_stands}
 use Rattle.pc_cert_text.proofs.LineLemmas.{all_at}
 use Rattle.pc_cert_text.proofs.TextLemmas.{rule_there}
 

@@ -1,14 +1,9 @@
 -- The name of a rule stands for it.
-use Rattle.std.proofs.Common.{◌≡◌, ℕ, zero, suc, ◌<◌, List, [], ◌∷◌, length, Option, None, Some, slice_get, IsSomeAnd, refl, arith}
+use Rattle.std.proofs.Common.{◌≡◌, ℕ, ◌<◌, length, Option, None, Some, slice_get, IsSomeAnd, refl}
 use Rattle.pc_sheet.specs.Sheet.{NamedStatement, Sheet}
 use Rattle.pc_cert.specs.Meaning.{IsRuleNamed}
 use Rattle.pc_cert_text.specs.CertificateText.{name_of_found_rule, name_of_rule_at}
-
--- an element that a list has
-pub element_at : {A : Type 0} (xs : List A) (i : ℕ) → i < length xs → (x : A) × (slice_get xs i ≡ Some x)
-element_at [] i below = absurd (omega (arith, below))
-element_at (x ∷ xs) zero below = (x, refl)
-element_at (x ∷ xs) (suc i) below = element_at xs i (omega (arith, below))
+use Rattle.pc_lemmas.proofs.Elements.{element_at}
 
 pub rule_stands : (sheet : Sheet) (r : ℕ) → r < length sheet.rules → IsRuleNamed sheet (name_of_rule_at sheet r) r
 rule_stands sheet r below = let at = element_at sheet.rules r below in found (slice_get sheet.rules r) at.0 at.1

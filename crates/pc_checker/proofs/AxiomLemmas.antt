@@ -1,23 +1,21 @@
 -- Clauses of axioms that were written, literal by literal.
-use Rattle.std.proofs.Common.{◌≡◌, ◌≢◌, ℕ, zero, suc, ◌+◌, ◌-◌, ◌<◌, ◌≤◌, ◌↔◌, Bool, true, false, not, MatchBool, List, [], ◌∷◌, ◌++◌, map, length, All, Option, None, Some, Result, Ok, Err, IfOk, slice_get, IsSomeAnd, refl, ap, sym, ◌∙◌, subst, arith}
+use Rattle.std.proofs.Common.{◌≡◌, ◌≢◌, ℕ, zero, suc, ◌+◌, ◌-◌, ◌<◌, ◌≤◌, ◌↔◌, Bool, true, false, not, MatchBool, List, [], ◌∷◌, ◌++◌, map, length, All, Option, None, Some, Result, Ok, Err, IfOk, slice_get, IsSomeAnd, ap, sym, ◌∙◌, subst, arith}
 use Rattle.std.specs.Option.{option_map}
 use Rattle.std.proofs.lemmas.Option.{slice_get-get_or, slice_get_past, same_Some, none-some}
 use Rattle.std.proofs.lemmas.List.{length-append, append-nil, get_or_append_left, get_or_push}
 use Rattle.std.proofs.lemmas.List.FromFn.{length-map-range_with_len, get_or-map-range_with_len}
-use Rattle.pc_sheet.specs.Sheet.{Universe, Sheet, NamedStatement, Statement, Statements, no_statements, statement, compare, in_table, negation, all_of, some_of, implies, iff, for_all, exists}
-use Rattle.pc_sheet.specs.WellSorted.{parts_in}
+use Rattle.pc_sheet.specs.Sheet.{Universe, Sheet, NamedStatement, no_statements, all_of}
 use Rattle.pc_sheet.specs.Nodes.{Node, node_at, kind_of, kind_at}
 use Rattle.pc_sheet.specs.Reads.{GiveTruth}
 use Rattle.pc_sheet.specs.WellFormed.{IsEntryOf}
 use Rattle.pc_sheet.specs.declared.ids.Entry.{Entry}
 use Rattle.pc_sheet.specs.declared.nodes.NodeKind.{NodeKind}
-use Rattle.pc_sheet.specs.declared.nodes.NodeKind.TheVariants.{And, Or}
 use Rattle.pc_accept.specs.Literals.{Symbol, node, Literal, positive}
 use Rattle.pc_accept.specs.Axioms.{axiom_rule, axiom_node, axiom_atom, each_below, clauses_of_kind, clauses_of_node, child_of, IsAtNumber, negated_entry}
 use Rattle.pc_checker.specs.Drafts.{Draft, IsLiteralWritten, AreWritten}
 use Rattle.pc_cert.specs.Numbered.{StartsWith}
 use Rattle.pc_checker.specs.inside.Written.{IsAxiomWritten, IsNumberWritten, clauses_of_many}
-use Rattle.pc_checker.proofs.ClaimLemmas.{some_and}
+use Rattle.pc_lemmas.proofs.Options.{some_and}
 use Rattle.pc_checker.proofs.DraftLemmas.{nothing_written, one_more_written, more_written}
 
 pub grows_none : (names : List Symbol) → StartsWith names names

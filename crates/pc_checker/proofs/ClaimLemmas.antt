@@ -1,5 +1,5 @@
 -- Steps of the tests of used entries and of values.
-use Rattle.std.proofs.Common.{◌≡◌, ◌≢◌, ℕ, suc, ◌+◌, ◌<◌, ◌≤◌, inl, inr, List, [], ◌∷◌, ◌++◌, map, take, length, get_or, All, Option, None, Some, slice_get, IsSomeAnd, refl, ap, sym, ◌∙◌, subst, arith}
+use Rattle.std.proofs.Common.{◌≡◌, ◌≢◌, ℕ, suc, ◌+◌, ◌<◌, ◌≤◌, inl, inr, List, [], ◌∷◌, ◌++◌, map, take, length, get_or, All, Option, Some, slice_get, IsSomeAnd, refl, ap, sym, ◌∙◌, subst, arith}
 use Rattle.std.proofs.lemmas.Bool.{cases_order}
 use Rattle.std.proofs.lemmas.Option.{slice_get-get_or, get_or_from_slice_get, slice_get_within}
 use Rattle.std.proofs.lemmas.List.{take_all, take_more, map-append, length-append, length-map, length-take-le, get_or_append_left, get_or_push, get_or-map}
@@ -16,6 +16,7 @@ use Rattle.pc_cert.specs.Text.{entry_said}
 use Rattle.pc_cert.specs.Views.{said_of}
 use Rattle.pc_checker.specs.Verdicts.{Numbered, IsFirstWithout, IsFirstAstray}
 use Rattle.pc_checker.proofs.ListLemmas.{cut_at, without_at}
+use Rattle.pc_lemmas.proofs.Options.{some_and}
 
 -- ---- entries
 
@@ -99,10 +100,6 @@ within_each [] (v ∷ vs) same each = absurd (omega arith)
 within_each (n ∷ sizes) [] same each = absurd (omega arith)
 within_each (n ∷ sizes) (v ∷ vs) same each =
     (each 0 v (omega arith), within_each sizes vs (omega arith) (λ k d l. each (suc k) d (omega arith)))
-
-pub some_and : {X : Type 0} (o : Option X) (P : X → Type 0) → IsSomeAnd o P → (x : X) × (o ≡ Some x) × P x
-some_and None P h = absurd h
-some_and (Some x) P h = (x, refl, h)
 
 some_along : {X : Type 0} (o q : Option X) (P Q : X → Type 0) → o ≡ q → ((x : X) → P x → Q x) → IsSomeAnd o P → IsSomeAnd q Q
 some_along {X} o q P Q same f h = let a = some_and o P h in subst (λ (r : Option X). IsSomeAnd r Q) (sym a.1 ∙ same) (f a.0 a.2)

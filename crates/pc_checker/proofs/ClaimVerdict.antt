@@ -14,7 +14,8 @@ use Rattle.pc_checker.specs.declared.verdict.Verdict.TheVariants.{UseNotEntered,
 use Rattle.pc_cert.specs.ReadFor.{IsReadFor}
 use Rattle.pc_checker.specs.inside.Parts.{IsFirstLine, IsLineOfValues, IsRuleBroken, IsTargetVerdict}
 use Rattle.pc_checker.specs.Verdicts.{Numbered, IsEntered, AreEntered, AreValues, AreHeld, IsHeld, Stands, values_in}
-use Rattle.pc_checker.proofs.ClaimLemmas.{some_and, values_assign, within_length}
+use Rattle.pc_lemmas.proofs.Options.{some_and}
+use Rattle.pc_checker.proofs.ClaimLemmas.{values_assign, within_length}
 use Rattle.std.proofs.lemmas.Option.{slice_get_within}
 
 module _ (sheet : Sheet) (c : Cert) (read : IsReadFor sheet c) where

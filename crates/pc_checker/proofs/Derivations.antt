@@ -8,12 +8,12 @@ use Rattle.pc_lits.specs.Literals.{negated}
 use Rattle.pc_lits.specs.Steps.{IsGoodStep}
 use Rattle.pc_lits.proofs.LitLemmas.{same_parts}
 use Rattle.pc_lits.proofs.Renamed.{good_step_named}
-use Rattle.pc_lits.proofs.Elements.{contains_map, contains_mapped}
+use Rattle.pc_lemmas.proofs.Elements.{contains_map, contains_mapped}
 use Rattle.pc_lits.specs.Hints.{clauses_at}
 use Rattle.pc_sheet.specs.Sheet.{Sheet}
 use Rattle.pc_accept.specs.Literals.{Symbol, node, Literal, opposite}
 use Rattle.pc_accept.specs.Accepts as accepts
-use Rattle.pc_accept.specs.Accepts.{IsLineClause, AreLineClauses, EndsWithin}
+use Rattle.pc_accept.specs.Accepts.{IsLineClause, EndsWithin}
 use Rattle.pc_cert.specs.Written.{CertificatePart}
 use Rattle.pc_cert.specs.Text.{line_of, lines_from}
 use Rattle.pc_cert.specs.Views.{symbol_at, literal_of, AreSymbolsDistinct}

@@ -11,7 +11,7 @@ use Rattle.pc_sheet.specs.WellFormed.{IsEntryOf}
 use Rattle.pc_sheet.specs.declared.ids.CellId.{CellId}
 use Rattle.pc_sheet.specs.declared.ids.Entry.{Entry}
 use Rattle.pc_lits.specs.declared.literal.Lit.{Lit}
-use Rattle.pc_checker.proofs.ClaimLemmas.{some_and}
+use Rattle.pc_lemmas.proofs.Options.{some_and}
 
 -- the literal that marks the cell of that number
 abbrev pub mark_of : ℕ → Lit

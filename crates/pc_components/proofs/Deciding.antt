@@ -8,8 +8,8 @@ use Rattle.pc_sheet.specs.Sheet.{Sheet}
 use Rattle.pc_sheet.specs.Entailment.{cell_sizes, HasEntry, HasAll}
 use Rattle.pc_sheet.specs.declared.ids.ValueId.{ValueId}
 use Rattle.pc_sheet.specs.declared.ids.Entry.{Entry}
-use Rattle.pc_accept.proofs.Children.{some_and}
-use Rattle.pc_laws.proofs.Elements.{all_from}
+use Rattle.pc_lemmas.proofs.Options.{some_and}
+use Rattle.pc_lemmas.proofs.Elements.{all_from}
 use Rattle.pc_ground.specs.Variables.{pair_number}
 use Rattle.pc_components.specs.Used.{HasValues, AreFor, MakesEntries, IsEntryOn, Decide}
 use Rattle.pc_components.specs.Laws.{ClausesDecide}

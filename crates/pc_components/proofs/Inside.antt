@@ -15,7 +15,8 @@ use Rattle.pc_sheet.specs.declared.ids.ValueId.{ValueId}
 use Rattle.pc_accept.specs.Literals.{Literal, node}
 use Rattle.pc_accept.specs.Axioms.{Axiom, axiom_some, axiom_one, axiom_rule, axiom_node, axiom_atom, clauses_of_node, child_of}
 use Rattle.pc_parts.specs.Leaves.{cells_of_leaf, cells_of_atom, cells_under, cells_under_parts}
-use Rattle.pc_laws.proofs.Elements.{contains_later, contains_map, all_from, values_each, value_there, flat_there}
+use Rattle.pc_lemmas.proofs.Elements.{contains_later, contains_map, all_from, flat_there}
+use Rattle.pc_laws.proofs.ValueLists.{values_each, value_there}
 use Rattle.pc_ground.specs.Ground.{GroundAxiom, leaf_axiom, atom_axioms, numbered_axioms, own_axioms, node_axioms, parts_axioms, rule_axioms, rules_axioms, root_axiom, cells_axioms, axioms}
 use Rattle.pc_sheet.specs.Entailment.{cell_sizes}
 

@@ -13,7 +13,7 @@ use Rattle.pc_parts.specs.Components.{label_of, all_cells, labels_of, is_labeled
 use Rattle.pc_parts.specs.Leaves.{cells_of}
 use Rattle.pc_parts.specs.Parts.{Part, cell_count, part_without_cells}
 use Rattle.pc_parts.specs.Pieces.{Piece, pieces}
-use Rattle.pc_laws.proofs.Elements.{contains_first, contains_later, contains_cases, contains_none, contains_map, contains_mapped, flat_there, there_flat}
+use Rattle.pc_lemmas.proofs.Elements.{contains_first, contains_later, contains_cases, contains_none, contains_map, contains_mapped, flat_there, there_flat}
 use Rattle.pc_parts.proofs.Found.{range_order, of_part}
 use Rattle.pc_ground.specs.Ground.{GroundAxiom, axioms, clauses, clause_of_axiom, lit_of}
 use Rattle.pc_ground.specs.Variables.{variables, variable_count, number}
@@ -30,7 +30,7 @@ use Rattle.pc_components.specs.inside.Within.{AreAllBelow}
 use Rattle.pc_components.proofs.TraversalRight.{all_below}
 use Rattle.pc_sheet.specs.Entailment.{cell_sizes}
 use Rattle.pc_components.specs.View.{number_of, variable_number, cells_of_part, IsInPart, AreComponentsOf}
-use Rattle.pc_components.proofs.Owned.{same_some}
+use Rattle.pc_lemmas.proofs.Options.{same_some}
 use Rattle.pc_components.proofs.OwnedByParts.{slice_in, at_place, none_at, cell_part, cells_at, owners_are_parts}
 use Rattle.pc_components.proofs.PartNumbersRight.{many_cells}
 use Rattle.pc_components.proofs.RowsAdded.{variables_there}

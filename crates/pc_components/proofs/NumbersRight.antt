@@ -10,7 +10,7 @@ use Rattle.pc_parts.specs.Parts.{cell_count, AreNeighbours, IsChain}
 use Rattle.pc_parts.specs.Pieces.{pieces}
 use Rattle.pc_parts.proofs.LeafReads.{leaves_read_the_cells}
 use Rattle.pc_parts.proofs.Labels.{label_joined, label_le, joined_label, label_there}
-use Rattle.pc_laws.proofs.Elements.{contains_map, contains_mapped}
+use Rattle.pc_lemmas.proofs.Elements.{contains_map, contains_mapped}
 use Rattle.pc_components.specs.Labels.{AreTied, IsTiedBy, AreLabels}
 use Rattle.pc_components.specs.inside.Numbers.{AreOwn, own_firsts}
 use Rattle.pc_components.specs.inside.Owners.{place_in}

@@ -16,11 +16,12 @@ use Rattle.pc_sheet.specs.declared.ids.CellId.{CellId}
 use Rattle.pc_sheet.specs.declared.ids.ValueId.{ValueId}
 use Rattle.pc_accept.specs.Literals.{Symbol, pair, node, Literal, positive, negative}
 use Rattle.pc_accept.specs.Axioms.{Axiom, axiom_some, axiom_one, axiom_rule, axiom_node, axiom_atom, each_below, clauses_of_node, child_of, negated_entry, IsAtNumber, IsClauseOf}
-use Rattle.pc_accept.proofs.Children.{some_and}
+use Rattle.pc_lemmas.proofs.Options.{some_and, same_some}
 use Rattle.pc_parts.specs.Pieces.{Piece, piece, pieces_below, pieces_of_parts, pieces_from, pieces, looked_up_under, ReadsCell}
 use Rattle.pc_parts.specs.Leaves.{cells_of, cells_under}
 use Rattle.pc_parts.specs.Parts.{Part, cell_count, IsComponent, ReadsNoCell, AreParts, part_without_cells, IsDivision}
-use Rattle.pc_laws.proofs.Elements.{contains_first, contains_later, contains_cases, contains_none, contains_map, contains_mapped, all_from, values_each, value_there}
+use Rattle.pc_lemmas.proofs.Elements.{contains_first, contains_later, contains_cases, contains_none, contains_map, contains_mapped, all_from}
+use Rattle.pc_laws.proofs.ValueLists.{values_each, value_there}
 use Rattle.pc_parts.proofs.Divided.{same_part}
 use Rattle.pc_parts.proofs.Dividing.{kept_of, without_is, parts_are_a_division}
 use Rattle.pc_laws.proofs.SomeAssignment.{family_sizes}
@@ -35,7 +36,6 @@ use Rattle.pc_components.specs.PartAxioms.{IsAxiomOfPart, AreAxiomsOf, AreVariab
 use Rattle.pc_components.specs.Laws.{PartsHaveTheirOwnVariables}
 use Rattle.pc_accept.proofs.AxiomsTrue.{numbered}
 use Rattle.pc_components.proofs.Inside.{IsInside, inside, rule_there}
-use Rattle.pc_components.proofs.Owned.{same_some}
 use Rattle.pc_components.proofs.PartFor.{contains_slice, slice_map, slice_contains, same_clause, its_place, pair_in}
 use Rattle.pc_components.proofs.Symbols.{node_symbols, IsOfCell, cell_named, cell_there}
 use Rattle.pc_components.proofs.Way.{piece_at, piece_rule, above_piece, joint_clause, way_clause, way_axiom, way_there}

@@ -1,5 +1,5 @@
 -- The plain program gives for each axiom of a rule exactly the parts of the pieces that it touches.
-use Rattle.std.proofs.Common.{◌≡◌, ℕ, zero, suc, ◌+◌, ◌<◌, ◌⊎◌, inl, inr, List, [], ◌∷◌, ◌++◌, append-nil, append_assoc, map, length, All, Contains, Option, None, Some, slice_get, refl, ap, sym, ◌∙◌, subst, arith, zero-add}
+use Rattle.std.proofs.Common.{◌≡◌, ℕ, zero, suc, ◌+◌, ◌<◌, ◌⊎◌, inl, inr, List, [], ◌∷◌, ◌++◌, append-nil, append_assoc, map, length, All, Contains, Some, slice_get, refl, ap, sym, ◌∙◌, subst, arith, zero-add}
 use Rattle.std.specs.List.{flat_map, AllZip}
 use Rattle.std.proofs.lemmas.Bool.{cases_eq, cases_lt}
 use Rattle.std.proofs.lemmas.Option.{slice_get_within}
@@ -18,7 +18,8 @@ use Rattle.pc_accept.specs.Literals.{Literal, node, negative, positive}
 use Rattle.pc_accept.specs.Axioms.{Axiom, axiom_some, axiom_one, axiom_rule, axiom_node, axiom_atom, each_below, clauses_of_all, child_of}
 use Rattle.pc_parts.specs.Pieces.{Piece, piece, pieces_below, pieces_of_parts, pieces_from, pieces}
 use Rattle.pc_parts.specs.Leaves.{cells_of, cells_under}
-use Rattle.pc_laws.proofs.Elements.{contains_first, contains_later, contains_cases, contains_none, contains_map, contains_mapped, all_from, values_each, value_there, there_value}
+use Rattle.pc_lemmas.proofs.Elements.{contains_first, contains_later, contains_cases, contains_none, contains_map, contains_mapped, all_from}
+use Rattle.pc_laws.proofs.ValueLists.{values_each, value_there, there_value}
 use Rattle.pc_parts.proofs.Listed.{in_parts, rules_listed}
 use Rattle.pc_ground.proofs.Lists.{flat_push}
 use Rattle.pc_ground.specs.Ground.{GroundAxiom, numbered_axioms, node_axioms, parts_axioms, rule_axioms, rules_axioms}
@@ -28,6 +29,7 @@ use Rattle.pc_components.proofs.Inside.{IsInside, inside}
 use Rattle.pc_components.proofs.PartFor.{slice_map}
 use Rattle.pc_components.proofs.PieceCellsListed.{below}
 use Rattle.pc_components.proofs.Way.{part_below}
+use Rattle.pc_lemmas.proofs.Options.{same_some}
 
 -- ---- two lists, element by element
 
@@ -158,9 +160,6 @@ slice_left (z ∷ zs) ys (suc j) x h = slice_left zs ys j x h
 pub slice_end : {X : Type 0} (xs : List X) (x : X) → slice_get (xs ++ x ∷ []) (length xs) ≡ Some x
 slice_end [] x = refl
 slice_end (z ∷ zs) x = slice_end zs x
-
-pub same_some : {X : Type 0} {x y : X} → Some x ≡ Some y → x ≡ y
-same_some {X} {x} {y} e = let f : Option X → X = elim [ None ↦ x | Some z ↦ z ] in ap f e
 
 many_values : (n : ℕ) → length (values_below n) ≡ n
 many_values zero = refl

@@ -13,7 +13,7 @@ use Rattle.pc_parts.specs.Pieces.{Piece, pieces}
 use Rattle.pc_parts.specs.Leaves.{cells_of, cells_under}
 use Rattle.pc_parts.specs.Parts.{Part, cell_count, part_without_cells}
 use Rattle.pc_parts.specs.Components.{label_of, all_cells, labels_of, is_labeled, are_labeled, are_no_cells, part_of_first, parts_of}
-use Rattle.pc_laws.proofs.Elements.{contains_first, contains_later, contains_cases, contains_none, kept, kept_is}
+use Rattle.pc_lemmas.proofs.Elements.{contains_first, contains_later, contains_cases, contains_none, kept, kept_is}
 use Rattle.pc_parts.proofs.Found.{range_has, range_order, in_part, of_part}
 use Rattle.pc_parts.proofs.Labels.{label_joined, joined_label, label_there}
 use Rattle.pc_parts.proofs.LeafReads.{leaves_read_the_cells}
@@ -22,7 +22,8 @@ use Rattle.pc_ground.specs.Ground.{GroundAxiom, cell_axioms, cells_axioms, node_
 use Rattle.pc_components.specs.PartAxioms.{IsAxiomOfPart}
 use Rattle.pc_components.specs.inside.Owners.{of_one, Touches, AreOwners, firsts_by, place_in, cell_number_by, number_by, owners_of_cells, owners_of_rules, OwnersAreParts}
 use Rattle.pc_components.proofs.Inside.{IsInside, inside}
-use Rattle.pc_components.proofs.Owned.{zip_append, zip_one, zip_wider, same_some, slice_left, owners_are_found}
+use Rattle.pc_lemmas.proofs.Options.{same_some}
+use Rattle.pc_components.proofs.Owned.{zip_append, zip_one, zip_wider, slice_left, owners_are_found}
 use Rattle.pc_components.proofs.PartFor.{slice_map}
 use Rattle.pc_components.proofs.Symbols.{IsOfCell, cell_named}
 

@@ -18,7 +18,7 @@ use Rattle.pc_parts.specs.Parts.{Part, IsDivision}
 use Rattle.pc_parts.specs.PartSheets.{sheet_of}
 use Rattle.pc_parts.specs.Components.{all_cells}
 use Rattle.pc_parts.proofs.Divided.{own_fits as own_fits_too}
-use Rattle.pc_laws.proofs.Elements.{contains_first, contains_later, contains_cases, contains_none, all_from}
+use Rattle.pc_lemmas.proofs.Elements.{contains_first, contains_later, contains_cases, contains_none, all_from}
 use Rattle.pc_ground.specs.Variables.{pair_at, pairs_from, nodes_from, variables, variable_count, number}
 use Rattle.pc_ground.specs.Ground.{GroundAxiom, axioms, lit_of, clause_of_axiom, clauses}
 use Rattle.pc_ground.specs.Laws.{var_of, HasTruths, MeetsAll}

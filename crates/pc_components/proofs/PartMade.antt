@@ -10,12 +10,13 @@ use Rattle.pc_sheet.specs.declared.ids.ValueId.{ValueId}
 use Rattle.pc_laws.specs.Laws.{IsDecided}
 use Rattle.pc_accept.specs.Literals.{Symbol, pair, node, Literal, positive, negative, SymbolHolds, ClauseHolds}
 use Rattle.pc_accept.specs.Axioms.{Axiom, axiom_some, axiom_one, axiom_rule, axiom_node, axiom_atom, each_below, clauses_of_node, child_of, negated_entry, IsAtNumber, IsClauseOf}
-use Rattle.pc_accept.proofs.Children.{some_and, node_is}
+use Rattle.pc_lemmas.proofs.Options.{some_and}
+use Rattle.pc_accept.proofs.Children.{node_is}
 use Rattle.pc_accept.proofs.Decided.{decide_symbol}
 use Rattle.pc_parts.specs.Pieces.{Piece, pieces, PieceHolds}
 use Rattle.pc_parts.specs.Parts.{Part, IsDivision}
 use Rattle.pc_parts.specs.PartSheets.{sheet_of}
-use Rattle.pc_laws.proofs.Elements.{contains_first, contains_later, contains_cases, contains_none, contains_mapped}
+use Rattle.pc_lemmas.proofs.Elements.{contains_first, contains_later, contains_cases, contains_none, contains_mapped}
 use Rattle.pc_parts.proofs.Divided.{part_holds}
 use Rattle.pc_parts.proofs.Listed.{none_above}
 use Rattle.pc_ground.specs.Ground.{GroundAxiom, axioms}

@@ -13,12 +13,13 @@ use Rattle.pc_laws.specs.Laws.{IsDecided}
 use Rattle.pc_laws.proofs.Decide.{same_option}
 use Rattle.pc_accept.specs.Literals.{Symbol, pair, node, Literal, positive, negative, SymbolHolds}
 use Rattle.pc_accept.specs.Axioms.{Axiom, axiom_some, axiom_one, axiom_rule, axiom_node, axiom_atom, clauses_of_node, child_of, negated_entry, pair_of, IsAtNumber, IsClauseOf}
-use Rattle.pc_accept.proofs.Children.{some_and, node_is}
+use Rattle.pc_lemmas.proofs.Options.{some_and}
+use Rattle.pc_accept.proofs.Children.{node_is}
 use Rattle.pc_parts.specs.Pieces.{Piece, pieces, PieceHolds}
 use Rattle.pc_parts.specs.Parts.{Part, IsDivision}
 use Rattle.pc_parts.specs.PartSheets.{is_among, sheet_of}
 use Rattle.pc_parts.specs.Leaves.{cells_under}
-use Rattle.pc_laws.proofs.Elements.{contains_first, contains_cases, contains_none, contains_mapped, all_from}
+use Rattle.pc_lemmas.proofs.Elements.{contains_first, contains_cases, contains_none, contains_mapped, all_from}
 use Rattle.pc_parts.proofs.Joining.{among_contains, contains_among}
 use Rattle.pc_parts.proofs.Divided.{part_fits}
 use Rattle.pc_laws.proofs.SomeAssignment.{some_assignment}

@@ -5,7 +5,7 @@ use Rattle.pc_sheet.specs.WellFormed.{IsWellFormed}
 use Rattle.pc_parts.specs.Leaves.{cells_of}
 use Rattle.pc_parts.specs.Parts.{cell_count}
 use Rattle.pc_parts.specs.Pieces.{Piece, pieces}
-use Rattle.pc_laws.proofs.Elements.{contains_first, contains_later}
+use Rattle.pc_lemmas.proofs.Elements.{contains_first, contains_later}
 use Rattle.pc_parts.proofs.LeafReads.{leaves_read_the_cells}
 use Rattle.pc_parts.proofs.ReadWithin.{reads_cells}
 use Rattle.pc_components.specs.inside.Within.{AreBelow, AreAllBelow}

@@ -3,7 +3,7 @@ use Rattle.std.proofs.Common.{◌≡◌, ℕ, ◌<◌, List, [], length, get_or,
 use Rattle.std.proofs.lemmas.Option.{slice_get-get_or}
 use Rattle.pc_lits.specs.declared.literal.Lit.{Lit}
 use Rattle.pc_lits.specs.declared.literal.Var.{Var}
-use Rattle.pc_laws.proofs.Elements.{all_from, contains_map, contains_mapped}
+use Rattle.pc_lemmas.proofs.Elements.{all_from, contains_map, contains_mapped}
 use Rattle.pc_ground.specs.Ground.{clauses}
 use Rattle.pc_ground.specs.Variables.{variable_count}
 use Rattle.pc_components.specs.Laws.{PartsAreSolvable}

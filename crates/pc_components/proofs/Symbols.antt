@@ -8,7 +8,7 @@ use Rattle.pc_sheet.specs.Sizes.{size_of}
 use Rattle.pc_sheet.specs.Entailment.{cell_sizes}
 use Rattle.pc_accept.specs.Literals.{Symbol, Literal, positive, negative}
 use Rattle.pc_accept.specs.Axioms.{Axiom, axiom_some, axiom_one, axiom_rule, axiom_node, axiom_atom, each_below, clauses_of_node}
-use Rattle.pc_laws.proofs.Elements.{contains_cases, contains_none, all_from}
+use Rattle.pc_lemmas.proofs.Elements.{contains_cases, contains_none, all_from}
 use Rattle.pc_ground.specs.Ground.{GroundAxiom, some_axiom, one_axiom, one_axioms, cell_axioms, cells_axioms, rules_axioms, axioms}
 use Rattle.pc_ground.proofs.Lists.{there_each}
 

@@ -7,13 +7,13 @@ use Rattle.std.proofs.lemmas.List.Elements.{Contains-append_left, Contains-appen
 use Rattle.std.proofs.lemmas.List.FromFn.{get_or-map-range_with_len, length-map-range_with_len}
 use Rattle.std.proofs.lemmas.Option.{slice_get_within, slice_get-get_or, get_or_from_slice_get}
 use Rattle.pc_parts.specs.Components.{label_of}
-use Rattle.pc_laws.proofs.Elements.{contains_first, contains_later, contains_cases, contains_none}
+use Rattle.pc_lemmas.proofs.Elements.{contains_first, contains_later, contains_cases, contains_none}
 use Rattle.pc_components.specs.Labels.{IsTiedBy, AreLabels}
 use Rattle.pc_components.specs.Traversal.{Traversal, is_open, reached, all_reached, marked, row_visited, rows_visited, open_count, HasLabel, IsVisited, IsDone, IsTraversal, Nothing}
 use Rattle.pc_components.specs.inside.Turned.{places_from, turned}
 use Rattle.pc_components.specs.inside.Within.{AreBelow, AreAllBelow}
 use Rattle.pc_components.proofs.TurnedMeans.{places_are, are_places}
-use Rattle.pc_components.proofs.Owned.{same_some}
+use Rattle.pc_lemmas.proofs.Options.{same_some}
 
 -- ---- whether a cell has a label
 

@@ -3,7 +3,7 @@ use Rattle.std.proofs.Common.{◌≡◌, ℕ, zero, suc, ◌+◌, ◌<◌, inl, 
 use Rattle.std.proofs.lemmas.Bool.{false≢true}
 use Rattle.std.proofs.lemmas.List.Kept.{AllPairs-cons}
 use Rattle.pc_parts.specs.PartSheets.{is_among}
-use Rattle.pc_laws.proofs.Elements.{all_from, contains_first, contains_later, contains_cases, contains_none}
+use Rattle.pc_lemmas.proofs.Elements.{all_from, contains_first, contains_later, contains_cases, contains_none}
 use Rattle.pc_components.specs.inside.Turned.{places_from}
 
 -- among the numbers of a row

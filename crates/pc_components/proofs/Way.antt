@@ -12,7 +12,7 @@ use Rattle.pc_sheet.specs.Nodes.{Node, part_at, child, node_from, root_of, node_
 use Rattle.pc_accept.specs.Literals.{Symbol, Literal, node, positive, negative}
 use Rattle.pc_accept.specs.Axioms.{axiom_node, each_below, clauses_of_all, clauses_of_node, child_of}
 use Rattle.pc_parts.specs.Pieces.{Piece, pieces, IsJoint, LeadsTo, IsPiece}
-use Rattle.pc_laws.proofs.Elements.{contains_first, contains_later}
+use Rattle.pc_lemmas.proofs.Elements.{contains_first, contains_later}
 use Rattle.pc_parts.proofs.Listed.{all_reached, root_is}
 use Rattle.pc_ground.specs.Ground.{GroundAxiom, numbered_axioms, own_axioms, node_axioms, parts_axioms, axioms}
 use Rattle.pc_components.proofs.Inside.{node_there}

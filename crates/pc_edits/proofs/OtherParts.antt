@@ -1,10 +1,10 @@
 -- An edit of a cell's entry leaves the other parts' sheets, and so what they imply, as they are.
-use Rattle.std.proofs.Common.{◌≡◌, ◌≢◌, ℕ, ◌<◌, ◌⊎◌, inl, inr, Bool, true, false, cond, not, List, [], ◌∷◌, ◌++◌, filter, All, Contains, ap, refl, sym, ◌∙◌, subst, arith}
-use Rattle.std.proofs.lemmas.Bool.{cases_Bool, true≢false, eqb-true}
+use Rattle.std.proofs.Common.{◌≡◌, ◌≢◌, ℕ, ◌<◌, inl, inr, Bool, true, false, cond, not, List, [], ◌∷◌, ◌++◌, Contains, ap, refl, sym, ◌∙◌, subst, arith}
+use Rattle.std.proofs.lemmas.Bool.{cases_Bool, eqb-true}
 use Rattle.std.proofs.lemmas.List.{append-nil}
 use Rattle.std.proofs.lemmas.List.Elements.{filter-append, filter_passes, All-contains}
-use Rattle.pc_sheet.specs.Sheet.{Universe, Sheet}
-use Rattle.pc_sheet.specs.Entailment.{cell_sizes, IsImplied, IsLeastSupport, IsSublist}
+use Rattle.pc_sheet.specs.Sheet.{Sheet}
+use Rattle.pc_sheet.specs.Entailment.{cell_sizes, IsImplied, IsLeastSupport}
 use Rattle.pc_sheet.specs.MaximalSets.{AreRulesConsistent}
 use Rattle.pc_sheet.specs.WellFormed.{IsWellFormed}
 use Rattle.pc_sheet.specs.declared.ids.CellId.{CellId}
@@ -14,13 +14,11 @@ use Rattle.pc_laws.proofs.Contained.{sub_contained}
 use Rattle.pc_logic.specs.Edits.{is_of_cell, cleared}
 use Rattle.pc_parts.specs.Parts.{Part, IsDivision}
 use Rattle.pc_parts.specs.PartSheets.{is_on, entries_on, sheet_of}
-use Rattle.pc_parts.specs.Laws.{AreOfParts}
 use Rattle.pc_parts.proofs.Consistent.{place_below}
 use Rattle.pc_parts.proofs.Divided.{same_part}
-use Rattle.pc_laws.proofs.Elements.{all_from}
-use Rattle.pc_parts.proofs.Joining.{among_contains, contains_among}
+use Rattle.pc_lemmas.proofs.Elements.{all_from}
+use Rattle.pc_parts.proofs.Joining.{among_contains}
 use Rattle.pc_parts.proofs.LawsHold.{answers_are_of_parts}
-use Rattle.pc_reason.specs.Reasons.{IsTargetOf}
 use Rattle.pc_edits.specs.Edits.{HasNoEntryOf, IsAdded, edited}
 use Rattle.pc_edits.specs.Laws.{OtherPartsStay}
 

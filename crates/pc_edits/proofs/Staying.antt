@@ -1,20 +1,20 @@
 -- Reasons whose support lacks a cell's entry stay right when that entry is removed or replaced.
-use Rattle.std.proofs.Common.{◌≡◌, ◌≢◌, ℕ, ◌+◌, ◌⊎◌, inl, inr, Bool, true, false, cond, not, eqb, eq-eqb, List, [], ◌∷◌, ◌++◌, get_or, map, filter, All, AllPairs, Contains, arith, ap, refl, sym, ◌∙◌, subst}
-use Rattle.std.proofs.lemmas.Bool.{eqb-true, cases_Bool, true≢false}
+use Rattle.std.proofs.Common.{◌≡◌, ◌≢◌, ℕ, ◌+◌, ◌⊎◌, inl, inr, Bool, true, false, cond, not, eqb, eq-eqb, List, [], ◌∷◌, ◌++◌, get_or, map, All, Contains, arith, ap, refl, sym, ◌∙◌, subst}
+use Rattle.std.proofs.lemmas.Bool.{eqb-true, true≢false}
 use Rattle.std.proofs.lemmas.List.{append-nil}
 use Rattle.std.proofs.lemmas.List.Quantifiers.{all_pairs_push}
 use Rattle.std.proofs.lemmas.List.Elements.{All-contains, All-contains_itself, All-nil, All-cons}
 use Rattle.pc_sheet.specs.Sheet.{Sheet}
-use Rattle.pc_sheet.specs.Entailment.{Shows, HaveDistinctCells, IsSublist, IsSupport, IsImplied, IsLeastSupport}
-use Rattle.pc_sheet.specs.MaximalSets.{IsContained}
+use Rattle.pc_sheet.specs.Entailment.{HaveDistinctCells, IsSublist, IsLeastSupport}
 use Rattle.pc_sheet.specs.declared.ids.CellId.{CellId}
 use Rattle.pc_sheet.specs.declared.ids.Entry.{Entry}
 use Rattle.pc_sheet.specs.declared.ids.Target.{Target}
-use Rattle.pc_laws.proofs.Contained.{contains_first, contains_later, contains_cases, contains_none, all_contained, sub_contained, sub_of_sub, sub_itself}
+use Rattle.pc_lemmas.proofs.Elements.{contains_first, contains_later, contains_cases, contains_none}
+use Rattle.pc_laws.proofs.Contained.{all_contained, sub_contained, sub_of_sub}
 use Rattle.pc_laws.proofs.Least.{stays_with_newest, stays_without_others, support_here}
 use Rattle.pc_accept.specs.Literals.{Literal, Symbol, pair, node}
 use Rattle.pc_accept.specs.Axioms.{Axiom, axiom_some, axiom_one, axiom_rule, axiom_node, axiom_atom, IsClauseOf}
-use Rattle.pc_accept.specs.Accepts.{Line, taken, derived, IsLineClause, DerivesClause, Accepts}
+use Rattle.pc_accept.specs.Accepts.{Line, taken, derived, IsLineClause, DerivesClause}
 use Rattle.pc_logic.specs.Edits.{is_of_cell, cleared}
 use Rattle.pc_logic.proofs.EntryLemmas.{pairs_filter}
 use Rattle.pc_accept.specs.Writable.{IsSymbolOf, IsAxiomOf, IsLineOf, AreLinesOf}

@@ -1,10 +1,10 @@
 -- There are fewer clauses than the sheet weighs and has cells together, and their literals are of the sheet's variables.
-use Rattle.std.proofs.Common.{◌≡◌, ℕ, zero, suc, ◌+◌, ◌*◌, ◌<◌, ◌≤◌, List, [], ◌∷◌, ◌++◌, map, length, sum_by, All, Contains, sym, subst, ◌∙◌, ap, refl, arith, length-append}
+use Rattle.std.proofs.Common.{◌≡◌, ℕ, zero, suc, ◌+◌, ◌*◌, ◌<◌, ◌≤◌, List, [], ◌∷◌, ◌++◌, map, length, sum_by, All, Contains, sym, subst, refl, arith, length-append}
 use Rattle.std.specs.List.{flat_map, range_with_len}
 use Rattle.std.proofs.lemmas.List.{length-map}
 use Rattle.std.proofs.lemmas.List.Elements.{All-map, All-contains, All-contains_itself, All-weaker}
 use Rattle.pc_sheet.specs.WellSorted.{parts_in}
-use Rattle.pc_lits.proofs.Elements.{contains_map}
+use Rattle.pc_lemmas.proofs.Elements.{contains_map}
 use Rattle.std.proofs.lemmas.List.FromFn.{length-map-range_with_len}
 use Rattle.std.proofs.lemmas.List.Sums.{sum_by-cons, sum_by-append}
 use Rattle.pc_lits.specs.declared.literal.Lit.{Lit}
@@ -17,7 +17,7 @@ use Rattle.pc_sheet.specs.Readings.{Leaf, leaves_of}
 use Rattle.pc_sheet.specs.Weight.{weight}
 use Rattle.pc_sheet.specs.declared.ids.ValueId.{ValueId}
 use Rattle.pc_accept.specs.Literals.{Symbol, Literal, node}
-use Rattle.pc_accept.specs.Axioms.{axiom_node, each_below, clauses_of_all, clauses_of_some, clauses_of_node, child_of}
+use Rattle.pc_accept.specs.Axioms.{each_below, clauses_of_node, child_of}
 use Rattle.pc_ground.specs.Variables.{variables, variable_count, number}
 use Rattle.pc_ground.specs.Ground.{GroundAxiom, some_axiom, one_axiom, one_axioms, cell_axioms, cells_axioms, leaf_axiom, numbered_axioms, own_axioms, node_axioms, parts_axioms, root_axiom, rule_axioms, rules_axioms, axioms, lit_of, clause_of_axiom, clauses}
 use Rattle.pc_ground.proofs.Lists.{flat_push, range_each}

@@ -3,7 +3,7 @@ use Rattle.std.proofs.Common.{◌≡◌, inl, inr, ℕ, zero, suc, ◌+◌, ◌-
 use Rattle.std.proofs.lemmas.List.{length-map, get_or-map}
 use Rattle.std.proofs.lemmas.List.Elements.{All-contains, Contains-append_left, Contains-append_right, All-contains_itself}
 use Rattle.pc_lits.specs.declared.literal.Lit.{Lit}
-use Rattle.pc_lits.proofs.Elements.{contains_first, contains_map, contains_mapped}
+use Rattle.pc_lemmas.proofs.Elements.{contains_first, contains_map, contains_mapped}
 use Rattle.pc_laws.proofs.Contained.{all_contained, sub_contained}
 use Rattle.pc_log.specs.Lines.{LogLine}
 use Rattle.pc_log.specs.Trimmed.{IsTrimmed}

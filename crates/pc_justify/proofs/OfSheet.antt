@@ -1,5 +1,5 @@
 -- Variables and axioms are named by what the sheet has.
-use Rattle.std.proofs.Common.{◌≡◌, ◌≢◌, ℕ, zero, suc, ◌+◌, ◌<◌, ◌≤◌, ◌^◌, Bool, true, false, cond, nat_lt, List, [], ◌∷◌, ◌++◌, map, length, All, Contains, Option, None, Some, IsSome, slice_get, IsSomeAnd, refl, ap, sym, ◌∙◌, arith, zero-add, subst}
+use Rattle.std.proofs.Common.{◌≡◌, ◌≢◌, ℕ, zero, suc, ◌+◌, ◌<◌, ◌^◌, Bool, true, false, cond, nat_lt, List, [], ◌∷◌, ◌++◌, length, All, Option, None, Some, IsSome, slice_get, IsSomeAnd, refl, ap, sym, ◌∙◌, arith, zero-add, subst}
 use Rattle.std.specs.List.{range_with_len}
 use Rattle.std.proofs.lemmas.Bool.Decides.{Decides-ltb}
 use Rattle.std.proofs.lemmas.List.{length-append}
@@ -11,24 +11,21 @@ use Rattle.pc_sheet.specs.Truth.{Scope}
 use Rattle.pc_sheet.specs.Sizes.{size_of}
 use Rattle.pc_sheet.specs.Entailment.{cell_sizes}
 use Rattle.pc_sheet.specs.Nodes.{Node, part_at, one_of_two, child, node_from, root_of, node_at}
-use Rattle.pc_sheet.specs.WellFormed.{IsEntryOf, IsWellFormed, IsWellFormedRule}
+use Rattle.pc_sheet.specs.WellFormed.{IsWellFormed, IsWellFormedRule}
 use Rattle.pc_sheet.specs.WellSorted.{Variables, parts_in, IsWellSorted, AreWellSorted}
-use Rattle.pc_sheet.specs.declared.ids.CellId.{CellId}
 use Rattle.pc_sheet.specs.declared.ids.ValueId.{ValueId}
 use Rattle.pc_accept.specs.Literals.{Symbol, pair, node, Literal, negative}
 use Rattle.pc_accept.specs.Axioms.{Axiom, axiom_some, axiom_one, axiom_rule, axiom_node, axiom_atom, IsClauseOf, IsAtNumber, each_below, clauses_of_node, child_of}
 use Rattle.pc_accept.specs.Writable.{IsPathOf, IsSymbolOf, IsAxiomOf}
 use Rattle.pc_ground.specs.Variables.{pair_at, pairs_from, nodes_below, parts_below, nodes_from, variables}
 use Rattle.pc_ground.specs.Ground.{GroundAxiom, axioms}
-use Rattle.pc_ground.specs.Naming.{name_of, names_of}
+use Rattle.pc_ground.specs.Naming.{name_of}
 use Rattle.pc_ground.specs.Laws.{ClausesAreOfAxioms}
 use Rattle.pc_ground.proofs.Adding.{size_small}
 use Rattle.pc_ground.proofs.Lists.{range_each, values_each}
 use Rattle.pc_ground.proofs.Walking.{child_is, body_at}
 use Rattle.pc_justify.specs.Laws.{NamesAreOfTheirSheet}
-
-same_some : {X : Type 0} {x y : X} → Some x ≡ Some y → x ≡ y
-same_some is = cc
+use Rattle.pc_lemmas.proofs.Options.{same_some}
 
 some_within : {X : Type 0} (xs : List X) (i : ℕ) (P : X → Type 0) → IsSomeAnd (slice_get xs i) P → i < length xs
 some_within xs i P h = by (slice_get xs i) refl h

@@ -3,7 +3,7 @@ use Rattle.std.proofs.Common.{◌≡◌, ◌≢◌, ℕ, zero, suc, inl, inr, Bo
 use Rattle.std.specs.List.{filter}
 use Rattle.std.proofs.lemmas.Bool.{cases_eq}
 use Rattle.std.proofs.lemmas.List.Elements.{All-contains, Contains-get_or, Contains-append_left, Contains-append_right, Contains-append_cases}
-pub use Rattle.pc_laws.proofs.Elements.{contains_first, contains_later, contains_cases, contains_none}
+use Rattle.pc_lemmas.proofs.Elements.{contains_first, contains_later, contains_cases, contains_none}
 use Rattle.pc_sheet.specs.Entailment.{IsSublist, HaveDistinctCells}
 use Rattle.pc_sheet.specs.MaximalSets.{IsContained}
 use Rattle.pc_sheet.specs.declared.ids.Entry.{Entry}

@@ -11,7 +11,8 @@ use Rattle.pc_sheet.specs.Entailment.{cell_sizes, AreWithin, IsSublist, HaveDist
 use Rattle.pc_sheet.specs.declared.ids.ValueId.{ValueId}
 use Rattle.pc_sheet.specs.declared.ids.Entry.{Entry}
 use Rattle.pc_laws.specs.Laws.{AssignmentsAreCounted, SublistsAreCounted}
-use Rattle.pc_laws.proofs.Contained.{contains_first, sub_contained, distinct_rest, distinct_first}
+use Rattle.pc_lemmas.proofs.Elements.{contains_first}
+use Rattle.pc_laws.proofs.Contained.{sub_contained, distinct_rest, distinct_first}
 
 -- ---- lists of lists
 

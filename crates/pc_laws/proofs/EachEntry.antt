@@ -6,7 +6,8 @@ use Rattle.pc_sheet.specs.Entailment.{IsConsistent, IsSublist, HaveDistinctCells
 use Rattle.pc_sheet.specs.MaximalSets.{IsContained, IsMaximalSet}
 use Rattle.pc_sheet.specs.declared.ids.Entry.{Entry}
 use Rattle.pc_laws.specs.Laws.{IsExcluded, MaximalIsByEachEntry}
-use Rattle.pc_laws.proofs.Contained.{contains_first, contains_later, contains_cases, decide_contains, sub_contained}
+use Rattle.pc_lemmas.proofs.Elements.{contains_first, contains_later, contains_cases}
+use Rattle.pc_laws.proofs.Contained.{decide_contains, sub_contained}
 use Rattle.pc_laws.proofs.Assignments.{consistent_fewer}
 use Rattle.pc_laws.proofs.Order.{total}
 use Rattle.pc_laws.proofs.Minimal.{joined}

@@ -9,7 +9,8 @@ use Rattle.pc_sheet.specs.declared.ids.Target.{Target}
 use Rattle.pc_sheet.specs.declared.ids.ValueId.{ValueId}
 use Rattle.pc_laws.specs.Laws.{IsDecided, ImpliedHasOneLeastSupport, LeastSupportIsMinimal, LeastStaysWithNewest, LeastStaysWithoutOthers}
 use Rattle.pc_laws.proofs.Decide.{decide_or}
-use Rattle.pc_laws.proofs.Contained.{sub_contained, sub_of_sub, contains_first, contains_later, contains_cases, contains_rest, not_first, distinct_rest, distinct_first}
+use Rattle.pc_lemmas.proofs.Elements.{contains_first, contains_later, contains_cases}
+use Rattle.pc_laws.proofs.Contained.{sub_contained, sub_of_sub, contains_rest, not_first, distinct_rest, distinct_first}
 use Rattle.pc_laws.proofs.Assignments.{Supports, support_decided}
 use Rattle.pc_laws.proofs.Order.{irreflexive, transitive, alike_itself, alike_more, less_alike, less_with_oldest, less_before_newest, less_by_newest, less_among_fewer}
 

@@ -5,7 +5,8 @@ use Rattle.pc_sheet.specs.Entailment.{IsConsistent, HaveDistinctCells, IsSublist
 use Rattle.pc_sheet.specs.MaximalSets.{IsContained}
 use Rattle.pc_sheet.specs.declared.ids.Entry.{Entry}
 use Rattle.pc_laws.specs.Laws.{ConsistentIsInMaximal, ImpliedIsByMaximalSet}
-use Rattle.pc_laws.proofs.Contained.{sub_contained, contains_first, contains_later, contains_cases, contained_under, contained_append, contains_rest, not_first, distinct_rest, distinct_first}
+use Rattle.pc_lemmas.proofs.Elements.{contains_first, contains_later, contains_cases}
+use Rattle.pc_laws.proofs.Contained.{sub_contained, contained_under, contained_append, contains_rest, not_first, distinct_rest, distinct_first}
 use Rattle.pc_laws.proofs.Assignments.{consistency_decided, consistent_fewer, entails_more}
 
 -- a sublist of xs that has the given ones, consistent beside the fixed ones, and contained in no other such sublist

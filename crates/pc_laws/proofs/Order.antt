@@ -5,7 +5,8 @@ use Rattle.pc_sheet.specs.Entailment.{IsSublist, IsLess, HaveDistinctCells}
 use Rattle.pc_sheet.specs.MaximalSets.{IsContained}
 use Rattle.pc_sheet.specs.declared.ids.Entry.{Entry}
 use Rattle.pc_laws.specs.Laws.{NoneIsLessThanItself, LesserThanLesserIsLess, DifferentSublistsAreOrdered}
-use Rattle.pc_laws.proofs.Contained.{contains_first, contains_later, contains_rest, sub_contained, distinct_rest, distinct_first, not_first}
+use Rattle.pc_lemmas.proofs.Elements.{contains_first, contains_later}
+use Rattle.pc_laws.proofs.Contained.{contains_rest, sub_contained, distinct_rest, distinct_first, not_first}
 
 pub irreflexive : NoneIsLessThanItself
 irreflexive entries s l = l.lacks l.has

@@ -1,6 +1,5 @@
 -- In a division of a sheet with consistent rules, supports, least supports and maximal sets are those of the parts.
-use Rattle.std.proofs.Common.{◌≡◌, inl, inr, Bool, true, false, cond, List, [], ◌∷◌, MatchBool, All, Contains, Some, ◌≢◌, slice_get, Option, ap, refl, sym, ◌∙◌, subst}
-use Rattle.std.specs.List.{filter}
+use Rattle.std.proofs.Common.{◌≡◌, inl, inr, true, false, cond, List, ◌∷◌, MatchBool, All, Contains, Some, ◌≢◌, slice_get, Option, ap, sym, ◌∙◌, subst}
 use Rattle.std.proofs.lemmas.Bool.{false≢true}
 use Rattle.std.proofs.lemmas.List.Elements.{All-contains}
 use Rattle.std.proofs.lemmas.List.Kept.{AllPairs-filter}
@@ -19,7 +18,7 @@ use Rattle.pc_laws.proofs.Order.{less_among_fewer}
 use Rattle.pc_parts.specs.Parts.{Part, IsDivision}
 use Rattle.pc_parts.specs.PartSheets.{is_on, entries_on, sheet_of}
 use Rattle.pc_parts.specs.Laws.{Each}
-use Rattle.pc_laws.proofs.Elements.{contains_cases, all_from, kept, kept_is, kept_all}
+use Rattle.pc_lemmas.proofs.Elements.{contains_cases, all_from, kept, kept_is, kept_all}
 use Rattle.pc_parts.proofs.Divided.{fits_each, over_assigned, over_here}
 use Rattle.pc_parts.proofs.Consistent.{consistent_part, part_of, parts_consistent, laid, laid_fits, laid_has}
 

@@ -1,19 +1,17 @@
 -- In a division, sublists of the parts' entries are united in one sublist of all entries.
-use Rattle.std.proofs.Common.{◌≡◌, ◌↔◌, inl, inr, List, [], ◌∷◌, AllPairs, Contains, refl, sym, subst}
+use Rattle.std.proofs.Common.{◌≡◌, ◌↔◌, inl, inr, List, [], ◌∷◌, AllPairs, Contains, refl, sym, subst, ◌≢◌}
 use Rattle.std.specs.List.{AllZip}
 use Rattle.pc_sheet.specs.Entailment.{IsSublist, HaveDistinctCells}
 use Rattle.pc_sheet.specs.declared.ids.Entry.{Entry}
 use Rattle.pc_laws.specs.Laws.{IsDecided}
-use Rattle.pc_laws.proofs.Contained.{decide_contains, sub_contained}
+use Rattle.pc_laws.proofs.Contained.{decide_contains, sub_contained, sub_filtered}
 use Rattle.pc_laws.proofs.EachEntry.{same_contained}
 use Rattle.std.proofs.lemmas.List.Kept.{AllPairs-filter}
-use Rattle.std.proofs.Common.{◌≢◌}
 use Rattle.pc_parts.specs.Parts.{Part, AreApart}
 use Rattle.pc_parts.specs.PartSheets.{is_on, entries_on}
-use Rattle.pc_laws.proofs.Elements.{contains_first, contains_later, contains_cases, contains_none, kept, kept_is}
+use Rattle.pc_lemmas.proofs.Elements.{contains_first, contains_later, contains_cases, contains_none, kept, kept_is}
 use Rattle.pc_parts.proofs.Joining.{among_contains}
 use Rattle.pc_parts.proofs.Divided.{apart_rest, apart_first}
-use Rattle.pc_laws.proofs.Contained.{sub_filtered}
 
 -- ---- the entries that have a property
 

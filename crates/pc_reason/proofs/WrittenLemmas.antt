@@ -58,11 +58,6 @@ lines_by_place sheet place (l ∷ ls) each = (
   lines_by_place sheet (place + 1) ls (λ k m at. subst (λ n. IsLineOf sheet n m) (let same : suc k + place ≡ k + (place + 1) = omega arith in same) (each (suc k) m at)),
 )
 
-element_at : {A : Type 0} (xs : List A) (i : ℕ) → i < length xs → (x : A) × (slice_get xs i ≡ Some x)
-element_at [] i below = absurd (omega (arith, below))
-element_at (x ∷ xs) zero below = (x, refl)
-element_at (x ∷ xs) (suc i) below = element_at xs i (omega (arith, below))
-
 within_map : {A B : Type 0} (f : A → B) (xs : List A) (i : ℕ) (y : B) → slice_get (map f xs) i ≡ Some y → (x : A) × (slice_get xs i ≡ Some x) × (f x ≡ y)
 within_map f [] i y at = absurd (cc)
 within_map f (x ∷ xs) zero y at = (x, refl, let same : f x ≡ y = cc in same)

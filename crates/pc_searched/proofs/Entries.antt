@@ -5,9 +5,8 @@ use Rattle.std.proofs.lemmas.List.Elements.{All-filter, filter_passes}
 use Rattle.std.proofs.lemmas.List.Kept.{AllPairs-filter}
 use Rattle.std.proofs.lemmas.Option.{get_or_from_slice_get}
 use Rattle.pc_lits.proofs.Sound.{true_literal}
-use Rattle.pc_lits.proofs.Elements.{contains_mapped}
-use Rattle.pc_accept.proofs.Children.{some_and}
-use Rattle.pc_laws.proofs.Contained.{contains_first, contains_later}
+use Rattle.pc_lemmas.proofs.Elements.{contains_mapped, contains_first, contains_later}
+use Rattle.pc_lemmas.proofs.Options.{some_and}
 use Rattle.pc_sheet.specs.Sheet.{Universe}
 use Rattle.pc_sheet.specs.Entailment.{cell_sizes, HaveDistinctCells}
 use Rattle.pc_sheet.specs.WellFormed.{IsEntryOf}

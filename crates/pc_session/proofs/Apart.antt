@@ -9,7 +9,7 @@ use Rattle.pc_parts.specs.Components.{labels_of, all_cells, is_labeled, are_no_c
 use Rattle.pc_parts.specs.Leaves.{cells_of}
 use Rattle.pc_components.specs.View.{Kept, number_of, AreComponentsOf}
 use Rattle.pc_theory.specs.Theories.{rules_alone}
-use Rattle.pc_laws.proofs.Elements.{contains_cases, contains_first, contains_later, contains_map, contains_mapped, contains_none, kept_is}
+use Rattle.pc_lemmas.proofs.Elements.{contains_cases, contains_first, contains_later, contains_map, contains_mapped, contains_none, kept_is}
 use Rattle.pc_theory.proofs.Lists.{at_contained}
 use Rattle.pc_session.proofs.Places.{in_append}
 use Rattle.pc_theory.proofs.Parted.{part_there}

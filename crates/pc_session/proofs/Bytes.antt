@@ -10,7 +10,7 @@ use Rattle.pc_components.specs.Pairs.{size_at}
 use Rattle.pc_cache.specs.Rows.{TargetRow, is_same_target, row_of, row_after, row_bytes, bytes_of_rows}
 use Rattle.pc_search.specs.Found.{IsFound}
 use Rattle.pc_theory.specs.Targets.{target_of_value, targets_on_cell, targets_on}
-use Rattle.pc_laws.proofs.Elements.{contains_cases, contains_first, contains_later, contains_none}
+use Rattle.pc_lemmas.proofs.Elements.{contains_cases, contains_first, contains_later, contains_none}
 use Rattle.pc_theory.proofs.OnCells.{has_of_cell, has_on}
 use Rattle.pc_theory.proofs.Changes.{compared}
 use Rattle.pc_session.proofs.Apart.{AreApart, apart_append}

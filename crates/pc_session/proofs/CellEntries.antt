@@ -12,7 +12,7 @@ use Rattle.pc_edits.specs.Reasons.{IsRowFor, IsJustifying}
 use Rattle.pc_edits.specs.Edits.{HasNoEntryOf}
 use Rattle.pc_cache.specs.Rows.{TargetRow, row_of, is_equal_entry, is_entry_among}
 use Rattle.pc_session.specs.inside.Old.{IsOldOf}
-use Rattle.pc_laws.proofs.Elements.{all_from, contains_cases, contains_first, contains_later, contains_none}
+use Rattle.pc_lemmas.proofs.Elements.{all_from, contains_cases, contains_first, contains_later, contains_none}
 use Rattle.pc_theory.proofs.Lists.{all_in}
 
 -- two entries of one cell are the same

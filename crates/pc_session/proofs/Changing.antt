@@ -15,7 +15,7 @@ use Rattle.pc_cache.specs.Rows.{TargetRow, row_of}
 use Rattle.pc_search.specs.Found.{steps_in, IsFound}
 use Rattle.pc_theory.specs.Targets.{targets_on, AreAsked}
 use Rattle.pc_theory.specs.Theories.{rules_alone}
-use Rattle.pc_laws.proofs.Elements.{all_from, contains_map, contains_mapped, kept, kept_is}
+use Rattle.pc_lemmas.proofs.Elements.{all_from, contains_map, contains_mapped, kept, kept_is}
 use Rattle.pc_theory.proofs.Lists.{among, few_filtered}
 use Rattle.pc_theory.proofs.OnCells.{target_on, on_target}
 use Rattle.pc_theory.proofs.Changes.{comes, change_of}

@@ -23,7 +23,7 @@ use Rattle.pc_world_list.specs.Worlds.{WorldView, AreExact, sheet_without, witho
 use Rattle.pc_search.specs.Parts.{AreWorldsOf}
 use Rattle.pc_theory.specs.Targets.{targets_on}
 use Rattle.pc_theory.specs.Theories.{rules_alone, TheoryView, IsTheory, IsPartNumbered}
-use Rattle.pc_laws.proofs.Elements.{contains_first, contains_later, contains_mapped}
+use Rattle.pc_lemmas.proofs.Elements.{contains_first, contains_later, contains_mapped}
 use Rattle.pc_theory.proofs.Lists.{all_in, among, at_contained, at_map, at_within}
 use Rattle.pc_session.proofs.Places.{get_at}
 use Rattle.pc_theory.proofs.OfRules.{division_here, base_here, consistent_by}

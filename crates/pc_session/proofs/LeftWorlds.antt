@@ -10,7 +10,7 @@ use Rattle.pc_cache.specs.Rows.{TargetRow}
 use Rattle.pc_world_list.specs.Worlds.{WorldView, AreExact, sheet_without, IsWithout}
 use Rattle.pc_search.specs.Parts.{AreWorldsOf}
 use Rattle.pc_theory.specs.Theories.{rules_alone, TheoryView, IsPartNumbered}
-use Rattle.pc_theory.proofs.Lists.{same_some}
+use Rattle.pc_lemmas.proofs.Options.{same_some}
 use Rattle.pc_session.specs.inside.Sessions.{IsSession}
 use Rattle.pc_session.proofs.ClearedEntries.{worlds_left}
 use Rattle.pc_session.proofs.Placing.{world_at}

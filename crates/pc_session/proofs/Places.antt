@@ -1,7 +1,8 @@
 -- Places in lists.
 use Rattle.std.proofs.Common.{◌≡◌, ◌≢◌, ℕ, zero, suc, ◌<◌, ◌⊎◌, inl, inr, List, [], ◌∷◌, ◌++◌, length, get_or, set, Contains, Some, slice_get, arith, ap, refl, subst}
-use Rattle.pc_laws.proofs.Elements.{contains_cases, contains_first, contains_later}
-use Rattle.pc_theory.proofs.Lists.{none_some, same_some}
+use Rattle.pc_lemmas.proofs.Elements.{contains_cases, contains_first, contains_later}
+use Rattle.pc_lemmas.proofs.Options.{same_some}
+use Rattle.pc_theory.proofs.Lists.{none_some}
 
 pub at_get : {X : Type 0} (xs : List X) (i : ℕ) (x d : X) → slice_get xs i ≡ Some x → get_or xs i d ≡ x
 at_get [] i x d is = absurd (none_some is)

@@ -22,8 +22,9 @@ use Rattle.pc_search.specs.Found.{steps_in}
 use Rattle.pc_search.specs.Parts.{AreWorldsOf}
 use Rattle.pc_theory.specs.Theories.{rules_alone, TheoryView, IsTheory, IsPartNumbered}
 use Rattle.pc_theory.specs.Spendings.{IsSpendingOf}
-use Rattle.pc_laws.proofs.Elements.{contains_first, contains_later, contains_map, contains_mapped}
-use Rattle.pc_theory.proofs.Lists.{at_contained, at_within, place_of, same_some, zip_at, zip_from, zip_length}
+use Rattle.pc_lemmas.proofs.Elements.{contains_first, contains_later, contains_map, contains_mapped}
+use Rattle.pc_lemmas.proofs.Options.{same_some}
+use Rattle.pc_theory.proofs.Lists.{at_contained, at_within, place_of, zip_at, zip_from, zip_length}
 use Rattle.pc_session.proofs.Places.{at_get, get_at, get_set_other, get_set_same, set_length}
 use Rattle.pc_theory.proofs.OfRules.{division_here, base_here, consistent_by}
 use Rattle.pc_theory.proofs.Parted.{as_many, part_is, part_there, number_within}

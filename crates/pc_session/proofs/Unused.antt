@@ -10,7 +10,7 @@ use Rattle.pc_cache.specs.Rows.{TargetRow}
 use Rattle.pc_world_list.specs.Worlds.{WorldView}
 use Rattle.pc_search.specs.Parts.{AreWorldsOf}
 use Rattle.pc_theory.specs.Theories.{rules_alone, TheoryView, IsPartNumbered}
-use Rattle.pc_laws.proofs.Elements.{contains_none}
+use Rattle.pc_lemmas.proofs.Elements.{contains_none}
 use Rattle.pc_session.specs.Answers.{IsUnused}
 use Rattle.pc_session.specs.inside.Edits.{AreChanges}
 use Rattle.pc_session.specs.inside.Sessions.{IsSession}

@@ -9,7 +9,7 @@ use Rattle.pc_sheet.specs.declared.ids.Target.{Target}
 use Rattle.pc_components.specs.Pairs.{size_at}
 use Rattle.pc_cache.specs.Rows.{TargetRow, row_of}
 use Rattle.pc_theory.specs.Targets.{target_of_value, targets_on_cell, targets_on}
-use Rattle.pc_laws.proofs.Elements.{contains_cases, contains_none}
+use Rattle.pc_lemmas.proofs.Elements.{contains_cases, contains_none}
 use Rattle.pc_theory.proofs.Lists.{at_contained}
 use Rattle.pc_session.proofs.Places.{get_at, in_append}
 use Rattle.pc_theory.proofs.OnCells.{of_cell_has, has_of_cell, on_has, on_push}

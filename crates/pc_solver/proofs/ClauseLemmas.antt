@@ -16,7 +16,7 @@ use Rattle.pc_propagate.specs.Quiet.{QuietIsKept, WasSettled}
 use Rattle.pc_propagate.specs.Laws.{ClausesMayBeAdded}
 use Rattle.pc_lits.specs.Literals.{negated}
 use Rattle.pc_lits.specs.Steps.{IsGoodStep, IsTautology}
-use Rattle.pc_lits.proofs.Elements.{contains_mapped, contains_cases}
+use Rattle.pc_lemmas.proofs.Elements.{contains_mapped, contains_cases}
 use Rattle.std.proofs.lemmas.List.Elements.{All-push, All-contains, Contains-append_left, Contains-push, Contains-push_cases}
 use Rattle.pc_log.specs.Derivations.{clause_of_line, hinted_clauses}
 use Rattle.pc_analyze.specs.Learning.{IsSubclause}

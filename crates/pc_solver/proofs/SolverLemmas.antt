@@ -7,7 +7,7 @@ use Rattle.pc_lits.specs.declared.literal.Var.{Var}
 use Rattle.pc_lits.specs.declared.literal.Lit.{Lit}
 use Rattle.pc_lits.specs.declared.tally.Tally.{Tally}
 use Rattle.pc_lits.proofs.Sound.{true_literal}
-use Rattle.pc_lits.proofs.Elements.{contains_mapped}
+use Rattle.pc_lemmas.proofs.Elements.{contains_mapped}
 use Rattle.pc_log.specs.declared.log.StepId.{StepId}
 use Rattle.pc_log.specs.Lines.{LogLine, AxiomLine, BlockLine, StepLine}
 use Rattle.pc_log.specs.Laws.{DerivationsAreSound}

@@ -1,6 +1,6 @@
 -- What is found of all parts is found of the sheet.
 use Rattle.std.proofs.Common.{◌≡◌, ◌≢◌, ℕ, ◌<◌, ◌≤◌, ◌^◌, List, [], length, sum_by, All, AllPairs, Contains, Option, None, Some, slice_get, IsSomeAnd, refl, ap, sym, ◌∙◌, subst, arith}
-use Rattle.pc_laws.proofs.Elements.{contains_mapped}
+use Rattle.pc_lemmas.proofs.Elements.{contains_mapped}
 use Rattle.pc_log.specs.Lines.{LogLine}
 use Rattle.pc_log.specs.declared.trimming.Span.{Span}
 use Rattle.pc_sheet.specs.Sheet.{Sheet}

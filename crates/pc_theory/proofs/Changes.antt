@@ -3,7 +3,7 @@ use Rattle.std.proofs.Common.{◌≡◌, ◌≢◌, ℕ, ◌⊎◌, inl, inr, Bo
 use Rattle.std.specs.Bool.{beq}
 use Rattle.std.specs.List.{AllZip}
 use Rattle.std.proofs.lemmas.Bool.{cases_eq, eqb-true}
-use Rattle.pc_laws.proofs.Elements.{contains_cases, contains_first, contains_later, contains_none}
+use Rattle.pc_lemmas.proofs.Elements.{contains_cases, contains_first, contains_later, contains_none}
 use Rattle.pc_sheet.specs.Sheet.{Sheet}
 use Rattle.pc_sheet.specs.declared.ids.Target.{Target}
 use Rattle.pc_reason.specs.Reasons.{Justification}

@@ -29,7 +29,7 @@ use Rattle.pc_theory.specs.inside.Tasks.{IsReady, IsPartAt}
 use Rattle.pc_theory.specs.Spendings.{IsGoodLog, IsPartSpending}
 use Rattle.pc_theory.specs.Edits.{IsBlankOn, IsSpentAlone}
 use Rattle.pc_theory.specs.declared.spending.PartSpending.{PartSpending}
-use Rattle.pc_theory.proofs.Lists.{same_some}
+use Rattle.pc_lemmas.proofs.Options.{same_some}
 use Rattle.pc_theory.proofs.OfRules.{grounded_alone, clauses_alone, division_here, named_here, base_here, consistent_by}
 use Rattle.pc_theory.proofs.Parted.{part_at, few_here, searched_at, is_part}
 use Rattle.pc_theory.proofs.Sizes.{size_few}

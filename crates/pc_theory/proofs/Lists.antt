@@ -3,10 +3,8 @@ use Rattle.std.proofs.Common.{◌≡◌, ◌≢◌, ℕ, zero, suc, ◌+◌, ◌
 use Rattle.std.proofs.lemmas.Option.{get_or_from_slice_get}
 use Rattle.std.specs.List.{AllZip, range_with_len}
 use Rattle.std.proofs.lemmas.List.Sums.{sum_by-cons}
-use Rattle.pc_laws.proofs.Elements.{contains_cases, contains_first, contains_later, contains_none}
-
-pub same_some : {X : Type 0} {x y : X} → Some x ≡ Some y → x ≡ y
-same_some is = cc
+use Rattle.pc_lemmas.proofs.Elements.{contains_cases, contains_first, contains_later, contains_none}
+use Rattle.pc_lemmas.proofs.Options.{same_some}
 
 pub none_some : {X : Type 0} {x : X} → None ≡ Some x → ⊥
 none_some is = cc

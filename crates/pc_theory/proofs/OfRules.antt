@@ -1,7 +1,7 @@
 -- Clauses, names and parts are of the rules alone.
 use Rattle.std.proofs.Common.{◌≡◌, ℕ, List, [], ◌∷◌, map, refl, ap, sym, subst, get_or}
 use Rattle.std.specs.List.{AllZip}
-use Rattle.pc_laws.proofs.Elements.{zip_weaker}
+use Rattle.pc_lemmas.proofs.Elements.{zip_weaker}
 use Rattle.pc_lits.specs.declared.literal.Lit.{Lit}
 use Rattle.pc_sheet.specs.Sheet.{Sheet}
 use Rattle.pc_sheet.specs.Entailment.{cell_sizes}

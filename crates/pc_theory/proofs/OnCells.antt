@@ -4,7 +4,7 @@ use Rattle.std.proofs.lemmas.List.Elements.{Contains-append_cases, Contains-appe
 use Rattle.std.proofs.lemmas.List.{append-nil, append_assoc, length-append}
 use Rattle.std.proofs.lemmas.List.Sums.{sum_by-cons}
 use Rattle.std.proofs.lemmas.Bool.{cases_eq}
-use Rattle.pc_laws.proofs.Elements.{all_from, contains_cases, contains_first, contains_later, contains_map, contains_none}
+use Rattle.pc_lemmas.proofs.Elements.{all_from, contains_cases, contains_first, contains_later, contains_map, contains_none}
 use Rattle.pc_sheet.specs.Sheet.{Universe, Sheet}
 use Rattle.pc_sheet.specs.Entailment.{cell_sizes}
 use Rattle.pc_sheet.specs.declared.ids.CellId.{CellId}

@@ -1,7 +1,7 @@
 -- The search of one part with the solver of its first call.
 use Rattle.std.proofs.Common.{◌≡◌, ℕ, ◌+◌, ◌-◌, ◌*◌, ◌≤◌, ◌^◌, List, [], ◌∷◌, ◌++◌, map, length, sum_by, Contains, Some, slice_get, refl, ap, sym, ◌∙◌, subst, arith}
 use Rattle.std.proofs.lemmas.List.{length-append}
-use Rattle.pc_laws.proofs.Elements.{all_from}
+use Rattle.pc_lemmas.proofs.Elements.{all_from}
 use Rattle.pc_lits.specs.declared.literal.Var.{Var}
 use Rattle.pc_lits.specs.declared.tally.Tally.{Tally}
 use Rattle.pc_log.specs.Lines.{LogLine}
@@ -31,7 +31,8 @@ use Rattle.pc_theory.specs.Spendings.{IsPartSpending}
 use Rattle.pc_theory.specs.inside.Starting.{IsStarted}
 use Rattle.pc_theory.specs.inside.Searching.{IsMoved, StopMoves}
 use Rattle.pc_theory.specs.declared.spending.PartSpending.{PartSpending}
-use Rattle.pc_theory.proofs.Lists.{same_some, sum_push}
+use Rattle.pc_lemmas.proofs.Options.{same_some}
+use Rattle.pc_theory.proofs.Lists.{sum_push}
 use Rattle.pc_theory.proofs.OfRules.{consistent_by}
 use Rattle.pc_theory.proofs.Started.{at_part, spent_there}
 use Rattle.pc_theory.proofs.PartMoved.{spent_more, logs_behind}

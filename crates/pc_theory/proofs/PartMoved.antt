@@ -1,11 +1,11 @@
 -- One part's search, and one more part that is searched.
-use Rattle.std.proofs.Common.{◌≡◌, ◌≢◌, ℕ, zero, suc, ◌+◌, ◌*◌, ◌<◌, ◌≤◌, inl, inr, List, [], ◌∷◌, ◌++◌, length, sum_by, get_or, set, All, Contains, None, Some, IfSome, slice_get, refl, ap, sym, ◌∙◌, subst, arith}
+use Rattle.std.proofs.Common.{◌≡◌, ℕ, zero, suc, ◌+◌, ◌*◌, ◌<◌, ◌≤◌, inl, inr, List, [], ◌∷◌, ◌++◌, length, sum_by, get_or, set, All, Contains, None, Some, IfSome, slice_get, refl, ap, sym, ◌∙◌, subst, arith}
 use Rattle.std.proofs.lemmas.List.{get_or-set_other, get_or-set_same, length-set, length_push}
 use Rattle.std.proofs.lemmas.List.Sums.{sum_by-set}
 use Rattle.std.proofs.lemmas.List.Elements.{All-nil, All-cons, All-append, Contains-append_cases}
 use Rattle.std.proofs.lemmas.Bool.{cases_eq}
 use Rattle.std.proofs.Math.Nat.{mul-le-mul_left}
-use Rattle.pc_laws.proofs.Elements.{contains_none}
+use Rattle.pc_lemmas.proofs.Elements.{contains_none}
 use Rattle.pc_lits.specs.declared.literal.Var.{Var}
 use Rattle.pc_lits.specs.declared.tally.Tally.{Tally}
 use Rattle.pc_log.specs.Lines.{LogLine}
@@ -38,7 +38,8 @@ use Rattle.pc_theory.specs.Spendings.{IsSetOf, AreFewCalls, IsGoodLog, IsPartSpe
 use Rattle.pc_theory.specs.inside.Starting.{ArePlaces, IsStarted}
 use Rattle.pc_theory.specs.inside.Searching.{FindsIn, IsMoved, StopMoves, StopPlaces, work_of, AreSearched}
 use Rattle.pc_theory.specs.declared.spending.PartSpending.{PartSpending}
-use Rattle.pc_theory.proofs.Lists.{same_some, none_some, sum_has, get_early, get_last}
+use Rattle.pc_lemmas.proofs.Options.{same_some}
+use Rattle.pc_theory.proofs.Lists.{none_some, sum_has, get_early, get_last}
 use Rattle.pc_theory.proofs.OnCells.{many_on, target_on, on_target}
 use Rattle.pc_theory.proofs.Changes.{after_more, comes, change_of}
 

@@ -3,7 +3,7 @@ use Rattle.std.proofs.Common.{◌≡◌, ℕ, ◌+◌, ◌<◌, ◌≤◌, inl, 
 use Rattle.std.proofs.lemmas.List.Elements.{Contains-append_cases}
 use Rattle.std.proofs.lemmas.List.{length-append, length-map}
 use Rattle.std.proofs.lemmas.List.FromFn.{length-range_with_len}
-use Rattle.pc_laws.proofs.Elements.{all_from, contains_cases, contains_mapped, contains_none, kept_is}
+use Rattle.pc_lemmas.proofs.Elements.{all_from, contains_cases, contains_mapped, contains_none, kept_is}
 use Rattle.pc_lits.specs.declared.literal.Var.{Var}
 use Rattle.pc_sheet.specs.Sheet.{Sheet}
 use Rattle.pc_sheet.specs.Entailment.{cell_sizes}

@@ -5,7 +5,7 @@ use Rattle.std.proofs.lemmas.Option.{get_or_from_slice_get}
 use Rattle.std.proofs.lemmas.List.Elements.{All-nil, All-cons, All-append}
 use Rattle.std.proofs.lemmas.List.Sums.{sum_by-cons}
 use Rattle.std.proofs.lemmas.Bool.{cases_lt}
-use Rattle.pc_laws.proofs.Elements.{contains_first, contains_map, contains_none}
+use Rattle.pc_lemmas.proofs.Elements.{contains_first, contains_map, contains_none}
 use Rattle.pc_lits.specs.declared.literal.Var.{Var}
 use Rattle.pc_lits.specs.declared.literal.Lit.{Lit}
 use Rattle.pc_lits.specs.declared.tally.Tally.{Tally}
@@ -46,7 +46,8 @@ use Rattle.pc_theory.specs.inside.Starting.{ArePlaces, IsStarted, AreStarted, Ha
 use Rattle.pc_theory.specs.inside.Calling.{IsEmptyAt, EndSays, IsCalled, IsRefused, set_aside}
 use Rattle.pc_theory.specs.declared.starting.End.{End}
 use Rattle.pc_theory.specs.declared.spending.PartSpending.{PartSpending}
-use Rattle.pc_theory.proofs.Lists.{within_at, at_within, get_early, get_last, sum_push, same_some}
+use Rattle.pc_lemmas.proofs.Options.{same_some}
+use Rattle.pc_theory.proofs.Lists.{within_at, at_within, get_early, get_last, sum_push}
 use Rattle.pc_theory.proofs.Parted.{as_many_axioms, as_many_variables, part_at, searched_at, number_within}
 
 -- ---- what is asked

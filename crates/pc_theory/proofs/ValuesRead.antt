@@ -3,7 +3,7 @@ use Rattle.std.proofs.Common.{◌≡◌, ◌≢◌, ◌↔◌, ◌⊎◌, inl, i
 use Rattle.std.proofs.lemmas.Bool.{cases_lt, cases_eq, false≢true}
 use Rattle.std.proofs.lemmas.List.{length-set, get_or-set_same, get_or-set_other}
 use Rattle.std.proofs.lemmas.Option.{slice_get-get_or, slice_get_past, get_or_from_slice_get}
-use Rattle.pc_laws.proofs.Elements.{contains_map, contains_mapped}
+use Rattle.pc_lemmas.proofs.Elements.{contains_map, contains_mapped}
 use Rattle.pc_ground.specs.Variables.{pair_number}
 use Rattle.pc_lits.specs.declared.literal.Var.{Var}
 use Rattle.pc_sheet.specs.Entailment.{AreWithin}

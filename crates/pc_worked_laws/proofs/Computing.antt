@@ -13,8 +13,8 @@ use Rattle.pc_sheet.specs.declared.ids.ValueId.{ValueId}
 use Rattle.pc_sheet.specs.declared.ids.Entry.{Entry}
 use Rattle.pc_sheet.specs.declared.ids.Target.{Target}
 use Rattle.pc_laws.specs.Laws.{IsExcluded}
-use Rattle.pc_laws.proofs.Contained.{contains_first, contains_later, contains_cases, contains_none, sub_none}
-use Rattle.pc_laws.proofs.Elements.{all_from}
+use Rattle.pc_lemmas.proofs.Elements.{contains_first, contains_later, contains_cases, contains_none, all_from}
+use Rattle.pc_laws.proofs.Contained.{sub_none}
 use Rattle.pc_laws.proofs.Evaluating.{supports, supports_decides}
 use Rattle.pc_laws.proofs.EachEntry.{by_each_entry}
 use Rattle.pc_laws.proofs.Order.{irreflexive, transitive}

@@ -3,7 +3,7 @@ use Rattle.std.proofs.Common.{[], ◌∷◌, refl, Some}
 use Rattle.std.proofs.lemmas.List.Elements.{All-head}
 use Rattle.pc_sheet.specs.Entailment.{IsLess, IsLeastSupport}
 use Rattle.pc_laws.specs.Examples.{IsShownFor, red, entry, target}
-use Rattle.pc_laws.proofs.Contained.{contains_later, contains_none}
+use Rattle.pc_lemmas.proofs.Elements.{contains_later, contains_none}
 use Rattle.pc_laws.proofs.Finding.{computed}
 use Rattle.pc_laws.proofs.Order.{irreflexive}
 use Rattle.pc_worked_laws.specs.Newest.{NewestDecides, ends_red, older, newer, both_ends}

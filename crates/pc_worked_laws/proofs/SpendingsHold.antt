@@ -6,7 +6,7 @@ use Rattle.pc_sheet.specs.MaximalSets.{ListsExactly, AreRulesConsistent}
 use Rattle.pc_sheet.specs.declared.ids.CellId.{CellId}
 use Rattle.pc_sheet.specs.declared.ids.Entry.{Entry}
 use Rattle.pc_laws.specs.Examples.{red, green, entry, equal_cells, two_pairs}
-use Rattle.pc_laws.proofs.Elements.{contains_cases, contains_none}
+use Rattle.pc_lemmas.proofs.Elements.{contains_cases, contains_none}
 use Rattle.pc_parts.specs.Components.{parts_of}
 use Rattle.pc_parts.specs.Parts.{Part}
 use Rattle.pc_parts.specs.PartSheets.{sheet_of}

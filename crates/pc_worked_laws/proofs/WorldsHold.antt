@@ -9,7 +9,7 @@ use Rattle.pc_sheet.specs.MaximalSets.{ListsExactly, IsMaximalSet}
 use Rattle.pc_sheet.specs.declared.ids.ValueId.{ValueId}
 use Rattle.pc_sheet.specs.declared.ids.Entry.{Entry}
 use Rattle.pc_laws.specs.Examples.{red, green, entry, equal_cells, never_red}
-use Rattle.pc_laws.proofs.Elements.{contains_first}
+use Rattle.pc_lemmas.proofs.Elements.{contains_first}
 use Rattle.pc_world_list.specs.Worlds.{WorldView, set_of, AreExact}
 use Rattle.pc_worked_laws.specs.Worlds.{world, with_red, with_green, WorkedWorlds}
 use Rattle.pc_worked_laws.proofs.Computing.{is_listed, listed_decides, not_maximal, lists}

@@ -11,7 +11,8 @@ use Rattle.pc_sheet.specs.MaximalSets.{IsContained, IsMaximalSet}
 use Rattle.pc_sheet.specs.declared.ids.Entry.{Entry}
 use Rattle.pc_sheet.specs.declared.ids.ValueId.{ValueId}
 use Rattle.pc_logic.specs.Edits.{is_same_entry}
-use Rattle.pc_laws.proofs.Contained.{contains_none, contains_first, contains_later, contains_cases, sub_of_sub, sub_contained}
+use Rattle.pc_lemmas.proofs.Elements.{contains_none, contains_first, contains_later, contains_cases}
+use Rattle.pc_laws.proofs.Contained.{sub_of_sub, sub_contained}
 use Rattle.pc_laws.proofs.Assignments.{shows_fewer, consistent_fewer}
 use Rattle.pc_laws.proofs.EachEntry.{same_contained}
 use Rattle.pc_laws.proofs.Maximal.{in_maximal}

@@ -1,27 +1,25 @@
 -- Full worlds and maximal sets.
-use Rattle.std.proofs.Common.{◌≡◌, ◌≢◌, ◌↔◌, ◌⊎◌, ◌+◌, ◌*◌, ◌^◌, ◌<◌, ◌≤◌, inl, inr, ℕ, zero, suc, Bool, true, false, List, [], ◌∷◌, ◌++◌, map, length, get_or, Contains, All, arith, ap, refl, sym, ◌∙◌, subst}
+use Rattle.std.proofs.Common.{◌≡◌, ◌≢◌, ◌⊎◌, ◌+◌, ◌*◌, ◌^◌, ◌<◌, ◌≤◌, inl, inr, ℕ, zero, suc, Bool, true, List, [], ◌∷◌, ◌++◌, map, length, get_or, Contains, All, arith, refl, sym, ◌∙◌, subst}
 use Rattle.std.specs.Prelude.{AllPairs}
-use Rattle.std.specs.List.{list_any}
-use Rattle.std.proofs.lemmas.Bool.{cases_lt, false≢true}
-use Rattle.std.proofs.lemmas.List.{map_push, length-map, get_or-map, length_push, get_or_push, get_or_append_left, get_or_default}
-use Rattle.std.proofs.lemmas.List.Elements.{All-nil, All-cons, All-push, All-contains, All-weaker, All-contains_itself, Contains-get_or, Contains-append_left, Contains-push, Contains-push_cases}
+use Rattle.std.proofs.lemmas.Bool.{cases_lt}
+use Rattle.std.proofs.lemmas.List.{map_push, length-map, length_push, get_or_push, get_or_append_left}
+use Rattle.std.proofs.lemmas.List.Elements.{All-nil, All-push, All-contains, All-weaker, Contains-get_or, Contains-append_left, Contains-push, Contains-push_cases}
 use Rattle.pc_lits.specs.declared.literal.Var.{Var}
 use Rattle.pc_lits.specs.declared.literal.Lit.{Lit}
-use Rattle.pc_lits.specs.Truth.{lit_true, clause_true, IsTrueUnder}
-use Rattle.std.proofs.Math.Nat.{mul-le-mul_left}
+use Rattle.pc_lits.specs.Truth.{lit_true, IsTrueUnder}
 use Rattle.pc_lits.proofs.Sound.{true_literal, true_by}
-use Rattle.pc_lits.proofs.Elements.{contains_map, contains_mapped}
+use Rattle.pc_lemmas.proofs.Elements.{contains_map, contains_mapped, contains_none, contains_first, contains_later, contains_cases}
 use Rattle.pc_sheet.specs.Sheet.{Sheet}
-use Rattle.pc_sheet.specs.Entailment.{AreWithin, cell_sizes, HasEntry, HasAll, Shows, IsConsistent, IsSublist, HaveDistinctCells}
+use Rattle.pc_sheet.specs.Entailment.{AreWithin, HasEntry, Shows, IsSublist, HaveDistinctCells}
 use Rattle.pc_sheet.specs.MaximalSets.{ListsExactly, IsContained, IsMaximalSet}
 use Rattle.pc_sheet.specs.declared.ids.CellId.{CellId}
 use Rattle.pc_sheet.specs.declared.ids.ValueId.{ValueId}
 use Rattle.pc_sheet.specs.declared.ids.Entry.{Entry}
-use Rattle.pc_laws.proofs.Contained.{decide_contains, sub_contained, contains_none, contains_first, contains_later, contains_cases}
+use Rattle.pc_laws.proofs.Contained.{decide_contains, sub_contained}
 use Rattle.pc_laws.proofs.EachEntry.{same_contained}
 use Rattle.pc_laws.proofs.Maximal.{in_maximal}
 use Rattle.pc_laws.proofs.Counting.{sublists_counted}
-use Rattle.pc_solver.specs.Answers.{MeetsEach, Meets}
+use Rattle.pc_solver.specs.Answers.{MeetsEach}
 use Rattle.pc_components.specs.Used.{HasValues}
 use Rattle.pc_worlds.specs.Allowed.{Allow}
 use Rattle.pc_solver.specs.Solver.{SolverView, AreOwn, clauses_used}
@@ -30,7 +28,7 @@ use Rattle.pc_worlds.specs.Sheets.{AreLitsOf, IsBlockOf}
 use Rattle.pc_components.specs.Pairs.{entry_literal}
 use Rattle.pc_worlds.specs.inside.Assigned.{IsOn, HasMore, IsSetOf, IsFull}
 use Rattle.pc_worlds.specs.inside.Searching.{IsReady, Finds, NoneMeets}
-use Rattle.pc_worlds.specs.inside.Listing.{Matter, IsOfSheet, IsFullWorld, AreOfFullWorlds, IsListing, IsNew, AreMoreThan, IsTurn, AreFewCalls}
+use Rattle.pc_worlds.specs.inside.Listing.{Matter, IsOfSheet, IsFullWorld, AreOfFullWorlds, IsListing, IsNew, IsTurn, AreFewCalls}
 use Rattle.pc_worlds.proofs.GrowLemmas.{lit_has, has_lit}
 use Rattle.pc_worlds.proofs.Pigeons.{fewer}
 use Rattle.pc_components.specs.View.{number_of}

@@ -1,42 +1,34 @@
 -- A part of a book as what is listed.
-use Rattle.std.proofs.Common.{◌≡◌, ◌≢◌, ◌↔◌, ℕ, ◌+◌, ◌*◌, ◌<◌, ◌≤◌, inl, inr, Bool, true, false, List, [], ◌∷◌, map, length, get_or, IsSomeAnd, Option, Some, slice_get, slice_index_or, ◌==◌, Contains, All, filter, arith, ap, ap₂, refl, sym, ◌∙◌, subst, zero-add, zero}
-use Rattle.std.specs.Prelude.{AllPairs}
-use Rattle.std.specs.List.{list_any, range_with_len}
-use Rattle.std.proofs.lemmas.Bool.{eqb-true}
+use Rattle.std.proofs.Common.{◌≡◌, ◌↔◌, ℕ, ◌+◌, ◌*◌, ◌<◌, ◌≤◌, Bool, List, map, length, slice_get, Contains, All, arith, ap, sym, ◌∙◌, subst, zero-add}
+use Rattle.std.specs.List.{range_with_len}
 use Rattle.std.proofs.lemmas.List.{length-map, get_or-map}
 use Rattle.std.proofs.lemmas.List.FromFn.{get_or-range_with_len, length-range_with_len}
-use Rattle.std.proofs.lemmas.List.Elements.{All-filter, All-contains, Contains-get_or, filter_passes}
-use Rattle.std.proofs.lemmas.List.Kept.{AllPairs-filter}
-use Rattle.std.proofs.lemmas.Option.{get_or_from_slice_get, slice_get_within}
-use Rattle.pc_lits.specs.declared.literal.Lit.{Lit}
+use Rattle.std.proofs.lemmas.List.Elements.{All-contains}
+use Rattle.std.proofs.lemmas.Option.{slice_get_within}
 use Rattle.pc_lits.specs.declared.literal.Var.{Var}
-use Rattle.pc_lits.specs.declared.tally.Tally.{Tally}
-use Rattle.pc_lits.proofs.Sound.{true_literal}
-use Rattle.pc_lits.proofs.Elements.{contains_mapped}
+use Rattle.pc_lemmas.proofs.Elements.{contains_mapped}
 use Rattle.pc_log.specs.Lines.{LogLine}
-use Rattle.pc_accept.proofs.Children.{some_and}
+use Rattle.pc_lemmas.proofs.Options.{some_and}
 use Rattle.pc_sheet.specs.Sheet.{Universe, Sheet}
 use Rattle.pc_sheet.specs.Entailment.{AreWithin, Fits, cell_sizes, HaveDistinctCells}
-use Rattle.pc_sheet.specs.MaximalSets.{ListsExactly, IsMaximalSet}
-use Rattle.pc_sheet.specs.WellFormed.{IsEntryOf, IsWellFormed}
+use Rattle.pc_sheet.specs.MaximalSets.{IsMaximalSet}
+use Rattle.pc_sheet.specs.WellFormed.{IsEntryOf}
 use Rattle.pc_sheet.specs.declared.ids.CellId.{CellId}
 use Rattle.pc_sheet.specs.declared.ids.ValueId.{ValueId}
 use Rattle.pc_sheet.specs.declared.ids.Entry.{Entry}
-use Rattle.pc_components.specs.Pairs.{size_at, pair_var}
+use Rattle.pc_components.specs.Pairs.{pair_var}
 use Rattle.pc_worlds.specs.Allowed.{Allow, AreReadable}
-use Rattle.pc_components.specs.Used.{AreFor, HasValues, MeetsUsed}
+use Rattle.pc_components.specs.Used.{HasValues, MeetsUsed}
 use Rattle.pc_components.specs.View.{number_of}
 use Rattle.pc_searched.specs.Searched.{IsSearched}
 use Rattle.pc_searched.proofs.Entries.{on_distinct, on_each}
 use Rattle.pc_components.proofs.Assigned.{used_are_met, met_are_used, same_read}
 use Rattle.pc_solver.specs.Answers.{MeetsEach}
-use Rattle.pc_solver.specs.Solver.{Problem, SolverView, clauses_used}
-use Rattle.pc_parts.specs.PartSheets.{is_on, entries_on}
-use Rattle.pc_worlds.specs.inside.Assigned.{IsOn}
+use Rattle.pc_solver.specs.Solver.{Problem, clauses_used}
+use Rattle.pc_parts.specs.PartSheets.{entries_on}
 use Rattle.pc_worlds.specs.inside.Listing.{Matter, IsOfSheet, IsFullSet, AreFewCalls}
 use Rattle.pc_worlds.specs.Parts.{IsListingLog, AddsLogs, AreFewFor}
 use Rattle.pc_worlds.specs.inside.Searching.{SearchView, IsReady, IsNewSearch}
-use Rattle.pc_solver.specs.Spending.{SpendsOver}
 use Rattle.pc_worlds.proofs.Pigeons.{fewer}
 use Rattle.pc_worlds.proofs.ListLemmas.{maximal}
 use Rattle.pc_worlds.proofs.LogLemmas.{lawful_weaker, adds_weaker}

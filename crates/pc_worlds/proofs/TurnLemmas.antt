@@ -1,25 +1,21 @@
 -- One turn: what was found and is grown.
-use Rattle.std.proofs.Common.{◌≡◌, ◌⊎◌, ◌+◌, ◌*◌, ◌<◌, ◌≤◌, inl, inr, ℕ, Bool, true, false, List, [], ◌∷◌, length, Contains, All, arith, ap, refl, sym, ◌∙◌, subst, Some, slice_get}
+use Rattle.std.proofs.Common.{◌≡◌, ◌+◌, ◌*◌, ◌≤◌, inl, inr, ℕ, Bool, true, false, List, [], ◌∷◌, length, Contains, arith, refl, sym, subst, Some, slice_get}
 use Rattle.std.proofs.lemmas.Bool.{false≢true}
 use Rattle.pc_lits.specs.declared.tally.Tally.{Tally}
 use Rattle.pc_lits.specs.declared.literal.Lit.{Lit}
-use Rattle.pc_log.specs.Lines.{LogLine}
 use Rattle.pc_sheet.specs.Entailment.{AreWithin, HasEntry, HaveDistinctCells}
-use Rattle.pc_sheet.specs.declared.ids.CellId.{CellId}
 use Rattle.pc_sheet.specs.declared.ids.ValueId.{ValueId}
 use Rattle.pc_sheet.specs.declared.ids.Entry.{Entry}
-use Rattle.pc_laws.specs.Laws.{IsDecided}
 use Rattle.pc_laws.proofs.Decide.{same_option}
-use Rattle.pc_laws.proofs.Contained.{contains_none, contains_first, contains_later, contains_cases}
+use Rattle.pc_lemmas.proofs.Elements.{contains_none, contains_first, contains_later, contains_cases}
 use Rattle.pc_solver.specs.Answers.{MeetsEach}
-use Rattle.pc_components.specs.Used.{HasValues}
 use Rattle.pc_worlds.specs.Allowed.{Allow}
 use Rattle.pc_solver.specs.Solver.{SolverView, clauses_used}
 use Rattle.pc_world_list.specs.Worlds.{WorldView}
-use Rattle.pc_worlds.specs.inside.Assigned.{IsSetOf, IsFull, HasMore}
+use Rattle.pc_worlds.specs.inside.Assigned.{IsSetOf}
 use Rattle.pc_worlds.specs.inside.Listing.{Matter, IsListing, IsNew, AreMoreThan, AreFewCalls, IsTurn, NextSays}
-use Rattle.pc_worlds.specs.inside.Searching.{IsReady, Finds, NoneMeets, AskSays}
-use Rattle.pc_solver.specs.Spending.{SpendsOver, marked}
+use Rattle.pc_worlds.specs.inside.Searching.{IsReady, Finds, AskSays}
+use Rattle.pc_solver.specs.Spending.{SpendsOver}
 use Rattle.pc_worlds.proofs.Reading.{used_same}
 use Rattle.pc_worlds.proofs.Counts.{SpendsOver-trans, SpendsOver-weaker, SpendsOver-beside, SpendsOver-behind}
 use Rattle.pc_worlds.proofs.ListLemmas.{finds_new, more_than, few_calls}

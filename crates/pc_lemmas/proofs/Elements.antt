@@ -1,12 +1,8 @@
--- Which elements a list has, and lists made from values.
-use Rattle.std.proofs.Common.{◌≡◌, ℕ, zero, suc, ◌<◌, ◌⊎◌, ◌↔◌, inl, inr, Bool, true, false, cond, List, [], ◌∷◌, ◌++◌, map, All, Contains, arith, ap, refl, sym, ◌∙◌, subst}
+-- Which elements a list has, and what is true of all of them.
+use Rattle.std.proofs.Common.{◌≡◌, ℕ, zero, suc, ◌<◌, ◌⊎◌, inl, inr, Bool, true, false, cond, List, [], ◌∷◌, ◌++◌, length, map, slice_get, Some, All, Contains, arith, ap, refl, sym, ◌∙◌, subst}
 use Rattle.std.specs.List.{flat_map, filter, AllZip}
-use Rattle.std.proofs.lemmas.Bool.{cases_eq}
-use Rattle.std.proofs.lemmas.Grind.{flat_map-append}
-use Rattle.std.proofs.lemmas.List.{append-nil, length-map, get_or-map}
-use Rattle.std.proofs.lemmas.List.Elements.{All-nil, All-append, All-same, All-weaker, All-contains, All-contains_itself, Contains-append_left, Contains-append_right, Contains-append_cases}
-use Rattle.pc_sheet.specs.Cells.{values_below}
-use Rattle.pc_sheet.specs.declared.ids.ValueId.{ValueId}
+use Rattle.std.proofs.lemmas.List.{length-map, get_or-map}
+use Rattle.std.proofs.lemmas.List.Elements.{All-weaker, All-contains, All-contains_itself, Contains-append_left, Contains-append_right, Contains-append_cases}
 
 pub contains_first : {X : Type 0} (x : X) (xs : List X) → Contains (x ∷ xs) x
 contains_first x xs = (zero, omega arith, refl)
@@ -24,6 +20,19 @@ contains_none x h = absurd (omega (arith, h.1))
 pub contains_map : {X Y : Type 0} (f : X → Y) (xs : List X) (x : X) → Contains xs x → Contains (map f xs) (f x)
 contains_map f xs x h = (h.0, omega (arith, h.1, length-map xs f), get_or-map f xs h.0 x (f x) h.1 ∙ ap f h.2)
 
+pub contains_mapped : {X Y : Type 0} (f : X → Y) (xs : List X) (y : Y) → Contains (map f xs) y → (x : X) × Contains xs x × (f x ≡ y)
+contains_mapped f [] y h = absurd (contains_none y h)
+contains_mapped f (x ∷ xs) y h = elim (contains_cases (f x) (map f xs) y h) [
+  | inl is ↦ (x, contains_first x xs, is)
+  | inr later ↦ let rest = contains_mapped f xs y later in (rest.0, contains_later x xs rest.0 rest.1, rest.2)
+]
+
+-- the element at a place
+pub element_at : {X : Type 0} (xs : List X) (i : ℕ) → i < length xs → (x : X) × (slice_get xs i ≡ Some x)
+element_at [] i below = absurd (omega (arith, below))
+element_at (x ∷ xs) zero below = (x, refl)
+element_at (x ∷ xs) (suc i) below = element_at xs i (omega (arith, below))
+
 -- ---- what is true of all
 
 -- of all elements of a list
@@ -38,43 +47,6 @@ all_right P xs ys h = all_from P ys (λ x c. All-contains P (xs ++ ys) x h (Cont
 
 pub all_unmapped : {X Y : Type 0} (P : Y → Type 0) (f : X → Y) (xs : List X) → All P (map f xs) → All (λ x. P (f x)) xs
 all_unmapped P f xs h = all_from (λ x. P (f x)) xs (λ x c. All-contains P (map f xs) (f x) h (contains_map f xs x c))
-
--- ---- lists made from values
-
--- the last piece alone
-flat_push : {X : Type 0} (f : ValueId → List X) (n : ℕ) → flat_map f (values_below (suc n)) ≡ flat_map f (values_below n) ++ f (record { 0 = n })
-flat_push f n =
-    let last : ValueId = record { 0 = n } in
-    flat_map-append f (values_below n) (last ∷ []) ∙ ap (λ ys. flat_map f (values_below n) ++ ys) (append-nil (f last))
-
-pub values_each : {X : Type 0} (P : X → Type 0) (f : ValueId → List X) (n : ℕ) → ((v : ValueId) → v.0 < n → All P (f v)) → All P (flat_map f (values_below n))
-values_each P f zero h = All-nil P
-values_each P f (suc n) h =
-    let last : ValueId = record { 0 = n } in
-    All-same P (flat_map f (values_below (suc n))) (flat_map f (values_below n) ++ f last) (flat_push f n)
-    (All-append P (flat_map f (values_below n)) (f last) (values_each P f n (λ v l. h v (omega arith))) (h last (omega arith)))
-
-pub value_there : {X : Type 0} (f : ValueId → List X) (n : ℕ) (v : ValueId) (x : X) → v.0 < n → Contains (f v) x → Contains (flat_map f (values_below n)) x
-value_there f zero v x l h = absurd (omega (arith, l))
-value_there f (suc n) v x l h =
-    let last : ValueId = record { 0 = n } in
-    subst (λ xs. Contains xs x) (sym (flat_push f n)) (elim (cases_eq v.0 n) [
-      | inl same ↦ Contains-append_right (flat_map f (values_below n)) (f last) x (let P : ℕ → Type 0 = λ m. Contains (f (record { 0 = m })) x in subst P same h)
-      | inr other ↦ Contains-append_left (flat_map f (values_below n)) (f last) x (value_there f n v x (omega arith) h)
-    ])
-
--- which value an element is of
-pub there_value : {X : Type 0} (f : ValueId → List X) (n : ℕ) (x : X) → Contains (flat_map f (values_below n)) x → (v : ValueId) × (v.0 < n) × Contains (f v) x
-there_value f zero x h = absurd (contains_none x h)
-there_value f (suc n) x h =
-    let last : ValueId = record { 0 = n } in
-    elim (Contains-append_cases (flat_map f (values_below n)) (f last) x (subst (λ xs. Contains xs x) (flat_push f n) h)) [
-      | inl before ↦ let found = there_value f n x before in (found.0, omega (arith, found.1), found.2)
-      | inr here ↦ (last, omega arith, here)
-    ]
-
-pub each_value : {X : Type 0} (P : X → Type 0) (f : ValueId → List X) (n : ℕ) → All P (flat_map f (values_below n)) → (v : ValueId) → v.0 < n → All P (f v)
-each_value P f n h v l = all_from P (f v) (λ x c. All-contains P (flat_map f (values_below n)) x h (value_there f n v x l c))
 
 -- ---- lists made from the elements of a list
 
@@ -91,14 +63,6 @@ there_flat f (z ∷ zs) y h = elim (Contains-append_cases (f z) (flat_map f zs) 
   | inl here ↦ (z, contains_first z zs, here)
   | inr later ↦ let rest = there_flat f zs y later in (rest.0, contains_later z zs rest.0 rest.1, rest.2)
 ]
-
--- ---- what is equivalent
-
-pub along : {X : Type 0} (P : X → Type 0) (x y : X) → x ≡ y → P x ↔ P y
-along P x y e = (subst P e, subst P (sym e))
-
-pub either : {P Q R S : Type 0} → P ↔ R → Q ↔ S → (P ⊎ Q) ↔ (R ⊎ S)
-either i j = (λ f. elim f [ inl p ↦ inl (i.0 p) | inr q ↦ inr (j.0 q) ], λ f. elim f [ inl p ↦ inl (i.1 p) | inr q ↦ inr (j.1 q) ])
 
 -- ---- what a filter keeps
 
@@ -152,11 +116,4 @@ zip_both R S (x ∷ xs) [] h k z c = absurd h
 zip_both {Y = Y} R S (x ∷ xs) (y ∷ ys) h k z c = elim (contains_cases x xs z c) [
   | inl same ↦ subst (λ w. (y : Y) × R w y × S w y) same (y, h.0, k.0)
   | inr later ↦ zip_both R S xs ys h.1 k.1 z later
-]
-
-pub contains_mapped : {X Y : Type 0} (f : X → Y) (xs : List X) (y : Y) → Contains (map f xs) y → (x : X) × Contains xs x × (f x ≡ y)
-contains_mapped f [] y h = absurd (contains_none y h)
-contains_mapped f (x ∷ xs) y h = elim (contains_cases (f x) (map f xs) y h) [
-  | inl is ↦ (x, contains_first x xs, is)
-  | inr later ↦ let rest = contains_mapped f xs y later in (rest.0, contains_later x xs rest.0 rest.1, rest.2)
 ]

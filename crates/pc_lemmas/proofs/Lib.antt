@@ -1,0 +1,3 @@
+pub mod Elements
+pub mod Equivalences
+pub mod Options
