@@ -1,9 +1,9 @@
 //! The check of a certificate, from a file's name and the input's bytes to the status.
-ghost use Rattle.std.specs.Prelude.{◌≡◌, ◌≢◌, ◌≤◌, ◌⊎◌, ℕ, List, Option, length};
+ghost use Rattle.std.specs.Prelude.{◌≡◌, ◌≢◌, ◌≤◌, ℕ, List, Option, length};
 ghost use Rattle.pc_port.specs.Port.{Rose};
 ghost use Rattle.pc_port.specs.Shelf.{Files};
 ghost use Rattle.pc_cert.specs.declared.TheConstants.{CERT_LIMIT};
-ghost use Rattle.pc_transcript.specs.Files.{AsksOnce, FailsToRead, TakesFile};
+ghost use Rattle.pc_refusals.specs.Files.{AsksOnce, FailsToRead, TakesFile};
 ghost use Rattle.pc_judge.specs.Checked.{Checked, CheckedFor};
 ghost use Rattle.pc_judge.specs.Input.{TakesAll};
 
@@ -13,7 +13,7 @@ use crate::told::write_told;
 use pc_load::load_book;
 use pc_logic::Book;
 use pc_port::{Failed, Shelf, Sink, Source};
-use pc_transcript::{
+use pc_refusals::{
     LoadFault, SHEET_LIMIT, SheetStop, Status, refuse, take_file, tell_no_memory,
     tell_no_memory_for_sheet, tell_too_long,
 };

@@ -10,10 +10,10 @@ use Rattle.pc_elaborate.specs.declared.fault.SortFault.{SortFault}
 use Rattle.pc_elaborate.specs.Told.{IsFaultOf}
 use Rattle.pc_sortcheck.specs.Declaring.{ReadsAs}
 use Rattle.pc_sortcheck.specs.DeclarationFaults.{IsSheetFault}
-use Rattle.pc_transcript.specs.declared.machine.LoadFault.{LoadFault}
-use Rattle.pc_transcript.specs.declared.machine.LoadFault.TheVariants as load_fault
-use Rattle.pc_transcript.specs.declared.refusal.SheetRefusal.{SheetRefusal}
-use Rattle.pc_transcript.specs.Answer.{RefusesBy}
+use Rattle.pc_refusals.specs.declared.refusal.LoadFault.{LoadFault}
+use Rattle.pc_refusals.specs.declared.refusal.LoadFault.TheVariants as load_fault
+use Rattle.pc_refusals.specs.declared.refusal.SheetRefusal.{SheetRefusal}
+use Rattle.pc_refusals.specs.Refusals.{RefusesBy}
 use Rattle.pc_load.specs.Outcome.{HasFault, IsFaultAt, Outcome, reads, fails}
 use Rattle.pc_load.specs.Laws.{TextsHaveOneOutcome}
 use Rattle.pc_load.specs.inside.Loading.{load_fault_of, IsSortFaultTold}

@@ -9,9 +9,9 @@ use Rattle.pc_elaborate.specs.Laws.{TreesHaveOneOutcome}
 use Rattle.pc_sortcheck.specs.Declaring.{IsSheetOf}
 use Rattle.pc_sortcheck.specs.DeclarationFaults.{IsSheetFault}
 use Rattle.pc_sortcheck.proofs.SheetOutcomes.{only_sheet, only_fault}
-use Rattle.pc_transcript.specs.declared.refusal.Refusal.{Refusal}
-use Rattle.pc_transcript.specs.declared.refusal.Refusal.TheVariants.{NotUtf8, Syntax, NoBegin, WrongVersion, UnknownName, DuplicateName, WrongArity, WrongSort, NotAValue, EmptySort, Limit, TooLarge, Inconsistent, Spent, NoEntry, DuplicateRule, NoRule, TooDeep}
-use Rattle.pc_transcript.specs.declared.refusal.SheetRefusal.{SheetRefusal}
+use Rattle.pc_refusals.specs.declared.refusal.Refusal.{Refusal}
+use Rattle.pc_refusals.specs.declared.refusal.Refusal.TheVariants.{NotUtf8, Syntax, NoBegin, WrongVersion, UnknownName, DuplicateName, WrongArity, WrongSort, NotAValue, EmptySort, Limit, TooLarge, Inconsistent, Spent, NoEntry, DuplicateRule, NoRule, TooDeep}
+use Rattle.pc_refusals.specs.declared.refusal.SheetRefusal.{SheetRefusal}
 use Rattle.pc_load.specs.Refusals.{IsSortRefusal, IsRefusalFor}
 use Rattle.pc_load.specs.Outcome.{HasSortFault, IsFaultAt, Outcome, reads, fails, IsOutcome}
 use Rattle.pc_load.specs.Laws.{TextsHaveOneOutcome}

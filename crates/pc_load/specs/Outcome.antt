@@ -9,9 +9,9 @@ use Rattle.pc_sheet.specs.Sheet.{Sheet}
 use Rattle.pc_elaborate.specs.declared.fault.SortFault.{SortFault}
 use Rattle.pc_sortcheck.specs.Declaring.{ReadsAs}
 use Rattle.pc_sortcheck.specs.DeclarationFaults.{IsSheetFault}
-use Rattle.pc_transcript.specs.declared.refusal.SheetRefusal.{SheetRefusal}
-use Rattle.pc_transcript.specs.declared.refusal.Refusal.{Refusal}
-use Rattle.pc_transcript.specs.declared.refusal.Refusal.TheVariants.{NotUtf8, Syntax, NoBegin, WrongVersion, TooDeep}
+use Rattle.pc_refusals.specs.declared.refusal.SheetRefusal.{SheetRefusal}
+use Rattle.pc_refusals.specs.declared.refusal.Refusal.{Refusal}
+use Rattle.pc_refusals.specs.declared.refusal.Refusal.TheVariants.{NotUtf8, Syntax, NoBegin, WrongVersion, TooDeep}
 use Rattle.pc_load.specs.Refusals.{IsRefusalFor}
 
 -- the text is declarations, and that of this line is the first with a fault of names or sorts

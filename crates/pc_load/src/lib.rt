@@ -10,5 +10,5 @@ mod refusal;
 
 pub use law::texts_have_one_outcome;
 pub use load::load_book;
-pub use pc_transcript::LoadFault;
+pub use pc_refusals::LoadFault;
 pub use refusal::refusal_of;

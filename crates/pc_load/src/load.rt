@@ -1,16 +1,16 @@
 //! The book that a text gives.
 ghost use Rattle.std.specs.Prelude.{◌≤◌, length, MatchResult};
 ghost use Rattle.pc_sheet.specs.Sheet.{Sheet};
-ghost use Rattle.pc_transcript.specs.Answer.{RefusesBy};
+ghost use Rattle.pc_refusals.specs.Refusals.{RefusesBy};
 ghost use Rattle.pc_load.specs.Outcome.{HasFault};
 ghost use Rattle.pc_sortcheck.specs.Declaring.{ReadsAs};
 
 use crate::law::texts_have_one_outcome;
 use crate::refusal::{refuse_sort, refuse_text};
 use pc_logic::Book;
+use pc_refusals::{LoadFault, SHEET_LIMIT};
 use pc_sortcheck::check_sheet;
 use pc_syntax::parse_sheet;
-use pc_transcript::{LoadFault, SHEET_LIMIT};
 use std::alloc::Global;
 
 // The book of the text, or its first fault.

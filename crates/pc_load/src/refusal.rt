@@ -3,9 +3,9 @@ ghost use Rattle.std.specs.Prelude.{◌≡◌, MatchOption};
 ghost use Rattle.pc_load.specs.Refusals.{IsSortRefusal};
 ghost use Rattle.pc_load.specs.inside.Loading.{IsSortFaultTold, load_fault_of, refused_for};
 
+use pc_refusals::{LoadFault, Refusal, SheetRefusal};
 use pc_sortcheck::{SheetSortFault, SortFault};
 use pc_syntax::SheetFault;
-use pc_transcript::{LoadFault, Refusal, SheetRefusal};
 
 /// The refusal that tells a fault of names or sorts, or `None` where memory was wanted.
 pub fn refusal_of(fault: SortFault) -> Option<Refusal>

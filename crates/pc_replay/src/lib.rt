@@ -8,9 +8,9 @@ mod law;
 mod replay;
 
 pub use law::lines_are_the_same;
+pub use pc_refusals::Status;
 pub use pc_spreadsheet::{
     Spendings, lines_have_one_verdict, states_are_well_formed, texts_have_one_verdict,
 };
-pub use pc_transcript::Status;
 pub use pc_words::words_fit_one_request;
 pub use replay::run;

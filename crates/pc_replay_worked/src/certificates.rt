@@ -1,6 +1,6 @@
 // Certificates from their bytes to the verdict, and words and files that end a check before.
 use crate::sheets::{EQUAL, ends_so, run_with};
-use pc_transcript::{SHEET_LIMIT, Status};
+use pc_refusals::{SHEET_LIMIT, Status};
 use std::alloc::{AllocError, Global};
 use std::test::Fail;
 

@@ -3,9 +3,10 @@
 ghost use Rattle.std.specs.Prelude.{◌<◌, ◌≢◌, length, slice_index, None};
 
 use pc_port::{Failed, MemoryShelf, MemorySink, MemorySource, Sink, Source};
+use pc_refusals::{Counts, Refusal, SHEET_LIMIT, SheetRefusal, Status};
+use pc_sheet::Limited;
 use pc_transcript::{
-    Counts, LINE_LIMIT, Limited, LoadStop, MAX_LINES, MOST_BUDGET, Machine, Refusal, Reply,
-    Resources, SHEET_LIMIT, SheetRefusal, Status, edit, replay,
+    LINE_LIMIT, LoadStop, MAX_LINES, MOST_BUDGET, Machine, Reply, Resources, edit, replay,
 };
 use std::alloc::{AllocError, Global};
 use std::cell::Cell;

@@ -10,7 +10,7 @@ use Rattle.pc_syntax.specs.Spelling.{IsSpelled}
 use Rattle.pc_syntax.specs.Tree.{Asked, asks_show, asks_grid, asks_dump}
 use Rattle.pc_syntax.specs.Command.{CommandReading, no_command, asks, IsCommandReading, empty_command, spelled_command, command_keyword, FollowsCommand, TakesNoMemory}
 use Rattle.pc_syntax.specs.Told.{IsCommandTold}
-use Rattle.pc_transcript.specs.declared.refusal.Refusal.{Refusal}
+use Rattle.pc_refusals.specs.declared.refusal.Refusal.{Refusal}
 use Rattle.pc_transcript.specs.declared.machine.Reply.TheVariants.{Silent, Accepted, Shown, Refused, Memory}
 use Rattle.pc_transcript.specs.Answer.{Answer, silent, IsToldBehind, IsAnswer, CanBeTold}
 use Rattle.pc_sheet.specs.Sheet.{Sheet}

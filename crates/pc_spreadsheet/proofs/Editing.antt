@@ -18,7 +18,7 @@ use Rattle.pc_session.specs.Causes.{IsEntryCause, IsClearCause}
 use Rattle.pc_session.specs.declared.refused.EditRefused.{EditRefused}
 use Rattle.pc_session.specs.declared.refused.EditRefused.TheVariants as edit
 use Rattle.pc_transcript.specs.declared.machine.Reply.TheVariants.{Accepted, Refused, Memory}
-use Rattle.pc_transcript.specs.declared.refusal.Refusal.TheVariants.{TooLarge, Inconsistent, NoEntry, DuplicateRule, NoRule}
+use Rattle.pc_refusals.specs.declared.refusal.Refusal.TheVariants.{TooLarge, Inconsistent, NoEntry, DuplicateRule, NoRule}
 use Rattle.pc_spreadsheet.specs.Judgement.{State, IsLight, enters, clears, adds, drops, IsRuleOf, IsNewRule, entering, clearing, adding, dropping, without_entry as lacks_entry, of_old_name, of_no_rule, too_large, contradicting}
 use Rattle.pc_spreadsheet.specs.Allowed.{Notes, NeedsSearch, to_enter, to_clear, to_add, to_drop}
 use Rattle.pc_spreadsheet.specs.Commands.{Told, state_of, parted, NotesSpent, noted, not_noted, MayWantMemory, Obeys, judged, contradicted, spent}

@@ -5,14 +5,14 @@ use Rattle.pc_sheet.specs.MaximalSets.{AreRulesConsistent}
 use Rattle.pc_sheet.specs.Weight.{weight}
 use Rattle.pc_session.specs.Views.{SessionView}
 use Rattle.pc_session.specs.Views as session
-use Rattle.pc_transcript.specs.declared.refusal.Counts.{Counts}
-use Rattle.pc_transcript.specs.declared.refusal.Refusal.TheVariants.{TooLarge, Inconsistent, Spent}
+use Rattle.pc_refusals.specs.declared.refusal.Counts.{Counts}
+use Rattle.pc_refusals.specs.declared.refusal.Refusal.TheVariants.{TooLarge, Inconsistent, Spent}
 use Rattle.pc_spreadsheet.specs.Commands.{state_of}
 use Rattle.pc_theory.specs.Spendings.{IsLawful}
 use Rattle.pc_theory.specs.declared.spending.Spending.{Spending}
 use Rattle.pc_transcript.specs.declared.machine.LoadStop.{LoadStop}
 use Rattle.pc_transcript.specs.declared.machine.LoadStop.TheVariants.{Refused, Memory}
-use Rattle.pc_transcript.specs.declared.refusal.SheetRefusal.{SheetRefusal}
+use Rattle.pc_refusals.specs.declared.refusal.SheetRefusal.{SheetRefusal}
 use Rattle.pc_transcript.specs.Answer.{IsToldBehind}
 use Rattle.pc_load.specs.Outcome.{HasFault}
 use Rattle.pc_sortcheck.specs.Declaring.{ReadsAs}

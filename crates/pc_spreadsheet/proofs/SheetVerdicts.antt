@@ -2,7 +2,7 @@
 use Rattle.std.proofs.Common.{◌≡◌, ℕ, List, sym, ap, ap₂, subst, arith, inl, inr, ◌∙◌}
 use Rattle.pc_sheet.specs.Sheet.{Sheet}
 use Rattle.pc_sheet.specs.MaximalSets.{AreRulesConsistent}
-use Rattle.pc_transcript.specs.declared.refusal.SheetRefusal.{SheetRefusal}
+use Rattle.pc_refusals.specs.declared.refusal.SheetRefusal.{SheetRefusal}
 use Rattle.pc_load.specs.Laws.{TextsHaveOneOutcome}
 use Rattle.pc_load.proofs.Loading.{none_read, one_sheet, one_fault}
 use Rattle.pc_spreadsheet.specs.Judgement.{State, IsLight, IsTooLarge, IsContradictory, IsRejected, Starts, SheetVerdict, opens, rejects, IsSheetVerdict}

@@ -17,8 +17,8 @@ use Rattle.pc_elaborate.specs.FormulaFaults.{IsValueFault, IsSortedFormula}
 use Rattle.pc_elaborate.specs.Laws.{HaveOneOutcome, TreesHaveOneOutcome}
 use Rattle.pc_elaborate.specs.Tests.{no_test, test}
 use Rattle.pc_sortcheck.specs.DeclarationFaults.{IsDeclarationFault, IsRuleFault}
-use Rattle.pc_transcript.specs.declared.refusal.Refusal.{Refusal}
-use Rattle.pc_transcript.specs.declared.refusal.Refusal.TheVariants.{NotUtf8, Syntax, TooDeep}
+use Rattle.pc_refusals.specs.declared.refusal.Refusal.{Refusal}
+use Rattle.pc_refusals.specs.declared.refusal.Refusal.TheVariants.{NotUtf8, Syntax, TooDeep}
 use Rattle.pc_load.specs.Refusals.{IsSortRefusal}
 use Rattle.pc_load.proofs.OneRefusal.{one_refusal, some_is}
 use Rattle.pc_spreadsheet.specs.Judgement.{State, IsLight, Task, enters, clears, adds, drops, shows, why_page, HasEntryOf, IsRuleOf, IsTaskOf, entering, clearing, adding, dropping, budgeting, asking, showing, showing_grid, showing_json, dumping, IsAskedFault, IsRefusalOf, by_fault, without_entry, of_old_name, of_no_rule, too_large, MakesContradiction, contradicting, IsRefused, for_utf8, for_depth, for_syntax, for_asked, Verdict, nothing, does, refuses, contradicts, IsVerdictOn}

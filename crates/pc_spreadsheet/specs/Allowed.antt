@@ -16,10 +16,10 @@ use Rattle.pc_session.specs.NoteViews.{NoteView}
 use Rattle.pc_session.specs.Rules.{IsRuleAt}
 use Rattle.pc_session.specs.Views as session
 use Rattle.pc_load.specs.Outcome.{HasFault}
-use Rattle.pc_transcript.specs.declared.refusal.Counts.{Counts}
-use Rattle.pc_transcript.specs.declared.refusal.SheetRefusal.{SheetRefusal}
-use Rattle.pc_transcript.specs.declared.refusal.Refusal.{Refusal}
-use Rattle.pc_transcript.specs.declared.refusal.Refusal.TheVariants.{TooLarge, Inconsistent, Spent}
+use Rattle.pc_refusals.specs.declared.refusal.Counts.{Counts}
+use Rattle.pc_refusals.specs.declared.refusal.SheetRefusal.{SheetRefusal}
+use Rattle.pc_refusals.specs.declared.refusal.Refusal.{Refusal}
+use Rattle.pc_refusals.specs.declared.refusal.Refusal.TheVariants.{TooLarge, Inconsistent, Spent}
 use Rattle.pc_transcript.specs.Answer.{Answer, silent, accepted, shown, refused, no_memory}
 use Rattle.pc_spreadsheet.specs.Judgement.{State, IsLight, IsTooLarge, IsContradictory, of_whole, Task, shows, PageKind, HasEntryOf, IsNewRule, AsksNothing, IsTask, IsEdit, state_after, IsRefused, IsContradiction}
 use Rattle.pc_spreadsheet.specs.Pages.{PageSays, IsCertificateAgainst}

@@ -10,7 +10,7 @@ use Rattle.pc_sheet.specs.Sheet.{Sheet, NamedStatement, with_rule}
 use Rattle.pc_sheet.specs.declared.ids.CellId.{CellId}
 use Rattle.pc_sheet.specs.declared.ids.Target.{Target}
 use Rattle.pc_reason.specs.Reasons.{IsTargetOf}
-use Rattle.pc_transcript.specs.declared.refusal.Counts.{Counts}
+use Rattle.pc_refusals.specs.declared.refusal.Counts.{Counts}
 use Rattle.pc_elaborate.specs.declared.fault.SortFault.{SortFault}
 use Rattle.pc_elaborate.specs.declared.fault.SortFault.TheVariants as sort_fault
 use Rattle.pc_theory.specs.declared.spending.Spending.{Spending}
@@ -20,8 +20,8 @@ use Rattle.pc_session.specs.declared.refused.EditRefused.{EditRefused}
 use Rattle.pc_session.specs.declared.refused.EditRefused.TheVariants as edit
 use Rattle.pc_transcript.specs.declared.machine.Reply.{Reply}
 use Rattle.pc_transcript.specs.declared.machine.Reply.TheVariants.{Silent, Accepted, Shown, Refused, Memory}
-use Rattle.pc_transcript.specs.declared.refusal.Refusal.{Refusal}
-use Rattle.pc_transcript.specs.declared.refusal.Refusal.TheVariants.{NotUtf8, Syntax, TooDeep, TooLarge, Inconsistent, Spent, NoEntry, DuplicateRule, NoRule}
+use Rattle.pc_refusals.specs.declared.refusal.Refusal.{Refusal}
+use Rattle.pc_refusals.specs.declared.refusal.Refusal.TheVariants.{NotUtf8, Syntax, TooDeep, TooLarge, Inconsistent, Spent, NoEntry, DuplicateRule, NoRule}
 use Rattle.pc_display.specs.Json.{IsJson}
 use Rattle.pc_load.specs.Refusals.{IsSortRefusal}
 use Rattle.pc_spreadsheet.specs.Judgement.{State, Task, shows, why_page, IsTaskOf, IsEdit, state_after, MakesContradiction, IsRefusalOf}

@@ -23,9 +23,9 @@ use Rattle.pc_elaborate.specs.Tests.{no_test, test}
 use Rattle.pc_sortcheck.specs.Declaring.{ReadsAs}
 use Rattle.pc_sortcheck.specs.DeclarationFaults.{IsDeclarationFault, IsRuleFault}
 use Rattle.pc_session.specs.Rules.{IsNewName, IsRuleAt}
-use Rattle.pc_transcript.specs.declared.refusal.SheetRefusal.{SheetRefusal}
-use Rattle.pc_transcript.specs.declared.refusal.Refusal.{Refusal}
-use Rattle.pc_transcript.specs.declared.refusal.Refusal.TheVariants.{NotUtf8, Syntax, TooLarge, Inconsistent, NoEntry, DuplicateRule, NoRule, TooDeep}
+use Rattle.pc_refusals.specs.declared.refusal.SheetRefusal.{SheetRefusal}
+use Rattle.pc_refusals.specs.declared.refusal.Refusal.{Refusal}
+use Rattle.pc_refusals.specs.declared.refusal.Refusal.TheVariants.{NotUtf8, Syntax, TooLarge, Inconsistent, NoEntry, DuplicateRule, NoRule, TooDeep}
 use Rattle.pc_load.specs.Refusals.{IsSortRefusal}
 use Rattle.pc_load.specs.Outcome.{HasFault}
 

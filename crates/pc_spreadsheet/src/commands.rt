@@ -17,10 +17,11 @@ use crate::spending::Told;
 use pc_display::json;
 use pc_logic::Book;
 use pc_reason::Reasons;
+use pc_refusals::Refusal;
 use pc_session::{Session, Spendings};
-use pc_sheet::Target;
+use pc_sheet::{Limited, Target};
 use pc_syntax::{CellTree, Command, ValueTree, parse_command};
-use pc_transcript::{Limited, MOST_BUDGET, Refusal, Reply};
+use pc_transcript::{MOST_BUDGET, Reply};
 use std::alloc::{AllocError, Global};
 
 // Asks why the cell has the value, or why it hasn't.

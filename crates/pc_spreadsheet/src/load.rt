@@ -10,8 +10,9 @@ use crate::spreadsheet::Spreadsheet;
 use pc_load::load_book;
 use pc_logic::Book;
 use pc_reason::Refutation;
+use pc_refusals::{LoadFault, Refusal, SHEET_LIMIT, SheetRefusal};
 use pc_session::{LoadRefused, Session, Spending, Spendings};
-use pc_transcript::{LoadFault, LoadStop, MOST_BUDGET, Refusal, SHEET_LIMIT, SheetRefusal};
+use pc_transcript::{LoadStop, MOST_BUDGET};
 use std::alloc::{AllocError, Global};
 
 // The refusal of a sheet as a whole, with what shows that it is right.

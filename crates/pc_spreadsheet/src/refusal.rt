@@ -4,9 +4,10 @@ ghost use Rattle.pc_spreadsheet.specs.Commands.{IsToldAs, reply_to};
 
 use crate::spending::Told;
 use pc_load::refusal_of;
+use pc_refusals::Refusal;
 use pc_sortcheck::SortFault;
 use pc_syntax::CommandFault;
-use pc_transcript::{Refusal, Reply};
+use pc_transcript::Reply;
 
 /// How a fault of a command's names or sorts is told.
 pub(crate) fn refuse(fault: SortFault) -> Told

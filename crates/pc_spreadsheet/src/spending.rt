@@ -8,9 +8,10 @@ use crate::page::Page;
 use pc_lits::Tally;
 use pc_logic::Book;
 use pc_reason::Refutation;
+use pc_refusals::{Counts, Refusal};
 use pc_session::{EditRefused, Spending, Spendings};
 use pc_sheet::CellId;
-use pc_transcript::{Counts, Refusal, Reply};
+use pc_transcript::Reply;
 use std::alloc::AllocError;
 
 /// What is told of a command line.

@@ -2,18 +2,18 @@
 use Rattle.std.proofs.Common.{◌≡◌, ℕ, List, [], ◌≤◌, ◌++◌, length, refl, sym, subst, inl, inr, Option, Some, None, ap}
 use Rattle.std.specs.Io.KnownBytes.{Appends, prepend_known}
 use Rattle.std.proofs.KnownBytes.{Appends-nil}
-use Rattle.pc_transcript.specs.declared.status.Status.{Status}
-use Rattle.pc_transcript.specs.declared.status.Status.TheVariants.{Done, SomeRefused, Usage, SheetRefused, ReadFault, WriteFault, Memory, TooLong, CertRefused}
+use Rattle.pc_refusals.specs.declared.status.Status.{Status}
+use Rattle.pc_refusals.specs.declared.status.Status.TheVariants.{Done, SomeRefused, Usage, SheetRefused, ReadFault, WriteFault, Memory, TooLong, CertRefused}
 use Rattle.pc_port.specs.Port.{AppendsFront}
 use Rattle.pc_lines.specs.declared.TheConstants.{CHUNK}
-use Rattle.pc_transcript.specs.declared.refusal.SheetRefusal.{SheetRefusal}
-use Rattle.pc_transcript.specs.Refusals.{sheet_refusal_text}
+use Rattle.pc_refusals.specs.declared.refusal.SheetRefusal.{SheetRefusal}
+use Rattle.pc_refusals.specs.Refusals.{sheet_refusal_text}
 use Rattle.pc_transcript.specs.declared.machine.LoadStop.{LoadStop}
 use Rattle.pc_transcript.specs.declared.machine.LoadStop.TheVariants as load_stop
-use Rattle.pc_transcript.specs.Answer.{Answer, Printing, printed, StopsBy}
-use Rattle.pc_transcript.specs.Transcript.{too_long_text}
+use Rattle.pc_transcript.specs.Answer.{Answer, StopsBy}
+use Rattle.pc_refusals.specs.Endings.{Printing, printed, too_long_text, IsPrinted, TellsAtEnd, AppendsPart, memory_text, sheet_memory_text}
 use Rattle.pc_transcript.specs.SheetPart.{TakesSheet, StopsInSheet, PassesSheetLimit, HasTaken}
-use Rattle.pc_transcript.specs.Run.{Answers, AnswersBy, IsPrinted, LacksRoom, LacksMemoryForSheet, RefusesSheet, HasLongSheet, IsCutOff, at_memory, at_sheet_memory, at_sheet, at_long_sheet, at_limit, at_answer, Replays, Replayed, TellsAtEnd, TellsStop, GoesOn, by_refusal, by_want, by_answers, AppendsPart, memory_text, sheet_memory_text}
+use Rattle.pc_transcript.specs.Run.{Answers, AnswersBy, LacksRoom, LacksMemoryForSheet, RefusesSheet, HasLongSheet, IsCutOff, at_memory, at_sheet_memory, at_sheet, at_long_sheet, at_limit, at_answer, Replays, Replayed, TellsStop, GoesOn, by_refusal, by_want, by_answers}
 use Rattle.pc_transcript.proofs.Ends.{read_ahead}
 use Rattle.pc_transcript.proofs.SheetLines.{has_taken}
 

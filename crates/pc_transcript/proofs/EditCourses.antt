@@ -3,15 +3,15 @@ use Rattle.std.proofs.Common.{◌≡◌, ℕ, List, [], ◌∷◌, ◌++◌, ◌
 use Rattle.std.specs.Io.KnownBytes.{Appends, prepend_known}
 use Rattle.std.proofs.KnownBytes.{Appends-nil}
 use Rattle.pc_port.specs.Shelf.{Files}
-use Rattle.pc_transcript.specs.declared.TheConstants.{SHEET_LIMIT}
-use Rattle.pc_transcript.specs.declared.refusal.SheetRefusal.{SheetRefusal}
-use Rattle.pc_transcript.specs.declared.status.Status.{Status}
-use Rattle.pc_transcript.specs.declared.status.Status.TheVariants.{SheetRefused, ReadFault, WriteFault, Memory, TooLong}
-use Rattle.pc_transcript.specs.Refusals.{sheet_refusal_text}
-use Rattle.pc_transcript.specs.Answer.{Answer, printed}
-use Rattle.pc_transcript.specs.Transcript.{too_long_text}
-use Rattle.pc_transcript.specs.Run.{Answers, GoesOn, by_refusal, by_want, by_answers, IsPrinted, TellsAtEnd, memory_text, sheet_memory_text}
-use Rattle.pc_transcript.specs.Files.{AsksOnce, TakesFile, TakesLongFile, HasLongFile}
+use Rattle.pc_refusals.specs.declared.TheConstants.{SHEET_LIMIT}
+use Rattle.pc_refusals.specs.declared.refusal.SheetRefusal.{SheetRefusal}
+use Rattle.pc_refusals.specs.declared.status.Status.{Status}
+use Rattle.pc_refusals.specs.declared.status.Status.TheVariants.{SheetRefused, ReadFault, WriteFault, Memory, TooLong}
+use Rattle.pc_refusals.specs.Refusals.{sheet_refusal_text}
+use Rattle.pc_transcript.specs.Answer.{Answer}
+use Rattle.pc_refusals.specs.Endings.{printed, too_long_text, IsPrinted, TellsAtEnd, memory_text, sheet_memory_text}
+use Rattle.pc_transcript.specs.Run.{Answers, GoesOn, by_refusal, by_want, by_answers}
+use Rattle.pc_refusals.specs.Files.{AsksOnce, TakesFile, TakesLongFile, HasLongFile}
 use Rattle.pc_transcript.specs.Edit.{RefusesFile, LacksMemoryToEdit, StopsAtFile, Edited}
 use Rattle.pc_transcript.proofs.Courses.{cut_short, holds_nothing}
 

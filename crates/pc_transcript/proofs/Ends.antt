@@ -12,12 +12,13 @@ use Rattle.pc_lines.specs.declared.TheConstants.{CHUNK}
 use Rattle.pc_lines.proofs.First.{lines_of-whole, lines_of-open}
 use Rattle.pc_transcript.specs.declared.TheConstants.{LINE_LIMIT, MAX_LINES}
 use Rattle.pc_transcript.specs.declared.serve.Marks.{Marks}
-use Rattle.pc_transcript.specs.declared.status.Status.{Status}
-use Rattle.pc_transcript.specs.declared.status.Status.TheVariants.{ReadFault, WriteFault, TooLong}
+use Rattle.pc_refusals.specs.declared.status.Status.{Status}
+use Rattle.pc_refusals.specs.declared.status.Status.TheVariants.{ReadFault, WriteFault, TooLong}
 use Rattle.pc_transcript.specs.SheetPart.{IsReadAhead}
-use Rattle.pc_transcript.specs.Answer.{Answer, Printing, printed, Serves, ServesInPart, answer_text, is_refused, is_no_memory}
-use Rattle.pc_transcript.specs.Transcript.{Transcript, lines, input_of, output_of, worse_of, too_long_text, IsCommandLine, PassesLimit, IsCompleteLine, AnswersAll, StopsAtLimit}
-use Rattle.pc_transcript.specs.Run.{Answers, AnswersBy, TellsAtEnd, IsPrinted, AppendsPart}
+use Rattle.pc_transcript.specs.Answer.{Answer, Serves, ServesInPart, answer_text, is_refused, is_no_memory}
+use Rattle.pc_refusals.specs.Endings.{Printing, printed, too_long_text, TellsAtEnd, IsPrinted, AppendsPart}
+use Rattle.pc_transcript.specs.Transcript.{Transcript, lines, input_of, output_of, worse_of, IsCommandLine, PassesLimit, IsCompleteLine, AnswersAll, StopsAtLimit}
+use Rattle.pc_transcript.specs.Run.{Answers, AnswersBy}
 use Rattle.pc_transcript.proofs.Progress.{Progress, Legal-push, any-push, output_of-push, lines-push}
 
 -- ---- what a reader holds

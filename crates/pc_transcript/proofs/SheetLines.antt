@@ -6,10 +6,10 @@ use Rattle.std.proofs.lemmas.List.{append-nil, length_push}
 use Rattle.std.proofs.lemmas.List.Concat.{flat_map-append}
 use Rattle.std.proofs.lemmas.List.Elements.{All-push, All-nil}
 use Rattle.pc_lines.specs.Lines.{IsWholeLine, IsOpenLine, IsLongStart, before_end}
-use Rattle.pc_transcript.specs.declared.TheConstants.{SHEET_LIMIT}
+use Rattle.pc_refusals.specs.declared.TheConstants.{SHEET_LIMIT}
 use Rattle.pc_transcript.specs.declared.sheet.Step.TheVariants.{Complete}
-use Rattle.pc_transcript.specs.declared.sheet.SheetStop.{SheetStop}
-use Rattle.pc_transcript.specs.declared.sheet.SheetStop.TheVariants.{Failed, TooLong, Memory}
+use Rattle.pc_refusals.specs.declared.file.SheetStop.{SheetStop}
+use Rattle.pc_refusals.specs.declared.file.SheetStop.TheVariants.{Failed, TooLong, Memory}
 use Rattle.pc_lines.specs.declared.TheConstants.{CHUNK}
 use Rattle.pc_transcript.specs.SheetPart.{IsEarlier, EndsSheet, joined_lines, TakesSheet, TakesLine, StepGives, StopsSheet, IsNotAppended, IsLineFront, IsSheetFront, HasTaken}
 use Rattle.pc_transcript.proofs.Ends.{read_ahead, taken_with_none}

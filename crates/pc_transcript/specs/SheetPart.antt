@@ -8,11 +8,11 @@ use Rattle.std.specs.Io.KnownBytes.{Consumes, IsAtEnd}
 use Rattle.pc_lines.specs.Lines.{HasNoEnd, IsWholeLine, line_text_of}
 use Rattle.pc_lines.specs.declared.TheConstants.{CHUNK}
 use Rattle.pc_token.specs.Line.{IsOneName}
-use Rattle.pc_transcript.specs.declared.TheConstants.{SHEET_LIMIT}
+use Rattle.pc_refusals.specs.declared.TheConstants.{SHEET_LIMIT}
 use Rattle.pc_transcript.specs.declared.sheet.Step.{Step}
 use Rattle.pc_transcript.specs.declared.sheet.Step.TheVariants.{More, Complete}
-use Rattle.pc_transcript.specs.declared.sheet.SheetStop.{SheetStop}
-use Rattle.pc_transcript.specs.declared.sheet.SheetStop.TheVariants.{Failed, TooLong, Memory}
+use Rattle.pc_refusals.specs.declared.file.SheetStop.{SheetStop}
+use Rattle.pc_refusals.specs.declared.file.SheetStop.TheVariants.{Failed, TooLong, Memory}
 
 -- the line's one token is `begin`
 pub record IsBeginLine (line : List ℕ) : Type 0 where

@@ -6,10 +6,10 @@ ghost use Rattle.pc_transcript.specs.Run.{Answers};
 
 use crate::machine::Machine;
 use crate::serve::Answering;
-use crate::tell::tell_too_long;
-use crate::{LINE_LIMIT, MAX_LINES, Status};
+use crate::{LINE_LIMIT, MAX_LINES};
 use pc_lines::{LineReader, Taken};
 use pc_port::{Failed, Sink, Source};
+use pc_refusals::{Status, tell_too_long};
 use std::alloc::Global;
 
 // Answers each command line that is still to come.

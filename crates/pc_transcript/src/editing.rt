@@ -1,18 +1,18 @@
 // The sheet of a file and commands on it, from the file's name to the status.
 ghost use Rattle.std.specs.Prelude.{◌≡◌, ◌≢◌};
 ghost use Rattle.pc_port.specs.Port.{Rose};
-ghost use Rattle.pc_transcript.specs.Files.{AsksOnce, FailsToRead};
+ghost use Rattle.pc_refusals.specs.Files.{AsksOnce, FailsToRead};
 ghost use Rattle.pc_transcript.specs.Edit.{Edited};
 
-use crate::file::take_file;
+use crate::LINE_LIMIT;
 use crate::machine::Machine;
 use crate::resources::Resources;
 use crate::run::open;
-use crate::sheet::SheetStop;
-use crate::tell::{tell_no_memory, tell_no_memory_for_sheet, tell_too_long};
-use crate::{LINE_LIMIT, Status};
 use pc_lines::LineReader;
 use pc_port::{Shelf, Sink, Source};
+use pc_refusals::{
+    SheetStop, Status, take_file, tell_no_memory, tell_no_memory_for_sheet, tell_too_long,
+};
 
 /// Runs the commands on the input, on the sheet in the shelf's file of that name.
 ///

@@ -4,15 +4,17 @@ ghost use Rattle.pc_port.specs.Port.{Rose};
 ghost use Rattle.pc_lines.specs.Reader.{coming};
 ghost use Rattle.pc_transcript.specs.Run.{GoesOn, Replayed};
 
+use crate::LINE_LIMIT;
 use crate::commands::answer_all;
 use crate::machine::Machine;
 use crate::resources::Resources;
-use crate::sheet::{SheetStop, take_sheet};
+use crate::sheet::take_sheet;
 use crate::showing::tell_stop;
-use crate::tell::{tell_no_memory, tell_no_memory_for_sheet, tell_too_long};
-use crate::{LINE_LIMIT, SHEET_LIMIT, Status};
 use pc_lines::LineReader;
 use pc_port::{Sink, Source};
+use pc_refusals::{
+    SHEET_LIMIT, SheetStop, Status, tell_no_memory, tell_no_memory_for_sheet, tell_too_long,
+};
 
 /// Reads the sheet, and then answers each command line that is still to come.
 pub(crate) fn open<M: Machine, I: Source, O: Sink>(

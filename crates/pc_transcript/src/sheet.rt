@@ -5,39 +5,18 @@ ghost use Rattle.pc_lines.specs.Reader.{coming};
 ghost use Rattle.pc_lines.specs.declared.TheConstants.{CHUNK};
 ghost use Rattle.pc_transcript.specs.SheetPart.{IsBeginLine, IsNotAppended, SheetGives, StepGives};
 
-use crate::SHEET_LIMIT;
 use pc_lines::{LineReader, Taken};
 use pc_port::{Failed, Source};
+use pc_refusals::{SHEET_LIMIT, SheetStop};
 use pc_token::is_one_name;
-use std::alloc::{AllocError, Global};
+use std::alloc::Global;
 use std::str;
-
-/// Why a sheet's text was not taken.
-#[derive(Clone, Copy, Debug, PartialEq, Eq)]
-pub enum SheetStop {
-    /// The input, or the shelf, answered a fault.
-    Failed,
-    /// There is more than a sheet may have.
-    TooLong,
-    /// Memory was wanted.
-    Memory,
-}
 
 /// Whether lines of the sheet are still to come.
 #[derive(Clone, Copy)]
 pub(crate) enum Step {
     More,
     Complete,
-}
-
-impl From<AllocError> for SheetStop {
-    ghost use Rattle.pc_transcript.specs.declared.sheet.SheetStop.TheVariants.{Memory};
-
-    ghost from_gives = { λ _ stop. stop ≡ Memory };
-
-    fn from(_: AllocError) -> Self {
-        SheetStop::Memory
-    }
 }
 
 // Whether the line's one token is `begin`.

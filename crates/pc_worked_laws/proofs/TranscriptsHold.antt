@@ -5,12 +5,13 @@ use Rattle.std.specs.Bool.{Decides}
 use Rattle.std.proofs.lemmas.Bool.Decides.{Decides-eqb, Decides-not, Decides-by_and}
 use Rattle.std.proofs.lemmas.List.{append-nil}
 use Rattle.std.proofs.lemmas.List.Elements.{All-nil, All-cons}
-use Rattle.pc_lines.specs.Lines.{HasNoEnd, IsWholeLine, IsOpenLine, lines_of}
+use Rattle.pc_lines.specs.Lines.{HasNoEnd, lines_of}
 use Rattle.pc_lines.specs.Lines as a_line
-use Rattle.pc_transcript.specs.declared.refusal.Refusal.TheVariants.{NoRule}
-use Rattle.pc_transcript.specs.declared.status.Status.{Status}
-use Rattle.pc_transcript.specs.declared.status.Status.TheVariants.{Done, SomeRefused}
-use Rattle.pc_transcript.specs.Answer.{Answer, Printing, silent, accepted, shown, refused, no_memory, printed, answer_text}
+use Rattle.pc_refusals.specs.declared.refusal.Refusal.TheVariants.{NoRule}
+use Rattle.pc_refusals.specs.declared.status.Status.{Status}
+use Rattle.pc_refusals.specs.declared.status.Status.TheVariants.{Done, SomeRefused}
+use Rattle.pc_transcript.specs.Answer.{Answer, silent, accepted, shown, refused, no_memory, answer_text}
+use Rattle.pc_refusals.specs.Endings.{Printing, printed}
 use Rattle.pc_transcript.specs.Transcript.{Transcript, Legal, lines, output_of, status_of, IsCommandLine, AnswersAll}
 use Rattle.pc_worked_laws.specs.Transcripts.{told, CountsUp, count_line, show_line, WorkedTranscripts, WorkedAnswers}
 

@@ -1,9 +1,10 @@
 -- Legal and illegal transcripts of two lines, over a state that is a number: `count` adds one, and `show` tells whether it is 0.
 use Rattle.std.specs.Prelude.{◌≡◌, ℕ, zero, suc, ◌+◌, List, [], ◌∷◌, ◌++◌, codes}
 use Rattle.std.specs.declared.option.Option.TheVariants.{Some}
-use Rattle.pc_transcript.specs.declared.refusal.Refusal.TheVariants.{NoRule}
-use Rattle.pc_transcript.specs.declared.status.Status.TheVariants.{Done, SomeRefused}
-use Rattle.pc_transcript.specs.Answer.{Answer, silent, accepted, shown, refused, no_memory, printed}
+use Rattle.pc_refusals.specs.declared.refusal.Refusal.TheVariants.{NoRule}
+use Rattle.pc_refusals.specs.declared.status.Status.TheVariants.{Done, SomeRefused}
+use Rattle.pc_transcript.specs.Answer.{Answer, silent, accepted, shown, refused, no_memory}
+use Rattle.pc_refusals.specs.Endings.{printed}
 use Rattle.pc_writer.specs.SheetText.{ended}
 use Rattle.pc_transcript.specs.Transcript.{Legal, status_of, output_of, AnswersAll}
 

@@ -12,7 +12,7 @@ use Rattle.pc_sheet.specs.declared.ids.SortId.{SortId}
 use Rattle.pc_sheet.specs.declared.ids.TableId.{TableId}
 use Rattle.pc_name.specs.declared.sign.Op.{Op}
 use Rattle.pc_writer.specs.FormulaText.{item_text, item_texts, variable_at}
-use Rattle.pc_writer.specs.Writable.{IsWritable, AreWritable, IsWritablePart, IsWritableSum}
+use Rattle.pc_writer.specs.inside.Writable.{IsWritable, AreWritable, IsWritablePart, IsWritableSum}
 use Rattle.pc_writer.proofs.Names.{there_within}
 
 -- ---- what the terms of the code stand for

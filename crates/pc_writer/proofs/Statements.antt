@@ -13,7 +13,7 @@ use Rattle.pc_sheet.specs.declared.ids.TableId.{TableId}
 use Rattle.pc_name.specs.declared.sign.Op.{Op}
 use Rattle.pc_writer.specs.declared.scope.Variable as scope
 use Rattle.pc_writer.specs.inside.Scope.{variable_of, variables_of}
-use Rattle.pc_writer.specs.Writable.{AreWritable, IsWritableSum}
+use Rattle.pc_writer.specs.inside.Writable.{AreWritable, IsWritableSum}
 use Rattle.pc_writer.proofs.Names.{there_within}
 use Rattle.pc_writer.proofs.Items.{writable_sides, items_writable}
 use Rattle.pc_writer.specs.FormulaText.{enclosed, part_text, part_texts}

@@ -3,6 +3,5 @@ pub mod Separator
 pub mod Writes
 pub mod FormulaText
 pub mod SheetText
-pub mod Writable
 pub mod Examples
 pub mod inside

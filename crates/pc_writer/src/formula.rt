@@ -7,7 +7,7 @@ ghost use Rattle.pc_sheet.specs.WellSorted.{AreWellSorted, IsNewVariable, IsWell
 ghost use Rattle.pc_writer.specs.FormulaText.{added_text, in_parentheses, item_texts, op_text, part_text, part_texts, quantifier_text, sign_text, statement_text, sum_text, table_at};
 ghost use Rattle.pc_writer.specs.inside.Scope.{variables_of};
 ghost use Rattle.pc_writer.specs.Spelling.{joined};
-ghost use Rattle.pc_writer.specs.Writable.{AreWritable, IsWritablePart, IsWritableSum};
+ghost use Rattle.pc_writer.specs.inside.Writable.{AreWritable, IsWritablePart, IsWritableSum};
 ghost use Rattle.pc_writer.specs.Writes.{Writes};
 
 use crate::declared::{write_sort_name, write_table_name};

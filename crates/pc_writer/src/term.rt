@@ -3,7 +3,7 @@ ghost use Rattle.std.specs.Prelude.{◌≡◌, codes, length, map};
 ghost use Rattle.pc_sheet.specs.Views.{item_of, items_of};
 ghost use Rattle.pc_writer.specs.FormulaText.{in_parentheses, item_text, item_texts};
 ghost use Rattle.pc_writer.specs.inside.Scope.{variables_of};
-ghost use Rattle.pc_writer.specs.Writable.{AreWritable, IsWritable};
+ghost use Rattle.pc_writer.specs.inside.Writable.{AreWritable, IsWritable};
 ghost use Rattle.pc_writer.specs.Spelling.{joined};
 ghost use Rattle.pc_writer.specs.Writes.{Writes};
 

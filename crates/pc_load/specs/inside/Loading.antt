@@ -6,10 +6,10 @@ use Rattle.pc_syntax.specs.declared.tree.SheetFault.{SheetFault}
 use Rattle.pc_syntax.specs.declared.tree.SheetFault.TheVariants as sheet_fault
 use Rattle.pc_elaborate.specs.declared.fault.SortFault.{SortFault}
 use Rattle.pc_elaborate.specs.declared.fault.SortFault.TheVariants as sort_fault
-use Rattle.pc_transcript.specs.declared.machine.LoadFault.{LoadFault}
-use Rattle.pc_transcript.specs.declared.machine.LoadFault.TheVariants as load_fault
-use Rattle.pc_transcript.specs.declared.refusal.Refusal.{Refusal}
-use Rattle.pc_transcript.specs.declared.refusal.Refusal.TheVariants.{NotUtf8, Syntax, NoBegin, WrongVersion, TooDeep}
+use Rattle.pc_refusals.specs.declared.refusal.LoadFault.{LoadFault}
+use Rattle.pc_refusals.specs.declared.refusal.LoadFault.TheVariants as load_fault
+use Rattle.pc_refusals.specs.declared.refusal.Refusal.{Refusal}
+use Rattle.pc_refusals.specs.declared.refusal.Refusal.TheVariants.{NotUtf8, Syntax, NoBegin, WrongVersion, TooDeep}
 use Rattle.pc_load.specs.Refusals.{IsSortRefusal}
 
 -- the text is refused so, for the line if one is given

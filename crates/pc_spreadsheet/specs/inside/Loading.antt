@@ -10,9 +10,9 @@ use Rattle.pc_theory.specs.declared.spending.Spending.{Spending}
 use Rattle.pc_session.specs.Views as session
 use Rattle.pc_transcript.specs.declared.machine.LoadStop.{LoadStop}
 use Rattle.pc_transcript.specs.declared.machine.LoadStop.TheVariants.{Refused, Memory}
-use Rattle.pc_transcript.specs.declared.refusal.Counts.{Counts}
-use Rattle.pc_transcript.specs.declared.refusal.SheetRefusal.{SheetRefusal}
-use Rattle.pc_transcript.specs.declared.refusal.Refusal.TheVariants.{TooLarge, Inconsistent, Spent}
+use Rattle.pc_refusals.specs.declared.refusal.Counts.{Counts}
+use Rattle.pc_refusals.specs.declared.refusal.SheetRefusal.{SheetRefusal}
+use Rattle.pc_refusals.specs.declared.refusal.Refusal.TheVariants.{TooLarge, Inconsistent, Spent}
 use Rattle.pc_transcript.specs.Answer.{StopsBy}
 use Rattle.pc_spreadsheet.specs.Judgement.{State, IsLight, of_whole}
 use Rattle.pc_spreadsheet.specs.Pages.{IsCertificateAgainst}

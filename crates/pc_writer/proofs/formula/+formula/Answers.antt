@@ -4,7 +4,7 @@ use Rattle.pc_sheet.specs.Views.{item_of, items_of, statement_of, statements_of}
 use Rattle.pc_sheet.specs.WellSorted.{IsWellSorted}
 use Rattle.pc_writer.specs.FormulaText.{statement_text, part_text, part_texts}
 use Rattle.pc_writer.specs.inside.Scope.{variables_of}
-use Rattle.pc_writer.specs.Writable.{AreWritable}
+use Rattle.pc_writer.specs.inside.Writable.{AreWritable}
 use Rattle.pc_writer.proofs.Statements.{in_brackets, part_text_at, length-part_texts, sorted_at, sides_writable, arguments_writable, of_Not, of_Implies, of_Iff, of_ForAll, of_Exists}
 use Rattle.pc_writer.proofs.InTurn.{Writes-then, Writes-cut, Writes-same}
 use Rattle.pc_writer.proofs.Joined.{cut_in_separator, cut_in_text, one_more_text, all_texts}

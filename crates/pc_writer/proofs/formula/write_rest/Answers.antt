@@ -3,7 +3,7 @@ use Rattle.std.proofs.lemmas.List.{length-map}
 use Rattle.pc_sheet.specs.Views.{added_of}
 use Rattle.pc_writer.specs.FormulaText.{added_text}
 use Rattle.pc_writer.specs.inside.Scope.{variables_of}
-use Rattle.pc_writer.specs.Writable.{IsWritablePart}
+use Rattle.pc_writer.specs.inside.Writable.{IsWritablePart}
 use Rattle.pc_writer.proofs.Names.{viewed, holds_at}
 use Rattle.pc_writer.proofs.InPieces.{cut_in_piece, one_more_piece, all_pieces}
 use Rattle.pc_writer.proofs.InTurn.{Writes-then, Writes-front, Writes-same}

@@ -3,7 +3,7 @@ use denote.Param.Weighed.{at_most}
 use Rattle.pc_sheet.specs.Views.{item_of, items_of}
 use Rattle.pc_writer.specs.FormulaText.{in_parentheses, item_text, item_texts}
 use Rattle.pc_writer.specs.inside.Scope.{variables_of}
-use Rattle.pc_writer.specs.Writable.{IsWritable}
+use Rattle.pc_writer.specs.inside.Writable.{IsWritable}
 use Rattle.pc_writer.proofs.Names.{in_parentheses-some}
 use Rattle.pc_writer.proofs.Items.{length-item_texts, item_text_at, writable_at, item_of-Cell, item_of-Variable, variable_name_at}
 use Rattle.pc_writer.proofs.InTurn.{Writes-then, Writes-cut, Writes-same}

@@ -1,6 +1,6 @@
 use Rattle.std.proofs.Common.{codes, decimal, ◌++◌}
 use Rattle.pc_writer.proofs.InTurn.{Writes-then, Writes-cut}
-use Rattle.pc_transcript.proofs.refusal.write_counts.Goals as goal
+use Rattle.pc_refusals.proofs.refusal.write_counts.Goals as goal
 
 pub returns-in_err-write_count : goal.returns-in_err-write_count
 returns-in_err-write_count g c =

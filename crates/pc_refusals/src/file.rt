@@ -1,12 +1,32 @@
 //! A sheet's text from a file of a shelf.
 ghost use Rattle.std.specs.Prelude.{◌≡◌, ◌≢◌};
 ghost use Rattle.pc_port.specs.Port.{Rose};
-ghost use Rattle.pc_transcript.specs.Files.{AsksOnce, FileGives};
+ghost use Rattle.pc_refusals.specs.Files.{AsksOnce, FileGives};
 
 use crate::SHEET_LIMIT;
-use crate::sheet::SheetStop;
 use pc_port::{Shelf, ShelfFault};
-use std::alloc::Global;
+use std::alloc::{AllocError, Global};
+
+/// Why a sheet's text was not taken.
+#[derive(Clone, Copy, Debug, PartialEq, Eq)]
+pub enum SheetStop {
+    /// The input, or the shelf, answered a fault.
+    Failed,
+    /// There is more than a sheet may have.
+    TooLong,
+    /// Memory was wanted.
+    Memory,
+}
+
+impl From<AllocError> for SheetStop {
+    ghost use Rattle.pc_refusals.specs.declared.file.SheetStop.TheVariants.{Memory};
+
+    ghost from_gives = { λ _ stop. stop ≡ Memory };
+
+    fn from(_: AllocError) -> Self {
+        SheetStop::Memory
+    }
+}
 
 /// All bytes of the shelf's file of that name, at most as many as a sheet may have. The shelf is read once.
 pub fn take_file<H: Shelf>(alloc: Global, file: &str, shelf: &mut H) -> Result<Vec<u8>, SheetStop>

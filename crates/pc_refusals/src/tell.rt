@@ -1,12 +1,11 @@
 //! How a run ends by one line.
 ghost use Rattle.std.specs.Prelude.{◌≡◌, ◌≢◌};
 ghost use Rattle.pc_port.specs.Port.{Rose};
-ghost use Rattle.pc_transcript.specs.Refusals.{sheet_refusal_text};
-ghost use Rattle.pc_transcript.specs.Run.{TellsAtEnd, memory_text, sheet_memory_text};
-ghost use Rattle.pc_transcript.specs.Transcript.{too_long_text};
+ghost use Rattle.pc_refusals.specs.Refusals.{sheet_refusal_text};
+ghost use Rattle.pc_refusals.specs.Endings.{TellsAtEnd, memory_text, sheet_memory_text, too_long_text};
 
 use crate::Status;
-use crate::refusal::{SHEET, SheetRefusal, write_refusal};
+use crate::refusal::{SHEET_REFUSED, SheetRefusal, write_refusal};
 use pc_port::{Failed, Sink};
 
 /// Ends a run by a line, at the status, or at a failed write.
@@ -28,7 +27,7 @@ pub fn refuse<O: Sink>(refused: SheetRefusal, out: &mut O) -> Status
     ensures fault { result ≡ Status.WriteFault → Rose (O.faults out.old) (O.faults out.new) }
     ensures no_fault { result ≢ Status.WriteFault → O.faults out.new ≡ O.faults out.old }
 {
-    match write_refusal(SHEET, refused.refusal, refused.line, out) {
+    match write_refusal(SHEET_REFUSED, refused.refusal, refused.line, out) {
         Ok(()) => Status::SheetRefused,
         Err(Failed) => Status::WriteFault,
     }

@@ -2,12 +2,14 @@
 use Rattle.std.specs.Prelude.{ℕ, List, [], ◌++◌, codes, decimal}
 use Rattle.std.specs.declared.option.Option.{Option}
 use Rattle.std.specs.declared.option.Option.TheVariants.{Some, None}
-use Rattle.pc_transcript.specs.declared.refusal.Refusal.{Refusal}
-use Rattle.pc_transcript.specs.declared.refusal.Refusal.TheVariants.{NotUtf8, Syntax, NoBegin, WrongVersion, UnknownName, DuplicateName, WrongArity, WrongSort, NotAValue, EmptySort, Limit, TooLarge, Inconsistent, Spent, NoEntry, DuplicateRule, NoRule, TooDeep}
-use Rattle.pc_transcript.specs.declared.refusal.Counts.{Counts}
+use Rattle.pc_refusals.specs.declared.refusal.Refusal.{Refusal}
+use Rattle.pc_refusals.specs.declared.refusal.Refusal.TheVariants.{NotUtf8, Syntax, NoBegin, WrongVersion, UnknownName, DuplicateName, WrongArity, WrongSort, NotAValue, EmptySort, Limit, TooLarge, Inconsistent, Spent, NoEntry, DuplicateRule, NoRule, TooDeep}
+use Rattle.pc_refusals.specs.declared.refusal.Counts.{Counts}
 use Rattle.pc_sheet.specs.declared.limits.Limited.{Limited}
 use Rattle.pc_sheet.specs.declared.limits.Limited.TheVariants.{Sorts, Values, Number, Tables, Families, Arity, Cells, Rows, Rules, Depth, Reads, Budget}
-use Rattle.pc_transcript.specs.declared.refusal.SheetRefusal.{SheetRefusal}
+use Rattle.pc_refusals.specs.declared.refusal.SheetRefusal.{SheetRefusal}
+use Rattle.pc_refusals.specs.declared.refusal.LoadFault.{LoadFault}
+use Rattle.pc_refusals.specs.declared.refusal.LoadFault.TheVariants as load_fault
 
 -- the number and the word of a refusal
 abbrev pub words_of : Refusal → List ℕ
@@ -71,3 +73,8 @@ refusal_text refusal = told_text (codes "refused ") refusal None
 -- how a refused sheet is told
 abbrev pub sheet_refusal_text : SheetRefusal → List ℕ
 sheet_refusal_text refused = told_text (codes "sheet refused ") refused.refusal refused.line
+
+-- why a text gives no sheet: a refusal that the text has, or want of memory
+abbrev pub RefusesBy : (SheetRefusal → Type 0) → LoadFault → Type 0
+RefusesBy Has (load_fault.Refused why) = Has why
+RefusesBy Has load_fault.Memory = Unit {0}

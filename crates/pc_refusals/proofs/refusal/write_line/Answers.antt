@@ -1,9 +1,9 @@
 use Rattle.std.proofs.Common.{decimal, ap, sym, ◌∙◌, rules, w64, SFits}
 use Rattle.std.proofs.lemmas.Int.{to_z-of_z}
 use Rattle.std.specs.Fmt.{signed_decimal}
-use Rattle.pc_transcript.specs.Refusals.{refused_line_text}
+use Rattle.pc_refusals.specs.Refusals.{refused_line_text}
 use Rattle.pc_writer.proofs.InTurn.{Writes-then, Writes-cut, Writes-same}
-use Rattle.pc_transcript.proofs.refusal.write_line.Goals as goal
+use Rattle.pc_refusals.proofs.refusal.write_line.Goals as goal
 
 pub returns-in_err-write_text : goal.returns-in_err-write_text
 returns-in_err-write_text g c = Writes-same (ap refused_line_text (sym c.in-Some.is)) (Writes-cut c.from_residual.result (decimal c.in-Some.number) c.from_residual.ensures.0 c.in_err-write_text.ensures)

@@ -1,7 +1,7 @@
 use Rattle.std.proofs.Common.{codes, ◌++◌}
-use Rattle.pc_transcript.specs.Refusals.{words_of, refused_line_text, further_text}
+use Rattle.pc_refusals.specs.Refusals.{words_of, refused_line_text, further_text}
 use Rattle.pc_writer.proofs.InTurn.{Writes-then, Writes-cut, Writes-same}
-use Rattle.pc_transcript.proofs.refusal.write_refusal.Goals as goal
+use Rattle.pc_refusals.proofs.refusal.write_refusal.Goals as goal
 
 pub returns-in_err-write_text : goal.returns-in_err-write_text
 returns-in_err-write_text g c =

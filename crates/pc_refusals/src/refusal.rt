@@ -1,17 +1,18 @@
-// Why texts are refused, and how that is told.
+//! Why texts are refused, and how that is told.
 ghost use Rattle.std.specs.Prelude.{◌≡◌, ◌++◌, codes};
 ghost use Rattle.pc_writer.specs.Writes.{Writes};
-ghost use Rattle.pc_transcript.specs.Refusals.{counts_text, further_text, limit_word_of, refused_line_text, told_text, words_of};
+ghost use Rattle.pc_refusals.specs.Refusals.{counts_text, further_text, limit_word_of, refused_line_text, told_text, words_of};
 
 use itoa::{Buffer, Integer};
 use pc_port::{Failed, Sink};
 use pc_sheet::Limited;
 use pc_writer::{write_integer, write_text};
 
-// How the line that tells a refusal begins, by what is refused.
-pub(crate) const COMMAND: &[u8] = b"refused ";
+/// How the line begins that tells the refusal of a command.
+pub const COMMAND_REFUSED: &[u8] = b"refused ";
 
-pub(crate) const SHEET: &[u8] = b"sheet refused ";
+/// How the line begins that tells the refusal of a sheet.
+pub const SHEET_REFUSED: &[u8] = b"sheet refused ";
 
 /// What a search has spent.
 #[derive(Clone, Copy, Debug, PartialEq, Eq)]
@@ -70,6 +71,15 @@ pub enum Refusal {
 pub struct SheetRefusal {
     pub refusal: Refusal,
     pub line: Option<u32>,
+}
+
+/// Why a text gives no sheet.
+#[derive(Clone, Copy, Debug, PartialEq, Eq)]
+pub enum LoadFault {
+    /// The text is refused.
+    Refused(SheetRefusal),
+    /// Memory was wanted.
+    Memory,
 }
 
 impl Refusal {
@@ -169,7 +179,7 @@ fn write_further<O: Sink>(refusal: Refusal, out: &mut O) -> Result<(), Failed>
 }
 
 // Tells a refusal in a line that begins so.
-pub(crate) fn write_refusal<O: Sink>(
+pub fn write_refusal<O: Sink>(
     beginning: &[u8],
     refusal: Refusal,
     line: Option<u32>,

@@ -4,12 +4,10 @@ use Rattle.std.specs.declared.alloc.Global.{Global}
 use Rattle.std.specs.declared.option.Option.{Option}
 use Rattle.pc_port.specs.Port.{Rose}
 use Rattle.pc_port.specs.Shelf.{Files, file_named}
-use Rattle.pc_transcript.specs.declared.TheConstants.{SHEET_LIMIT}
-use Rattle.pc_transcript.specs.declared.sheet.SheetStop.{SheetStop}
-use Rattle.pc_transcript.specs.declared.sheet.SheetStop.TheVariants.{Failed, TooLong, Memory}
-use Rattle.pc_transcript.specs.Answer.{Printing, printed}
-use Rattle.pc_transcript.specs.Transcript.{too_long_text}
-use Rattle.pc_transcript.specs.Run.{sheet_memory_text}
+use Rattle.pc_refusals.specs.declared.TheConstants.{SHEET_LIMIT}
+use Rattle.pc_refusals.specs.declared.file.SheetStop.{SheetStop}
+use Rattle.pc_refusals.specs.declared.file.SheetStop.TheVariants.{Failed, TooLong, Memory}
+use Rattle.pc_refusals.specs.Endings.{Printing, printed, too_long_text, sheet_memory_text}
 
 -- the shelf was asked for nothing, or once, for the file
 abbrev pub AsksOnce : List ℕ → List (List ℕ) → List (List ℕ) → Type 0

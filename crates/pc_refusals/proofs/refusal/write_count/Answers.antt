@@ -1,6 +1,6 @@
 use Rattle.std.proofs.Common.{◌∙◌}
 use Rattle.pc_writer.proofs.InTurn.{Writes-then, Writes-cut, Writes-same}
-use Rattle.pc_transcript.proofs.refusal.write_count.Goals as goal
+use Rattle.pc_refusals.proofs.refusal.write_count.Goals as goal
 
 pub returns-in_err-write_text : goal.returns-in_err-write_text
 returns-in_err-write_text g c = Writes-cut c.from_residual.result (g.N.Integer.text c.args.number) c.from_residual.ensures.0 c.in_err-write_text.ensures
