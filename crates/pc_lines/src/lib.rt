@@ -7,6 +7,3 @@
 mod reader;
 
 pub use reader::{LineReader, Taken};
-
-/// The most bytes that a reader holds, read from its source and not taken yet.
-pub const CHUNK: usize = 4096;

@@ -2,12 +2,11 @@
 ghost use Rattle.std.specs.Prelude.{◌≡◌, ◌+◌, ◌-◌, ◌^◌, ◌<◌, ◌≤◌, [], ◌∷◌, ◌++◌, length, take, drop, vec_capacity, slice_range, IfOk, IfSome, IfNone, MatchResult, OnErr, MatchBool, Contains};
 ghost use Rattle.std.specs.Io.KnownBytes.{Keeps, IsAtEnd, Consumes};
 ghost use Rattle.pc_port.specs.Port.{HasCause};
-ghost use Rattle.pc_lines.specs.declared.TheConstants.{CHUNK};
+ghost use Rattle.pc_port.specs.declared.TheConstants.{CHUNK};
 ghost use Rattle.pc_lines.specs.Lines.{HasNoEnd, IsOpenLine, line_text_of, length_of};
 ghost use Rattle.pc_lines.specs.Reader.{ReaderState, IsNewReader, coming, Moves, IsTakenPart, IsTakenUpTo, IsTaken, IsNextLine};
 
-use crate::CHUNK;
-use pc_port::{Failed, Source};
+use pc_port::{CHUNK, Failed, Source};
 use std::alloc::{AllocError, Global};
 use std::marker::Model;
 

@@ -21,3 +21,6 @@ pub use shelf::{READ_LIMIT, Shelf, ShelfFault};
 pub use sink::Sink;
 pub use source::{Failed, Source};
 pub use sure::{SureSink, SureSource};
+
+/// The most bytes that one read asks for.
+pub const CHUNK: usize = 4096;

@@ -7,13 +7,11 @@ ghost use Rattle.pc_port.specs.Shelf.{readable, ShelfGives, asked_after, HasShel
 ghost use Rattle.pc_port.specs.Memory.{faults_after};
 ghost use Rattle.pc_port.specs.declared.shelf.TheConstants.{READ_LIMIT};
 
-use crate::{Failed, READ_LIMIT, Shelf, ShelfFault, Sink, Source};
+use crate::{CHUNK, Failed, READ_LIMIT, Shelf, ShelfFault, Sink, Source};
 use std::alloc::Global;
 use std::fs::File;
 use std::io::{ErrorKind, Read, Write};
 use std::rt::Files;
-
-const CHUNK: usize = 4096;
 
 /// Reads from standard input, or from any other reader, with a count of the faults.
 #[derive(Drop)]

@@ -5,7 +5,7 @@ use Rattle.std.proofs.KnownBytes.{Appends-nil}
 use Rattle.pc_refusals.specs.declared.status.Status.{Status}
 use Rattle.pc_refusals.specs.declared.status.Status.TheVariants.{Done, SomeRefused, Usage, SheetRefused, ReadFault, WriteFault, Memory, TooLong, CertRefused}
 use Rattle.pc_port.specs.Port.{AppendsFront}
-use Rattle.pc_lines.specs.declared.TheConstants.{CHUNK}
+use Rattle.pc_port.specs.declared.TheConstants.{CHUNK}
 use Rattle.pc_refusals.specs.declared.refusal.SheetRefusal.{SheetRefusal}
 use Rattle.pc_refusals.specs.Refusals.{sheet_refusal_text}
 use Rattle.pc_transcript.specs.declared.machine.LoadStop.{LoadStop}

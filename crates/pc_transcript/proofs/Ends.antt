@@ -8,7 +8,7 @@ use Rattle.std.proofs.lemmas.List.Elements.{All-push, All-weaker, recursion_from
 use Rattle.pc_port.specs.Port.{AppendsFront}
 use Rattle.pc_lines.specs.Lines.{lines_of, IsWholeLine, IsOpenLine}
 use Rattle.pc_lines.specs.Lines as a_line
-use Rattle.pc_lines.specs.declared.TheConstants.{CHUNK}
+use Rattle.pc_port.specs.declared.TheConstants.{CHUNK}
 use Rattle.pc_lines.proofs.First.{lines_of-whole, lines_of-open}
 use Rattle.pc_transcript.specs.declared.TheConstants.{LINE_LIMIT, MAX_LINES}
 use Rattle.pc_transcript.specs.declared.serve.Marks.{Marks}

@@ -10,7 +10,7 @@ use Rattle.pc_refusals.specs.declared.TheConstants.{SHEET_LIMIT}
 use Rattle.pc_transcript.specs.declared.sheet.Step.TheVariants.{Complete}
 use Rattle.pc_refusals.specs.declared.file.SheetStop.{SheetStop}
 use Rattle.pc_refusals.specs.declared.file.SheetStop.TheVariants.{Failed, TooLong, Memory}
-use Rattle.pc_lines.specs.declared.TheConstants.{CHUNK}
+use Rattle.pc_port.specs.declared.TheConstants.{CHUNK}
 use Rattle.pc_transcript.specs.SheetPart.{IsEarlier, EndsSheet, joined_lines, TakesSheet, TakesLine, StepGives, StopsSheet, IsNotAppended, IsLineFront, IsSheetFront, HasTaken}
 use Rattle.pc_transcript.proofs.Ends.{read_ahead, taken_with_none}
 

@@ -2,7 +2,7 @@
 ghost use Rattle.std.specs.Prelude.{◌≡◌, ◌≢◌, ◌≤◌, ◌↔◌, ◌++◌, length, IsTrue, IfErr, OnOk};
 ghost use Rattle.pc_port.specs.Port.{Rose};
 ghost use Rattle.pc_lines.specs.Reader.{coming};
-ghost use Rattle.pc_lines.specs.declared.TheConstants.{CHUNK};
+ghost use Rattle.pc_port.specs.declared.TheConstants.{CHUNK};
 ghost use Rattle.pc_transcript.specs.SheetPart.{IsBeginLine, IsNotAppended, SheetGives, StepGives};
 
 use pc_lines::{LineReader, Taken};
