@@ -1,3 +1,4 @@
+pub mod Equations
 pub mod ItemViews
 pub mod Joining
 pub mod Lists

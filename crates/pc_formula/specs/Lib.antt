@@ -1,3 +1,4 @@
+pub mod Equation
 pub mod Front
 pub mod Grammar
 pub mod Nesting

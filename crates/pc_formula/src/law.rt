@@ -1,10 +1,11 @@
 // Laws of the grammar.
-ghost use Rattle.std.specs.Prelude.{◌≡◌, ◌<◌, ◌≤◌, ℕ, ℤ, List, length};
+ghost use Rattle.std.specs.Prelude.{◌≡◌, ◌<◌, ◌≤◌, ℕ, ℤ, Bool, List, length};
 ghost use Rattle.pc_name.specs.Names.{most_name_bytes};
 ghost use Rattle.pc_formula.specs.Word.{Word, HasWords, HasShortNames, nesting};
 ghost use Rattle.pc_formula.specs.Tree.{Value, Cell, Formula};
 ghost use Rattle.pc_formula.specs.Front.{StopsLevel};
 ghost use Rattle.pc_formula.specs.Value.{DerivesName, DerivesNumber, DerivesInt, DerivesValue, InParentheses, Arguments, DerivesCell};
+ghost use Rattle.pc_formula.specs.Equation.{equality, IsEquation};
 ghost use Rattle.pc_formula.specs.Grammar.{IsFormula};
 ghost use Rattle.pc_formula.specs.Sized.{IsSized, too_many};
 ghost use Rattle.pc_formula.specs.Nesting.{nesting_of};
@@ -21,7 +22,7 @@ pub fn one_formula()
 {}
 
 /// Words start with at most one number, integer, value and list of names or values in parentheses, and with at most one
-/// cell and optional list that no parenthesis follows.
+/// cell and optional list that no parenthesis follows. They are at most one equation, with one sign.
 pub fn one_value()
     ensures number { (ws : List Word) (m n : ℕ) (r s : List Word) → DerivesNumber ws m r → DerivesNumber ws n s → (m ≡ n) × (r ≡ s) }
     ensures integer { (ws : List Word) (y z : ℤ) (r s : List Word) → DerivesInt ws y r → DerivesInt ws z s → (y ≡ z) × (r ≡ s) }
@@ -30,4 +31,5 @@ pub fn one_value()
     ensures values { (ws : List Word) (a b : List Value) (r s : List Word) → InParentheses DerivesValue ws a r → InParentheses DerivesValue ws b s → (a ≡ b) × (r ≡ s) }
     ensures arguments { (ws : List Word) (a b : List (List ℕ)) (r s : List Word) → Arguments DerivesName ws a r → Arguments DerivesName ws b s → StopsLevel 1 r → StopsLevel 1 s → (a ≡ b) × (r ≡ s) }
     ensures cell { (ws : List Word) (c d : Cell) (r s : List Word) → DerivesCell ws c r → DerivesCell ws d s → StopsLevel 1 r → StopsLevel 1 s → (c ≡ d) × (r ≡ s) }
+    ensures equation { (ws : List Word) (c d : Cell) (v w : Value) (g h : Bool) → IsEquation ws (equality g) c v → IsEquation ws (equality h) d w → (c ≡ d) × (v ≡ w) × (g ≡ h) }
 {}

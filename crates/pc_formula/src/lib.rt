@@ -1,6 +1,7 @@
 //! Formulas, cells and values as trees, the words of a line, and the readers that make trees of words.
 #![tactic(auto)]
 
+mod equation;
 mod formula;
 mod items;
 mod law;
@@ -9,6 +10,7 @@ mod tree;
 mod values;
 mod words;
 
+pub use equation::{read_end, read_equation, read_last_cell, read_last_value, read_question};
 pub use formula::read_formula;
 pub use law::{one_formula, one_value};
 pub use pc_name::{Name, Op, Sign};

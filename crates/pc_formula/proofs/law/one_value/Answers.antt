@@ -1,4 +1,5 @@
 use Rattle.pc_formula.specs.Value.{DerivesName, DerivesValue}
+use Rattle.pc_formula.proofs.Equations.{equation_once}
 use Rattle.pc_formula.proofs.Lists.{enclosed_once, arguments_once}
 use Rattle.pc_formula.proofs.ValueForms.{name_once, number_once, int_once, value_once, cell_once}
 use Rattle.pc_formula.proofs.law.one_value.Goals as goal
@@ -23,3 +24,6 @@ returns-clause-arguments c = arguments_once DerivesName name_once
 
 pub returns-clause-cell : goal.returns-clause-cell
 returns-clause-cell c = cell_once
+
+pub returns-clause-equation : goal.returns-clause-equation
+returns-clause-equation c = equation_once
