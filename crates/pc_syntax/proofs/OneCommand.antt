@@ -9,9 +9,10 @@ use Rattle.pc_syntax.specs.Spelling.{IsTooDeep}
 use Rattle.pc_syntax.specs.Fault.{Fault, IsAtFault}
 use Rattle.pc_syntax.specs.Command.{command_keyword, FollowsCommand, IsCommand, HasCommand, no_words, some_words, CommandReading, asks, at_fault, IsCommandReading, empty_command, spelled_command, faulty_command}
 use Rattle.pc_formula.proofs.ValueForms.{number_once}
+use Rattle.pc_formula.proofs.Equations.{equation_once}
 use Rattle.pc_syntax.proofs.Families.{one_cell}
 use Rattle.pc_syntax.proofs.ReadLine.{one_words}
-use Rattle.pc_syntax.proofs.OneLine.{one_rule, one_pair}
+use Rattle.pc_syntax.proofs.OneLine.{one_rule}
 use Rattle.pc_syntax.proofs.OneFault.{fault_once, deep_unspelled, form_no_fault}
 
 -- ---- the word that starts a command
@@ -99,7 +100,7 @@ shape_of a text t is same = subst (λ s. Shape s a) (sym (start_is a) ∙ ap sta
 -- ---- one command
 
 one_shape : (t : Start) (a b : Asked) (ws : List Word) → Shape t a → Shape t b → FollowsCommand a ws → FollowsCommand b ws → a ≡ b
-one_shape t a b ws (an_enter c v) (an_enter d w) p q = let both = one_pair ws c d v w true true p q in ap (λ m. asks_enter m v) both.cells ∙ ap (λ u. asks_enter d u) both.values
+one_shape t a b ws (an_enter c v) (an_enter d w) p q = let both = equation_once ws c d v w true true p q in ap (λ m. asks_enter m v) both.0 ∙ ap (λ u. asks_enter d u) both.1
 one_shape t a b ws (a_clear c) (a_clear d) p q = ap asks_clear (one_cell ws c d [] [] tt tt p q).0
 one_shape t a b ws (a_rule n f) (a_rule k g) p q = let both = one_rule ws n k f g p q in ap (λ m. asks_rule m f) both.0 ∙ ap (λ h. asks_rule k h) both.1
 one_shape t a b ws (a_drop n) (a_drop k) p q = let words = sym p ∙ q in let names : n ≡ k = cc in ap asks_drop names
@@ -108,8 +109,8 @@ one_shape t a b ws a_show a_show p q = refl
 one_shape t a b ws a_grid a_grid p q = refl
 one_shape t a b ws a_json a_json p q = refl
 one_shape t a b ws (a_why c v h) (a_why d w i) p q =
-    let both = one_pair ws c d v w h i p q in
-    ap (λ m. asks_why m v h) both.cells ∙ ap (λ u. asks_why d u h) both.values ∙ ap (λ s. asks_why d w s) both.signs
+    let both = equation_once ws c d v w h i p q in
+    ap (λ m. asks_why m v h) both.0 ∙ ap (λ u. asks_why d u h) both.1 ∙ ap (λ s. asks_why d w s) both.2
 one_shape t a b ws a_dump a_dump p q = refl
 
 pub one_command : (ws : List Word) (a b : Asked) → IsCommand ws a → IsCommand ws b → a ≡ b

@@ -1,19 +1,19 @@
 -- A line has one form, which its first word decides, and a command line one reading.
-use Rattle.std.proofs.Common.{◌≡◌, ℕ, ℤ, Bool, true, false, List, [], ◌∷◌, map, refl, sym, ◌∙◌, ap, subst, arith, if◌then◌else◌}
+use Rattle.std.proofs.Common.{◌≡◌, ℕ, ℤ, true, false, List, [], ◌∷◌, map, refl, sym, ◌∙◌, ap, subst, arith, if◌then◌else◌}
 use Rattle.std.specs.Prelude.{codes, bytes_eq}
 use Rattle.pc_token.specs.declared.token.Kind.TheVariants.{Colon}
 use Rattle.pc_formula.specs.Word.{Word, name, sign, nesting}
-use Rattle.pc_formula.specs.Front.{StopsLevel}
 use Rattle.pc_formula.specs.Value.{DerivesName, DerivesNumber, DerivesInt, DerivesValue, InParentheses, Arguments}
 use Rattle.pc_formula.specs.Grammar.{IsFormula}
 use Rattle.pc_formula.specs.Tree.{Formula, Cell, Value}
 use Rattle.pc_syntax.specs.Tree.{Declared, list_sort, range_sort, table, row, cell, rule, enter}
 use Rattle.pc_syntax.specs.Spelling.{IsSpelled, IsTooDeep}
-use Rattle.pc_syntax.specs.Clause.{IsEquation, IsRule, equality}
+use Rattle.pc_syntax.specs.Clause.{IsRule}
 use Rattle.pc_syntax.specs.Line.{LineForm, nothing, heading, declares, begins, keyword, AreBounds, IsRangeDeclared, IsTable, IsRow, IsFamily, StandsBehind, IsDeclaration, IsHeading, IsForm, IsBegin, IsLine, empty_line, begin_line, spelled_line}
 use Rattle.pc_formula.proofs.Unambiguous.{one_tree}
-use Rattle.pc_formula.proofs.ValueForms.{number_once, int_once, value_once}
-use Rattle.pc_syntax.proofs.Families.{one_cell, one_list_of_names, one_list_of_values, one_arguments, no_int_of_name, no_int_of_none, nesting_of_one}
+use Rattle.pc_formula.proofs.ValueForms.{number_once, int_once}
+use Rattle.pc_formula.proofs.Equations.{equation_once}
+use Rattle.pc_syntax.proofs.Families.{one_list_of_names, one_list_of_values, one_arguments, no_int_of_name, no_int_of_none, nesting_of_one}
 use Rattle.pc_syntax.proofs.Lone.{lone_something}
 use Rattle.pc_syntax.proofs.ReadLine.{one_words, one_name_has}
 
@@ -163,29 +163,6 @@ one_rule ws n k f g a b =
     let rest : a.rest ≡ b.rest = cc in
     ((cc), one_tree b.rest f g (subst (λ l. IsFormula l f) rest a.formula) b.formula)
 
--- the sign behind a cell ends it
-ends_cell : (h : Bool) (ws : List Word) → StopsLevel 1 (sign (equality h) ∷ ws)
-ends_cell true ws = omega arith
-ends_cell false ws = omega arith
-
-pub record SamePair (c d : Cell) (v w : Value) (h i : Bool) : Type 0 where
-  pub cells : c ≡ d
-  pub values : v ≡ w
-  pub signs : h ≡ i
-
-same_sign : (h i : Bool) (r s : List Word) → sign (equality h) ∷ r ≡ sign (equality i) ∷ s → h ≡ i
-same_sign true true r s is = refl
-same_sign true false r s is = cc
-same_sign false true r s is = cc
-same_sign false false r s is = refl
-
-pub one_pair : (ws : List Word) (c d : Cell) (v w : Value) (h i : Bool) → IsEquation ws (equality h) c v → IsEquation ws (equality i) d w → SamePair c d v w h i
-one_pair ws c d v w h i a b =
-    let cells = one_cell ws c d _ _ (ends_cell h a.rest) (ends_cell i b.rest) a.cell b.cell in
-    let behind = cells.1 in
-    let rest : a.rest ≡ b.rest = cc in
-    record { cells = cells.0; values = (value_once b.rest v w [] [] (subst (λ l. DerivesValue l v []) rest a.value) b.value).0; signs = same_sign h i a.rest b.rest behind }
-
 one_shape : (t : Start) (d e : Declared) (ws : List Word) → Shape t d → Shape t e → StandsBehind d ws → StandsBehind e ws → d ≡ e
 one_shape t d e ws (a_list n xs) (a_list k ys) a b = one_listed ws n k xs ys a b
 one_shape t d e ws (a_list n xs) (a_range k low high) a b = absurd (no_bounds ws xs n k low high a b)
@@ -195,7 +172,7 @@ one_shape t d e ws (a_table n xs) (a_table k ys) a b = one_table ws n k xs ys a 
 one_shape t d e ws (a_row n xs) (a_row k ys) a b = one_row ws n k xs ys a b
 one_shape t d e ws (a_cell n xs p) (a_cell k ys q) a b = one_family ws n k xs ys p q a b
 one_shape t d e ws (a_rule n f) (a_rule k g) a b = let both = one_rule ws n k f g a b in ap (λ m. rule m f) both.0 ∙ ap (λ h. rule k h) both.1
-one_shape t d e ws (an_entry c v) (an_entry p w) a b = let both = one_pair ws c p v w true true a b in ap (λ m. enter m v) both.cells ∙ ap (λ u. enter p u) both.values
+one_shape t d e ws (an_entry c v) (an_entry p w) a b = let both = equation_once ws c p v w true true a b in ap (λ m. enter m v) both.0 ∙ ap (λ u. enter p u) both.1
 
 one_declaration : (ws : List Word) (d e : Declared) → IsDeclaration ws d → IsDeclaration ws e → d ≡ e
 one_declaration ws d e a b =

@@ -4,10 +4,11 @@ use Rattle.pc_token.specs.Line.{IsOneName}
 use Rattle.pc_token.specs.declared.token.Kind.TheVariants.{Equal}
 use Rattle.pc_formula.specs.Word.{Word, name}
 use Rattle.pc_formula.specs.Value.{DerivesNumber, DerivesCell}
+use Rattle.pc_formula.specs.Equation.{equality, IsEquation}
 use Rattle.pc_syntax.specs.Spelling.{IsNothing, IsSpelled}
 use Rattle.pc_syntax.specs.Fault.{Fault, IsAtFault}
 use Rattle.pc_syntax.specs.Tree.{Asked, asks_enter, asks_clear, asks_rule, asks_drop, asks_budget, asks_show, asks_grid, asks_json, asks_why, asks_dump}
-use Rattle.pc_syntax.specs.Clause.{equality, IsEquation, IsRule}
+use Rattle.pc_syntax.specs.Clause.{IsRule}
 
 -- the word that starts a command
 abbrev pub command_keyword : Asked → List ℕ

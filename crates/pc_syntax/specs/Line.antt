@@ -6,8 +6,9 @@ use Rattle.pc_token.specs.Line.{IsOneName}
 use Rattle.pc_formula.specs.Word.{Word, name, sign}
 use Rattle.pc_formula.specs.Tree.{Value}
 use Rattle.pc_formula.specs.Value.{DerivesName, DerivesNumber, DerivesInt, DerivesValue, InParentheses, Arguments}
+use Rattle.pc_formula.specs.Equation.{IsEquation}
 use Rattle.pc_syntax.specs.Spelling.{IsNothing, IsSpelled}
-use Rattle.pc_syntax.specs.Clause.{IsEquation, IsRule}
+use Rattle.pc_syntax.specs.Clause.{IsRule}
 use Rattle.pc_syntax.specs.Tree.{Declared, list_sort, range_sort, table, row, cell, rule, enter}
 
 -- what a line of a sheet is: blank or a comment, `sheet` with its version, a declaration, or `begin`

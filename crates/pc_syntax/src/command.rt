@@ -7,11 +7,11 @@ ghost use Rattle.pc_syntax.specs.Command.{command_keyword, FollowsCommand, IsCom
 ghost use Rattle.pc_syntax.specs.Told.{reading_of, IsCommandTold, TellsCommand, IsAskedTold, IsLone};
 ghost use Rattle.pc_syntax.specs.Sized.{IsSizedReading, IsNestedReading};
 
-use crate::clause::{end, entry, is_word, last_cell, last_name, number, question, rule};
+use crate::clause::{is_word, last_name, number, rule};
 use crate::fault::LineFault;
 use crate::read::{is_nothing, tokens_within};
 use crate::tree::{Command, CommandFault};
-use pc_formula::{Refusal, Words};
+use pc_formula::{Refusal, Words, read_end, read_equation, read_last_cell, read_question};
 use pc_token::is_one_name;
 use std::alloc::Global;
 use std::str;
@@ -87,15 +87,15 @@ fn command_of(alloc: Global, start: &str, words: &mut Words<'_>) -> Result<Comma
     ensures none { result ≡ Err Refusal.Syntax → (a : Asked) → Asks start.now a words.old → ⊥ }
 {
     if let Some(command) = one_word(start) {
-        end(words)?;
+        read_end(words)?;
         return Ok(command);
     }
     if is_word(start, "enter") {
-        let (cell, value) = entry(alloc, words)?;
+        let (cell, value) = read_equation(alloc, words)?;
         return Ok(Command::Enter(cell, value));
     }
     if is_word(start, "clear") {
-        return Ok(Command::Clear(last_cell(alloc, words)?));
+        return Ok(Command::Clear(read_last_cell(alloc, words)?));
     }
     if is_word(start, "rule") {
         return Ok(Command::AddRule(rule(alloc, words)?));
@@ -107,7 +107,7 @@ fn command_of(alloc: Global, start: &str, words: &mut Words<'_>) -> Result<Comma
         return Ok(Command::Budget(number(words)?));
     }
     if is_word(start, "why") {
-        let (cell, value, holds) = question(alloc, words)?;
+        let (cell, value, holds) = read_question(alloc, words)?;
         return Ok(Command::Why { cell, value, holds });
     }
     Err(Refusal::Syntax)

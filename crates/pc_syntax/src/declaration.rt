@@ -4,9 +4,12 @@ ghost use Rattle.pc_formula.specs.Word.{Word, name};
 ghost use Rattle.pc_syntax.specs.Tree.{Declared, declared_of};
 ghost use Rattle.pc_syntax.specs.Line.{AreBounds, IsDeclarationOf};
 
-use crate::clause::{end, entry, is_word, last_name, rule};
+use crate::clause::{is_word, last_name, rule};
 use crate::tree::Declaration;
-use pc_formula::{Refusal, Words, read_integer, read_name_arguments, read_names, read_values};
+use pc_formula::{
+    Refusal, Words, read_end, read_equation, read_integer, read_name_arguments, read_names,
+    read_values,
+};
 use pc_name::Name;
 use pc_token::Kind;
 use std::alloc::Global;
@@ -92,7 +95,7 @@ fn bounds(words: &mut Words<'_>) -> Result<(i64, i64), Refusal>
     let Some(high) = read_integer(words) else {
         return Err(Refusal::Syntax);
     };
-    end(words)?;
+    read_end(words)?;
     Ok((low, high))
 }
 
@@ -105,7 +108,7 @@ fn table(alloc: Global, words: &mut Words<'_>) -> Result<Declaration, Refusal>
         return Err(Refusal::Syntax);
     };
     let sorts = read_names(alloc, words)?;
-    end(words)?;
+    read_end(words)?;
     let name = Name::new(alloc, text)?;
     Ok(Declaration::Table { name, sorts })
 }
@@ -119,7 +122,7 @@ fn row(alloc: Global, words: &mut Words<'_>) -> Result<Declaration, Refusal>
         return Err(Refusal::Syntax);
     };
     let values = read_values(alloc, words)?;
-    end(words)?;
+    read_end(words)?;
     let table = Name::new(alloc, text)?;
     Ok(Declaration::Row { table, values })
 }
@@ -158,6 +161,6 @@ fn first_entry(alloc: Global, words: &mut Words<'_>) -> Result<Declaration, Refu
     ensures told { IfOk result (λ d. IsDeclarationOf (codes "enter") (declared_of d) words.old) }
     ensures none { result ≡ Err Refusal.Syntax → (d : Declared) → IsDeclarationOf (codes "enter") d words.old → ⊥ }
 {
-    let (cell, value) = entry(alloc, words)?;
+    let (cell, value) = read_equation(alloc, words)?;
     Ok(Declaration::Enter(cell, value))
 }
