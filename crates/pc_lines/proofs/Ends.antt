@@ -1,9 +1,9 @@
 -- Where lines end.
-use Rattle.std.proofs.Common.{◌≡◌, ◌≢◌, ◌==◌, ℕ, ◌+◌, ◌-◌, ◌<◌, ◌≤◌, nat_lt, List, [], ◌∷◌, ◌++◌, length, take, drop, refl, sym, ◌∙◌, ap, arith, subst, append_assoc, length-append, slice_index, zero, suc}
+use Rattle.std.proofs.Common.{◌≡◌, ◌≢◌, ◌==◌, ℕ, ◌+◌, ◌-◌, ◌<◌, ◌≤◌, nat_lt, List, [], ◌∷◌, ◌++◌, length, take, drop, refl, sym, ◌∙◌, ap, arith, subst, append_assoc, length-append, slice_index}
 use Rattle.std.specs.List.{AllByRecursion}
-use Rattle.std.proofs.lemmas.Bool.{ne_eqb, eq-eqb, cond_below, cond_above, cond_both, ltb-false}
+use Rattle.std.proofs.lemmas.Bool.{ne_eqb, cond_below, cond_above, cond_both, ltb-false}
 use Rattle.std.proofs.lemmas.List.Elements.{recursion_from_All, All-append, All-take}
-use Rattle.std.proofs.lemmas.List.{append-nil, length_push, length-take, take_at, take-take, get_or-take}
+use Rattle.std.proofs.lemmas.List.{append-nil, length_push, length-take, take_at, take-take}
 use Rattle.std.specs.Str.Lines.{strip_carriage_return}
 use Rattle.pc_lines.specs.Lines.{before_end, length_of, HasNoEnd, IsOpenLine, IsWholeLine, IsLongStart, line_text_of}
 
@@ -75,38 +75,16 @@ text_of-open line none =
     let same : length_of line ≡ length line = ap length (before_end-none line none) in
     sym (cond_above (length_of line) (length line) (strip_carriage_return (before_end line)) line line (omega arith) refl)
 
--- the text of a line whose first line feed stands at a place
-pub text_of-at : (line : List ℕ) (end : ℕ) → line ≡ (take end line ++ 10 ∷ []) ++ drop (end + 1) line → HasNoEnd (take end line) → end < length line → line_text_of line ≡ strip_carriage_return (take end line)
-text_of-at line end found none lt =
-    let before : before_end line ≡ take end line = ap before_end found ∙ before_end-feed (take end line) (drop (end + 1) line) none in
-    let shorter : length_of line < length line = omega (arith, ap length before, length-take end line) in
-    sym (cond_below (length_of line) (length line) (strip_carriage_return (before_end line)) line shorter) ∙ ap strip_carriage_return before
+-- the text of a line with its line feed
+pub text_of-feed : (before rest : List ℕ) → HasNoEnd before → line_text_of ((before ++ 10 ∷ []) ++ rest) ≡ strip_carriage_return before
+text_of-feed before rest none =
+    let line = (before ++ 10 ∷ []) ++ rest in
+    let is : before_end line ≡ before = before_end-feed before rest none in
+    let shorter : length_of line < length line = omega (arith, ap length is, length_push before 10, length-append (before ++ 10 ∷ []) rest) in
+    sym (cond_below (length_of line) (length line) (strip_carriage_return (before_end line)) line shorter) ∙ ap strip_carriage_return is
 
-strip_yes : (l : List ℕ) → slice_index l (length l - 1) ≡ 13 → strip_carriage_return l ≡ take (length l - 1) l
-strip_yes l is = rw (eq-eqb (slice_index l (length l - 1)) 13 is) refl
-
-strip_no : (l : List ℕ) → slice_index l (length l - 1) ≢ 13 → strip_carriage_return l ≡ l
-strip_no l is_not = rw (ne_eqb (slice_index l (length l - 1)) 13 is_not) refl
-
-size_front : (line : List ℕ) (end : ℕ) → end ≤ length line → length (take end line) ≡ end
-size_front line end le = omega (arith, length-take end line)
-
-last_of_front : (line : List ℕ) (end : ℕ) → 0 < end → end ≤ length line → slice_index (take end line) (length (take end line) - 1) ≡ slice_index line (end - 1)
-last_of_front line end some le =
-    ap (λ (n : ℕ). slice_index (take end line) (n - 1)) (size_front line end le) ∙ get_or-take end line (end - 1) 0 (omega arith)
-
--- a front that ends in a carriage return loses it
-pub strip-return : (line : List ℕ) (end : ℕ) → 0 < end → end ≤ length line → slice_index line (end - 1) ≡ 13 → strip_carriage_return (take end line) ≡ take (end - 1) line
-strip-return line end some le return =
-    strip_yes (take end line) (last_of_front line end some le ∙ return) ∙ ap (λ (n : ℕ). take (n - 1) (take end line)) (size_front line end le) ∙ take-take (end - 1) end line (omega arith)
-
--- any other front stays
-pub strip-none : (line : List ℕ) (end : ℕ) → end ≤ length line → (0 < end → slice_index line (end - 1) ≢ 13) → strip_carriage_return (take end line) ≡ take end line
-strip-none line zero le none = refl
-strip-none line (suc n) le none =
-    let some : 0 < suc n = omega arith in strip_no (take (suc n) line) (λ is. none some (sym (last_of_front line (suc n) some le) ∙ is))
-
-strip_shorter : (l : List ℕ) → length (strip_carriage_return l) ≤ length l
+-- a line that loses its carriage return is no longer
+pub strip_shorter : (l : List ℕ) → length (strip_carriage_return l) ≤ length l
 strip_shorter l = cond_both (slice_index l (length l - 1) == 13) (take (length l - 1) l) l (λ x. length x ≤ length l) (λ is. omega (arith, length-take (length l - 1) l)) (λ is. omega arith)
 
 -- a text is no longer than its line

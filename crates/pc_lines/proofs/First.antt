@@ -1,11 +1,11 @@
 -- The first of the lines of some bytes.
 use Rattle.std.proofs.Common.{◌≡◌, ◌≢◌, ℕ, ◌<◌, List, [], ◌∷◌, ◌++◌, length, refl, sym, ◌∙◌, ap, arith, subst, append_assoc, length-append, Option, Some, None}
-use Rattle.std.specs.List.{AllByRecursion}
+use Rattle.std.specs.List.{AllByRecursion, onto_first}
 use Rattle.std.specs.Io.KnownBytes.{Consumes}
 use Rattle.std.proofs.lemmas.Bool.{ne_eqb}
 use Rattle.std.proofs.lemmas.List.{append-nil}
 use Rattle.std.proofs.lemmas.List.Elements.{recursion_from_All}
-use Rattle.pc_lines.specs.Lines.{onto_first, lines_of, before_end, HasNoEnd, IsWholeLine, IsLongStart, BeginsTooLong}
+use Rattle.pc_lines.specs.Lines.{lines_of, before_end, HasNoEnd, IsWholeLine, IsLongStart, BeginsTooLong}
 use Rattle.pc_lines.specs.Reader.{IsTaken, IsNextLine}
 use Rattle.pc_lines.specs.declared.reader.Taken.{Taken}
 use Rattle.pc_lines.specs.declared.reader.Taken.TheVariants.{Line, Last, End, TooLong}

@@ -1,3 +1,5 @@
 pub mod Ends
 pub mod First
 pub mod Held
+pub mod SameLines
+pub mod TextLines

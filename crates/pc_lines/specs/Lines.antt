@@ -1,11 +1,7 @@
--- The lines of a stream of bytes. A byte 10 is a line feed, a byte 13 a carriage return.
+-- The lines of a stream of bytes, with their ends. A byte 10 is a line feed, a byte 13 a carriage return.
 use Rattle.std.specs.Prelude.{◌≡◌, ◌≢◌, ◌==◌, ℕ, ◌+◌, ◌<◌, ◌≤◌, nat_lt, if◌then◌else◌, List, [], ◌∷◌, ◌++◌, length, All}
+use Rattle.std.specs.List.{onto_first}
 use Rattle.std.specs.Str.Lines.{strip_carriage_return}
-
--- a byte before the first line
-abbrev pub onto_first : ℕ → List (List ℕ) → List (List ℕ)
-onto_first b [] = (b ∷ []) ∷ []
-onto_first b (line ∷ lines) = (b ∷ line) ∷ lines
 
 -- the lines, each up to and with its line feed; a last line without one counts where it has a byte
 abbrev pub lines_of : List ℕ → List (List ℕ)

@@ -1,9 +1,13 @@
-//! Lines from any source, in room that is taken once, before anything is read.
+//! Lines: of a text, and one at a time from any source, in room that is taken once, before anything is read.
 //!
-//! A line goes up to and with its line feed; the last one may lack it. The source is read only where no whole line is
-//! held, so each line can be answered before the next read, and nothing that was read is lost between calls.
+//! From a source a line goes up to and with its line feed; the last one may lack it. The source is read only where no
+//! whole line is held, so each line can be answered before the next read, and nothing that was read is lost between calls.
 #![tactic(auto)]
 
+mod law;
 mod reader;
+mod split;
 
+pub use law::lines_are_those_of_the_text;
 pub use reader::{LineReader, Taken};
+pub use split::next_line;

@@ -1,11 +1,12 @@
 // The reader of lines: what it holds of the source, and the line that it took last.
-ghost use Rattle.std.specs.Prelude.{◌≡◌, ◌+◌, ◌-◌, ◌^◌, ◌<◌, ◌≤◌, [], ◌∷◌, ◌++◌, length, take, drop, vec_capacity, slice_range, IfOk, IfSome, IfNone, MatchResult, OnErr, MatchBool, Contains};
+ghost use Rattle.std.specs.Prelude.{◌≡◌, ◌+◌, ◌-◌, ◌^◌, ◌<◌, ◌≤◌, [], length, vec_capacity, slice_range, IfOk, MatchResult, OnErr, MatchBool, Contains};
 ghost use Rattle.std.specs.Io.KnownBytes.{Keeps, IsAtEnd, Consumes};
 ghost use Rattle.pc_port.specs.Port.{HasCause};
 ghost use Rattle.pc_port.specs.declared.TheConstants.{CHUNK};
-ghost use Rattle.pc_lines.specs.Lines.{HasNoEnd, IsOpenLine, line_text_of, length_of};
+ghost use Rattle.pc_lines.specs.Lines.{IsOpenLine, line_text_of, length_of};
 ghost use Rattle.pc_lines.specs.Reader.{ReaderState, IsNewReader, coming, Moves, IsTakenPart, IsTakenUpTo, IsTaken, IsNextLine};
 
+use crate::split::{line_end, without_return};
 use pc_port::{CHUNK, Failed, Source};
 use std::alloc::{AllocError, Global};
 use std::marker::Model;
@@ -51,15 +52,6 @@ impl Model for LineReader {
     } };
 
     ghost invariant = { λ r. (r.from ≤ r.to) × (r.to ≤ length r.chunk.items) × (length r.chunk.items ≡ CHUNK) × (r.longest + 1 ≤ vec_capacity r.line) };
-}
-
-// The index of the first line feed.
-fn line_end(bytes: &[u8]) -> Option<usize>
-    ensures found { IfSome result (λ i. (bytes.now ≡ (take i bytes.now ++ 10 ∷ []) ++ drop (i + 1) bytes.now) × (i < length bytes.now)) }
-    ensures first { IfSome result (λ i. HasNoEnd (take i bytes.now)) }
-    ensures none { IfNone result (HasNoEnd bytes.now) }
-{
-    bytes.iter().position(|byte| *byte == b'\n')
 }
 
 // How many of the bytes go on a line that has so much room left, and how far they take it.
@@ -179,7 +171,6 @@ fn text(line: &[u8]) -> &[u8]
 {
     match line_end(line) {
         None => line,
-        Some(end) if end > 0 && line[end - 1] == b'\r' => &line[..end - 1],
-        Some(end) => &line[..end],
+        Some(end) => without_return(&line[..end]),
     }
 }

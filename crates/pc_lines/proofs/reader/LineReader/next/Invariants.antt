@@ -1,4 +1,4 @@
-use Rattle.std.proofs.Common.{◌≡◌, Contains, ◌-◌, ◌≤◌, length}
+use Rattle.std.proofs.Common.{◌≡◌, Contains, ◌-◌, length}
 use Rattle.std.specs.Io.KnownBytes.{Consumes}
 use Rattle.pc_lines.specs.Lines.{IsOpenLine}
 use Rattle.pc_lines.specs.Reader.{coming}
