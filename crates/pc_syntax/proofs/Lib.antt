@@ -12,4 +12,3 @@ pub mod Parts
 pub mod Progress
 pub mod ReadLine
 pub mod Sorts
-pub mod Splitting

@@ -1,14 +1,18 @@
 -- The rules of a text within the limit have neither too many parts nor go too deep.
-use Rattle.std.proofs.Common.{◌≡◌, ℕ, ◌+◌, ◌≤◌, Bool, true, false, ◌==◌, ◌&&◌, List, [], ◌∷◌, ◌++◌, length, arith, ap, subst, if◌then◌else◌}
+use Rattle.std.proofs.Common.{◌≡◌, ℕ, ◌+◌, ◌≤◌, ◌==◌, List, [], ◌∷◌, ◌++◌, length, arith, ap, subst}
+use Rattle.std.proofs.lemmas.Bool.{cond_both}
 use Rattle.std.specs.Prelude.{codes}
+use Rattle.std.specs.List.{slice_split, onto_first}
+use Rattle.std.specs.Str.Lines.{lines, lines_of_parts}
 use Rattle.pc_formula.specs.Word.{Word, name, nesting, most_nesting}
 use Rattle.pc_formula.specs.Nesting.{nesting_of}
 use Rattle.pc_syntax.specs.Tree.{Formula, Declared, rule}
 use Rattle.pc_syntax.specs.Spelling.{IsSpelled}
 use Rattle.pc_syntax.specs.Clause.{IsRule}
 use Rattle.pc_syntax.specs.Line.{LineForm, declares, IsLine, spelled_line}
-use Rattle.pc_syntax.specs.Sheet.{starts_with_lf, push_front, with_front, lines_of_text, AreStanding, declared_from, sheet, IsSheetReading, whole}
+use Rattle.pc_syntax.specs.Sheet.{AreStanding, declared_from, sheet, IsSheetReading, whole}
 use Rattle.pc_syntax.specs.Sized.{too_many, IsSized, HasSizedRules, HasNestedRules}
+use Rattle.pc_lines.proofs.Ends.{strip_shorter}
 use Rattle.pc_formula.proofs.Nests.{nested}
 use Rattle.pc_formula.proofs.Sizes.{words_within}
 use Rattle.pc_syntax.proofs.Families.{sized_formula, nesting_of_rule}
@@ -24,26 +28,28 @@ unfolding AreWithin
 wider n m [] le all = tt
 wider n m (l ∷ ls) le all = (omega (arith, le, all.0), wider n m ls le all.1)
 
-pushed : (b n : ℕ) (ls : List (List ℕ)) → AreWithin n ls → AreWithin (n + 1) (push_front b ls)
+part_within : (b n : ℕ) (parts : List (List ℕ)) → AreWithin n parts → AreWithin (n + 1) (onto_first b parts)
 unfolding AreWithin
-pushed b n [] all = (omega arith, tt)
-pushed b n (l ∷ ls) all = (omega (arith, all.0), wider n (n + 1) ls (omega arith) all.1)
+part_within b n [] all = (omega arith, tt)
+part_within b n (x ∷ parts) all = (omega (arith, all.0), wider n (n + 1) parts (omega arith) all.1)
 
-fronted : (b n : ℕ) (t : Bool) (ls : List (List ℕ)) → AreWithin n ls → AreWithin (n + 1) (with_front b t ls)
+parts_within : (text : List ℕ) → AreWithin (length text) (slice_split (λ b. b == 10) text)
 unfolding AreWithin
-fronted b n t ls all = go (b == 10) ((b == 13) && t)
-  where
-    go : (u v : Bool) → AreWithin (n + 1) (if u then [] ∷ ls else (if v then ls else push_front b ls))
-    go true v = (omega arith, wider n (n + 1) ls (omega arith) all)
-    go false true = wider n (n + 1) ls (omega arith) all
-    go false false = pushed b n ls all
-
-lines_within : (text : List ℕ) → AreWithin (length text) (lines_of_text text)
-unfolding AreWithin
-lines_within [] = tt
-lines_within (b ∷ bs) =
+parts_within [] = (omega arith, tt)
+parts_within (b ∷ bs) =
     let size : length bs + 1 ≡ length (b ∷ bs) = omega arith in
-    subst (λ n. AreWithin n (lines_of_text (b ∷ bs))) size (fronted b (length bs) (starts_with_lf bs) (lines_of_text bs) (lines_within bs))
+    let parts = slice_split (λ c. c == 10) bs in
+    subst (λ n. AreWithin n (slice_split (λ c. c == 10) (b ∷ bs))) size
+    (cond_both (b == 10) ([] ∷ parts) (onto_first b parts) (AreWithin (length bs + 1)) (λ is. (omega arith, wider (length bs) (length bs + 1) parts (omega arith) (parts_within bs))) (λ is. part_within b (length bs) parts (parts_within bs)))
+
+of_parts_within : (n : ℕ) (parts : List (List ℕ)) → AreWithin n parts → AreWithin n (lines_of_parts parts)
+unfolding AreWithin
+of_parts_within n [] all = tt
+of_parts_within n (x ∷ []) all = cond_both (length x == 0) [] (x ∷ []) (AreWithin n) (λ is. tt) (λ is. all)
+of_parts_within n (x ∷ y ∷ more) all = (omega (arith, strip_shorter x, all.0), of_parts_within n (y ∷ more) all.1)
+
+lines_within : (text : List ℕ) → AreWithin (length text) (lines text)
+lines_within text = of_parts_within (length text) (slice_split (λ b. b == 10) text) (parts_within text)
 
 -- ---- one rule
 
@@ -69,24 +75,24 @@ limited_line line n f few (spelled_line ws s is) = limited_rule line ws is.rest 
 
 sized_lines : (n m : ℕ) (before : List LineForm) (ls : List (List ℕ)) (fs : List LineForm) → m ≤ too_many → AreWithin m ls → AreStanding before ls fs → HasSizedRules (declared_from n fs)
 unfolding AreWithin
-sized_lines n m before [] [] few within lines = tt
-sized_lines n m before [] (f ∷ fs) few within lines = absurd lines
-sized_lines n m before (l ∷ ls) [] few within lines = absurd lines
-sized_lines n m before (l ∷ ls) (declares (rule k f) ∷ fs) few within lines = ((limited_line l k f (omega (arith, few, within.0)) lines.0).sized, sized_lines (n + 1) m (before ++ declares (rule k f) ∷ []) ls fs few within.1 lines.2)
-sized_lines n m before (l ∷ ls) (declares d ∷ fs) few within lines = sized_lines (n + 1) m (before ++ declares d ∷ []) ls fs few within.1 lines.2
-sized_lines n m before (l ∷ ls) (f ∷ fs) few within lines = sized_lines (n + 1) m (before ++ f ∷ []) ls fs few within.1 lines.2
+sized_lines n m before [] [] few within standing = tt
+sized_lines n m before [] (f ∷ fs) few within standing = absurd standing
+sized_lines n m before (l ∷ ls) [] few within standing = absurd standing
+sized_lines n m before (l ∷ ls) (declares (rule k f) ∷ fs) few within standing = ((limited_line l k f (omega (arith, few, within.0)) standing.0).sized, sized_lines (n + 1) m (before ++ declares (rule k f) ∷ []) ls fs few within.1 standing.2)
+sized_lines n m before (l ∷ ls) (declares d ∷ fs) few within standing = sized_lines (n + 1) m (before ++ declares d ∷ []) ls fs few within.1 standing.2
+sized_lines n m before (l ∷ ls) (f ∷ fs) few within standing = sized_lines (n + 1) m (before ++ f ∷ []) ls fs few within.1 standing.2
 
 nested_lines : (n m : ℕ) (before : List LineForm) (ls : List (List ℕ)) (fs : List LineForm) → m ≤ too_many → AreWithin m ls → AreStanding before ls fs → HasNestedRules (declared_from n fs)
 unfolding AreWithin
-nested_lines n m before [] [] few within lines = tt
-nested_lines n m before [] (f ∷ fs) few within lines = absurd lines
-nested_lines n m before (l ∷ ls) [] few within lines = absurd lines
-nested_lines n m before (l ∷ ls) (declares (rule k f) ∷ fs) few within lines = ((limited_line l k f (omega (arith, few, within.0)) lines.0).nested, nested_lines (n + 1) m (before ++ declares (rule k f) ∷ []) ls fs few within.1 lines.2)
-nested_lines n m before (l ∷ ls) (declares d ∷ fs) few within lines = nested_lines (n + 1) m (before ++ declares d ∷ []) ls fs few within.1 lines.2
-nested_lines n m before (l ∷ ls) (f ∷ fs) few within lines = nested_lines (n + 1) m (before ++ f ∷ []) ls fs few within.1 lines.2
+nested_lines n m before [] [] few within standing = tt
+nested_lines n m before [] (f ∷ fs) few within standing = absurd standing
+nested_lines n m before (l ∷ ls) [] few within standing = absurd standing
+nested_lines n m before (l ∷ ls) (declares (rule k f) ∷ fs) few within standing = ((limited_line l k f (omega (arith, few, within.0)) standing.0).nested, nested_lines (n + 1) m (before ++ declares (rule k f) ∷ []) ls fs few within.1 standing.2)
+nested_lines n m before (l ∷ ls) (declares d ∷ fs) few within standing = nested_lines (n + 1) m (before ++ declares d ∷ []) ls fs few within.1 standing.2
+nested_lines n m before (l ∷ ls) (f ∷ fs) few within standing = nested_lines (n + 1) m (before ++ f ∷ []) ls fs few within.1 standing.2
 
 pub sized_sheet : (text : List ℕ) (ds : List (ℕ × Declared)) → length text ≤ too_many → IsSheetReading text (sheet ds) → HasSizedRules ds
-sized_sheet text ds few (whole fs lines begun) = sized_lines 1 (length text) [] (lines_of_text text) fs few (lines_within text) lines
+sized_sheet text ds few (whole fs standing begun) = sized_lines 1 (length text) [] (lines text) fs few (lines_within text) standing
 
 pub nested_sheet : (text : List ℕ) (ds : List (ℕ × Declared)) → length text ≤ too_many → IsSheetReading text (sheet ds) → HasNestedRules ds
-nested_sheet text ds few (whole fs lines begun) = nested_lines 1 (length text) [] (lines_of_text text) fs few (lines_within text) lines
+nested_sheet text ds few (whole fs standing begun) = nested_lines 1 (length text) [] (lines text) fs few (lines_within text) standing

@@ -2,11 +2,12 @@
 use Rattle.std.proofs.Common.{◌≡◌, ℕ, ◌+◌, true, false, List, [], ◌∷◌, ◌++◌, length, refl, sym, ◌∙◌, ap, ap₂, subst, arith}
 use Rattle.std.specs.Str.{IsUtf8}
 use Rattle.std.specs.List.{list_any}
+use Rattle.std.specs.Str.Lines.{lines}
 use Rattle.std.proofs.lemmas.List.{append_assoc, append-nil}
 use Rattle.pc_syntax.specs.Spelling.{IsTooDeep}
 use Rattle.pc_syntax.specs.Fault.{Fault, IsAtFault}
 use Rattle.pc_syntax.specs.Line.{LineForm, IsLine, empty_line, begin_line, spelled_line, HasForm}
-use Rattle.pc_syntax.specs.Sheet.{lines_of_text, is_begin, may_stand, misplacement, AreStanding, IsAtFaultBehind, by_itself, by_place, declared_from, SheetReading, sheet, fault_at, IsSheetReading, whole, endless, faulty}
+use Rattle.pc_syntax.specs.Sheet.{is_begin, may_stand, misplacement, AreStanding, IsAtFaultBehind, by_itself, by_place, declared_from, SheetReading, sheet, fault_at, IsSheetReading, whole, endless, faulty}
 use Rattle.pc_syntax.proofs.ReadLine.{false_no_true}
 use Rattle.pc_syntax.proofs.OneFault.{fault_once, deep_unspelled, form_no_fault}
 use Rattle.pc_syntax.proofs.OneLine.{one_line, deep_no_begin}
@@ -95,14 +96,14 @@ first_fault before (m ∷ ks) (n ∷ ls) k l rest more (f ∷ fs) (g ∷ gs) d e
 
 -- ---- texts
 
-stands_whole : (text : List ℕ) (fs : List LineForm) → AreStanding [] (lines_of_text text) fs → (before : List (List ℕ)) (gs : List LineForm) (l : List ℕ) (after : List (List ℕ)) (e : Fault) → lines_of_text text ≡ before ++ l ∷ after → AreStanding [] before gs → IsAtFaultBehind gs l e → ⊥
+stands_whole : (text : List ℕ) (fs : List LineForm) → AreStanding [] (lines text) fs → (before : List (List ℕ)) (gs : List LineForm) (l : List ℕ) (after : List (List ℕ)) (e : Fault) → lines text ≡ before ++ l ∷ after → AreStanding [] before gs → IsAtFaultBehind gs l e → ⊥
 stands_whole text fs a before gs l after e parts b fault = no_fault_inside [] before l after fs gs e (subst (λ ls. AreStanding [] ls fs) parts a) b fault
 
-begins_once : (text : List ℕ) (fs gs : List LineForm) → AreStanding [] (lines_of_text text) fs → AreStanding [] (lines_of_text text) gs → list_any is_begin fs ≡ false → list_any is_begin gs ≡ true → ⊥
-begins_once text fs gs a b none some = false_no_true (sym none ∙ ap (list_any is_begin) (standing_once [] (lines_of_text text) fs gs a b) ∙ some)
+begins_once : (text : List ℕ) (fs gs : List LineForm) → AreStanding [] (lines text) fs → AreStanding [] (lines text) gs → list_any is_begin fs ≡ false → list_any is_begin gs ≡ true → ⊥
+begins_once text fs gs a b none some = false_no_true (sym none ∙ ap (list_any is_begin) (standing_once [] (lines text) fs gs a b) ∙ some)
 
 pub one_sheet_reading : (text : List ℕ) (q r : SheetReading) → IsSheetReading text q → IsSheetReading text r → q ≡ r
-one_sheet_reading text q r (whole fs a s) (whole gs b t) = ap (λ hs. sheet (declared_from 1 hs)) (standing_once [] (lines_of_text text) fs gs a b)
+one_sheet_reading text q r (whole fs a s) (whole gs b t) = ap (λ hs. sheet (declared_from 1 hs)) (standing_once [] (lines text) fs gs a b)
 one_sheet_reading text q r (whole fs a s) (endless gs b t) = absurd (begins_once text gs fs b a t s)
 one_sheet_reading text q r (whole fs a s) (faulty before gs l after {e = e} parts b fault) = absurd (stands_whole text fs a before gs l after e parts b fault)
 one_sheet_reading text q r (endless fs a s) (whole gs b t) = absurd (begins_once text fs gs a b s t)

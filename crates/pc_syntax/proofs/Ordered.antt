@@ -2,9 +2,10 @@
 use Rattle.std.proofs.Common.{◌≡◌, ℕ, ◌+◌, Bool, true, false, ◌&&◌, ◌||◌, List, [], ◌∷◌, ◌++◌, refl, ◌∙◌}
 use Rattle.std.specs.Prelude.{not}
 use Rattle.std.specs.List.{list_any}
+use Rattle.std.specs.Str.Lines.{lines}
 use Rattle.pc_syntax.specs.Tree.{Declared}
 use Rattle.pc_syntax.specs.Line.{LineForm, nothing, heading, declares, begins}
-use Rattle.pc_syntax.specs.Sheet.{is_rule, is_rule_line, is_of_universe, is_open, lines_of_text, AreStanding, declared_from, sheet, IsSheetReading, whole, HasNoUniverse, HasUniverseFirst}
+use Rattle.pc_syntax.specs.Sheet.{is_rule, is_rule_line, is_of_universe, is_open, AreStanding, declared_from, sheet, IsSheetReading, whole, HasNoUniverse, HasUniverseFirst}
 use Rattle.pc_syntax.proofs.Parts.{grown}
 
 or_true : (a : Bool) → (a || true) ≡ true
@@ -19,22 +20,22 @@ ruled_out true true false may rules = cc
 ruled_out false true r may rules = cc
 
 behind_rule : (n : ℕ) (before : List LineForm) (ls : List (List ℕ)) (fs : List LineForm) → list_any is_rule_line before ≡ true → AreStanding before ls fs → HasNoUniverse (declared_from n fs)
-behind_rule n before [] [] rules lines = tt
-behind_rule n before [] (f ∷ fs) rules lines = absurd lines
-behind_rule n before (l ∷ ls) [] rules lines = absurd lines
-behind_rule n before (l ∷ ls) (declares d ∷ fs) rules lines =
-    (ruled_out (is_open before) (is_of_universe d) (list_any is_rule_line before) lines.1 rules, behind_rule (n + 1) (before ++ declares d ∷ []) ls fs (grown is_rule_line before (declares d) true (is_rule d) rules refl) lines.2)
-behind_rule n before (l ∷ ls) (nothing ∷ fs) rules lines = behind_rule (n + 1) (before ++ nothing ∷ []) ls fs (grown is_rule_line before nothing true false rules refl) lines.2
-behind_rule n before (l ∷ ls) (heading v ∷ fs) rules lines = behind_rule (n + 1) (before ++ heading v ∷ []) ls fs (grown is_rule_line before (heading v) true false rules refl) lines.2
-behind_rule n before (l ∷ ls) (begins ∷ fs) rules lines = behind_rule (n + 1) (before ++ begins ∷ []) ls fs (grown is_rule_line before begins true false rules refl) lines.2
+behind_rule n before [] [] rules standing = tt
+behind_rule n before [] (f ∷ fs) rules standing = absurd standing
+behind_rule n before (l ∷ ls) [] rules standing = absurd standing
+behind_rule n before (l ∷ ls) (declares d ∷ fs) rules standing =
+    (ruled_out (is_open before) (is_of_universe d) (list_any is_rule_line before) standing.1 rules, behind_rule (n + 1) (before ++ declares d ∷ []) ls fs (grown is_rule_line before (declares d) true (is_rule d) rules refl) standing.2)
+behind_rule n before (l ∷ ls) (nothing ∷ fs) rules standing = behind_rule (n + 1) (before ++ nothing ∷ []) ls fs (grown is_rule_line before nothing true false rules refl) standing.2
+behind_rule n before (l ∷ ls) (heading v ∷ fs) rules standing = behind_rule (n + 1) (before ++ heading v ∷ []) ls fs (grown is_rule_line before (heading v) true false rules refl) standing.2
+behind_rule n before (l ∷ ls) (begins ∷ fs) rules standing = behind_rule (n + 1) (before ++ begins ∷ []) ls fs (grown is_rule_line before begins true false rules refl) standing.2
 
 ordered_lines : (n : ℕ) (before : List LineForm) (ls : List (List ℕ)) (fs : List LineForm) → AreStanding before ls fs → HasUniverseFirst (declared_from n fs)
-ordered_lines n before [] [] lines = tt
-ordered_lines n before [] (f ∷ fs) lines = absurd lines
-ordered_lines n before (l ∷ ls) [] lines = absurd lines
-ordered_lines n before (l ∷ ls) (declares d ∷ fs) lines =
-    ((λ rule. behind_rule (n + 1) (before ++ declares d ∷ []) ls fs (grown is_rule_line before (declares d) (list_any is_rule_line before) true refl rule ∙ or_true (list_any is_rule_line before)) lines.2), ordered_lines (n + 1) (before ++ declares d ∷ []) ls fs lines.2)
-ordered_lines n before (l ∷ ls) (f ∷ fs) lines = ordered_lines (n + 1) (before ++ f ∷ []) ls fs lines.2
+ordered_lines n before [] [] standing = tt
+ordered_lines n before [] (f ∷ fs) standing = absurd standing
+ordered_lines n before (l ∷ ls) [] standing = absurd standing
+ordered_lines n before (l ∷ ls) (declares d ∷ fs) standing =
+    ((λ rule. behind_rule (n + 1) (before ++ declares d ∷ []) ls fs (grown is_rule_line before (declares d) (list_any is_rule_line before) true refl rule ∙ or_true (list_any is_rule_line before)) standing.2), ordered_lines (n + 1) (before ++ declares d ∷ []) ls fs standing.2)
+ordered_lines n before (l ∷ ls) (f ∷ fs) standing = ordered_lines (n + 1) (before ++ f ∷ []) ls fs standing.2
 
 pub ordered_sheet : (text : List ℕ) (ds : List (ℕ × Declared)) → IsSheetReading text (sheet ds) → HasUniverseFirst ds
-ordered_sheet text ds (whole fs lines begun) = ordered_lines 1 [] (lines_of_text text) fs lines
+ordered_sheet text ds (whole fs standing begun) = ordered_lines 1 [] (lines text) fs standing

@@ -1,6 +1,7 @@
 -- A sheet that is read line by line.
 use Rattle.std.proofs.Common.{◌≡◌, ℕ, ◌+◌, true, Result, Ok, Err, None, List, [], ◌∷◌, ◌++◌, length, refl, sym, ◌∙◌, ap, subst, arith}
 use Rattle.std.proofs.lemmas.List.{append-nil, append_assoc, length-append}
+use Rattle.std.specs.Str.Lines.{lines}
 use Rattle.pc_syntax.specs.declared.sheet.Part.{Part}
 use Rattle.pc_syntax.specs.declared.sheet.Part.TheVariants.{Heading, Universe, Rules, End}
 use Rattle.pc_syntax.specs.declared.tree.SheetTree.{SheetTree}
@@ -11,7 +12,7 @@ use Rattle.pc_syntax.specs.declared.fault.LineFault.TheVariants as line_fault
 use Rattle.pc_syntax.specs.Tree.{Declared, sheet_of}
 use Rattle.pc_syntax.specs.Fault.{Fault, IsAtFault}
 use Rattle.pc_syntax.specs.Line.{LineForm, nothing, heading, declares, begins, IsLine, HasForm}
-use Rattle.pc_syntax.specs.Sheet.{lines_of_text, may_stand, AreStanding, IsAtFaultBehind, declared_from, SheetReading, sheet, fault_at, no_begin, IsSheetReading, whole, endless, faulty}
+use Rattle.pc_syntax.specs.Sheet.{may_stand, AreStanding, IsAtFaultBehind, declared_from, SheetReading, sheet, fault_at, no_begin, IsSheetReading, whole, endless, faulty}
 use Rattle.pc_syntax.specs.Sheet as behind
 use Rattle.pc_syntax.specs.Part.{IsPartBehind, next_part, IsAtFaultIn, Takes}
 use Rattle.pc_syntax.specs.Part as within
@@ -23,14 +24,14 @@ use Rattle.pc_syntax.proofs.OneSheet.{one_sheet_reading}
 pub record Progress (text : List ℕ) (p : Part) (n : ℕ) (rest : List (List ℕ)) (seen : List (ℕ × Declared)) : Type 0 where
   pub before : List (List ℕ)
   pub forms : List LineForm
-  pub lines : lines_of_text text ≡ before ++ rest
+  pub parted : lines text ≡ before ++ rest
   pub standing : AreStanding [] before forms
   pub part : IsPartBehind p forms
   pub number : n ≡ length before + 1
   pub declared : seen ≡ declared_from 1 forms
 
-pub starts : (text : List ℕ) (seen : List (ℕ × Declared)) → seen ≡ [] → Progress text Heading 1 (lines_of_text text) seen
-starts text seen none = record { before = []; forms = []; lines = refl; standing = tt; part = (refl, refl, refl); number = omega arith; declared = none }
+pub starts : (text : List ℕ) (seen : List (ℕ × Declared)) → seen ≡ [] → Progress text Heading 1 (lines text) seen
+starts text seen none = record { before = []; forms = []; parted = refl; standing = tt; part = (refl, refl, refl); number = omega arith; declared = none }
 
 -- ---- one line more
 
@@ -89,7 +90,7 @@ module _ (text : List ℕ) (p : Part) (n : ℕ) (rest : List (List ℕ)) (seen :
         record {
           before = so_far.before ++ l ∷ [];
           forms = so_far.forms ++ t.form ∷ [];
-          lines = so_far.lines ∙ ap (λ ls. so_far.before ++ ls) first ∙ sym (append_assoc so_far.before (l ∷ []) more);
+          parted = so_far.parted ∙ ap (λ ls. so_far.before ++ ls) first ∙ sym (append_assoc so_far.before (l ∷ []) more);
           standing = stand_more [] so_far.before so_far.forms l t.form so_far.standing t.is there.may;
           part = there.part;
           number = omega (arith, so_far.number, length-append so_far.before (l ∷ []));
@@ -99,7 +100,7 @@ module _ (text : List ℕ) (p : Part) (n : ℕ) (rest : List (List ℕ)) (seen :
     stuck : (e : Fault) → IsAtFaultIn p l e → IsSheetReading text (fault_at n e)
     stuck e fault =
         subst (λ m. IsSheetReading text (fault_at m e)) (sym so_far.number)
-        (faulty so_far.before so_far.forms l more (so_far.lines ∙ ap (λ ls. so_far.before ++ ls) first) so_far.standing (fault_behind p so_far.forms l e so_far.part fault))
+        (faulty so_far.before so_far.forms l more (so_far.parted ∙ ap (λ ls. so_far.before ++ ls) first) so_far.standing (fault_behind p so_far.forms l e so_far.part fault))
 
     at_line : (m : ℕ) (e : Fault) → (m ≡ n) × IsAtFaultIn p l e → IsSheetReading text (fault_at m e)
     at_line m e is = subst (λ k. IsSheetReading text (fault_at k e)) (sym is.0) (stuck e is.1)
@@ -113,10 +114,10 @@ module _ (text : List ℕ) (p : Part) (n : ℕ) (rest : List (List ℕ)) (seen :
     blamed sheet_fault.Memory is r err = subst (IsSheetTold text) (sym err) tt
 
   module _ (end : rest ≡ []) where
-    all_lines : lines_of_text text ≡ so_far.before
-    all_lines = so_far.lines ∙ ap (λ ls. so_far.before ++ ls) end ∙ append-nil so_far.before
+    all_lines : lines text ≡ so_far.before
+    all_lines = so_far.parted ∙ ap (λ ls. so_far.before ++ ls) end ∙ append-nil so_far.before
 
-    all_standing : AreStanding [] (lines_of_text text) so_far.forms
+    all_standing : AreStanding [] (lines text) so_far.forms
     all_standing = subst (λ ls. AreStanding [] ls so_far.forms) (sym all_lines) so_far.standing
 
     pub finished : p ≡ End → IsSheetReading text (sheet seen)

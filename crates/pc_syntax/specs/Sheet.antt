@@ -1,34 +1,11 @@
--- The text of a sheet: its lines, which of them may stand where, and what it is read as.
+-- The text of a sheet: which of its lines may stand where, and what it is read as. Its lines are what `lines` gives: each ends at
+-- LF or at the text's end, and one CR before the LF is dropped.
 use Rattle.std.specs.Prelude.{◌≡◌, ℕ, ◌+◌, Bool, true, false, ◌==◌, ◌&&◌, ◌||◌, not, List, [], ◌∷◌, ◌++◌, length, if◌then◌else◌}
 use Rattle.std.specs.List.{list_any}
+use Rattle.std.specs.Str.Lines.{lines}
 use Rattle.pc_syntax.specs.Fault.{Fault, syntax, wrong_version, IsAtFault}
 use Rattle.pc_syntax.specs.Tree.{Declared, rule, enter}
 use Rattle.pc_syntax.specs.Line.{LineForm, nothing, heading, declares, begins, IsLine, HasForm}
-
--- the text goes on with LF
-abbrev pub starts_with_lf : List ℕ → Bool
-starts_with_lf [] = false
-starts_with_lf (b ∷ bs) = b == 10
-
--- a character more at the front of the first line
-abbrev pub push_front : ℕ → List (List ℕ) → List (List ℕ)
-push_front b [] = (b ∷ []) ∷ []
-push_front b (l ∷ ls) = (b ∷ l) ∷ ls
-
--- the lines of a text from a character on, from those behind it
-abbrev pub with_front : ℕ → Bool → List (List ℕ) → List (List ℕ)
-with_front b before_lf ls = if b == 10 then [] ∷ ls else (if (b == 13) && before_lf then ls else push_front b ls)
-
--- the lines of a text: each ends at LF or at the text's end, and one CR before the LF is dropped
-abbrev pub lines_of_text : List ℕ → List (List ℕ)
-lines_of_text [] = []
-lines_of_text (b ∷ bs) = with_front b (starts_with_lf bs) (lines_of_text bs)
-
--- a line without one CR at its end
-abbrev pub without_cr : List ℕ → List ℕ
-without_cr [] = []
-without_cr (b ∷ []) = if b == 13 then [] else b ∷ []
-without_cr (b ∷ c ∷ bs) = b ∷ without_cr (c ∷ bs)
 
 -- ---- which lines may stand where
 
@@ -100,9 +77,9 @@ pub data SheetReading : Type 0 where
 
 -- the text is read so
 pub data IsSheetReading (text : List ℕ) : SheetReading → Type 0 where
-  whole : (forms : List LineForm) → AreStanding [] (lines_of_text text) forms → list_any is_begin forms ≡ true → IsSheetReading text (sheet (declared_from 1 forms))
-  endless : (forms : List LineForm) → AreStanding [] (lines_of_text text) forms → list_any is_begin forms ≡ false → IsSheetReading text no_begin
-  faulty : (before : List (List ℕ)) (forms : List LineForm) (line : List ℕ) (after : List (List ℕ)) {e : Fault} → lines_of_text text ≡ before ++ line ∷ after → AreStanding [] before forms → IsAtFaultBehind forms line e → IsSheetReading text (fault_at (length before + 1) e)
+  whole : (forms : List LineForm) → AreStanding [] (lines text) forms → list_any is_begin forms ≡ true → IsSheetReading text (sheet (declared_from 1 forms))
+  endless : (forms : List LineForm) → AreStanding [] (lines text) forms → list_any is_begin forms ≡ false → IsSheetReading text no_begin
+  faulty : (before : List (List ℕ)) (forms : List LineForm) (line : List ℕ) (after : List (List ℕ)) {e : Fault} → lines text ≡ before ++ line ∷ after → AreStanding [] before forms → IsAtFaultBehind forms line e → IsSheetReading text (fault_at (length before + 1) e)
 
 -- the text is a sheet that declares this, line by line
 abbrev pub IsSheet : List ℕ → List (ℕ × Declared) → Type 0

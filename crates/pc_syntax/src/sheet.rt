@@ -1,8 +1,8 @@
 // The reader of sheets, line by line.
-ghost use Rattle.std.specs.Prelude.{◌≡◌, ◌↔◌, ◌≤◌, ◌<◌, ◌++◌, ◌∷◌, ℕ, List, [], length, slice_index, IfOk, IsTrue};
+ghost use Rattle.std.specs.Prelude.{◌≡◌, ◌↔◌, ◌≤◌, ◌++◌, ◌∷◌, [], length, IfOk, IsTrue};
 ghost use Rattle.pc_name.specs.Names.{most_name_bytes};
 ghost use Rattle.pc_syntax.specs.Tree.{declared_of, sheet_of};
-ghost use Rattle.pc_syntax.specs.Sheet.{lines_of_text, without_cr, declared_from, SheetReading, IsSheetReading, HasUniverseFirst};
+ghost use Rattle.pc_syntax.specs.Sheet.{declared_from, SheetReading, IsSheetReading, HasUniverseFirst};
 ghost use Rattle.pc_syntax.specs.Sized.{HasSizedRules, HasNestedRules};
 ghost use Rattle.pc_syntax.specs.Part.{next_part, part_after, declared};
 ghost use Rattle.pc_syntax.specs.Told.{form_of, sheet_fault_of, misplaced_as, IsLineTaken, IsSheetTold, TellsSheet};
@@ -11,6 +11,7 @@ use crate::fault::LineFault;
 use crate::line::LineTree;
 use crate::read::read_line;
 use crate::tree::{Declaration, SheetFault, SheetTree};
+use pc_lines::next_line;
 use std::alloc::{AllocError, Global};
 
 /// Where in a sheet a line stands: before its heading, before its first rule, behind it, or behind `begin`.
@@ -20,48 +21,6 @@ pub enum Part {
     Universe,
     Rules,
     End,
-}
-
-// Where the first line of the text ends: at its LF, or at the end.
-fn line_end(text: &[u8]) -> usize
-    ensures within { result ≤ length text.now }
-    ensures before { (i : ℕ) → i < result → slice_index text.now i ≡ 10 → ⊥ }
-    ensures at_lf { result < length text.now → slice_index text.now result ≡ 10 }
-{
-    let mut end = 0;
-    while end < text.len() && text[end] != b'\n' {
-        end += 1;
-    }
-    end
-}
-
-// The line without one CR at its end.
-fn without_cr(line: &[u8]) -> &[u8]
-    ensures value { result.now ≡ without_cr line.now }
-    ensures shorter { length result.now ≤ length line.now }
-{
-    let Some(last) = line.len().checked_sub(1) else {
-        return line;
-    };
-    if line[last] == b'\r' {
-        &line[..last]
-    } else {
-        line
-    }
-}
-
-// The first line of a text, and what follows it.
-fn split_line(text: &[u8]) -> (&[u8], &[u8])
-    requires { 0 < length text.now }
-    ensures lines { lines_of_text text.now ≡ result.0.now ∷ lines_of_text result.1.now }
-    ensures line { length result.0.now ≤ length text.now }
-    ensures shorter { length result.1.now < length text.now }
-{
-    let end = line_end(text);
-    if end == text.len() {
-        return (text, &text[end..]);
-    }
-    (without_cr(&text[..end]), &text[end + 1..])
 }
 
 // The part behind a line, where the line may stand in its own.
@@ -174,8 +133,7 @@ pub fn parse_sheet(alloc: Global, bytes: &[u8]) -> Result<SheetTree, SheetFault>
     let mut part = Part::Heading;
     let mut number = 1;
     let mut rest = bytes;
-    'lines: while !rest.is_empty() {
-        let (line, after) = split_line(rest);
+    'lines: while let Some((line, after)) = next_line(rest) {
         part = take_line(alloc, part, number, line, &mut declarations)?;
         number += 1;
         rest = after;

@@ -1,12 +1,12 @@
 use Rattle.std.proofs.Common.{◌+◌, ◌≤◌, length}
-use Rattle.pc_syntax.specs.Sheet.{lines_of_text}
+use Rattle.std.specs.Str.Lines.{lines}
 use Rattle.pc_syntax.specs.Part.{declared}
 use Rattle.pc_syntax.proofs.Progress.{Progress}
 use Rattle.pc_syntax.proofs.sheet.parse_sheet.Given as goal
 
 abbrev pub invariant-lines : goal.invariant-lines
 invariant-lines l = record {
-  progress : Progress l.bytes l.part l.number (lines_of_text l.rest) (declared l.declarations.items);
+  progress : Progress l.bytes l.part l.number (lines l.rest) (declared l.declarations.items);
   first : 1 ≤ l.number;
   within : l.number + length l.rest ≤ length l.bytes + 1;
 }
