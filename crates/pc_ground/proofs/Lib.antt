@@ -4,7 +4,6 @@ pub mod OfAxioms
 pub mod Numbers
 pub mod Weighing
 pub mod Symbols
-pub mod LookedUp
 pub mod Made
 pub mod NodesRight
 pub mod Same

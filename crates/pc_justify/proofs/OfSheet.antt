@@ -22,7 +22,8 @@ use Rattle.pc_ground.specs.Ground.{GroundAxiom, axioms}
 use Rattle.pc_ground.specs.Naming.{name_of}
 use Rattle.pc_ground.specs.Laws.{ClausesAreOfAxioms}
 use Rattle.pc_ground.proofs.Adding.{size_small}
-use Rattle.pc_ground.proofs.Lists.{range_each, values_each}
+use Rattle.pc_laws.proofs.ValueLists.{values_each}
+use Rattle.pc_ground.proofs.Lists.{range_each}
 use Rattle.pc_ground.proofs.Walking.{child_is, body_at}
 use Rattle.pc_justify.specs.Laws.{NamesAreOfTheirSheet}
 use Rattle.pc_lemmas.proofs.Options.{same_some}
