@@ -1,60 +1,26 @@
 // The readers of texts that are split into tokens: cells, values, and cells with values.
-ghost use Rattle.std.specs.Prelude.{◌≡◌, ◌∷◌, [], Bool, OnOk, IfOk, MatchOption};
-ghost use Rattle.pc_formula.specs.Word.{sign, NotFirst};
+ghost use Rattle.std.specs.Prelude.{◌≡◌, Bool, IfOk};
 ghost use Rattle.pc_formula.specs.Tree.{Cell, Value, cell_of, value_of};
 ghost use Rattle.pc_cert.specs.Written.{WrittenPair};
-ghost use Rattle.pc_cert.specs.Texts.{SpellsThis, IsWholeCell, IsWholeValue, IsWholePair, IsCellText, IsValueText, IsReadText};
-ghost use Rattle.pc_cert.specs.Line.{equality, IsWordPair, IsClaim, SpellsPair};
+ghost use Rattle.pc_cert.specs.Texts.{SpellsThis, IsWholePair, IsCellText, IsValueText, IsReadText};
+ghost use Rattle.pc_cert.specs.Line.{IsWordPair, IsClaim, SpellsPair};
 ghost use Rattle.pc_cert.specs.Trees.{pair_of, claimed_of};
 
 use crate::texts::Spelled;
 use crate::tree::PairTree;
-use pc_formula::{CellTree, Refusal, ValueTree, Words, read_cell, read_value};
+use pc_formula::{
+    CellTree, Refusal, ValueTree, Words, read_equation, read_last_cell, read_last_value,
+    read_question,
+};
 use pc_token::Kind;
 use std::alloc::Global;
 
-// Reads the end of the words.
-fn end(words: &mut Words<'_>) -> Result<(), Refusal>
-    ensures told { OnOk result (words.old ≡ []) }
-    ensures none { result ≡ Err Refusal.Syntax → words.old ≡ [] → ⊥ }
-{
-    if words.is_empty() {
-        Ok(())
-    } else {
-        Err(Refusal::Syntax)
-    }
-}
-
-// Reads CELL and the end.
-fn whole_cell(alloc: Global, words: &mut Words<'_>) -> Result<CellTree, Refusal>
-    ensures told { IfOk result (λ c. IsWholeCell words.old (cell_of c)) }
-    ensures none { result ≡ Err Refusal.Syntax → (c : Cell) → IsWholeCell words.old c → ⊥ }
-{
-    let cell = read_cell(alloc, words)?;
-    end(words)?;
-    Ok(cell)
-}
-
-// Reads VALUE and the end.
-fn whole_value(alloc: Global, words: &mut Words<'_>) -> Result<ValueTree, Refusal>
-    ensures told { IfOk result (λ v. IsWholeValue words.old (value_of v)) }
-    ensures none { result ≡ Err Refusal.Syntax → (v : Value) → IsWholeValue words.old v → ⊥ }
-{
-    let value = read_value(alloc, words)?;
-    end(words)?;
-    Ok(value)
-}
-
-/// Reads CELL = VALUE and the end.
-pub fn whole_pair(alloc: Global, words: &mut Words<'_>) -> Result<PairTree, Refusal>
+// Reads CELL = VALUE and the end.
+fn whole_pair(alloc: Global, words: &mut Words<'_>) -> Result<PairTree, Refusal>
     ensures told { IfOk result (λ p. IsWholePair Kind.Equal words.old (pair_of p)) }
     ensures none { result ≡ Err Refusal.Syntax → (p : WrittenPair) → IsWholePair Kind.Equal words.old p → ⊥ }
 {
-    let cell = read_cell(alloc, words)?;
-    if !words.take_sign(Kind::Equal) {
-        return Err(Refusal::Syntax);
-    }
-    let value = whole_value(alloc, words)?;
+    let (cell, value) = read_equation(alloc, words)?;
     Ok(PairTree { cell, value })
 }
 
@@ -65,7 +31,7 @@ pub fn read_cell_text(alloc: Global, text: &[u8]) -> Result<CellTree, Refusal>
 {
     let spelled = Spelled::new(alloc, text)?;
     let mut words = spelled.words();
-    whole_cell(alloc, &mut words)
+    read_last_cell(alloc, &mut words)
 }
 
 /// The value that the text is.
@@ -75,7 +41,7 @@ pub fn read_value_text(alloc: Global, text: &[u8]) -> Result<ValueTree, Refusal>
 {
     let spelled = Spelled::new(alloc, text)?;
     let mut words = spelled.words();
-    whole_value(alloc, &mut words)
+    read_last_value(alloc, &mut words)
 }
 
 /// The cell with a value that the text is.
@@ -86,32 +52,6 @@ pub fn read_pair_text(alloc: Global, text: &[u8]) -> Result<PairTree, Refusal>
     let spelled = Spelled::new(alloc, text)?;
     let mut words = spelled.words();
     whole_pair(alloc, &mut words)
-}
-
-// Takes `=` or `!=`, where it is the first word.
-fn take_equality(words: &mut Words<'_>) -> Option<bool>
-    ensures { MatchOption result ((holds : Bool) → NotFirst (equality holds) words.old) (λ holds. words.old ≡ sign (equality holds) ∷ words.new) }
-{
-    if words.take_sign(Kind::Equal) {
-        return Some(true);
-    }
-    if words.take_sign(Kind::NotEqual) {
-        return Some(false);
-    }
-    None
-}
-
-// Reads CELL = VALUE or CELL != VALUE and the end.
-fn whole_question(alloc: Global, words: &mut Words<'_>) -> Result<(PairTree, bool), Refusal>
-    ensures told { IfOk result (λ q. IsWholePair (equality q.1) words.old (pair_of q.0)) }
-    ensures none { result ≡ Err Refusal.Syntax → (p : WrittenPair) (holds : Bool) → IsWholePair (equality holds) words.old p → ⊥ }
-{
-    let cell = read_cell(alloc, words)?;
-    let Some(holds) = take_equality(words) else {
-        return Err(Refusal::Syntax);
-    };
-    let value = whole_value(alloc, words)?;
-    Ok((PairTree { cell, value }, holds))
 }
 
 // Reads the word, CELL = VALUE and the end.
@@ -139,7 +79,8 @@ fn claim_words(alloc: Global, words: &mut Words<'_>) -> Result<(PairTree, bool),
     if first != "claim" {
         return Err(Refusal::Syntax);
     }
-    whole_question(alloc, words)
+    let (cell, value, holds) = read_question(alloc, words)?;
+    Ok((PairTree { cell, value }, holds))
 }
 
 /// The cell with a value that stands behind the word that starts the line.

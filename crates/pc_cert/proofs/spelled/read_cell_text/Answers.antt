@@ -13,7 +13,7 @@ returns-in_err-spelled-clause-none c = λ e x s.
     c.in_err-spelled.ensures.none (ap Err is) s.words s.spells
 
 pub returns-clause-told : goal.returns-clause-told
-returns-clause-told c = spells_this IsWholeCell c.args.text.now c.in_ok-spelled.spelled c.words-words.result c.in_ok-spelled.ensures.told c.words-words.ensures cell_of c.whole_cell.result c.whole_cell.ensures.told
+returns-clause-told c = spells_this IsWholeCell c.args.text.now c.in_ok-spelled.spelled c.words-words.result c.in_ok-spelled.ensures.told c.words-words.ensures cell_of c.read_last_cell.result c.read_last_cell.ensures.told
 
 pub returns-clause-none : goal.returns-clause-none
-returns-clause-none c = λ e. spells_nothing IsWholeCell c.args.text.now c.in_ok-spelled.spelled c.words-words.result c.in_ok-spelled.ensures.told c.words-words.ensures (c.whole_cell.ensures.none e)
+returns-clause-none c = λ e. spells_nothing IsWholeCell c.args.text.now c.in_ok-spelled.spelled c.words-words.result c.in_ok-spelled.ensures.told c.words-words.ensures (c.read_last_cell.ensures.none e)

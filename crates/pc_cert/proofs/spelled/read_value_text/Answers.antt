@@ -13,7 +13,7 @@ returns-in_err-spelled-clause-none c = λ e x s.
     c.in_err-spelled.ensures.none (ap Err is) s.words s.spells
 
 pub returns-clause-told : goal.returns-clause-told
-returns-clause-told c = spells_this IsWholeValue c.args.text.now c.in_ok-spelled.spelled c.words-words.result c.in_ok-spelled.ensures.told c.words-words.ensures value_of c.whole_value.result c.whole_value.ensures.told
+returns-clause-told c = spells_this IsWholeValue c.args.text.now c.in_ok-spelled.spelled c.words-words.result c.in_ok-spelled.ensures.told c.words-words.ensures value_of c.read_last_value.result c.read_last_value.ensures.told
 
 pub returns-clause-none : goal.returns-clause-none
-returns-clause-none c = λ e. spells_nothing IsWholeValue c.args.text.now c.in_ok-spelled.spelled c.words-words.result c.in_ok-spelled.ensures.told c.words-words.ensures (c.whole_value.ensures.none e)
+returns-clause-none c = λ e. spells_nothing IsWholeValue c.args.text.now c.in_ok-spelled.spelled c.words-words.result c.in_ok-spelled.ensures.told c.words-words.ensures (c.read_last_value.ensures.none e)
