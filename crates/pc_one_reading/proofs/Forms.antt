@@ -4,13 +4,13 @@ use Rattle.std.specs.Prelude.{codes, bytes_eq}
 use Rattle.std.specs.Char.{digit_value}
 use Rattle.std.proofs.lemmas.Slice.Eq.{bytes_eq-Decides}
 use Rattle.pc_token.specs.declared.token.Kind.TheVariants.{Equal}
-use Rattle.pc_formula.specs.Word.{Word, name, sign}
-use Rattle.pc_formula.specs.Front.{StopsLevel}
+use Rattle.pc_formula.specs.Word.{Word, name}
+use Rattle.pc_formula.specs.Equation.{equality}
 use Rattle.pc_cert.specs.Written.{nothing, heading, claims, claims_inconsistent, uses, assigns, derives, ends, WrittenPair, WrittenLine}
 use Rattle.pc_cert.specs.Texts.{texts_of, IsWholePair, SpellsThis, IsNumberText}
-use Rattle.pc_cert.specs.Line.{equality, IsWordPair, IsClaim, SpellsPair, IsCertificateForm, IsCertificateLine}
+use Rattle.pc_cert.specs.Line.{IsWordPair, IsClaim, SpellsPair, IsCertificateForm, IsCertificateLine}
 use Rattle.pc_one_reading.proofs.Words.{tails}
-use Rattle.pc_one_reading.proofs.Texts.{IsUnambiguous, equal_stops, pair_once, spelled_once}
+use Rattle.pc_one_reading.proofs.Texts.{IsUnambiguous, pair_once, spelled_once}
 use Rattle.pc_one_reading.proofs.Parts.{derivation_once}
 use Rattle.pc_one_reading.proofs.Signs.{claim_no_word}
 
@@ -89,16 +89,6 @@ form_starts line texts ends is = ap start_of_texts is
 
 -- ---- a word, and then a cell, a sign and a value
 
-claim_stops : (holds : Bool) (rest : List Word) → StopsLevel 1 (sign (equality holds) ∷ rest)
-claim_stops true rest = omega arith
-claim_stops false rest = omega arith
-
-same_claim : (g h : Bool) → equality g ≡ equality h → g ≡ h
-same_claim true true e = refl
-same_claim true false e = absurd (cc)
-same_claim false true e = absurd (cc)
-same_claim false false e = refl
-
 abbrev claim_line : WrittenPair → Bool → WrittenLine
 claim_line p holds = claims p holds
 
@@ -109,13 +99,13 @@ module _ (laws : IsUnambiguous) where
   word_pair_once : (word : List ℕ) (ws : List Word) (p q : WrittenPair) → IsWordPair word Equal ws p → IsWordPair word Equal ws q → p ≡ q
   word_pair_once word ws p q a b =
       let rest = tails (name word) (name word) a.rest b.rest (sym a.are ∙ b.are) in
-      (pair_once laws Equal Equal b.rest p q equal_stops equal_stops (subst (λ r. IsWholePair Equal r p) rest a.pair) b.pair).1
+      (pair_once laws true true b.rest p q (subst (λ r. IsWholePair Equal r p) rest a.pair) b.pair).1
 
   claim_once : (ws : List Word) (p q : WrittenPair × Bool) → IsClaim ws p → IsClaim ws q → p ≡ q
   claim_once ws p q a b =
       let rest = tails (name (codes "claim")) (name (codes "claim")) a.rest b.rest (sym a.are ∙ b.are) in
-      let both = pair_once laws (equality p.1) (equality q.1) b.rest p.0 q.0 (claim_stops p.1) (claim_stops q.1) (subst (λ r. IsWholePair (equality p.1) r p.0) rest a.pair) b.pair in
-      ap₂ claimed both.1 (same_claim p.1 q.1 both.0)
+      let both = pair_once laws p.1 q.1 b.rest p.0 q.0 (subst (λ r. IsWholePair (equality p.1) r p.0) rest a.pair) b.pair in
+      ap₂ claimed both.1 both.0
 
   spells_once : (line word : List ℕ) (p q : WrittenPair) → SpellsPair line word p → SpellsPair line word q → p ≡ q
   spells_once line word p q a b = spelled_once laws (IsWordPair word Equal) (word_pair_once word) line p q a b

@@ -11,9 +11,10 @@ use Rattle.pc_name.specs.Names.{is_reserved}
 use Rattle.pc_formula.specs.Word.{Word, name, reserved, number, sign, word, word_of}
 use Rattle.pc_formula.specs.Tree.{Cell, Value}
 use Rattle.pc_formula.specs.Value.{DerivesName, a_name, DerivesNumber, a_number, DerivesInt, natural, negative, DerivesValue, by_name, by_integer, Listed, last, next, InParentheses, enclosed, Arguments, no_argument, arguments, DerivesCell, a_cell}
+use Rattle.pc_formula.specs.Equation.{equality}
 use Rattle.pc_cert.specs.Written.{WrittenPair}
 use Rattle.pc_cert.specs.Texts.{texts_of, SpellsThis}
-use Rattle.pc_cert.specs.Line.{equality, IsClaim}
+use Rattle.pc_cert.specs.Line.{IsClaim}
 use Rattle.pc_one_reading.proofs.Words.{heads, tails, false_no_true, both_first, both_second}
 
 -- ---- what is derived is a front of the words

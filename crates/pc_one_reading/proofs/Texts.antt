@@ -1,23 +1,24 @@
 -- A text is at most one number, cell, value, read, path or literal.
-use Rattle.std.proofs.Common.{◌≡◌, ℕ, Bool, true, false, List, [], ◌∷◌, refl, sym, ◌∙◌, ap, ap₂, subst, arith, if◌then◌else◌}
+use Rattle.std.proofs.Common.{◌≡◌, ℕ, Bool, true, false, List, [], ◌∷◌, refl, sym, ◌∙◌, ap, ap₂, subst, if◌then◌else◌}
 use Rattle.std.specs.Prelude.{◌==◌}
 use Rattle.std.specs.List.{slice_split, onto_first}
-use Rattle.pc_token.specs.declared.token.Kind.{Kind}
 use Rattle.pc_token.specs.declared.token.Kind.TheVariants.{Equal}
 use Rattle.pc_token.specs.Token.{LineReading, split, IsReadingOf}
-use Rattle.pc_formula.specs.Word.{Word, sign, words_of, HasWords}
+use Rattle.pc_formula.specs.Word.{Word, words_of, HasWords}
 use Rattle.pc_formula.specs.Tree.{Cell, Value}
 use Rattle.pc_formula.specs.Front.{StopsLevel}
 use Rattle.pc_formula.specs.Value.{DerivesCell, DerivesValue}
+use Rattle.pc_formula.specs.Equation.{equality, IsEquation}
 use Rattle.pc_cert.specs.Written.{WrittenPair, WrittenPath, WrittenSymbol, written_pair, written_node, WrittenLiteral}
 use Rattle.pc_cert.specs.Texts.{IsWholeCell, IsWholeValue, IsWholePair, SpellsThis, IsCellText, IsValueText, IsReadText, IsNumberText, AreAll, pieces_of, IsPathText, without_negation, is_path, IsSymbolText, IsLiteralText}
 use Rattle.pc_one_reading.proofs.Words.{heads, tails, false_no_true}
 
--- a line has one reading, and words start with one value and one cell at most
+-- a line has one reading, and words start with one value and one cell and are one equation at most
 pub record IsUnambiguous : Type 0 where
   pub reading : (line : List ℕ) (q r : LineReading) → IsReadingOf line q → IsReadingOf line r → q ≡ r
   pub value : (ws : List Word) (v w : Value) (r s : List Word) → DerivesValue ws v r → DerivesValue ws w s → (v ≡ w) × (r ≡ s)
   pub cell : (ws : List Word) (c d : Cell) (r s : List Word) → DerivesCell ws c r → DerivesCell ws d s → StopsLevel 1 r → StopsLevel 1 s → (c ≡ d) × (r ≡ s)
+  pub equation : (ws : List Word) (c d : Cell) (v w : Value) (g h : Bool) → IsEquation ws (equality g) c v → IsEquation ws (equality h) d w → (c ≡ d) × (v ≡ w) × (g ≡ h)
 
 -- ---- one text after another
 
@@ -59,11 +60,6 @@ starts_path (c ∷ cs) r more e = ap (λ b. b == 64) (first_piece (c == 47) c 64
 path_starts : (text : List ℕ) (p : WrittenPath) → IsPathText text p → is_path text ≡ true
 path_starts text p is = starts_path text p.rule is.numbers is.pieces
 
--- ---- the signs of pairs
-
-pub equal_stops : (rest : List Word) → StopsLevel 1 (sign Equal ∷ rest)
-equal_stops rest = omega arith
-
 abbrev pair : Cell → Value → WrittenPair
 pair c v = record { cell = c; value = v }
 
@@ -88,18 +84,13 @@ module _ (laws : IsUnambiguous) where
   whole_value_once : (ws : List Word) (v w : Value) → IsWholeValue ws v → IsWholeValue ws w → v ≡ w
   whole_value_once ws v w a b = (laws.value ws v w [] [] a b).0
 
-  same_signs : (k j : Kind) (r s : List Word) → sign k ∷ r ≡ sign j ∷ s → (k ≡ j) × (r ≡ s)
-  same_signs k j r s e = ((cc), (cc))
-
-  pub pair_once : (k j : Kind) (ws : List Word) (p q : WrittenPair) → ((rest : List Word) → StopsLevel 1 (sign k ∷ rest)) → ((rest : List Word) → StopsLevel 1 (sign j ∷ rest)) → IsWholePair k ws p → IsWholePair j ws q → (k ≡ j) × (p ≡ q)
-  pair_once k j ws p q stops also a b =
-      let cells = laws.cell ws p.cell q.cell (sign k ∷ a.rest) (sign j ∷ b.rest) a.cell b.cell (stops a.rest) (also b.rest) in
-      let signs = same_signs k j a.rest b.rest cells.1 in
-      let values = whole_value_once b.rest p.value q.value (subst (λ ws. DerivesValue ws p.value []) signs.1 a.value) b.value in
-      (signs.0, ap₂ pair cells.0 values)
+  pub pair_once : (g h : Bool) (ws : List Word) (p q : WrittenPair) → IsWholePair (equality g) ws p → IsWholePair (equality h) ws q → (g ≡ h) × (p ≡ q)
+  pair_once g h ws p q a b =
+      let parts = laws.equation ws p.cell q.cell p.value q.value g h a b in
+      (parts.2, ap₂ pair parts.0 parts.1)
 
   equals_once : (ws : List Word) (p q : WrittenPair) → IsWholePair Equal ws p → IsWholePair Equal ws q → p ≡ q
-  equals_once ws p q a b = (pair_once Equal Equal ws p q equal_stops equal_stops a b).1
+  equals_once ws p q a b = (pair_once true true ws p q a b).1
 
   -- ---- texts
 
