@@ -16,4 +16,3 @@ mod Numbered
 mod Gathered
 mod Taken
 mod Finished
-mod TextLines

@@ -18,7 +18,6 @@ mod part;
 mod path;
 mod read;
 mod spelled;
-mod split;
 mod table;
 mod texts;
 mod tree;

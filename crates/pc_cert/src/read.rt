@@ -16,10 +16,10 @@ use crate::cert::{Cert, CertFault};
 use crate::draft::{Draft, say};
 use crate::line::read_line;
 use crate::order::{Order, behind, nothing_yet, stands};
-use crate::split::next_line;
 use crate::table::Table;
 use crate::tree::LineTree;
 use pc_formula::Refusal;
+use pc_lines::next_line;
 use pc_logic::Book;
 use std::alloc::Global;
 

@@ -8,15 +8,15 @@ lines-init c = record { before = []; says = []; parted = refl; all = tt; gathere
 
 pub lines-preserved : goal.lines-preserved
 lines-preserved c =
-    taken_more _ _ _ _ _ _ c.lines.invariant c.in-Some.line.now c.in-Some.after.now c.take_line.new.order c.take_line.new.draft c.in-Some.ensures.0 c.in-Some.ensures.1
+    taken_more _ _ _ _ _ _ c.lines.invariant c.in-Some.line.now c.in-Some.after.now c.take_line.new.order c.take_line.new.draft c.in-Some.ensures.first c.in-Some.ensures.shorter
     (c.in_ok-take_line.ensures c.lines.invariant.says c.lines.invariant.gathered c.lines.invariant.order c.lines.invariant.at)
 
 pub returns-in_err-take_line : goal.returns-in_err-take_line
 returns-in_err-take_line c =
     let p = err_from_is_err_and c.from_residual.result c.from_residual.ensures.1 in
     rw (p.1, p.2)
-    (failed _ _ _ _ _ _ c.lines.invariant c.in-Some.line.now c.in-Some.after.now _ c.in-Some.ensures.0
+    (failed _ _ _ _ _ _ c.lines.invariant c.in-Some.line.now c.in-Some.after.now _ c.in-Some.ensures.first
     (c.in_err-take_line.ensures c.lines.invariant.says c.lines.invariant.gathered c.lines.invariant.order c.lines.invariant.at))
 
 pub returns : goal.returns
-returns c = c.finish.ensures c.args.book.now c.args.bytes.now _ c.lines.invariant c.in_default.ensures
+returns c = c.finish.ensures c.args.book.now c.args.bytes.now _ c.lines.invariant c.in_default.ensures.first
