@@ -12,7 +12,6 @@ pub mod Deciding
 pub mod Owned
 pub mod OwnedByParts
 pub mod OwnAlone
-pub mod LeavesAdded
 pub mod MarkLemmas
 pub mod WalkAdded
 pub mod Placing

@@ -47,7 +47,7 @@ impl PartNumbers {
         well_formed(book);
         let mut rows = Rows::new(alloc);
         add_owners_of_cells(&mut rows, book, &self.cells)?;
-        add_owners_of_rules(&mut rows, book, book.rules(), &self.pieces)?;
+        add_owners_of_rules(alloc, &mut rows, book, book.rules(), &self.pieces)?;
         Ok(rows)
     }
 }

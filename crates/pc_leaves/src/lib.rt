@@ -2,5 +2,7 @@
 #![tactic(auto)]
 
 mod leaves;
+#[cfg(test)]
+mod tests;
 
 pub use leaves::Leaves;
