@@ -3,6 +3,7 @@ use Rattle.std.proofs.Common.{◌≡◌, ℕ, true, false, List, [], ◌∷◌, 
 use Rattle.std.proofs.lemmas.List.{append_assoc, map-append}
 use Rattle.std.proofs.lemmas.List.Elements.{All-get_or, Contains-append_right}
 use Rattle.std.specs.List.{flat_map, AllByRecursion}
+use Rattle.std.specs.Str.Lines.{lines}
 use Rattle.pc_sheet.specs.Sheet.{Sheet, Universe, Values, listed, range, NamedStatement}
 use Rattle.pc_sheet.specs.Sizes.{size_of}
 use Rattle.pc_sheet.specs.Entailment.{AreWithin}
@@ -12,7 +13,7 @@ use Rattle.pc_sheet.specs.declared.ids.SortId.{SortId}
 use Rattle.pc_sheet.specs.declared.ids.Entry.{Entry}
 use Rattle.pc_syntax.specs.Tree.{Declared}
 use Rattle.pc_syntax.specs.Line.{LineForm, heading, declares, begins}
-use Rattle.pc_syntax.specs.Sheet.{is_rule, is_of_universe, is_open, AreStanding, whole, lines_of_text, IsSheet}
+use Rattle.pc_syntax.specs.Sheet.{is_rule, is_of_universe, is_open, AreStanding, whole, IsSheet}
 use Rattle.pc_writer.specs.SheetText.{sort_line, table_line, row_line, row_lines, family_line, rule_line, enter_line, universe_lines, sheet_lines, sheet_text}
 use Rattle.pc_canonical.specs.Declarations.{values_declaration, sort_declaration, table_declaration, row_declaration, row_declarations, family_declaration, rule_declaration, entry_declaration, universe_declarations, declarations_of, numbered_declarations}
 use Rattle.pc_canonical.proofs.Lines.{heading_reads_back, begin_reads_back, values_read_back, table_reads_back, row_reads_back, family_reads_back, rule_reads_back, entry_reads_back}
@@ -112,5 +113,5 @@ module _ (s : Sheet) (well : IsWellFormed s) where
   sheet_reads_back =
       let ds = declarations_of s in
       let forms = forms_of ds in
-      let standing : AreStanding [] (lines_of_text (sheet_text s)) forms = subst (λ ls. AreStanding [] ls forms) (sym (lines_are (sheet_lines s) all_unbroken)) all_stand in
+      let standing : AreStanding [] (lines (sheet_text s)) forms = subst (λ ls. AreStanding [] ls forms) (sym (lines_are (sheet_lines s) all_unbroken)) all_stand in
       subst (λ l. IsSheet (sheet_text s) l) (numbered_by_line ds 2) (whole forms standing (has_begin (heading 1 ∷ map declares ds)))

@@ -1,21 +1,24 @@
 -- A line that is cut into words has no line's end within, so such lines are the lines of their text.
-use Rattle.std.proofs.Common.{◌≡◌, ℕ, suc, ◌<◌, ◌≤◌, ◌⊎◌, ⊎_elim, Bool, true, false, ◌||◌, List, [], ◌∷◌, ◌++◌, length, get_or, arith, refl, sym, ◌∙◌, ap, ap₂, subst}
+use Rattle.std.proofs.Common.{◌≡◌, ◌≢◌, ℕ, suc, ◌-◌, ◌<◌, ◌≤◌, ◌⊎◌, ⊎_elim, Bool, true, false, ◌||◌, List, [], ◌∷◌, ◌++◌, All, length, get_or, take, arith, refl, sym, ◌∙◌, ap, ap₂, subst}
 use Rattle.std.proofs.str.Laws.{order}
+use Rattle.std.proofs.lemmas.Bool.{eq-eqb}
 use Rattle.std.proofs.lemmas.Bool.Decides.{nat_tests}
 use Rattle.std.proofs.lemmas.List.{append_assoc}
+use Rattle.std.proofs.lemmas.List.Elements.{All-cons, All-nil, All-weaker}
 use Rattle.std.proofs.lemmas.List.Folds.{list_any-append}
 use Rattle.std.proofs.lemmas.Str.{NoCharPasses-byte}
-use Rattle.std.specs.Prelude.{◌==◌, ◌&&◌, if◌then◌else◌}
+use Rattle.std.specs.Prelude.{◌==◌, if◌then◌else◌, slice_index}
 use Rattle.std.specs.Char.{is_ascii_digit}
 use Rattle.std.specs.List.{list_any, AllByRecursion}
 use Rattle.std.specs.Str.{NoCharPasses, NonePass}
+use Rattle.std.specs.Str.Lines.{lines, strip_carriage_return}
 use Rattle.unicode_ident.proofs.IdentLemmas.{is_xid_continue-ascii}
 use Rattle.pc_name.specs.Names.{continues_name, HasNameCharacters}
 use Rattle.pc_token.specs.declared.token.Kind.{Kind}
 use Rattle.pc_token.specs.declared.token.Kind.TheVariants.{Name, Number}
 use Rattle.pc_formula.specs.Word.{Word}
-use Rattle.pc_syntax.specs.Sheet.{starts_with_lf, with_front, lines_of_text}
-use Rattle.pc_writer.specs.SheetText.{lines_text}
+use Rattle.pc_writer.specs.SheetText.{ended, lines_text}
+use Rattle.pc_lines.proofs.TextLines.{lines-feed}
 use Rattle.pc_canonical.proofs.Cuts.{Cuts, done, blank, piece, IsPieceOf}
 use Rattle.pc_canonical.proofs.Scalars.{starts_continue}
 
@@ -76,25 +79,40 @@ cuts_unbroken text ws (piece k front {more = more} nonempty utf8 is cuts) =
 -- ---- lines
 
 abbrev pub AreUnbroken : List (List ℕ) → Type 0
-AreUnbroken lines = AllByRecursion IsUnbroken lines
+AreUnbroken ls = AllByRecursion IsUnbroken ls
 
 neither : (a b : Bool) → (a || b) ≡ false → (a ≡ false) × (b ≡ false)
 neither true b is = absurd (cc)
 neither false b is = (refl, is)
 
-put_in_front : (b : ℕ) (seen : Bool) (line : List ℕ) (lines : List (List ℕ)) → is_line_end b ≡ false → with_front b seen (line ∷ lines) ≡ (b ∷ line) ∷ lines
-put_in_front b seen line lines inner =
-    let each = neither (b == 10) (b == 13) inner in
-    ap (λ x. if x then [] ∷ (line ∷ lines) else (if (b == 13) && seen then line ∷ lines else (b ∷ line) ∷ lines)) each.0
-    ∙ ap (λ x. if x && seen then line ∷ lines else (b ∷ line) ∷ lines) each.1
-
-first_line : (line rest : List ℕ) → IsUnbroken line → lines_of_text (line ++ 10 ∷ rest) ≡ line ∷ lines_of_text rest
-first_line [] rest whole = refl
-first_line (b ∷ line) rest whole =
+each_unbroken : (line : List ℕ) → IsUnbroken line → All (λ b. is_line_end b ≡ false) line
+each_unbroken [] whole = All-nil (λ b. is_line_end b ≡ false)
+each_unbroken (b ∷ line) whole =
     let each = neither (is_line_end b) (list_any is_line_end line) whole in
-    ap (with_front b (starts_with_lf (line ++ 10 ∷ rest))) (first_line line rest each.1) ∙ put_in_front b (starts_with_lf (line ++ 10 ∷ rest)) line (lines_of_text rest) each.0
+    All-cons (λ c. is_line_end c ≡ false) b line each.0 (each_unbroken line each.1)
 
-pub lines_are : (lines : List (List ℕ)) → AreUnbroken lines → lines_of_text (lines_text lines) ≡ lines
+no_feed : (b : ℕ) → is_line_end b ≡ false → b ≢ 10
+no_feed b inner is =
+    let feed : (b == 10) ≡ true = eq-eqb b 10 is in
+    let other : (b == 10) ≡ false = (neither (b == 10) (b == 13) inner).0 in
+    cc
+
+no_return : (line : List ℕ) → IsUnbroken line → (slice_index line (length line - 1) == 13) ≡ false
+no_return [] whole = refl
+no_return (b ∷ line) whole =
+    let last = slice_index (b ∷ line) (length (b ∷ line) - 1) in
+    (neither (last == 10) (last == 13) (each_unbroken (b ∷ line) whole (length (b ∷ line) - 1) 0 (omega arith))).1
+
+unstripped : (line : List ℕ) → IsUnbroken line → strip_carriage_return line ≡ line
+unstripped line whole = ap (λ t. if t then take (length line - 1) line else line) (no_return line whole)
+
+-- such a line with its end is the first of a text
+pub first_line : (line rest : List ℕ) → IsUnbroken line → lines (ended line ++ rest) ≡ line ∷ lines rest
+first_line line rest whole =
+    ap lines (append_assoc line (10 ∷ []) rest)
+    ∙ lines-feed line rest (All-weaker (λ b. is_line_end b ≡ false) (λ b. b ≢ 10) no_feed line (each_unbroken line whole))
+    ∙ ap (λ l. l ∷ lines rest) (unstripped line whole)
+
+pub lines_are : (ls : List (List ℕ)) → AreUnbroken ls → lines (lines_text ls) ≡ ls
 lines_are [] whole = refl
-lines_are (line ∷ lines) whole =
-    ap lines_of_text (append_assoc line (10 ∷ []) (lines_text lines)) ∙ first_line line (lines_text lines) whole.0 ∙ ap (λ ls. line ∷ ls) (lines_are lines whole.1)
+lines_are (line ∷ ls) whole = first_line line (lines_text ls) whole.0 ∙ ap (λ rest. line ∷ rest) (lines_are ls whole.1)
