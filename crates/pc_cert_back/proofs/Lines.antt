@@ -8,6 +8,7 @@ use Rattle.pc_sheet.specs.declared.ids.Entry.{Entry}
 use Rattle.pc_token.specs.declared.token.Kind.{Kind}
 use Rattle.pc_token.specs.declared.token.Kind.TheVariants.{Equal}
 use Rattle.pc_formula.specs.Word.{Word, name, sign}
+use Rattle.pc_formula.specs.Equation.{equality}
 use Rattle.pc_accept.specs.Accepts.{Line, Claim, implied, inconsistent, Certificate}
 use Rattle.pc_accept.specs.Writable.{IsLineOf, IsClaimOf}
 use Rattle.pc_writer.specs.Spelling.{cell_text, value_text, sort_of, entry_text}
@@ -18,7 +19,7 @@ use Rattle.pc_canonical.proofs.Signs.{cut_op}
 use Rattle.pc_canonical.proofs.Unbroken.{is_line_end, cuts_unbroken}
 use Rattle.pc_cert.specs.Written.{heading, claims, claims_inconsistent, uses, assigns, derives, ends, WrittenLine, SaidLine}
 use Rattle.pc_cert.specs.Texts.{texts_of, SpellsThis}
-use Rattle.pc_cert.specs.Line.{IsCertificateLine, IsWordPair, StartsWithText, equality}
+use Rattle.pc_cert.specs.Line.{IsCertificateLine, IsWordPair, StartsWithText}
 use Rattle.pc_cert.specs.Order.{kind_of}
 use Rattle.pc_cert.specs.Meaning.{IsSaidLine}
 use Rattle.pc_cert_text.specs.CertificateText.{number_text, behind_blank, derivation_line_text, equality_text, claim_text}
