@@ -1,5 +1,5 @@
 -- After an edit of a cell's entry all reasons are right.
-use Rattle.std.proofs.Common.{◌≡◌, inl, inr, List, [], Option, None, Some, Contains, sym, subst}
+use Rattle.std.proofs.Common.{inl, inr, List, Option, None, Some, Contains, sym, subst}
 use Rattle.pc_sheet.specs.Sheet.{Sheet}
 use Rattle.pc_sheet.specs.MaximalSets.{AreRulesConsistent}
 use Rattle.pc_sheet.specs.WellFormed.{IsWellFormed}

@@ -1,5 +1,5 @@
 -- Which reasons stay right when entries are edited.
-use Rattle.std.specs.Prelude.{◌≡◌, ◌⊎◌, ℕ, List, [], ◌∷◌, Option, Some, Contains}
+use Rattle.std.specs.Prelude.{◌≡◌, ◌⊎◌, List, [], ◌∷◌, Contains}
 use Rattle.pc_sheet.specs.Sheet.{Sheet}
 use Rattle.pc_sheet.specs.Entailment.{HaveDistinctCells, IsImplied}
 use Rattle.pc_sheet.specs.MaximalSets.{AreRulesConsistent}

@@ -1,7 +1,7 @@
 use Rattle.std.proofs.Common.{◌≡◌, length, arith, ap, ◌∙◌, sym, subst}
 use Rattle.std.proofs.lemmas.List.{length-map}
 use Rattle.pc_name.specs.Names.{IsName}
-use Rattle.pc_sheet.specs.Sheet.{Sheet, Universe}
+use Rattle.pc_sheet.specs.Sheet.{Sheet}
 use Rattle.pc_sheet.specs.Views.{rule_of}
 use Rattle.pc_sheet.specs.WellFormed.{IsWellFormedRule}
 use Rattle.pc_session_worked.proofs.edits.add_rule.Goals as goal
