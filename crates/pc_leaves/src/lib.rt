@@ -2,7 +2,5 @@
 #![tactic(auto)]
 
 mod leaves;
-#[cfg(test)]
-mod tests;
 
 pub use leaves::Leaves;
