@@ -1,7 +1,7 @@
 //! The laws, as contracts.
 ghost use Rattle.pc_laws.specs.Laws.{TruthIsDecided, ConsistencyIsDecided, EntailmentIsDecided, ImplicationIsDecided, SublistsAreConsistent, NoneIsLessThanItself, LesserThanLesserIsLess, DifferentSublistsAreOrdered, ConsistentIsInMaximal, MaximalIsByEachEntry, ImpliedIsByMaximalSet, ImpliedHasOneLeastSupport, LeastSupportIsMinimal, LeastStaysWithNewest, LeastStaysWithoutOthers, ConflictIsInMinimalInconsistent, AssignmentsAreCounted, SublistsAreCounted};
 ghost use Rattle.pc_laws.specs.Lists.{DifferentAreNoMore, SameAreAsMany};
-ghost use Rattle.pc_laws.specs.Universes.{UniversesHaveAssignments, EntriesAreAssigned, AtomsLookUpCells};
+ghost use Rattle.pc_laws.specs.Universes.{UniversesHaveAssignments, EntriesAreAssigned, EntriesAreFew, AtomsLookUpCells};
 
 /// A statement is true or false under any values.
 pub fn truth_is_decided()
@@ -89,7 +89,7 @@ pub fn assignments_are_counted()
     ensures { AssignmentsAreCounted }
 {}
 
-/// There are two to their number sublists of entries on different cells.
+/// There are two to their number sublists of different entries.
 pub fn sublists_are_counted()
     ensures { SublistsAreCounted }
 {}
@@ -102,6 +102,11 @@ pub fn universes_have_assignments()
 /// Entries on different cells are had by some assignment.
 pub fn entries_are_assigned()
     ensures { EntriesAreAssigned }
+{}
+
+/// A sheet has no more entries than its cells may have.
+pub fn entries_are_few()
+    ensures { EntriesAreFew }
 {}
 
 /// A well-sorted atom looks up cells of the universe alone.
