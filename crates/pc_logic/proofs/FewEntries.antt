@@ -1,16 +1,17 @@
 -- A sheet has no more entries than its cells may have.
-use Rattle.std.proofs.Common.{◌≡◌, ◌≢◌, ℕ, zero, suc, ◌<◌, ◌≤◌, ◌*◌, Bool, true, false, cond, not, eqb, eq-eqb, inl, inr, ◌∙◌, List, [], ◌∷◌, length, slice_get, IsSomeAnd, All, Contains, arith, ap, refl, sym, subst}
+use Rattle.std.proofs.Common.{◌≡◌, ◌≢◌, ℕ, zero, suc, ◌<◌, ◌≤◌, ◌*◌, Bool, true, not, eqb, eq-eqb, inl, inr, ◌∙◌, List, [], ◌∷◌, length, slice_get, IsSomeAnd, All, Contains, arith, ap, refl, sym, subst}
 use Rattle.std.specs.List.{filter}
 use Rattle.std.proofs.lemmas.Bool.{cases_eq, true≢false}
 use Rattle.std.proofs.lemmas.List.Elements.{All-head, All-tail, All-nil, All-contains}
 use Rattle.std.proofs.lemmas.List.Filters.{length-filter_both}
 use Rattle.pc_sheet.specs.Limits.{most_entries}
 use Rattle.pc_sheet.specs.Entailment.{cell_sizes}
+use Rattle.pc_sheet.specs.Sheet.{Universe}
 use Rattle.pc_sheet.specs.WellFormed.{is_of_cell, entries_of, IsEntryOf, AreWellFormedEntries}
 use Rattle.pc_sheet.specs.declared.ids.CellId.{CellId}
 use Rattle.pc_sheet.specs.declared.ids.Entry.{Entry}
 use Rattle.pc_lemmas.proofs.Elements.{all_from, kept_is}
-use Rattle.pc_laws.specs.Universes.{EntriesAreFew}
+use Rattle.pc_logic.proofs.EntryLemmas.{length_kept_twice}
 
 -- a place that is there is below the length
 below : (sizes : List ℕ) (k : ℕ) (P : ℕ → Type 0) → IsSomeAnd (slice_get sizes k) P → k < length sizes
@@ -24,17 +25,6 @@ is_elsewhere c e = not (is_of_cell c e)
 abbrev elsewhere : CellId → List Entry → List Entry
 elsewhere c es = filter (is_elsewhere c) es
 
--- those of a cell that aren't of another one are no more than those of it
-no_more : (p q : Entry → Bool) (es : List Entry) → length (filter p (filter q es)) ≤ length (filter p es)
-no_more p q [] = omega arith
-no_more p q (e ∷ es) = by (q e) (p e) refl (no_more p q es)
-  where
-    by : (b t : Bool) → p e ≡ t → length (filter p (filter q es)) ≤ length (filter p es) → length (filter p (cond b (e ∷ filter q es) (filter q es))) ≤ length (cond t (e ∷ filter p es) (filter p es))
-    by true true is h = subst (λ t. length (cond t (e ∷ filter p (filter q es)) (filter p (filter q es))) ≤ length (e ∷ filter p es)) (sym is) (omega (arith, h))
-    by true false is h = subst (λ t. length (cond t (e ∷ filter p (filter q es)) (filter p (filter q es))) ≤ length (filter p es)) (sym is) h
-    by false true is h = omega (arith, h)
-    by false false is h = h
-
 -- by the cells, the last one first
 few_below : (n most : ℕ) (es : List Entry) → All (λ e. e.cell.0 < n) es → ((c : CellId) → length (entries_of c es) ≤ most) → length es ≤ most * n
 few_below zero most [] within few = omega arith
@@ -46,7 +36,7 @@ few_below (suc n) most es within few =
         let is = kept_is (is_elsewhere last) es e c in
         let small : e.cell.0 < suc n = All-contains (λ f. f.cell.0 < suc n) es e within is.0 in
         not_last e n small is.1) in
-    let ih = few_below n most rest rest_within (λ c. let h = no_more (is_of_cell c) (is_elsewhere last) es in let k = few c in omega (arith, h, k)) in
+    let ih = few_below n most rest rest_within (λ c. let h = length_kept_twice (is_of_cell c) (is_elsewhere last) es in let k = few c in omega (arith, h, k)) in
     let both = length-filter_both (is_of_cell last) (is_elsewhere last) (λ e. refl) es in
     let own = few last in
     omega (arith, ih, both, own)
@@ -57,7 +47,7 @@ few_below (suc n) most es within few =
       | inr other ↦ omega (arith, small, other)
     ]
 
-pub entries_few : EntriesAreFew
+pub entries_few : (u : Universe) (entries : List Entry) → AreWellFormedEntries u entries → length entries ≤ most_entries * length (cell_sizes u)
 entries_few u entries formed =
     few_below (length (cell_sizes u)) most_entries entries
     (all_from (λ e. e.cell.0 < length (cell_sizes u)) entries (λ e c. below (cell_sizes u) e.cell.0 (λ n. e.value.0 < n) (All-contains (IsEntryOf u) entries e formed.each c))) formed.few
