@@ -8,7 +8,7 @@ use Rattle.pc_sheet.specs.WellFormed.{IsWellFormed, IsEntryOf}
 use Rattle.pc_sheet.specs.declared.ids.CellId.{CellId}
 use Rattle.pc_sheet.specs.declared.ids.Entry.{Entry}
 use Rattle.pc_sheet.specs.declared.ids.Target.{Target}
-use Rattle.pc_logic.specs.Edits.{cleared, is_of_cell, is_same_entry, entered, without_entry, without_one}
+use Rattle.pc_logic.specs.Edits.{cleared, is_of_cell, is_same_entry, entered, without_entry}
 use Rattle.pc_logic.proofs.EntryLemmas.{pairs_filter, entries_left, entries_stay}
 use Rattle.pc_parts.specs.Parts.{Part}
 use Rattle.pc_parts.specs.PartSheets.{is_on, entries_on, sheet_of}
@@ -19,7 +19,7 @@ use Rattle.pc_edits.specs.Reasons.{IsRowFor, IsJustifying}
 use Rattle.pc_edits.specs.Edits.{HasNoEntryOf, edited, MayStay}
 use Rattle.pc_edits.specs.Laws.{ClearingEdits, OtherPartsStay}
 use Rattle.pc_cache.specs.Rows.{TargetRow, HasRowOf, row_of, is_entry_among, is_used_in}
-use Rattle.pc_world_list.specs.Worlds.{WorldView, AreExact, world_without, IsWithout}
+use Rattle.pc_world_list.specs.Worlds.{WorldView, AreExact, sheet_without, without_one, world_without, IsWithout}
 use Rattle.pc_search.specs.Parts.{AreWorldsOf}
 use Rattle.pc_theory.specs.Targets.{targets_on}
 use Rattle.pc_theory.specs.Theories.{rules_alone, TheoryView, IsTheory, IsPartNumbered}
@@ -102,7 +102,7 @@ fit_left sheet e ws left without fit k d below =
     at_fit ws i w all at = all_in (λ (x : WorldView). Fits sheet x.shown) ws w all (at_contained ws i w at)
 
 pub worlds_left : (sheet : Sheet) (e : Entry) (p : Part) (ws left : List WorldView) → HaveDistinctCells sheet.entries → Contains sheet.entries e → Contains p.cells e.cell.0 → IsWithout e ws left
-    → ((other : Sheet) → HaveDistinctCells other.entries → AreExact other ws → AreExact (without_entry other e) left) → AreWorldsOf sheet p ws → AreWorldsOf (edited sheet e.cell []) p left
+    → ((other : Sheet) → HaveDistinctCells other.entries → AreExact other ws → AreExact (sheet_without other e) left) → AreWorldsOf sheet p ws → AreWorldsOf (edited sheet e.cell []) p left
 worlds_left sheet e p ws left distinct entered on without gives h =
     let own = sheet_of sheet p in
     let own_distinct = pairs_filter (λ f g. f.cell ≢ g.cell) (is_on p.cells) sheet.entries distinct in
