@@ -23,11 +23,11 @@ use Rattle.pc_laws.proofs.ValueLists.{values_each, value_there, there_value}
 use Rattle.pc_parts.proofs.Listed.{in_parts, rules_listed}
 use Rattle.pc_ground.proofs.Lists.{flat_push}
 use Rattle.pc_ground.specs.Ground.{GroundAxiom, numbered_axioms, node_axioms, parts_axioms, rule_axioms, rules_axioms}
-use Rattle.pc_components.specs.inside.PieceCells.{piece_cells}
+use Rattle.pc_ground.specs.PieceCells.{piece_cells}
 use Rattle.pc_components.specs.inside.Owners.{of_one, parts_under, parts_of_children, owners, owners_of_parts, owners_of_rules, Touches, AreOwners, OwnersAreFound}
 use Rattle.pc_components.proofs.Inside.{IsInside, inside}
 use Rattle.pc_components.proofs.PartFor.{slice_map}
-use Rattle.pc_components.proofs.PieceCellsListed.{below}
+use Rattle.pc_ground.proofs.PieceCellsListed.{below}
 use Rattle.pc_components.proofs.Way.{part_below}
 use Rattle.pc_lemmas.proofs.Options.{same_some}
 

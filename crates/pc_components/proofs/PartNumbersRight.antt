@@ -1,7 +1,7 @@
 -- The numbers that are found from the labels are those of the parts, and with them the walk gives each axiom its owners.
-use Rattle.std.proofs.Common.{◌≡◌, ℕ, zero, suc, ◌+◌, Bool, true, false, cond, List, [], ◌∷◌, ◌++◌, map, length, get_or, refl, ap, sym, ◌∙◌, arith}
+use Rattle.std.proofs.Common.{◌≡◌, ℕ, zero, suc, ◌+◌, ◌<◌, take, drop, Bool, true, false, cond, List, [], ◌∷◌, ◌++◌, map, length, get_or, refl, ap, sym, ◌∙◌, arith}
 use Rattle.std.specs.List.{filter, flat_map, range_with_len}
-use Rattle.std.proofs.lemmas.List.{length-append, length-map}
+use Rattle.std.proofs.lemmas.List.{length-append, length-map, map-append}
 use Rattle.std.proofs.lemmas.List.FromFn.{length-range_with_len, get_or-map-range_with_len}
 use Rattle.pc_sheet.specs.Sheet.{Universe, Sheet}
 use Rattle.pc_sheet.specs.Entailment.{cell_sizes}
@@ -13,12 +13,13 @@ use Rattle.pc_parts.specs.Pieces.{Piece, pieces}
 use Rattle.pc_components.specs.inside.Numbers.{own_firsts, piece_number, last_count}
 use Rattle.pc_components.specs.inside.Owners.{firsts_by, place_in, cell_number_by, number_by, owners_by, owners_of_cells}
 use Rattle.pc_components.specs.inside.PartNumbers.{HasNumbers}
-use Rattle.pc_components.specs.inside.PieceCells.{piece_cells_of_rules}
-use Rattle.pc_components.specs.inside.Walk.{piece_count_of_rules, walk_of_cells, walk_of_rules}
+use Rattle.pc_ground.specs.PieceCells.{piece_cells_of_rules}
+use Rattle.pc_ground.specs.Owners.{span, piece_count_of_rules, cells_spans, spans_of_rules, owners_of}
+use Rattle.pc_components.specs.inside.Spans.{row_of, AreWithin}
 use Rattle.pc_components.specs.inside.Within.{AreAllBelow}
-use Rattle.pc_components.proofs.PieceCellsListed.{cells_listed}
+use Rattle.pc_ground.proofs.PieceCellsListed.{cells_listed}
 use Rattle.pc_components.proofs.RowsWithin.{rows_within}
-use Rattle.pc_components.proofs.WalkRight.{rules_counted, walked_rules, walked_cells}
+use Rattle.pc_components.proofs.SpansRight.{rules_counted, drop_front, number_there, rules_read, cells_read, all_within}
 
 -- ---- lists
 
@@ -98,7 +99,25 @@ module _ (sheet : Sheet) where
     pub many_pieces : length pieces_by ≡ piece_count_of_rules u sheet.rules
     many_pieces = ap length listed ∙ length-map (piece_cells_of_rules u sheet.rules) (number_by u labels) ∙ rules_counted u sheet.rules
 
-    pub owners_right : (before now : List (List ℕ)) → before ≡ [] ++ walk_of_cells cells_by (cell_sizes u) → now ≡ before ++ walk_of_rules u pieces_by 0 sheet.rules → now ≡ owners_by sheet labels
-    owners_right before now so added =
-        added ∙ ap (λ rs. rs ++ walk_of_rules u pieces_by 0 sheet.rules) (so ∙ ap (λ ns. walk_of_cells ns (cell_sizes u)) has.cells ∙ walked_cells (cell_number_by u labels) 0 (cell_sizes u))
-        ∙ ap (λ rs. owners_of_cells (cell_number_by u labels) 0 (cell_sizes u) ++ rs) (walked_rules u (number_by u labels) 0 sheet.rules pieces_by 0 listed)
+    -- the numbers of the cells' parts and then of the pieces'
+    module _ (ns : List ℕ) (so : ns ≡ cells_by ++ pieces_by) where
+      pub spans_within : AreWithin (length ns) (owners_of sheet)
+      spans_within =
+          let a = ap length so ∙ length-append cells_by pieces_by in
+          let b = many_cells in
+          let c = many_pieces in
+          all_within (length ns) u (cell_sizes u) sheet.rules (omega (arith, a, b, c))
+
+      cell_there : (c : ℕ) → c < 0 + length (cell_sizes u) → row_of ns (span c 1) ≡ cell_number_by u labels c ∷ []
+      cell_there c l =
+          let e : 0 + c ≡ c = omega arith in
+          ap (λ xs. take 1 (drop c xs)) (so ∙ ap (λ xs. xs ++ pieces_by) has.cells) ∙ number_there (cell_number_by u labels) 0 (cell_count u) c pieces_by (omega (arith, l)) ∙ ap (λ k. cell_number_by u labels k ∷ []) e
+
+      pieces_there : drop (length (cell_sizes u)) ns ≡ map (number_by u labels) (piece_cells_of_rules u sheet.rules)
+      pieces_there = ap (drop (length (cell_sizes u))) so ∙ ap (λ k. drop k (cells_by ++ pieces_by)) (sym many_cells) ∙ drop_front cells_by pieces_by ∙ listed
+
+      pub owners_right : map (row_of ns) (owners_of sheet) ≡ owners_by sheet labels
+      owners_right =
+          map-append (row_of ns) (cells_spans 0 (cell_sizes u)) (spans_of_rules u (length (cell_sizes u)) 0 sheet.rules)
+          ∙ ap (λ rs. rs ++ map (row_of ns) (spans_of_rules u (length (cell_sizes u)) 0 sheet.rules)) (cells_read u (number_by u labels) ns (cell_number_by u labels) 0 (cell_sizes u) cell_there)
+          ∙ ap (λ rs. owners_of_cells (cell_number_by u labels) 0 (cell_sizes u) ++ rs) (rules_read u (number_by u labels) ns 0 sheet.rules (length (cell_sizes u)) pieces_there)

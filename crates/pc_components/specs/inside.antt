@@ -2,8 +2,6 @@ pub mod PartNumbers
 pub mod Within
 pub mod Owners
 pub mod Numbers
-pub mod Marks
 pub mod Turned
-pub mod Walk
+pub mod Spans
 pub mod ClauseVariables
-pub mod PieceCells

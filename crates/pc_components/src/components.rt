@@ -77,8 +77,8 @@ impl Components {
     }
 }
 
-/// The parts of a book, by its ground, in time linear in the ground's size: the pieces' cells are read, searched for
-/// components, and each axiom's row of parts is written in one walk over the rules. An error is want of memory.
+/// The parts of a book, by its ground, in time linear in the ground's size: the cells that each piece reads are searched for
+/// components, and each axiom's row of parts is that of the cells and pieces that it is of. An error is want of memory.
 pub fn find_components(
     alloc: Global,
     book: &Book,
@@ -90,8 +90,8 @@ pub fn find_components(
 {
     well_formed(book);
     few_cells(book);
-    let numbers = PartNumbers::new(alloc, book)?;
-    let owners = numbers.owners(alloc, book)?;
+    let numbers = PartNumbers::new(alloc, book, ground)?;
+    let owners = numbers.owners(alloc, book, ground)?;
     let axioms = turn(alloc, &owners, numbers.parts)?;
     let variables = variables_of_parts(
         alloc,

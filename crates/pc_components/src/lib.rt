@@ -1,16 +1,12 @@
 //! The parts of a book, with the axioms and the variables of each.
 #![tactic(auto)]
 
-mod binder;
 mod components;
 mod labels;
 mod laws;
-mod marks;
 mod narrow;
 mod numbers;
-mod owners;
 mod part_numbers;
-mod piece_cells;
 mod turned;
 mod variables;
 

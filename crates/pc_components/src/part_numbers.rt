@@ -1,14 +1,14 @@
 //! Which part each cell, each piece and each axiom of a book is of, by the parts' numbers.
-ghost use Rattle.std.specs.Prelude.{◌≡◌, IfOk};
+ghost use Rattle.std.specs.Prelude.{◌≡◌, ◌++◌, ◌+◌, ◌≤◌, IfOk, OnOk, length, map};
 ghost use Rattle.pc_parts.specs.Components.{labels_of};
-ghost use Rattle.pc_parts.specs.Pieces.{pieces};
+ghost use Rattle.pc_ground.specs.Grounded.{grounded};
 ghost use Rattle.pc_components.specs.inside.Owners.{owners_by};
 ghost use Rattle.pc_components.specs.inside.PartNumbers.{HasNumbers};
+ghost use Rattle.pc_components.specs.inside.Spans.{AreWithin, row_of};
 
 use crate::labels::labels_by;
 use crate::numbers::{count_last, number_cells, numbers_of_pieces};
-use crate::owners::{add_owners_of_cells, add_owners_of_rules};
-use crate::piece_cells::cells_of_pieces;
+use pc_ground::{Ground, Span};
 use pc_lits::Rows;
 use pc_logic::{Book, well_formed};
 use std::alloc::{AllocError, Global};
@@ -21,33 +21,55 @@ pub(crate) struct PartNumbers {
     pub(crate) pieces: Vec<usize>,
 }
 
+/// The numbers of the groups of a span.
+fn row_of(numbers: &[usize], span: Span) -> &[usize]
+    requires { span.first + span.count ≤ length numbers.now }
+    ensures { result.now ≡ row_of numbers.now span }
+{
+    let first = span.first as usize;
+    &numbers[first..first + span.count as usize]
+}
+
+/// For each span, the numbers of its groups.
+fn rows_of(alloc: Global, numbers: &[usize], spans: &[Span]) -> Result<Rows<usize>, AllocError>
+    requires { AreWithin (length numbers.now) spans.now }
+    ensures { IfOk result (λ rows. rows ≡ map (row_of numbers.now) spans.now) }
+{
+    let mut rows = Rows::new(alloc);
+    for span in spans {
+        rows.push(row_of(numbers, *span))?;
+    }
+    Ok(rows)
+}
+
 impl PartNumbers {
     /// The numbers of a book's parts, from the labels of its cells.
     #[tactic(auto, using(crate::proofs::RowsWithin::rows_within))]
-    pub(crate) fn new(alloc: Global, book: &Book) -> Result<PartNumbers, AllocError>
+    pub(crate) fn new(alloc: Global, book: &Book, ground: &Ground) -> Result<PartNumbers, AllocError>
+        requires { ground.now ≡ grounded book.now }
         ensures { IfOk result (λ found. HasNumbers book.now found.parts found.cells.items found.pieces.items) }
     {
         well_formed(book);
-        let rows = cells_of_pieces(alloc, book)?;
-        let labels = labels_by(alloc, &rows, book.cells())?;
+        let rows = ground.reads();
+        let labels = labels_by(alloc, rows, book.cells())?;
         let (cells, parts) = number_cells(alloc, &labels)?;
-        let pieces = numbers_of_pieces(alloc, &rows, &cells, parts)?;
+        let pieces = numbers_of_pieces(alloc, rows, &cells, parts)?;
         Ok(PartNumbers {
-            parts: parts + count_last(&rows),
+            parts: parts + count_last(rows),
             cells,
             pieces,
         })
     }
 
     /// The numbers of the parts that each axiom of the book is of, axiom by axiom.
-    pub(crate) fn owners(&self, alloc: Global, book: &Book) -> Result<Rows<usize>, AllocError>
-        requires { HasNumbers book.now self.now.parts self.now.cells.items self.now.pieces.items }
+    pub(crate) fn owners(&self, alloc: Global, book: &Book, ground: &Ground) -> Result<Rows<usize>, AllocError>
+        requires ground { ground.now ≡ grounded book.now }
+        requires numbers { HasNumbers book.now self.now.parts self.now.cells.items self.now.pieces.items }
         ensures { IfOk result (λ rows. rows ≡ owners_by book.now (labels_of book.now)) }
     {
-        well_formed(book);
-        let mut rows = Rows::new(alloc);
-        add_owners_of_cells(&mut rows, book, &self.cells)?;
-        add_owners_of_rules(alloc, &mut rows, book, book.rules(), &self.pieces)?;
-        Ok(rows)
+        let mut numbers = Vec::new(alloc);
+        numbers.extend_from_slice(&self.cells)?;
+        numbers.extend_from_slice(&self.pieces)?;
+        rows_of(alloc, &numbers, ground.owners())
     }
 }

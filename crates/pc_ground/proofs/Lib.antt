@@ -16,3 +16,7 @@ pub mod NodesNamed
 pub mod ByName
 pub mod PairsThere
 pub mod Many
+pub mod PieceCellsListed
+pub mod Owned
+pub mod CellsAdded
+pub mod Drafted
