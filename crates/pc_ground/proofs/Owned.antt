@@ -149,5 +149,8 @@ ones_more size v x before now end l so added =
 pub joint_room : (u : Universe) (s : Statement) (ss : Statements) (p : ℕ) → s ≡ all_of ss → p + count_nodes u s < 2 ^ 32 → p + 1 + count_all u ss < 2 ^ 32
 joint_room u s ss p e l = let h : p + (1 + count_all u ss) < 2 ^ 32 = subst (λ x. p + count_nodes u x < 2 ^ 32) e l in omega (arith, h)
 
+pub disjoint_room : (u : Universe) (s : Statement) (ss : Statements) (p : ℕ) → s ≡ some_of ss → p + count_nodes u s < 2 ^ 32 → p + 1 + count_all u ss < 2 ^ 32
+disjoint_room u s ss p e l = let h : p + (1 + count_all u ss) < 2 ^ 32 = subst (λ x. p + count_nodes u x < 2 ^ 32) e l in omega (arith, h)
+
 pub joint_pieces : (u : Universe) (s : Statement) (ss : Statements) (j : ℕ) → s ≡ all_of ss → j + piece_count u s < 2 ^ 32 → j + piece_count_of_parts u ss < 2 ^ 32
 joint_pieces u s ss j e l = subst (λ x. j + piece_count u x < 2 ^ 32) e l

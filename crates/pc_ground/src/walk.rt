@@ -20,13 +20,12 @@ ghost use Rattle.pc_ground.specs.Owners.{cells_times, piece_count, piece_count_o
 ghost use Rattle.pc_ground.specs.PieceCells.{piece_cells, piece_cells_of_parts, piece_cells_of_rules};
 
 use crate::cells::Cells;
-use crate::clauses::{literal, push_joined};
+use crate::clauses::literal;
 use crate::count::{count_nodes, count_pieces};
 use crate::grounding::{Binder, Grounding};
-use crate::naming::{child_path, copy_of, name_own};
-use crate::nodes::{roots_at, roots_of};
+use crate::naming::child_path;
+use crate::nodes::Nodes;
 use crate::owners::{Span, own, own_cells, own_children, own_values};
-use crate::reads::add_cells_under;
 use crate::sheet::add_cells;
 use crate::sheet_names::name_cells;
 use pc_lits::{ClauseStore, Rows};
@@ -38,10 +37,8 @@ use std::alloc::{AllocError, Global};
 /// What a walk has made.
 #[derive(Drop)]
 pub(crate) struct Draft {
-    /// The clause of each axiom.
-    pub(crate) clauses: ClauseStore,
-    /// What each variable and each axiom is called.
-    pub(crate) names: Names,
+    /// The clauses and the names.
+    pub(crate) nodes: Nodes,
     /// The groups that each axiom is of.
     pub(crate) owners: Vec<Span>,
     /// The cells that each piece reads.
@@ -51,14 +48,16 @@ pub(crate) struct Draft {
 impl Draft {
     /// Before the walk.
     pub(crate) fn new(alloc: Global) -> Draft
-        ensures clauses { result.clauses ≡ [] }
-        ensures names { result.names ≡ no_names }
+        ensures clauses { result.nodes.clauses ≡ [] }
+        ensures names { result.nodes.names ≡ no_names }
         ensures owners { result.owners.items ≡ [] }
         ensures reads { result.reads ≡ [] }
     {
         Draft {
-            clauses: ClauseStore::new(alloc),
-            names: Names::new(alloc),
+            nodes: Nodes {
+                clauses: ClauseStore::new(alloc),
+                names: Names::new(alloc),
+            },
             owners: Vec::new(alloc),
             reads: Rows::new(alloc),
         }
@@ -67,14 +66,14 @@ impl Draft {
     /// Makes the cells, and answers how many pairs they have.
     pub(crate) fn add_cells(&mut self, alloc: Global, cells: &Cells) -> Result<u32, AllocError>
         requires { sum cells.now < 2 ^ 31 }
-        ensures clauses { OnOk result (self.new.clauses ≡ self.old.clauses ++ cells_clauses 0 cells.now) }
-        ensures names { OnOk result (self.new.names ≡ named self.old.names (pairs_from 0 cells.now) (map name_of (cells_axioms 0 cells.now))) }
+        ensures clauses { OnOk result (self.new.nodes.clauses ≡ self.old.nodes.clauses ++ cells_clauses 0 cells.now) }
+        ensures names { OnOk result (self.new.nodes.names ≡ named self.old.nodes.names (pairs_from 0 cells.now) (map name_of (cells_axioms 0 cells.now))) }
         ensures owners { OnOk result (self.new.owners.items ≡ self.old.owners.items ++ cells_times 0 cells.now) }
         ensures reads { self.new.reads ≡ self.old.reads }
         ensures pairs { IfOk result (λ n. n ≡ sum cells.now) }
     {
-        let pairs = add_cells(alloc, &mut self.clauses, cells)?;
-        name_cells(&mut self.names, cells)?;
+        let pairs = add_cells(alloc, &mut self.nodes.clauses, cells)?;
+        name_cells(&mut self.nodes.names, cells)?;
         own_cells(&mut self.owners, cells)?;
         Ok(pairs)
     }
@@ -93,17 +92,15 @@ impl Grounding<'_> {
     ) -> Result<(), AllocError>
         requires sorted { IsSortedIn self.now.book.now.universe (length scope.now) (statement_of formula.now) }
         requires room { p + count_nodes self.now.book.now.universe (statement_of formula.now) < 2 ^ 32 }
-        ensures clauses { OnOk result (draft.new.clauses ≡ draft.old.clauses ++ node_clauses self.now.book.now.universe self.now.cells.now p scope.now (statement_of formula.now)) }
-        ensures names { OnOk result (draft.new.names ≡ named draft.old.names (nodes_below self.now.book.now.universe path.now.rule path.now.steps.items (statement_of formula.now)) (map name_of (node_axioms self.now.book.now.universe path.now.rule path.now.steps.items scope.now (statement_of formula.now)))) }
+        ensures clauses { OnOk result (draft.new.nodes.clauses ≡ draft.old.nodes.clauses ++ node_clauses self.now.book.now.universe self.now.cells.now p scope.now (statement_of formula.now)) }
+        ensures names { OnOk result (draft.new.nodes.names ≡ named draft.old.nodes.names (nodes_below self.now.book.now.universe path.now.rule path.now.steps.items (statement_of formula.now)) (map name_of (node_axioms self.now.book.now.universe path.now.rule path.now.steps.items scope.now (statement_of formula.now)))) }
         ensures owners { OnOk result (draft.new.owners.items ≡ draft.old.owners.items ++ of_one piece (node_axioms self.now.book.now.universe path.now.rule path.now.steps.items scope.now (statement_of formula.now))) }
         ensures reads { OnOk result (draft.new.reads ≡ draft.old.reads ++ cells_under self.now.book.now.universe scope.now (statement_of formula.now) ∷ []) }
     {
-        let before = draft.clauses.len();
-        self.add_formula(&mut draft.clauses, scope, formula, p)?;
-        let count = draft.clauses.len() - before;
-        self.name_formula(&mut draft.names, path, scope, formula)?;
+        let before = draft.nodes.clauses.len();
         let mut cells = Vec::new(self.alloc);
-        add_cells_under(&mut cells, self.book, scope, formula)?;
+        self.add_formula(&mut draft.nodes, &mut cells, path, scope, formula, p)?;
+        let count = draft.nodes.clauses.len() - before;
         draft.reads.push(&cells)?;
         let span = Span {
             first: piece,
@@ -126,8 +123,8 @@ impl Grounding<'_> {
         requires sorted { IsSortedIn self.now.book.now.universe (length scope.now) (statement_of formula.now) }
         requires room { p + count_nodes self.now.book.now.universe (statement_of formula.now) < 2 ^ 32 }
         requires pieces { piece + piece_count self.now.book.now.universe (statement_of formula.now) < 2 ^ 32 }
-        ensures clauses { OnOk result (draft.new.clauses ≡ draft.old.clauses ++ node_clauses self.now.book.now.universe self.now.cells.now p scope.now (statement_of formula.now)) }
-        ensures names { OnOk result (draft.new.names ≡ named draft.old.names (nodes_below self.now.book.now.universe path.now.rule path.now.steps.items (statement_of formula.now)) (map name_of (node_axioms self.now.book.now.universe path.now.rule path.now.steps.items scope.now (statement_of formula.now)))) }
+        ensures clauses { OnOk result (draft.new.nodes.clauses ≡ draft.old.nodes.clauses ++ node_clauses self.now.book.now.universe self.now.cells.now p scope.now (statement_of formula.now)) }
+        ensures names { OnOk result (draft.new.nodes.names ≡ named draft.old.nodes.names (nodes_below self.now.book.now.universe path.now.rule path.now.steps.items (statement_of formula.now)) (map name_of (node_axioms self.now.book.now.universe path.now.rule path.now.steps.items scope.now (statement_of formula.now)))) }
         ensures owners { OnOk result (draft.new.owners.items ≡ draft.old.owners.items ++ spans self.now.book.now.universe piece path.now.rule path.now.steps.items scope.now (statement_of formula.now)) }
         ensures reads { OnOk result (draft.new.reads ≡ draft.old.reads ++ piece_cells self.now.book.now.universe scope.now (statement_of formula.now)) }
     {
@@ -160,15 +157,12 @@ impl Grounding<'_> {
         requires few { length parts.now < 4194304 }
         requires room { p + 1 + count_all self.now.book.now.universe (statements_of (map statement_of parts.now)) < 2 ^ 32 }
         requires pieces { piece + piece_count_of_parts self.now.book.now.universe (statements_of (map statement_of parts.now)) < 2 ^ 32 }
-        ensures clauses { OnOk result (draft.new.clauses ≡ draft.old.clauses ++ joined_clauses p true (roots self.now.book.now.universe (p + 1) (statements_of (map statement_of parts.now)))) }
-        ensures names { OnOk result (draft.new.names ≡ named draft.old.names (node path.now.rule path.now.steps.items ∷ []) (own_names path.now.rule path.now.steps.items (length parts.now + 1))) }
+        ensures clauses { OnOk result (draft.new.nodes.clauses ≡ draft.old.nodes.clauses ++ joined_clauses p true (roots self.now.book.now.universe (p + 1) (statements_of (map statement_of parts.now)))) }
+        ensures names { OnOk result (draft.new.nodes.names ≡ named draft.old.nodes.names (node path.now.rule path.now.steps.items ∷ []) (own_names path.now.rule path.now.steps.items (length parts.now + 1))) }
         ensures owners { OnOk result (draft.new.owners.items ≡ draft.old.owners.items ++ (spans_of_children self.now.book.now.universe piece (statements_of (map statement_of parts.now)) ++ no_groups piece ∷ [])) }
         ensures reads { draft.new.reads ≡ draft.old.reads }
     {
-        draft.names.add_node(copy_of(self.alloc, path)?)?;
-        let children = roots_of(self.alloc, self.book, parts, p + 1)?;
-        push_joined(self.alloc, &mut draft.clauses, p, true, &children)?;
-        name_own(&mut draft.names, path, parts.len() as u32 + 1)?;
+        draft.nodes.add_all(self.alloc, self.book, path, parts, true, p)?;
         own_children(&mut draft.owners, self.book, parts, piece)?;
         draft.owners.push(Span {
             first: piece,
@@ -192,8 +186,8 @@ impl Grounding<'_> {
         requires few { length parts.now < 4194304 }
         requires room { p + 1 + count_all self.now.book.now.universe (statements_of (map statement_of parts.now)) < 2 ^ 32 }
         requires pieces { piece + piece_count_of_parts self.now.book.now.universe (statements_of (map statement_of parts.now)) < 2 ^ 32 }
-        ensures clauses { OnOk result (draft.new.clauses ≡ draft.old.clauses ++ (joined_clauses p true (roots self.now.book.now.universe (p + 1) (statements_of (map statement_of parts.now))) ++ parts_clauses self.now.book.now.universe self.now.cells.now (p + 1) scope.now (statements_of (map statement_of parts.now)))) }
-        ensures names { OnOk result (draft.new.names ≡ named draft.old.names (node path.now.rule path.now.steps.items ∷ parts_below self.now.book.now.universe path.now.rule path.now.steps.items 0 (statements_of (map statement_of parts.now))) (own_names path.now.rule path.now.steps.items (length parts.now + 1) ++ map name_of (parts_axioms self.now.book.now.universe path.now.rule path.now.steps.items scope.now 0 (statements_of (map statement_of parts.now))))) }
+        ensures clauses { OnOk result (draft.new.nodes.clauses ≡ draft.old.nodes.clauses ++ (joined_clauses p true (roots self.now.book.now.universe (p + 1) (statements_of (map statement_of parts.now))) ++ parts_clauses self.now.book.now.universe self.now.cells.now (p + 1) scope.now (statements_of (map statement_of parts.now)))) }
+        ensures names { OnOk result (draft.new.nodes.names ≡ named draft.old.nodes.names (node path.now.rule path.now.steps.items ∷ parts_below self.now.book.now.universe path.now.rule path.now.steps.items 0 (statements_of (map statement_of parts.now))) (own_names path.now.rule path.now.steps.items (length parts.now + 1) ++ map name_of (parts_axioms self.now.book.now.universe path.now.rule path.now.steps.items scope.now 0 (statements_of (map statement_of parts.now))))) }
         ensures owners { OnOk result (draft.new.owners.items ≡ draft.old.owners.items ++ ((spans_of_children self.now.book.now.universe piece (statements_of (map statement_of parts.now)) ++ no_groups piece ∷ []) ++ spans_of_parts self.now.book.now.universe piece path.now.rule path.now.steps.items scope.now 0 (statements_of (map statement_of parts.now)))) }
         ensures reads { OnOk result (draft.new.reads ≡ draft.old.reads ++ piece_cells_of_parts self.now.book.now.universe scope.now (statements_of (map statement_of parts.now))) }
     {
@@ -217,8 +211,8 @@ impl Grounding<'_> {
         requires few { length parts.now < 4194304 }
         requires room { first + count_all self.now.book.now.universe (statements_of (map statement_of parts.now)) < 2 ^ 32 }
         requires pieces { piece + piece_count_of_parts self.now.book.now.universe (statements_of (map statement_of parts.now)) < 2 ^ 32 }
-        ensures clauses { OnOk result (draft.new.clauses ≡ draft.old.clauses ++ parts_clauses self.now.book.now.universe self.now.cells.now first scope.now (statements_of (map statement_of parts.now))) }
-        ensures names { OnOk result (draft.new.names ≡ named draft.old.names (parts_below self.now.book.now.universe path.now.rule path.now.steps.items 0 (statements_of (map statement_of parts.now))) (map name_of (parts_axioms self.now.book.now.universe path.now.rule path.now.steps.items scope.now 0 (statements_of (map statement_of parts.now))))) }
+        ensures clauses { OnOk result (draft.new.nodes.clauses ≡ draft.old.nodes.clauses ++ parts_clauses self.now.book.now.universe self.now.cells.now first scope.now (statements_of (map statement_of parts.now))) }
+        ensures names { OnOk result (draft.new.nodes.names ≡ named draft.old.nodes.names (parts_below self.now.book.now.universe path.now.rule path.now.steps.items 0 (statements_of (map statement_of parts.now))) (map name_of (parts_axioms self.now.book.now.universe path.now.rule path.now.steps.items scope.now 0 (statements_of (map statement_of parts.now))))) }
         ensures owners { OnOk result (draft.new.owners.items ≡ draft.old.owners.items ++ spans_of_parts self.now.book.now.universe piece path.now.rule path.now.steps.items scope.now 0 (statements_of (map statement_of parts.now))) }
         ensures reads { OnOk result (draft.new.reads ≡ draft.old.reads ++ piece_cells_of_parts self.now.book.now.universe scope.now (statements_of (map statement_of parts.now))) }
     {
@@ -247,15 +241,12 @@ impl Grounding<'_> {
         requires few { size ≤ 65536 }
         requires room { p + 1 + size * count < 2 ^ 32 }
         requires pieces { piece + size * pieces < 2 ^ 32 }
-        ensures clauses { OnOk result (draft.new.clauses ≡ draft.old.clauses ++ joined_clauses p true (roots_of_values (p + 1) count size)) }
-        ensures names { OnOk result (draft.new.names ≡ named draft.old.names (node path.now.rule path.now.steps.items ∷ []) (own_names path.now.rule path.now.steps.items (size + 1))) }
+        ensures clauses { OnOk result (draft.new.nodes.clauses ≡ draft.old.nodes.clauses ++ joined_clauses p true (roots_of_values (p + 1) count size)) }
+        ensures names { OnOk result (draft.new.nodes.names ≡ named draft.old.nodes.names (node path.now.rule path.now.steps.items ∷ []) (own_names path.now.rule path.now.steps.items (size + 1))) }
         ensures owners { OnOk result (draft.new.owners.items ≡ draft.old.owners.items ++ (map (span_at piece pieces) (values_below size) ++ no_groups piece ∷ [])) }
         ensures reads { draft.new.reads ≡ draft.old.reads }
     {
-        draft.names.add_node(copy_of(self.alloc, path)?)?;
-        let children = roots_at(self.alloc, p + 1, count, size)?;
-        push_joined(self.alloc, &mut draft.clauses, p, true, &children)?;
-        name_own(&mut draft.names, path, size as u32 + 1)?;
+        draft.nodes.add_each(self.alloc, path, size, count, true, p)?;
         own_values(&mut draft.owners, piece, pieces, size)?;
         draft.owners.push(Span {
             first: piece,
@@ -280,8 +271,8 @@ impl Grounding<'_> {
         requires sorted { IsSortedIn self.now.book.now.universe (length binder.scope.now + 1) (statement_of body.now) }
         requires room { p + 1 + size_of self.now.book.now.universe binder.sort * count_nodes self.now.book.now.universe (statement_of body.now) < 2 ^ 32 }
         requires pieces { piece + size_of self.now.book.now.universe binder.sort * piece_count self.now.book.now.universe (statement_of body.now) < 2 ^ 32 }
-        ensures clauses { OnOk result (draft.new.clauses ≡ draft.old.clauses ++ (joined_clauses p true (roots_of_values (p + 1) (count_nodes self.now.book.now.universe (statement_of body.now)) (size_of self.now.book.now.universe binder.entry.sort)) ++ instances_clauses self.now.book.now.universe self.now.cells.now (p + 1) binder.entry.scope.now binder.entry.sort (statement_of body.now) (size_of self.now.book.now.universe binder.entry.sort))) }
-        ensures names { OnOk result (draft.new.names ≡ named draft.old.names (node path.now.rule path.now.steps.items ∷ flat_map (λ v. nodes_below self.now.book.now.universe path.now.rule (path.now.steps.items ++ v.0 ∷ []) (statement_of body.now)) (values_below (size_of self.now.book.now.universe binder.entry.sort))) (own_names path.now.rule path.now.steps.items (size_of self.now.book.now.universe binder.entry.sort + 1) ++ map name_of (flat_map (λ v. node_axioms self.now.book.now.universe path.now.rule (path.now.steps.items ++ v.0 ∷ []) (binder.entry.scope.now ++ (binder.entry.sort, v) ∷ []) (statement_of body.now)) (values_below (size_of self.now.book.now.universe binder.entry.sort))))) }
+        ensures clauses { OnOk result (draft.new.nodes.clauses ≡ draft.old.nodes.clauses ++ (joined_clauses p true (roots_of_values (p + 1) (count_nodes self.now.book.now.universe (statement_of body.now)) (size_of self.now.book.now.universe binder.entry.sort)) ++ instances_clauses self.now.book.now.universe self.now.cells.now (p + 1) binder.entry.scope.now binder.entry.sort (statement_of body.now) (size_of self.now.book.now.universe binder.entry.sort))) }
+        ensures names { OnOk result (draft.new.nodes.names ≡ named draft.old.nodes.names (node path.now.rule path.now.steps.items ∷ flat_map (λ v. nodes_below self.now.book.now.universe path.now.rule (path.now.steps.items ++ v.0 ∷ []) (statement_of body.now)) (values_below (size_of self.now.book.now.universe binder.entry.sort))) (own_names path.now.rule path.now.steps.items (size_of self.now.book.now.universe binder.entry.sort + 1) ++ map name_of (flat_map (λ v. node_axioms self.now.book.now.universe path.now.rule (path.now.steps.items ++ v.0 ∷ []) (binder.entry.scope.now ++ (binder.entry.sort, v) ∷ []) (statement_of body.now)) (values_below (size_of self.now.book.now.universe binder.entry.sort))))) }
         ensures owners { OnOk result (draft.new.owners.items ≡ draft.old.owners.items ++ ((map (span_at piece (piece_count self.now.book.now.universe (statement_of body.now))) (values_below (size_of self.now.book.now.universe binder.entry.sort)) ++ no_groups piece ∷ []) ++ spans_of_values self.now.book.now.universe piece path.now.rule path.now.steps.items binder.entry.scope.now binder.entry.sort (statement_of body.now) (size_of self.now.book.now.universe binder.entry.sort))) }
         ensures reads { OnOk result (draft.new.reads ≡ draft.old.reads ++ flat_map (λ v. piece_cells self.now.book.now.universe (binder.entry.scope.now ++ (binder.entry.sort, v) ∷ []) (statement_of body.now)) (values_below (size_of self.now.book.now.universe binder.entry.sort))) }
     {
@@ -313,8 +304,8 @@ impl Grounding<'_> {
         requires sorted { IsSortedIn self.now.book.now.universe (length binder.scope.now + 1) (statement_of body.now) }
         requires room { first + size_of self.now.book.now.universe binder.sort * count_nodes self.now.book.now.universe (statement_of body.now) < 2 ^ 32 }
         requires pieces { piece + size_of self.now.book.now.universe binder.sort * piece_count self.now.book.now.universe (statement_of body.now) < 2 ^ 32 }
-        ensures clauses { OnOk result (draft.new.clauses ≡ draft.old.clauses ++ instances_clauses self.now.book.now.universe self.now.cells.now first binder.entry.scope.now binder.entry.sort (statement_of body.now) (size_of self.now.book.now.universe binder.entry.sort)) }
-        ensures names { OnOk result (draft.new.names ≡ named draft.old.names (flat_map (λ v. nodes_below self.now.book.now.universe path.now.rule (path.now.steps.items ++ v.0 ∷ []) (statement_of body.now)) (values_below (size_of self.now.book.now.universe binder.entry.sort))) (map name_of (flat_map (λ v. node_axioms self.now.book.now.universe path.now.rule (path.now.steps.items ++ v.0 ∷ []) (binder.entry.scope.now ++ (binder.entry.sort, v) ∷ []) (statement_of body.now)) (values_below (size_of self.now.book.now.universe binder.entry.sort))))) }
+        ensures clauses { OnOk result (draft.new.nodes.clauses ≡ draft.old.nodes.clauses ++ instances_clauses self.now.book.now.universe self.now.cells.now first binder.entry.scope.now binder.entry.sort (statement_of body.now) (size_of self.now.book.now.universe binder.entry.sort)) }
+        ensures names { OnOk result (draft.new.nodes.names ≡ named draft.old.nodes.names (flat_map (λ v. nodes_below self.now.book.now.universe path.now.rule (path.now.steps.items ++ v.0 ∷ []) (statement_of body.now)) (values_below (size_of self.now.book.now.universe binder.entry.sort))) (map name_of (flat_map (λ v. node_axioms self.now.book.now.universe path.now.rule (path.now.steps.items ++ v.0 ∷ []) (binder.entry.scope.now ++ (binder.entry.sort, v) ∷ []) (statement_of body.now)) (values_below (size_of self.now.book.now.universe binder.entry.sort))))) }
         ensures owners { OnOk result (draft.new.owners.items ≡ draft.old.owners.items ++ spans_of_values self.now.book.now.universe piece path.now.rule path.now.steps.items binder.entry.scope.now binder.entry.sort (statement_of body.now) (size_of self.now.book.now.universe binder.entry.sort)) }
         ensures reads { OnOk result (draft.new.reads ≡ draft.old.reads ++ flat_map (λ v. piece_cells self.now.book.now.universe (binder.entry.scope.now ++ (binder.entry.sort, v) ∷ []) (statement_of body.now)) (values_below (size_of self.now.book.now.universe binder.entry.sort))) }
     {
@@ -346,8 +337,8 @@ impl Grounding<'_> {
         requires sorted { IsSortedIn self.now.book.now.universe (length binder.scope.now + 1) (statement_of body.now) }
         requires room { p + count_nodes self.now.book.now.universe (statement_of body.now) < 2 ^ 32 }
         requires pieces { piece + piece_count self.now.book.now.universe (statement_of body.now) < 2 ^ 32 }
-        ensures clauses { OnOk result (draft.new.clauses ≡ draft.old.clauses ++ node_clauses self.now.book.now.universe self.now.cells.now p (binder.entry.scope.now ++ (binder.entry.sort, value) ∷ []) (statement_of body.now)) }
-        ensures names { OnOk result (draft.new.names ≡ named draft.old.names (nodes_below self.now.book.now.universe path.now.rule (path.now.steps.items ++ value.0 ∷ []) (statement_of body.now)) (map name_of (node_axioms self.now.book.now.universe path.now.rule (path.now.steps.items ++ value.0 ∷ []) (binder.entry.scope.now ++ (binder.entry.sort, value) ∷ []) (statement_of body.now)))) }
+        ensures clauses { OnOk result (draft.new.nodes.clauses ≡ draft.old.nodes.clauses ++ node_clauses self.now.book.now.universe self.now.cells.now p (binder.entry.scope.now ++ (binder.entry.sort, value) ∷ []) (statement_of body.now)) }
+        ensures names { OnOk result (draft.new.nodes.names ≡ named draft.old.nodes.names (nodes_below self.now.book.now.universe path.now.rule (path.now.steps.items ++ value.0 ∷ []) (statement_of body.now)) (map name_of (node_axioms self.now.book.now.universe path.now.rule (path.now.steps.items ++ value.0 ∷ []) (binder.entry.scope.now ++ (binder.entry.sort, value) ∷ []) (statement_of body.now)))) }
         ensures owners { OnOk result (draft.new.owners.items ≡ draft.old.owners.items ++ spans self.now.book.now.universe piece path.now.rule (path.now.steps.items ++ value.0 ∷ []) (binder.entry.scope.now ++ (binder.entry.sort, value) ∷ []) (statement_of body.now)) }
         ensures reads { OnOk result (draft.new.reads ≡ draft.old.reads ++ piece_cells self.now.book.now.universe (binder.entry.scope.now ++ (binder.entry.sort, value) ∷ []) (statement_of body.now)) }
     {
@@ -368,13 +359,13 @@ impl Grounding<'_> {
         requires sorted { IsWellSorted self.now.book.now.universe [] (statement_of rule.now.formula) }
         requires room { p + count_nodes self.now.book.now.universe (statement_of rule.now.formula) < 2 ^ 32 }
         requires pieces { piece + piece_count self.now.book.now.universe (statement_of rule.now.formula) < 2 ^ 32 }
-        ensures clauses { OnOk result (draft.new.clauses ≡ draft.old.clauses ++ ((lit p true ∷ []) ∷ node_clauses self.now.book.now.universe self.now.cells.now p [] (statement_of rule.now.formula))) }
-        ensures names { OnOk result (draft.new.names ≡ named draft.old.names (nodes_below self.now.book.now.universe r [] (statement_of rule.now.formula)) (map name_of (rule_axioms self.now.book.now.universe r (rule_of rule.now)))) }
+        ensures clauses { OnOk result (draft.new.nodes.clauses ≡ draft.old.nodes.clauses ++ ((lit p true ∷ []) ∷ node_clauses self.now.book.now.universe self.now.cells.now p [] (statement_of rule.now.formula))) }
+        ensures names { OnOk result (draft.new.nodes.names ≡ named draft.old.nodes.names (nodes_below self.now.book.now.universe r [] (statement_of rule.now.formula)) (map name_of (rule_axioms self.now.book.now.universe r (rule_of rule.now)))) }
         ensures owners { OnOk result (draft.new.owners.items ≡ draft.old.owners.items ++ (span piece (piece_count self.now.book.now.universe (statement_of rule.now.formula)) ∷ spans self.now.book.now.universe piece r [] [] (statement_of rule.now.formula))) }
         ensures reads { OnOk result (draft.new.reads ≡ draft.old.reads ++ piece_cells self.now.book.now.universe [] (statement_of rule.now.formula)) }
     {
-        draft.clauses.push(&[literal(p, true)])?;
-        draft.names.add_axiom(AxiomRef::Rule(r))?;
+        draft.nodes.clauses.push(&[literal(p, true)])?;
+        draft.nodes.names.add_axiom(AxiomRef::Rule(r))?;
         let count = count_pieces(self.book, &rule.formula);
         draft.owners.push(Span {
             first: piece,
@@ -399,8 +390,8 @@ impl Grounding<'_> {
         requires few { length rules.now ≤ most_rules }
         requires room { first + sum_by (nodes_of_rule self.now.book.now.universe) (map rule_of rules.now) < 2 ^ 32 }
         requires pieces { piece + piece_count_of_rules self.now.book.now.universe (map rule_of rules.now) < 2 ^ 32 }
-        ensures clauses { OnOk result (draft.new.clauses ≡ draft.old.clauses ++ rules_clauses self.now.book.now.universe self.now.cells.now first (map rule_of rules.now)) }
-        ensures names { OnOk result (draft.new.names ≡ named draft.old.names (nodes_from self.now.book.now.universe 0 (map rule_of rules.now)) (map name_of (rules_axioms self.now.book.now.universe 0 (map rule_of rules.now)))) }
+        ensures clauses { OnOk result (draft.new.nodes.clauses ≡ draft.old.nodes.clauses ++ rules_clauses self.now.book.now.universe self.now.cells.now first (map rule_of rules.now)) }
+        ensures names { OnOk result (draft.new.nodes.names ≡ named draft.old.nodes.names (nodes_from self.now.book.now.universe 0 (map rule_of rules.now)) (map name_of (rules_axioms self.now.book.now.universe 0 (map rule_of rules.now)))) }
         ensures owners { OnOk result (draft.new.owners.items ≡ draft.old.owners.items ++ spans_of_rules self.now.book.now.universe piece 0 (map rule_of rules.now)) }
         ensures reads { OnOk result (draft.new.reads ≡ draft.old.reads ++ piece_cells_of_rules self.now.book.now.universe (map rule_of rules.now)) }
         ensures next { IfOk result (λ n. n ≡ first + sum_by (nodes_of_rule self.now.book.now.universe) (map rule_of rules.now)) }

@@ -45,7 +45,7 @@ module _ (sheet : Sheet) where
   clauses_alone = map_same (clause_of_axiom alone) (clause_of_axiom sheet) clause_alone (axioms sheet)
 
   pub grounded_alone : grounded alone ≡ grounded sheet
-  grounded_alone = let make : List (List Lit) → Grounded = λ cs. record { clauses = cs; sizes = cell_sizes sheet.universe; variables = variable_count sheet; names = names_of sheet } in ap make clauses_alone
+  grounded_alone = let make : List (List Lit) → Grounded = λ cs. record { clauses = cs; sizes = cell_sizes sheet.universe; variables = variable_count sheet; names = names_of sheet; owners = owners_of sheet; reads = map (cells_of sheet.universe) (pieces sheet) } in ap make clauses_alone
 
   -- ---- from the rules alone to the sheet, and back
 

@@ -23,13 +23,13 @@ pub walk-returns-in-And-clause-names : goal.walk-returns-in-And-clause-names
 walk-returns-in-And-clause-names t c =
     let fs = c.deref.result.now in
     let e = and_is c.args.formula.now c.in-And.parts c.in-And.is ∙ ap (λ gs. all_of (statements_of (map statement_of gs))) (sym c.deref.ensures.value) in
-    on_ok_weaker c.walk_joint.result (joint_named c.args.self.now.book.now.universe c.args.path.now.rule c.args.path.now.steps.items c.args.scope.now c.args.draft.now.names c.walk_joint.new.draft.names (statement_of c.args.formula.now) fs e) c.walk_joint.ensures.names
+    on_ok_weaker c.walk_joint.result (joint_named c.args.self.now.book.now.universe c.args.path.now.rule c.args.path.now.steps.items c.args.scope.now c.args.draft.now.nodes.names c.walk_joint.new.draft.nodes.names (statement_of c.args.formula.now) fs e) c.walk_joint.ensures.names
 
 pub walk-returns-in-ForAll-clause-names : goal.walk-returns-in-ForAll-clause-names
 walk-returns-in-ForAll-clause-names t c =
     let body = c.deref-in-ForAll.result.now in
     let e = for_all_is c.args.formula.now c.in-ForAll.name c.in-ForAll.sort c.in-ForAll.body body c.in-ForAll.is c.deref-in-ForAll.ensures in
-    on_ok_weaker c.walk_universal.result (universal_named c.args.self.now.book.now.universe c.args.path.now.rule c.args.path.now.steps.items c.args.scope.now c.args.draft.now.names c.walk_universal.new.draft.names (statement_of c.args.formula.now) (statement_of body) c.in-ForAll.name c.in-ForAll.sort e) c.walk_universal.ensures.names
+    on_ok_weaker c.walk_universal.result (universal_named c.args.self.now.book.now.universe c.args.path.now.rule c.args.path.now.steps.items c.args.scope.now c.args.draft.now.nodes.names c.walk_universal.new.draft.nodes.names (statement_of c.args.formula.now) (statement_of body) c.in-ForAll.name c.in-ForAll.sort e) c.walk_universal.ensures.names
 
 pub walk-returns-in-ForAll-clause-owners : goal.walk-returns-in-ForAll-clause-owners
 walk-returns-in-ForAll-clause-owners t c =

@@ -18,8 +18,8 @@ invariant-walk_parts-loop-k l =
     let rest = statements_of (map statement_of (drop l.k l.parts)) in
     let all = statements_of (map statement_of l.parts) in
     record {
-      clauses : l.draft.clauses ++ parts_clauses u l.self.cells.now l.next l.scope rest ≡ l.fn.draft.clauses ++ parts_clauses u l.self.cells.now l.first l.scope all;
-      names : named l.draft.names (parts_below u r steps l.k rest) (map name_of (parts_axioms u r steps l.scope l.k rest)) ≡ named l.fn.draft.names (parts_below u r steps 0 all) (map name_of (parts_axioms u r steps l.scope 0 all));
+      clauses : l.draft.nodes.clauses ++ parts_clauses u l.self.cells.now l.next l.scope rest ≡ l.fn.draft.nodes.clauses ++ parts_clauses u l.self.cells.now l.first l.scope all;
+      names : named l.draft.nodes.names (parts_below u r steps l.k rest) (map name_of (parts_axioms u r steps l.scope l.k rest)) ≡ named l.fn.draft.nodes.names (parts_below u r steps 0 all) (map name_of (parts_axioms u r steps l.scope 0 all));
       owners : l.draft.owners.items ++ spans_of_parts u l.at r steps l.scope l.k rest ≡ l.fn.draft.owners.items ++ spans_of_parts u l.piece r steps l.scope 0 all;
       reads : l.draft.reads ++ piece_cells_of_parts u l.scope rest ≡ l.fn.draft.reads ++ piece_cells_of_parts u l.scope all;
       next : l.next + count_all u rest ≡ l.first + count_all u all;
@@ -36,8 +36,8 @@ invariant-walk_values-loop-v l =
     let s = l.binder.sort in
     let body = statement_of l.body in
     record {
-      clauses : l.draft.clauses ≡ l.fn.draft.clauses ++ instances_clauses u l.self.cells.now l.first scope s body l.v;
-      names : l.draft.names ≡ named l.fn.draft.names (flat_map (λ v. nodes_below u r (steps ++ v.0 ∷ []) body) (values_below l.v)) (map name_of (flat_map (λ v. node_axioms u r (steps ++ v.0 ∷ []) (scope ++ (s, v) ∷ []) body) (values_below l.v)));
+      clauses : l.draft.nodes.clauses ≡ l.fn.draft.nodes.clauses ++ instances_clauses u l.self.cells.now l.first scope s body l.v;
+      names : l.draft.nodes.names ≡ named l.fn.draft.nodes.names (flat_map (λ v. nodes_below u r (steps ++ v.0 ∷ []) body) (values_below l.v)) (map name_of (flat_map (λ v. node_axioms u r (steps ++ v.0 ∷ []) (scope ++ (s, v) ∷ []) body) (values_below l.v)));
       owners : l.draft.owners.items ≡ l.fn.draft.owners.items ++ spans_of_values u l.piece r steps scope s body l.v;
       reads : l.draft.reads ≡ l.fn.draft.reads ++ flat_map (λ v. piece_cells u (scope ++ (s, v) ∷ []) body) (values_below l.v);
       next : l.next ≡ l.first + l.v * l.count;

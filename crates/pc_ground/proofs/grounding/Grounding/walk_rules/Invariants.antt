@@ -14,8 +14,8 @@ invariant-loop-r l =
     let rest = map rule_of (drop l.r l.rules) in
     let all = map rule_of l.rules in
     record {
-      clauses : l.draft.clauses ++ rules_clauses u l.self.cells.now l.next rest ≡ l.fn.draft.clauses ++ rules_clauses u l.self.cells.now l.first all;
-      names : named l.draft.names (nodes_from u l.r rest) (map name_of (rules_axioms u l.r rest)) ≡ named l.fn.draft.names (nodes_from u 0 all) (map name_of (rules_axioms u 0 all));
+      clauses : l.draft.nodes.clauses ++ rules_clauses u l.self.cells.now l.next rest ≡ l.fn.draft.nodes.clauses ++ rules_clauses u l.self.cells.now l.first all;
+      names : named l.draft.nodes.names (nodes_from u l.r rest) (map name_of (rules_axioms u l.r rest)) ≡ named l.fn.draft.nodes.names (nodes_from u 0 all) (map name_of (rules_axioms u 0 all));
       owners : l.draft.owners.items ++ spans_of_rules u l.at l.r rest ≡ l.fn.draft.owners.items ++ spans_of_rules u l.piece 0 all;
       reads : l.draft.reads ++ piece_cells_of_rules u rest ≡ l.fn.draft.reads ++ piece_cells_of_rules u all;
       next : l.next + sum_by (nodes_of_rule u) rest ≡ l.first + sum_by (nodes_of_rule u) all;
