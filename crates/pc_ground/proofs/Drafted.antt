@@ -1,5 +1,5 @@
 -- What is made of the cells and then of the rules is a grounded book.
-use Rattle.std.proofs.Common.{◌≡◌, ℕ, ◌+◌, List, [], ◌++◌, map, length, sum, sum_by, refl, ap, sym, ◌∙◌}
+use Rattle.std.proofs.Common.{◌≡◌, ℕ, ◌+◌, List, [], ◌++◌, map, length, sum, sum_by, ap, sym, ◌∙◌}
 use Rattle.std.proofs.lemmas.List.{map-append}
 use Rattle.pc_lits.specs.declared.literal.Lit.{Lit}
 use Rattle.pc_sheet.specs.Sheet.{Sheet, NamedStatement}

@@ -15,6 +15,9 @@ use Rattle.pc_ground.specs.Ground.{GroundAxiom, axioms, lit_of, clause_of_axiom,
 use Rattle.pc_ground.specs.GroundView.{Grounded}
 use Rattle.pc_ground.specs.Grounded.{grounded}
 use Rattle.pc_ground.specs.Naming.{names_of}
+use Rattle.pc_ground.specs.Owners.{owners_of}
+use Rattle.pc_parts.specs.Leaves.{cells_of}
+use Rattle.pc_parts.specs.Pieces.{pieces}
 use Rattle.pc_parts.specs.Parts.{Part, IsDivision}
 use Rattle.pc_parts.specs.Components.{parts_of}
 use Rattle.pc_components.specs.PartAxioms.{AreAxiomsOf, AreVariablesOf}
