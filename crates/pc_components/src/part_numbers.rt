@@ -1,5 +1,5 @@
 //! Which part each cell, each piece and each axiom of a book is of, by the parts' numbers.
-ghost use Rattle.std.specs.Prelude.{◌≡◌, ◌++◌, ◌+◌, ◌≤◌, IfOk, OnOk, length, map};
+ghost use Rattle.std.specs.Prelude.{◌≡◌, ◌+◌, ◌≤◌, IfOk, length, map};
 ghost use Rattle.pc_parts.specs.Components.{labels_of};
 ghost use Rattle.pc_ground.specs.Grounded.{grounded};
 ghost use Rattle.pc_components.specs.inside.Owners.{owners_by};
@@ -45,7 +45,11 @@ fn rows_of(alloc: Global, numbers: &[usize], spans: &[Span]) -> Result<Rows<usiz
 impl PartNumbers {
     /// The numbers of a book's parts, from the labels of its cells.
     #[tactic(auto, using(crate::proofs::RowsWithin::rows_within))]
-    pub(crate) fn new(alloc: Global, book: &Book, ground: &Ground) -> Result<PartNumbers, AllocError>
+    pub(crate) fn new(
+        alloc: Global,
+        book: &Book,
+        ground: &Ground,
+    ) -> Result<PartNumbers, AllocError>
         requires { ground.now ≡ grounded book.now }
         ensures { IfOk result (λ found. HasNumbers book.now found.parts found.cells.items found.pieces.items) }
     {
@@ -62,7 +66,12 @@ impl PartNumbers {
     }
 
     /// The numbers of the parts that each axiom of the book is of, axiom by axiom.
-    pub(crate) fn owners(&self, alloc: Global, book: &Book, ground: &Ground) -> Result<Rows<usize>, AllocError>
+    pub(crate) fn owners(
+        &self,
+        alloc: Global,
+        book: &Book,
+        ground: &Ground,
+    ) -> Result<Rows<usize>, AllocError>
         requires ground { ground.now ≡ grounded book.now }
         requires numbers { HasNumbers book.now self.now.parts self.now.cells.items self.now.pieces.items }
         ensures { IfOk result (λ rows. rows ≡ owners_by book.now (labels_of book.now)) }

@@ -162,7 +162,9 @@ impl Grounding<'_> {
         ensures owners { OnOk result (draft.new.owners.items ≡ draft.old.owners.items ++ (spans_of_children self.now.book.now.universe piece (statements_of (map statement_of parts.now)) ++ no_groups piece ∷ [])) }
         ensures reads { draft.new.reads ≡ draft.old.reads }
     {
-        draft.nodes.add_all(self.alloc, self.book, path, parts, true, p)?;
+        draft
+            .nodes
+            .add_all(self.alloc, self.book, path, parts, true, p)?;
         own_children(&mut draft.owners, self.book, parts, piece)?;
         draft.owners.push(Span {
             first: piece,
@@ -246,7 +248,9 @@ impl Grounding<'_> {
         ensures owners { OnOk result (draft.new.owners.items ≡ draft.old.owners.items ++ (map (span_at piece pieces) (values_below size) ++ no_groups piece ∷ [])) }
         ensures reads { draft.new.reads ≡ draft.old.reads }
     {
-        draft.nodes.add_each(self.alloc, path, size, count, true, p)?;
+        draft
+            .nodes
+            .add_each(self.alloc, path, size, count, true, p)?;
         own_values(&mut draft.owners, piece, pieces, size)?;
         draft.owners.push(Span {
             first: piece,
@@ -344,7 +348,14 @@ impl Grounding<'_> {
     {
         let child = child_path(self.alloc, path, u32::from(value.0))?;
         let inner = extended(binder.scope, binder.sort, value);
-        self.walk(draft, &child, &inner[..binder.scope.len() + 1], body, p, piece)
+        self.walk(
+            draft,
+            &child,
+            &inner[..binder.scope.len() + 1],
+            body,
+            p,
+            piece,
+        )
     }
 
     /// Makes a rule.
