@@ -1,7 +1,8 @@
 //! The own variables by their activities, the most active one first.
 //!
 //! A binary heap of places among the own variables, with the spot of each in the heap, as in MiniSat. Of two that are
-//! equally active the lower place comes first. No contract rests on it: whoever asks it tests the answer.
+//! equally active the lower place comes first, also where they are so since all were made smaller. No contract rests on it:
+//! whoever asks it tests the answer.
 
 use std::alloc::{AllocError, Global};
 
@@ -58,7 +59,7 @@ impl Order {
         self.filled -= 1;
         if self.filled > 0 {
             let last = self.at(self.filled);
-            self.sink(last);
+            self.sink(0, last);
         }
     }
 
@@ -73,10 +74,12 @@ impl Order {
         }
     }
 
-    /// Puts all places into the heap.
-    pub fn put_all_back(&mut self) {
+    /// Puts the places below `count` into the heap.
+    pub fn put_all_back(&mut self, count: usize) {
         for place in 0..self.spots.len() {
-            self.put_back(place);
+            if place < count {
+                self.put_back(place);
+            }
         }
     }
 
@@ -92,10 +95,34 @@ impl Order {
         }
     }
 
-    /// Divides all activities by `SCALE`.
+    /// Divides all activities by `SCALE`. Some are equal then that were not, so the heap is put in order again.
     pub fn make_smaller(&mut self) {
         for place in 0..self.activities.len() {
             self.activities[place] /= SCALE;
+        }
+        self.put_in_order();
+    }
+
+    /// Leaves the places below `count` alone in the heap, all of them.
+    pub fn keep_below(&mut self, count: usize) {
+        self.filled = 0;
+        for place in 0..self.spots.len() {
+            self.spots[place] = None;
+        }
+        for place in 0..self.spots.len() {
+            if place < count {
+                self.put_back(place);
+            }
+        }
+    }
+
+    // Makes a heap of the places that stand in it, from the lowest ones up.
+    fn put_in_order(&mut self) {
+        let inner = self.filled / 2;
+        for number in 0..inner {
+            let spot = inner - 1 - number;
+            let place = self.at(spot);
+            self.sink(spot, place);
         }
     }
 
@@ -135,9 +162,9 @@ impl Order {
         self.set(spot, place);
     }
 
-    // Sets the place at the top, or below it where those that stand there come first.
-    fn sink(&mut self, place: usize) {
-        let mut spot = 0;
+    // Sets the place at this spot, or below it where those that stand there come first.
+    fn sink(&mut self, start: usize, place: usize) {
+        let mut spot = start;
         for _ in 0..usize::BITS {
             let Some(below) = self.first_below(spot) else {
                 break;

@@ -2,7 +2,8 @@
 //!
 //! Activities as in Chaff and MiniSat: a variable's activity is at first the number of its literals in the used axioms. It rises
 //! at each literal that the analysis of a conflict meets, and later conflicts count for more. Restarts come at the conflict
-//! counts of Luby, Sinclair and Zuckerman, found by Knuth's reluctant doubling. No contract rests on any of it. The own
+//! counts of Luby, Sinclair and Zuckerman, found by Knuth's reluctant doubling. Where the first own variables are preferred,
+//! activities are theirs alone, and the others come after them, in their order. No contract rests on any of it. The own
 //! variables are to rise; where they don't, some may be left out.
 
 use crate::order::{Order, SCALE};
@@ -21,6 +22,10 @@ const SHORTEST_RUN: u64 = 512;
 pub struct Preferences {
     order: Order,
     places: Places,
+    // how many of the own variables go by activity; the others come after them
+    active: usize,
+    // those of the others that stand before this place have values
+    next: usize,
     step: u64,
     // how many conflicts are left of this run
     left: u64,
@@ -36,6 +41,8 @@ impl Preferences {
         Ok(Preferences {
             order,
             places,
+            active: own.len(),
+            next: own.len(),
             step: SCALE,
             left: SHORTEST_RUN,
             runs: 1,
@@ -43,10 +50,29 @@ impl Preferences {
         })
     }
 
+    /// From now on the first `count` own variables alone go by activity. No variable has a value.
+    pub fn prefer_first(&mut self, count: usize) {
+        self.active = count;
+        self.next = count;
+        self.order.keep_below(count);
+    }
+
+    /// The place from which on to look for a variable that may be decided, where none goes by activity.
+    pub fn next(&self) -> usize {
+        self.next
+    }
+
+    /// The own variables before this place have values.
+    pub fn set_next(&mut self, place: usize) {
+        self.next = place;
+    }
+
     /// Raises the variable's activity. Here and below `own` are the variables for which these preferences were made.
     pub fn raise(&mut self, own: &[Var], variable: Var) {
         if let Some(place) = self.places.of(own, variable) {
-            self.order.raise(place, self.step);
+            if place < self.active {
+                self.order.raise(place, self.step);
+            }
         }
     }
 
@@ -57,7 +83,7 @@ impl Preferences {
         }
     }
 
-    /// The place among the own variables of the most active one that may be decided.
+    /// The place among the own variables of the most active one that may be decided, of those that go by activity.
     pub fn first(&self) -> Option<usize> {
         self.order.top()
     }
@@ -70,13 +96,18 @@ impl Preferences {
     /// The variable loses its value, and may be decided again.
     pub fn put_back(&mut self, own: &[Var], variable: Var) {
         if let Some(place) = self.places.of(own, variable) {
-            self.order.put_back(place);
+            if place < self.active {
+                self.order.put_back(place);
+            } else if place < self.next {
+                self.next = place;
+            }
         }
     }
 
     /// No variable has a value any more.
     pub fn put_all_back(&mut self) {
-        self.order.put_all_back();
+        self.order.put_all_back(self.active);
+        self.next = self.active;
     }
 
     /// Counts a conflict, and answers whether the search is to begin anew.

@@ -89,6 +89,14 @@ impl<'g> Solver<'g> {
         Ok(Solver { search })
     }
 
+    /// The first `count` own variables are decided before the others, the most active one first; the others after them, in
+    /// their order. It is for a new solver. Nothing that it answers is less right for it.
+    pub fn prefer_first(&mut self, count: usize)
+        ensures { self.new ≡ self.old }
+    {
+        self.search.preferences.prefer_first(count);
+    }
+
     /// Adds a clause of the solver's own. Without memory the solver stays as it is.
     pub fn add_block(&mut self, block: &[Lit]) -> Result<(), AllocError>
         requires { AreOwn self.old.problem.own block.now }

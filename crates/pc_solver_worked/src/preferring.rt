@@ -72,6 +72,60 @@ put_back 5
 take => Some(1)
 ";
 
+const UNEQUAL: &str = "\
+raise 8
+raise 5
+raise 5
+first => Some(1)
+";
+
+const EQUAL: &str = "\
+take => Some(0)
+take => Some(1)
+take => Some(2)
+";
+
+// Where two are equally active the lower one comes first, also if they weren't so before many conflicts.
+fn prefers_the_lower_of_equals(alloc: Global) -> Result<bool, AllocError> {
+    let mut preferences = Preferences::new(alloc, OWN)?;
+    Ok(follows(alloc, &mut preferences, UNEQUAL)?
+        && runs(&mut preferences) == [512, 512, 1024]
+        && follows(alloc, &mut preferences, EQUAL)?)
+}
+
+#[test]
+fn the_lower_of_equals_is_preferred(rt: HostRuntime) -> Result<(), Fail> {
+    assert!(rt; prefers_the_lower_of_equals(rt.alloc())?);
+    Ok(())
+}
+
+const FIRST_TWO: &str = "\
+raise 9
+raise 5
+take => Some(1)
+take => Some(0)
+take => None
+put_back 9
+take => None
+put_back 3
+take => Some(0)
+";
+
+// The first ones alone go by activity, and the others come after them.
+fn prefers_the_first(alloc: Global) -> Result<bool, AllocError> {
+    let mut preferences = Preferences::new(alloc, OWN)?;
+    preferences.prefer_first(2);
+    let next = preferences.next();
+    preferences.set_next(4);
+    Ok(next == 2 && follows(alloc, &mut preferences, FIRST_TWO)? && preferences.next() == 3)
+}
+
+#[test]
+fn the_first_are_preferred(rt: HostRuntime) -> Result<(), Fail> {
+    assert!(rt; prefers_the_first(rt.alloc())?);
+    Ok(())
+}
+
 // The most active variable comes first, before and after many conflicts.
 fn prefers_the_most_active(alloc: Global) -> Result<bool, AllocError> {
     let mut preferences = Preferences::new(alloc, OWN)?;
