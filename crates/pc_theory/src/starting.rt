@@ -15,7 +15,7 @@ use pc_justify::{names_are_of_their_sheet, own_lines_are_named, trimmed_lines_re
 use pc_lits::Tally;
 use pc_log::{Log, Span, StepId, trim};
 use pc_logic::Assignment;
-use pc_searched::SpareTrails;
+use pc_searched::{SpareTrails, count_pairs};
 use pc_searched::laws::parts_are_searched;
 use pc_solver::{Outcome, Solver, Suspended};
 use std::alloc::{AllocError, Global};
@@ -88,6 +88,7 @@ fn call_part<'g>(
         part.variables,
         trail,
     )?;
+    solver.prefer_first(count_pairs(task.book, part.cells));
     let mut log = Log::new(task.alloc);
     let mut tally = Tally {
         placed: 0,
