@@ -88,9 +88,11 @@ take => Some(2)
 // Where two are equally active the lower one comes first, also if they weren't so before many conflicts.
 fn prefers_the_lower_of_equals(alloc: Global) -> Result<bool, AllocError> {
     let mut preferences = Preferences::new(alloc, OWN)?;
-    Ok(follows(alloc, &mut preferences, UNEQUAL)?
-        && runs(&mut preferences) == [512, 512, 1024]
-        && follows(alloc, &mut preferences, EQUAL)?)
+    Ok(
+        follows(alloc, &mut preferences, UNEQUAL)?
+            && runs(&mut preferences) == [512, 512, 1024]
+            && follows(alloc, &mut preferences, EQUAL)?,
+    )
 }
 
 #[test]

@@ -15,8 +15,8 @@ use pc_justify::{names_are_of_their_sheet, own_lines_are_named, trimmed_lines_re
 use pc_lits::Tally;
 use pc_log::{Log, Span, StepId, trim};
 use pc_logic::Assignment;
-use pc_searched::{SpareTrails, count_pairs};
 use pc_searched::laws::parts_are_searched;
+use pc_searched::{SpareTrails, count_pairs};
 use pc_solver::{Outcome, Solver, Suspended};
 use std::alloc::{AllocError, Global};
 
