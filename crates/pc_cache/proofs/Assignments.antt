@@ -1,7 +1,6 @@
 -- Whether two assignments are the same.
 use Rattle.std.proofs.Common.{◌≡◌, ℕ, ap}
-use Rattle.std.specs.Prelude.{◌==◌}
-use Rattle.std.specs.Prelude.{Decides}
+use Rattle.std.specs.Prelude.{◌==◌, Decides}
 use Rattle.std.proofs.lemmas.Bool.Decides.{Decides-eqb}
 use Rattle.pc_sheet.specs.declared.ids.ValueId.{ValueId}
 

@@ -1,8 +1,7 @@
 -- What the trees of lines stand for.
-use Rattle.std.specs.Prelude.{Vec}
+use Rattle.std.specs.Prelude.{Vec, ℕ, Bool, List, map}
 use Rattle.std.specs.declared.alloc.Global.{Global}
 use Rattle.pc_sheet.specs.declared.ids.Entry.{Entry}
-use Rattle.std.specs.Prelude.{ℕ, Bool, List, map}
 use denote.Ref.{Bor}
 use Rattle.pc_sheet.specs.declared.formula.Rule.{Rule}
 use Rattle.pc_sheet.specs.declared.nodes.NodePath.{NodePath}

@@ -8,7 +8,7 @@ use Rattle.pc_sheet.specs.Sheet.{Sheet}
 use Rattle.pc_accept.specs.Literals.{Symbol, Literal, opposite}
 use Rattle.pc_accept.specs.Axioms.{IsClauseOf}
 use Rattle.pc_accept.specs.Accepts as accepts
-use Rattle.pc_accept.specs.Accepts.{IsLineClause, AreLineClauses, EndsWithin, DerivesClause}
+use Rattle.pc_accept.specs.Accepts.{IsLineClause, AreLineClauses, EndsWithin}
 use Rattle.pc_names.specs.Views.{axiom_of}
 use Rattle.pc_names.specs.declared.axiom_name.AxiomName.TheVariants.{Any}
 use Rattle.pc_cert.specs.Written.{CertificatePart}

@@ -155,6 +155,7 @@ fn limit_word(limited: Limited) -> &'static [u8]
         Limited::Rules => b"rules",
         Limited::Depth => b"depth",
         Limited::Reads => b"reads",
+        Limited::Entries => b"entries",
         Limited::Budget => b"budget",
     }
 }

@@ -1,5 +1,5 @@
 -- A trail on which an entry is placed.
-use Rattle.std.proofs.Common.{ap, ◌∙◌, ◌≡◌}
+use Rattle.std.proofs.Common.{ap, ◌≡◌}
 use Rattle.pc_lits.specs.declared.tally.Tally.{Tally}
 use Rattle.pc_propagate.specs.declared.trail.TrailEntry.{TrailEntry}
 use Rattle.pc_propagate.specs.declared.trail.Placed.{Placed}

@@ -1,5 +1,5 @@
 -- What declarations give is well formed.
-use Rattle.std.proofs.Common.{◌≡◌, ℕ, List, [], ◌∷◌, sym, subst}
+use Rattle.std.proofs.Common.{ℕ, List, [], ◌∷◌, sym, subst}
 use Rattle.pc_syntax.specs.Tree as tree
 use Rattle.pc_sheet.specs.Sheet.{Sheet, empty_sheet}
 use Rattle.pc_sheet.specs.WellFormed.{IsWellFormed}

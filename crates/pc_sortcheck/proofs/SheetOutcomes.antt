@@ -29,7 +29,7 @@ empty_formed = record {
     cell_limit = omega arith;
   };
   rules = record { limit = omega arith; each = All-nil (IsWellFormedRule empty_sheet.universe); different = λ i j d order l. absurd (omega arith) };
-  entries = record { each = All-nil (IsEntryOf empty_sheet.universe); distinct = λ i j d order l. absurd (omega arith) };
+  entries = record { each = All-nil (IsEntryOf empty_sheet.universe); distinct = λ i j d order l. absurd (omega arith); few = λ c. omega arith };
 }
 
 module _ (trees : TreesHaveOneOutcome) (ds : List (ℕ × tree.Declared)) where

@@ -68,6 +68,7 @@ module _ (s : Sheet) (n : List ℕ) (ss : List SortId) (r : SortId) where
       each = entries_front s.universe more_families (flat_map (λ f. replicate (cells_in more_families f) (size_of more_families f.result_sort)) (family ∷ [])) s.entries
           (flat_map-append (λ f. replicate (cells_in more_families f) (size_of more_families f.result_sort)) s.universe.families (family ∷ [])) h.entries.each;
       distinct = h.entries.distinct;
+      few = h.entries.few;
     };
   }
 

@@ -120,7 +120,7 @@ module _ (s : Sheet) (t : TableId) (row : List ValueId) where
   with_one_row h none l within room = record {
     universe = universe_with_row h.universe l within room;
     rules = no_rules more_rows s.rules none;
-    entries = record { each = h.entries.each; distinct = h.entries.distinct };
+    entries = record { each = h.entries.each; distinct = h.entries.distinct; few = h.entries.few };
   }
 
   pub row_needs : IsWellFormed (with_row s t row) → t.0 < length s.universe.tables → HasRoomForRow s.universe t row

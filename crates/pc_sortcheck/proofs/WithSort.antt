@@ -121,6 +121,7 @@ module _ (s : Sheet) (sort : Sort) where
     entries = record {
       each = entries_front s.universe (more_sorts s.universe sort) [] s.entries (same_cells s.universe sort s.universe.families h.universe.families ∙ sym (append-nil (cell_sizes s.universe))) h.entries.each;
       distinct = h.entries.distinct;
+      few = h.entries.few;
     };
   }
 

@@ -68,7 +68,7 @@ module _ (s : Sheet) (n : List ℕ) (ss : List SortId) where
   with_one_table h none name fits sorts = record {
     universe = universe_with_table s.universe n ss h.universe name fits sorts;
     rules = no_rules (more_tables s.universe n ss) s.rules none;
-    entries = record { each = h.entries.each; distinct = h.entries.distinct };
+    entries = record { each = h.entries.each; distinct = h.entries.distinct; few = h.entries.few };
   }
 
   pub table_needs : IsWellFormed (with_table s (table_from n ss)) → OneTableFits s.universe n ss

@@ -6,12 +6,13 @@ use Rattle.std.proofs.lemmas.Bool.Decides.{Decides-eqb, Decides-like, Decides-no
 use Rattle.std.proofs.lemmas.List.Elements.{All-nil, All-cons, All-contains}
 use Rattle.std.proofs.lemmas.List.Kept.{AllPairs-cons}
 use Rattle.pc_sheet.specs.Sheet.{Sheet}
-use Rattle.pc_sheet.specs.Entailment.{cell_sizes, AreWithin, HasTarget, IsConsistent, IsSublist, HaveDistinctCells, IsSupport, IsLess, IsLeastSupport}
+use Rattle.pc_sheet.specs.Entailment.{cell_sizes, AreWithin, HasTarget, IsConsistent, IsSublist, IsSupport, IsLess, IsLeastSupport}
 use Rattle.pc_sheet.specs.MaximalSets.{ListsExactly, IsContained, IsMaximalSet}
 use Rattle.pc_sheet.specs.declared.ids.CellId.{CellId}
 use Rattle.pc_sheet.specs.declared.ids.ValueId.{ValueId}
 use Rattle.pc_sheet.specs.declared.ids.Entry.{Entry}
 use Rattle.pc_sheet.specs.declared.ids.Target.{Target}
+use Rattle.pc_sheet.specs.WellFormed.{AreDifferent}
 use Rattle.pc_laws.specs.Laws.{IsExcluded}
 use Rattle.pc_lemmas.proofs.Elements.{contains_first, contains_later, contains_cases, contains_none, all_from}
 use Rattle.pc_laws.proofs.Contained.{sub_none}
@@ -124,28 +125,30 @@ different (x ∷ xs) is =
     (all_from (λ y. x ≢ y) xs (λ y c same. (Decides-not (is_listed xs x) (listed_decides xs x)).0 parts.0 (subst (Contains xs) (sym same) c)))
     (different xs parts.1)
 
--- ---- entries on different cells
+-- ---- different entries
 
-abbrev are_elsewhere : Entry → List Entry → Bool
-are_elsewhere e [] = true
-are_elsewhere e (f ∷ fs) = not (e.cell.0 == f.cell.0) && are_elsewhere e fs
+abbrev are_others : Entry → List Entry → Bool
+are_others e [] = true
+are_others e (f ∷ fs) = not ((e.cell.0 == f.cell.0) && (e.value.0 == f.value.0)) && are_others e fs
 
 abbrev pub are_distinct : List Entry → Bool
 are_distinct [] = true
-are_distinct (e ∷ es) = are_elsewhere e es && are_distinct es
+are_distinct (e ∷ es) = are_others e es && are_distinct es
 
-elsewhere : (e : Entry) (fs : List Entry) → are_elsewhere e fs ≡ true → All (λ f. e.cell ≢ f.cell) fs
-elsewhere e [] is = All-nil (λ f. e.cell ≢ f.cell)
-elsewhere e (f ∷ fs) is =
-    let parts = both (not (e.cell.0 == f.cell.0)) (are_elsewhere e fs) is in
-    let number : CellId → ℕ = λ c. c.0 in
-    All-cons (λ f. e.cell ≢ f.cell) f fs (λ same. (Decides-not (e.cell.0 == f.cell.0) (Decides-eqb e.cell.0 f.cell.0)).0 parts.0 (ap number same)) (elsewhere e fs parts.1)
+others : (e : Entry) (fs : List Entry) → are_others e fs ≡ true → All (λ f. e ≢ f) fs
+others e [] is = All-nil (λ f. e ≢ f)
+others e (f ∷ fs) is =
+    let parts = both (not ((e.cell.0 == f.cell.0) && (e.value.0 == f.value.0))) (are_others e fs) is in
+    let cell : Entry → ℕ = λ x. x.cell.0 in
+    let value : Entry → ℕ = λ x. x.value.0 in
+    let decides = Decides-and (e.cell.0 == f.cell.0) (e.value.0 == f.value.0) (Decides-eqb e.cell.0 f.cell.0) (Decides-eqb e.value.0 f.value.0) in
+    All-cons (λ f. e ≢ f) f fs (λ same. (Decides-not ((e.cell.0 == f.cell.0) && (e.value.0 == f.value.0)) decides).0 parts.0 (ap cell same, ap value same)) (others e fs parts.1)
 
-pub distinct : (es : List Entry) → are_distinct es ≡ true → HaveDistinctCells es
-distinct [] is = pairs_nil (λ e f. e.cell ≢ f.cell)
+pub distinct : (es : List Entry) → are_distinct es ≡ true → AreDifferent es
+distinct [] is = pairs_nil (λ e f. e ≢ f)
 distinct (e ∷ es) is =
-    let parts = both (are_elsewhere e es) (are_distinct es) is in
-    AllPairs-cons (λ e f. e.cell ≢ f.cell) e es (elsewhere e es parts.0) (distinct es parts.1)
+    let parts = both (are_others e es) (are_distinct es) is in
+    AllPairs-cons (λ e f. e ≢ f) e es (others e es parts.0) (distinct es parts.1)
 
 -- ---- sublists
 
@@ -223,7 +226,7 @@ module _ (sheet : Sheet) (n : ℕ) (ns : List ℕ) (sizes : cell_sizes sheet.uni
   abbrev pub is_maximal : List Entry → Bool
   is_maximal s = consistent s && are_excluded s sheet.entries
 
-  maximal_decides : HaveDistinctCells sheet.entries → (s : List Entry) → IsSublist sheet.entries s → Decides (is_maximal s) (IsMaximalSet sheet s)
+  maximal_decides : AreDifferent sheet.entries → (s : List Entry) → IsSublist sheet.entries s → Decides (is_maximal s) (IsMaximalSet sheet s)
   maximal_decides distinct s sub =
       let law = by_each_entry sheet s distinct sub in
       Decides-like (is_maximal s) law.1 law.0 (Decides-and (consistent s) (are_excluded s sheet.entries) (consistent_decides s) (excluded_decides s sheet.entries))
@@ -235,7 +238,7 @@ module _ (sheet : Sheet) (n : ℕ) (ns : List ℕ) (sizes : cell_sizes sheet.uni
   all_maximal [] = true
   all_maximal (s ∷ ss) = (is_sublist sheet.entries s && is_maximal s) && all_maximal ss
 
-  each_maximal : HaveDistinctCells sheet.entries → (ss : List (List Entry)) → all_maximal ss ≡ true → All (IsMaximalSet sheet) ss
+  each_maximal : AreDifferent sheet.entries → (ss : List (List Entry)) → all_maximal ss ≡ true → All (IsMaximalSet sheet) ss
   each_maximal distinct [] is = All-nil (IsMaximalSet sheet)
   each_maximal distinct (s ∷ ss) is =
       let parts = both (is_sublist sheet.entries s && is_maximal s) (all_maximal ss) is in
@@ -249,7 +252,7 @@ module _ (sheet : Sheet) (n : ℕ) (ns : List ℕ) (sizes : cell_sizes sheet.uni
   abbrev pub are_listed : List (List Entry) → Bool
   are_listed ss = are_distinct sheet.entries && (are_different ss && (all_maximal ss && passes sheet.entries (is_none_or_listed ss)))
 
-  no_other : HaveDistinctCells sheet.entries → (ss : List (List Entry)) → passes sheet.entries (is_none_or_listed ss) ≡ true → (s : List Entry) → IsMaximalSet sheet s → Contains ss s
+  no_other : AreDifferent sheet.entries → (ss : List (List Entry)) → passes sheet.entries (is_none_or_listed ss) ≡ true → (s : List Entry) → IsMaximalSet sheet s → Contains ss s
   no_other apart ss is s m =
       elim (either (not (is_maximal s)) (is_listed ss s) (passed sheet.entries (is_none_or_listed ss) is s m.among)) [
         | inl none ↦ absurd ((Decides-not (is_maximal s) (maximal_decides apart s m.among)).0 none m)

@@ -1,10 +1,8 @@
 -- When an axiom's clause was written.
 use Rattle.std.specs.Prelude.{ℕ, Bool, not, MatchBool, List, [], ◌∷◌, ◌++◌}
 use Rattle.pc_sheet.specs.Sheet.{Sheet}
-use Rattle.pc_sheet.specs.declared.nodes.NodeKind.{NodeKind}
-use Rattle.pc_sheet.specs.declared.nodes.NodeKind.TheVariants.{Atom, Not, And, Or, Implies, Iff, ForAll, Exists}
-use Rattle.pc_accept.specs.Literals.{Symbol, Literal, positive, negative}
-use Rattle.pc_accept.specs.Axioms.{Axiom, IsClauseOf, IsAtNumber, each_below, clauses_of_all, clauses_of_some}
+use Rattle.pc_accept.specs.Literals.{Symbol, Literal}
+use Rattle.pc_accept.specs.Axioms.{Axiom, IsClauseOf, IsAtNumber, each_below}
 use Rattle.pc_checker.specs.Drafts.{Draft}
 use Rattle.pc_cert.specs.Numbered.{StartsWith}
 

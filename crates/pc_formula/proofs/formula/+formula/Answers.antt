@@ -1,5 +1,4 @@
-use Rattle.std.proofs.Common.{◌≡◌, [], ◌∷◌, ◌++◌, length, map, sym, ap, ◌∙◌, subst, arith, rules}
-use Rattle.std.proofs.Common.{subst₂}
+use Rattle.std.proofs.Common.{◌≡◌, [], ◌∷◌, ◌++◌, length, map, sym, ap, ◌∙◌, subst, arith, rules, subst₂}
 use Rattle.std.proofs.lemmas.Result.{IfOk-weaker, err_from_is_err_and}
 use Rattle.pc_formula.specs.declared.tree.FormulaTree.{FormulaTree}
 use Rattle.std.proofs.lemmas.List.{length_push, map_push, length-map}

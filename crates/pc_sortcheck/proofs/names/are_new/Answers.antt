@@ -1,7 +1,6 @@
-use Rattle.std.proofs.Common.{arith, rules}
+use Rattle.std.proofs.Common.{arith, rules, refl}
 use Rattle.pc_sortcheck.specs.DeclarationFaults.{IsNew}
 use Rattle.pc_sortcheck.proofs.Lists.{all_more, all_taken, one_of_all}
-use Rattle.std.proofs.Common.{refl}
 use Rattle.pc_sortcheck.proofs.names.are_new.Goals as goal
 
 pub returns-then-not-is_new : goal.returns-then-not-is_new
