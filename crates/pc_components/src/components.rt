@@ -77,8 +77,8 @@ impl Components {
     }
 }
 
-/// The parts of a book, by its ground, in time linear in the ground's size: the cells that each piece reads are searched for
-/// components, and each axiom's row of parts is that of the cells and pieces that it is of. An error is want of memory.
+/// The parts of a book, by its ground, in time linear in what the ground says of them: the cells that each piece reads are
+/// searched for components, and each axiom's row of parts is that of the cells and pieces that it is of. An error is want of memory.
 pub fn find_components(
     alloc: Global,
     book: &Book,
