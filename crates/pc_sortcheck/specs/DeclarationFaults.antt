@@ -1,21 +1,22 @@
 -- Why declarations give no sheet: the tests of each kind of line, in order, and the first line at fault.
 use Rattle.std.specs.Prelude.{◌≡◌, ◌⊎◌, ℕ, ◌<◌, ◌≤◌, ◌≤ℤ◌, List, [], ◌∷◌, map, length, sum_by, Contains, slice_get, IsSomeAnd}
 use Rattle.pc_syntax.specs.Tree as tree
-use Rattle.pc_syntax.specs.Tree.{list_sort, range_sort, table, row, cell, rule, enter}
-use Rattle.pc_sheet.specs.Limits.{most_arguments, most_cells, most_families, most_rows, most_rules, most_sorts, most_tables, most_values}
+use Rattle.pc_syntax.specs.Tree.{list_sort, range_sort, table, row, cell, rule, enter, also}
+use Rattle.pc_sheet.specs.Limits.{most_arguments, most_cells, most_entries, most_families, most_rows, most_rules, most_sorts, most_tables, most_values}
 use Rattle.pc_sheet.specs.Sheet.{Sheet, Universe, range, empty_sheet}
 use Rattle.pc_sheet.specs.Sizes.{count_of, cells_in}
-use Rattle.pc_sheet.specs.WellFormed.{AreDifferent, rows_in, rule_name}
+use Rattle.pc_sheet.specs.WellFormed.{AreDifferent, entries_of, rows_in, rule_name}
 use Rattle.pc_sheet.specs.WellSorted.{IsSmallNumber}
 use Rattle.pc_sheet.specs.declared.ids.CellId.{CellId}
+use Rattle.pc_sheet.specs.declared.ids.Entry.{Entry}
 use Rattle.pc_sheet.specs.declared.ids.SortId.{SortId}
 use Rattle.pc_sheet.specs.declared.ids.TableId.{TableId}
 use Rattle.pc_sheet.specs.declared.ids.ValueId.{ValueId}
 use Rattle.pc_logic.specs.Edits.{family_from, with_family}
 use Rattle.pc_elaborate.specs.declared.fault.SortFault.{SortFault}
 use Rattle.pc_elaborate.specs.declared.fault.SortFault.TheVariants.{DuplicateName, WrongArity, EmptySort, Limit}
-use Rattle.pc_sheet.specs.declared.limits.Limited.TheVariants.{Sorts, Values, Number, Tables, Families, Arity, Cells, Rows, Rules}
-use Rattle.pc_elaborate.specs.Elaboration.{IsSortNamed, AreValuesOf, IsCell}
+use Rattle.pc_sheet.specs.declared.limits.Limited.TheVariants.{Sorts, Values, Number, Tables, Families, Arity, Cells, Rows, Rules, Entries}
+use Rattle.pc_elaborate.specs.Elaboration.{IsSortNamed, AreValuesOf, IsCell, IsEntryNamed}
 use Rattle.pc_elaborate.specs.FormulaFaults.{IsDeclared, IsSomeSort, IsSomeTable, IsSortNameFault, IsNameFault, AreValuesFault, IsValueFault, IsCellFault, IsSortedFormula, IsFormulaFault}
 use Rattle.pc_elaborate.specs.Tests.{no_test, test, part}
 use Rattle.pc_sortcheck.specs.Declaring.{AreSortsNamed, IsTableWithSorts, Declares}
@@ -56,6 +57,16 @@ abbrev pub IsRuleFault : Sheet → tree.Formula → (SortFault → Type 0) → S
 IsRuleFault old f rest =
     part (IsSortedFormula old.universe [] f) (IsFormulaFault old.universe [] f) (test (length old.rules < most_rules) (Limit Rules) rest)
 
+-- the faults of an entry's cell and then of its value
+abbrev pub IsEntryFault : Universe → tree.Cell → tree.Value → SortFault → Type 0
+IsEntryFault u c v =
+    part ((k : CellId) × (s : SortId) × IsCell u c k s) (IsCellFault u c)
+    (λ e. (k : CellId) × (s : SortId) × IsCell u c k s × IsValueFault u s v e)
+
+-- the entry stands, or its cell may have one more
+abbrev pub HasRoomForEntry : Sheet → Entry → Type 0
+HasRoomForEntry old e = Contains old.entries e ⊎ (length (entries_of e.cell old.entries) < most_entries)
+
 abbrev pub IsDeclarationFault : Sheet → tree.Declared → SortFault → Type 0
 IsDeclarationFault old (list_sort n values) =
     test (IsNew old.universe n) DuplicateName
@@ -83,9 +94,10 @@ IsDeclarationFault old (cell n sorts result) =
     (λ e. (ss : List SortId) × (r : SortId) × AreSortsNamed old.universe sorts ss × IsSortNamed old.universe result r
     × test (HasRoomForCells old n ss r) (Limit Cells) no_test e)))))
 IsDeclarationFault old (rule n f) = IsRuleFault old f (test (¬ Contains (map rule_name old.rules) n) DuplicateName no_test)
-IsDeclarationFault old (enter c v) =
-    part ((k : CellId) × (s : SortId) × IsCell old.universe c k s) (IsCellFault old.universe c)
-    (λ e. (k : CellId) × (s : SortId) × IsCell old.universe c k s × IsValueFault old.universe s v e)
+IsDeclarationFault old (enter c v) = IsEntryFault old.universe c v
+IsDeclarationFault old (also c v) =
+    part ((e : Entry) × IsEntryNamed old.universe c v e) (IsEntryFault old.universe c v)
+    (λ f. (e : Entry) × IsEntryNamed old.universe c v e × test (HasRoomForEntry old e) (Limit Entries) no_test f)
 
 -- the declaration of that line is the first at fault
 abbrev pub IsFirstFault : Sheet → List (ℕ × tree.Declared) → ℕ → SortFault → Type 0

@@ -2,7 +2,7 @@
 use Rattle.std.specs.Prelude.{◌≡◌, ℕ, List, [], ◌∷◌, slice_get, IsSomeAnd}
 use Rattle.pc_syntax.specs.Tree as tree
 use Rattle.pc_syntax.specs.Sheet.{IsSheet}
-use Rattle.pc_syntax.specs.Tree.{list_sort, range_sort, table, row, cell, rule, enter}
+use Rattle.pc_syntax.specs.Tree.{list_sort, range_sort, table, row, cell, rule, enter, also}
 use Rattle.pc_sheet.specs.Sheet.{Sheet, Universe, empty_sheet, with_rule}
 use Rattle.pc_sheet.specs.Sheet as plain
 use Rattle.pc_sheet.specs.WellFormed.{IsWellFormed}
@@ -11,7 +11,7 @@ use Rattle.pc_sheet.specs.declared.ids.TableId.{TableId}
 use Rattle.pc_sheet.specs.declared.ids.ValueId.{ValueId}
 use Rattle.pc_sheet.specs.declared.ids.Entry.{Entry}
 use Rattle.pc_logic.specs.Edits as edits
-use Rattle.pc_logic.specs.Edits.{listed_sort, table_from, family_from, with_sort, with_table, with_row, with_family, entered}
+use Rattle.pc_logic.specs.Edits.{listed_sort, table_from, family_from, with_sort, with_table, with_row, with_family, entered, also_entered}
 use Rattle.pc_elaborate.specs.Elaboration.{IsSortNamed, IsTableNamed, AreValuesOf, IsStatement, IsEntryNamed}
 
 -- the sorts of these names
@@ -36,6 +36,7 @@ Makes old (cell n sorts result) new =
     (ss : List SortId) × (r : SortId) × AreSortsNamed old.universe sorts ss × IsSortNamed old.universe result r × (new ≡ with_family old (family_from n ss r))
 Makes old (rule n f) new = (s : plain.Statement) × IsStatement old.universe [] f s × (new ≡ with_rule old (record { name = n; states = s }))
 Makes old (enter c v) new = (e : Entry) × IsEntryNamed old.universe c v e × (new ≡ entered old e)
+Makes old (also c v) new = (e : Entry) × IsEntryNamed old.universe c v e × (new ≡ also_entered old e)
 
 -- and that is well sorted, within the limits, with names of their own
 abbrev pub Declares : Sheet → tree.Declared → Sheet → Type 0

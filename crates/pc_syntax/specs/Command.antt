@@ -7,13 +7,15 @@ use Rattle.pc_formula.specs.Value.{DerivesNumber, DerivesCell}
 use Rattle.pc_formula.specs.Equation.{equality, IsEquation}
 use Rattle.pc_syntax.specs.Spelling.{IsNothing, IsSpelled}
 use Rattle.pc_syntax.specs.Fault.{Fault, IsAtFault}
-use Rattle.pc_syntax.specs.Tree.{Asked, asks_enter, asks_clear, asks_rule, asks_drop, asks_budget, asks_show, asks_grid, asks_json, asks_why, asks_dump}
+use Rattle.pc_syntax.specs.Tree.{Asked, asks_enter, asks_also, asks_clear, asks_clear_one, asks_rule, asks_drop, asks_budget, asks_show, asks_grid, asks_json, asks_why, asks_dump}
 use Rattle.pc_syntax.specs.Clause.{IsRule}
 
--- the word that starts a command
+-- the word that starts a command; `clear` starts two, which differ by what stands behind it
 abbrev pub command_keyword : Asked → List ℕ
 command_keyword (asks_enter c v) = codes "enter"
+command_keyword (asks_also c v) = codes "also"
 command_keyword (asks_clear c) = codes "clear"
+command_keyword (asks_clear_one c v) = codes "clear"
 command_keyword (asks_rule n f) = codes "rule"
 command_keyword (asks_drop n) = codes "drop"
 command_keyword (asks_budget n) = codes "budget"
@@ -23,10 +25,12 @@ command_keyword asks_json = codes "json"
 command_keyword (asks_why c v holds) = codes "why"
 command_keyword asks_dump = codes "dump"
 
--- what stands behind it
+-- what stands behind the word
 abbrev pub FollowsCommand : Asked → List Word → Type 0
 FollowsCommand (asks_enter c v) ws = IsEquation ws Equal c v
+FollowsCommand (asks_also c v) ws = IsEquation ws Equal c v
 FollowsCommand (asks_clear c) ws = DerivesCell ws c []
+FollowsCommand (asks_clear_one c v) ws = IsEquation ws Equal c v
 FollowsCommand (asks_rule n f) ws = IsRule ws n f
 FollowsCommand (asks_drop n) ws = ws ≡ name n ∷ []
 FollowsCommand (asks_budget n) ws = DerivesNumber ws n []

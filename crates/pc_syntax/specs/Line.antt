@@ -9,7 +9,7 @@ use Rattle.pc_formula.specs.Value.{DerivesName, DerivesNumber, DerivesInt, Deriv
 use Rattle.pc_formula.specs.Equation.{IsEquation}
 use Rattle.pc_syntax.specs.Spelling.{IsNothing, IsSpelled}
 use Rattle.pc_syntax.specs.Clause.{IsRule}
-use Rattle.pc_syntax.specs.Tree.{Declared, list_sort, range_sort, table, row, cell, rule, enter}
+use Rattle.pc_syntax.specs.Tree.{Declared, list_sort, range_sort, table, row, cell, rule, enter, also}
 
 -- what a line of a sheet is: blank or a comment, `sheet` with its version, a declaration, or `begin`
 pub data LineForm : Type 0 where
@@ -27,6 +27,7 @@ keyword (row n values) = codes "row"
 keyword (cell n sorts result) = codes "cell"
 keyword (rule n f) = codes "rule"
 keyword (enter c v) = codes "enter"
+keyword (also c v) = codes "also"
 
 -- INT .. INT
 pub record AreBounds (ws : List Word) (low high : ℤ) : Type 0 where
@@ -67,6 +68,7 @@ StandsBehind (row n values) ws = IsRow ws n values
 StandsBehind (cell n sorts result) ws = IsFamily ws n sorts result
 StandsBehind (rule n f) ws = IsRule ws n f
 StandsBehind (enter c v) ws = IsEquation ws Equal c v
+StandsBehind (also c v) ws = IsEquation ws Equal c v
 
 -- the words are a declaration, all of them
 pub record IsDeclaration (ws : List Word) (d : Declared) : Type 0 where

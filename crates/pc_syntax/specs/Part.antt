@@ -1,34 +1,45 @@
 -- The parts of a sheet, and which lines may stand in each.
-use Rattle.std.specs.Prelude.{◌≡◌, ℕ, true, false, ◌==◌, Option, Some, None, List, [], ◌∷◌, ◌++◌, map, if◌then◌else◌}
+use Rattle.std.specs.Prelude.{◌≡◌, ℕ, Bool, true, false, ◌==◌, ◌&&◌, not, Option, Some, None, List, [], ◌∷◌, ◌++◌, map, if◌then◌else◌}
 use Rattle.std.specs.List.{list_any}
 use Rattle.pc_syntax.specs.declared.sheet.Part.{Part}
 use Rattle.pc_syntax.specs.declared.sheet.Part.TheVariants.{Heading, Universe, Rules, End}
+use Rattle.pc_syntax.specs.declared.sheet.Version.{Version}
+use Rattle.pc_syntax.specs.declared.sheet.Version.TheVariants.{First, Second}
 use Rattle.pc_syntax.specs.declared.tree.Declaration.{Declaration}
 use Rattle.pc_syntax.specs.Tree.{Declared, declared_of}
 use Rattle.pc_syntax.specs.Fault.{Fault, syntax, wrong_version, IsAtFault}
 use Rattle.pc_syntax.specs.Line.{LineForm, nothing, heading, declares, begins, IsLine, HasForm}
-use Rattle.pc_syntax.specs.Sheet.{is_heading, is_begin, is_rule, is_rule_line, is_of_universe, declared_from}
+use Rattle.pc_syntax.specs.Sheet.{is_heading, is_begin, is_rule, is_rule_line, is_of_universe, is_also, is_second, declared_from}
+
+-- `also` lines are lines of the version
+abbrev pub has_also : Version → Bool
+has_also First = false
+has_also Second = true
 
 -- the part behind lines of these forms
 abbrev pub IsPartBehind : Part → List LineForm → Type 0
-IsPartBehind Heading fs = (list_any is_heading fs ≡ false) × (list_any is_begin fs ≡ false) × (list_any is_rule_line fs ≡ false)
-IsPartBehind Universe fs = (list_any is_heading fs ≡ true) × (list_any is_begin fs ≡ false) × (list_any is_rule_line fs ≡ false)
-IsPartBehind Rules fs = (list_any is_heading fs ≡ true) × (list_any is_begin fs ≡ false) × (list_any is_rule_line fs ≡ true)
+IsPartBehind Heading fs = (list_any is_heading fs ≡ false) × (list_any is_begin fs ≡ false) × (list_any is_rule_line fs ≡ false) × (list_any is_second fs ≡ false)
+IsPartBehind (Universe v) fs = (list_any is_heading fs ≡ true) × (list_any is_begin fs ≡ false) × (list_any is_rule_line fs ≡ false) × (list_any is_second fs ≡ has_also v)
+IsPartBehind (Rules v) fs = (list_any is_heading fs ≡ true) × (list_any is_begin fs ≡ false) × (list_any is_rule_line fs ≡ true) × (list_any is_second fs ≡ has_also v)
 IsPartBehind End fs = (list_any is_heading fs ≡ true) × (list_any is_begin fs ≡ true)
+
+-- an `also` line in a sheet of the version without it
+abbrev pub is_too_new : Version → Declared → Bool
+is_too_new v d = is_also d && not (has_also v)
 
 -- the part behind a declaration: once a rule stood, no more of the universe follows
 abbrev pub part_after : Part → Declared → Option Part
-part_after Universe d = if is_rule d then Some Rules else Some Universe
-part_after Rules d = if is_of_universe d then None else Some Rules
+part_after (Universe v) d = if is_too_new v d then None else (if is_rule d then Some (Rules v) else Some (Universe v))
+part_after (Rules v) d = if is_too_new v d then None else (if is_of_universe d then None else Some (Rules v))
 part_after p d = None
 
 -- the part behind a line, where the line may stand
 abbrev pub next_part : Part → LineForm → Option Part
 next_part p nothing = Some p
-next_part Heading (heading n) = if n == 1 then Some Universe else None
+next_part Heading (heading n) = if n == 1 then Some (Universe First) else (if n == 2 then Some (Universe Second) else None)
 next_part p (heading n) = None
-next_part Universe begins = Some End
-next_part Rules begins = Some End
+next_part (Universe v) begins = Some End
+next_part (Rules v) begins = Some End
 next_part p begins = None
 next_part p (declares d) = part_after p d
 

@@ -17,11 +17,14 @@ pub data Declared : Type 0 where
   cell : List ℕ → List (List ℕ) → List ℕ → Declared
   rule : List ℕ → Formula → Declared
   enter : Cell → Value → Declared
+  also : Cell → Value → Declared
 
 -- what a command asks for
 pub data Asked : Type 0 where
   asks_enter : Cell → Value → Asked
+  asks_also : Cell → Value → Asked
   asks_clear : Cell → Asked
+  asks_clear_one : Cell → Value → Asked
   asks_rule : List ℕ → Formula → Asked
   asks_drop : List ℕ → Asked
   asks_budget : ℕ → Asked
@@ -40,11 +43,14 @@ declared_of (declares.Row t values) = row t (map value_of values.items)
 declared_of (declares.Cell n sorts result) = cell n sorts.items result
 declared_of (declares.Rule r) = rule r.name (formula_of r.formula)
 declared_of (declares.Enter c v) = enter (cell_of c) (value_of v)
+declared_of (declares.Also c v) = also (cell_of c) (value_of v)
 
 -- what a command's tree stands for
 abbrev pub asked_of : Command → Asked
 asked_of (asks.Enter c v) = asks_enter (cell_of c) (value_of v)
+asked_of (asks.Also c v) = asks_also (cell_of c) (value_of v)
 asked_of (asks.Clear c) = asks_clear (cell_of c)
+asked_of (asks.ClearOne c v) = asks_clear_one (cell_of c) (value_of v)
 asked_of (asks.AddRule r) = asks_rule r.name (formula_of r.formula)
 asked_of (asks.DropRule n) = asks_drop n
 asked_of (asks.Budget n) = asks_budget n

@@ -11,8 +11,10 @@ use crate::clause::{is_word, last_name, number, rule};
 use crate::fault::LineFault;
 use crate::read::{is_nothing, tokens_within};
 use crate::tree::{Command, CommandFault};
-use pc_formula::{Refusal, Words, read_end, read_equation, read_last_cell, read_question};
-use pc_token::is_one_name;
+use pc_formula::{
+    Refusal, Words, read_cell, read_end, read_equation, read_last_value, read_question,
+};
+use pc_token::{Kind, is_one_name};
 use std::alloc::Global;
 use std::str;
 
@@ -94,8 +96,12 @@ fn command_of(alloc: Global, start: &str, words: &mut Words<'_>) -> Result<Comma
         let (cell, value) = read_equation(alloc, words)?;
         return Ok(Command::Enter(cell, value));
     }
+    if is_word(start, "also") {
+        let (cell, value) = read_equation(alloc, words)?;
+        return Ok(Command::Also(cell, value));
+    }
     if is_word(start, "clear") {
-        return Ok(Command::Clear(read_last_cell(alloc, words)?));
+        return clearing(alloc, words);
     }
     if is_word(start, "rule") {
         return Ok(Command::AddRule(rule(alloc, words)?));
@@ -111,6 +117,22 @@ fn command_of(alloc: Global, start: &str, words: &mut Words<'_>) -> Result<Comma
         return Ok(Command::Why { cell, value, holds });
     }
     Err(Refusal::Syntax)
+}
+
+// Reads CELL or CELL = VALUE, and the end.
+fn clearing(alloc: Global, words: &mut Words<'_>) -> Result<Command, Refusal>
+    ensures told { IfOk result (λ c. Asks (codes "clear") (asked_of c) words.old) }
+    ensures none { result ≡ Err Refusal.Syntax → (a : Asked) → Asks (codes "clear") a words.old → ⊥ }
+{
+    let cell = read_cell(alloc, words)?;
+    if words.is_empty() {
+        return Ok(Command::Clear(cell));
+    }
+    if !words.take_sign(Kind::Equal) {
+        return Err(Refusal::Syntax);
+    }
+    let value = read_last_value(alloc, words)?;
+    Ok(Command::ClearOne(cell, value))
 }
 
 // The command that is this one word.

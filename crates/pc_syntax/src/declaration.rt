@@ -39,7 +39,10 @@ pub fn declaration(
         return named_rule(alloc, words);
     }
     if is_word(start, "enter") {
-        return first_entry(alloc, words);
+        return entry(alloc, words);
+    }
+    if is_word(start, "also") {
+        return further_entry(alloc, words);
     }
     Err(Refusal::Syntax)
 }
@@ -156,11 +159,20 @@ fn named_rule(alloc: Global, words: &mut Words<'_>) -> Result<Declaration, Refus
     Ok(Declaration::Rule(rule(alloc, words)?))
 }
 
-// Reads CELL = VALUE and the end.
-fn first_entry(alloc: Global, words: &mut Words<'_>) -> Result<Declaration, Refusal>
+// Reads CELL = VALUE and the end, behind `enter`.
+fn entry(alloc: Global, words: &mut Words<'_>) -> Result<Declaration, Refusal>
     ensures told { IfOk result (λ d. IsDeclarationOf (codes "enter") (declared_of d) words.old) }
     ensures none { result ≡ Err Refusal.Syntax → (d : Declared) → IsDeclarationOf (codes "enter") d words.old → ⊥ }
 {
     let (cell, value) = read_equation(alloc, words)?;
     Ok(Declaration::Enter(cell, value))
+}
+
+// Reads CELL = VALUE and the end, behind `also`.
+fn further_entry(alloc: Global, words: &mut Words<'_>) -> Result<Declaration, Refusal>
+    ensures told { IfOk result (λ d. IsDeclarationOf (codes "also") (declared_of d) words.old) }
+    ensures none { result ≡ Err Refusal.Syntax → (d : Declared) → IsDeclarationOf (codes "also") d words.old → ⊥ }
+{
+    let (cell, value) = read_equation(alloc, words)?;
+    Ok(Declaration::Also(cell, value))
 }

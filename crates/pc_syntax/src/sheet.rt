@@ -4,6 +4,7 @@ ghost use Rattle.pc_name.specs.Names.{most_name_bytes};
 ghost use Rattle.pc_syntax.specs.Tree.{declared_of, sheet_of};
 ghost use Rattle.pc_syntax.specs.Sheet.{declared_from, SheetReading, IsSheetReading, HasUniverseFirst};
 ghost use Rattle.pc_syntax.specs.Sized.{HasSizedRules, HasNestedRules};
+ghost use Rattle.pc_syntax.specs.Line.{heading, begins};
 ghost use Rattle.pc_syntax.specs.Part.{next_part, part_after, declared};
 ghost use Rattle.pc_syntax.specs.Told.{form_of, sheet_fault_of, misplaced_as, IsLineTaken, IsSheetTold, TellsSheet};
 
@@ -14,12 +15,19 @@ use crate::tree::{Declaration, SheetFault, SheetTree};
 use pc_lines::next_line;
 use std::alloc::{AllocError, Global};
 
+/// The version of a sheet: `sheet 1`, or `sheet 2` with its `also` lines.
+#[derive(Clone, Copy, Debug, PartialEq, Eq)]
+pub enum Version {
+    First,
+    Second,
+}
+
 /// Where in a sheet a line stands: before its heading, before its first rule, behind it, or behind `begin`.
 #[derive(Clone, Copy, Debug, PartialEq, Eq)]
 pub enum Part {
     Heading,
-    Universe,
-    Rules,
+    Universe(Version),
+    Rules(Version),
     End,
 }
 
@@ -29,11 +37,30 @@ fn next_part(part: Part, line: &LineTree) -> Option<Part>
 {
     match line {
         LineTree::Nothing => Some(part),
-        LineTree::Heading(version) => {
-            (part == Part::Heading && *version == 1).then_some(Part::Universe)
-        }
-        LineTree::Begins => { (part == Part::Universe || part == Part::Rules).then_some(Part::End) }
+        LineTree::Heading(number) => part_after_heading(part, *number),
+        LineTree::Begins => part_after_begin(part),
         LineTree::Declares(declared) => part_after(part, declared),
+    }
+}
+
+// The part behind a heading with this number.
+fn part_after_heading(part: Part, number: u64) -> Option<Part>
+    ensures { result ≡ next_part part (heading number) }
+{
+    match (part, number) {
+        (Part::Heading, 1) => Some(Part::Universe(Version::First)),
+        (Part::Heading, 2) => Some(Part::Universe(Version::Second)),
+        _ => None,
+    }
+}
+
+// The part behind `begin`.
+fn part_after_begin(part: Part) -> Option<Part>
+    ensures { result ≡ next_part part begins }
+{
+    match part {
+        Part::Universe(_) | Part::Rules(_) => Some(Part::End),
+        _ => None,
     }
 }
 
@@ -42,9 +69,14 @@ fn part_after(part: Part, declared: &Declaration) -> Option<Part>
     ensures { result ≡ part_after part (declared_of declared.now) }
 {
     match (part, declared) {
-        (Part::Universe, Declaration::Rule(_)) => Some(Part::Rules),
-        (Part::Universe, _) => Some(Part::Universe),
-        (Part::Rules, Declaration::Rule(_) | Declaration::Enter(..)) => Some(Part::Rules),
+        (Part::Universe(Version::First) | Part::Rules(Version::First), Declaration::Also(..)) =>
+            None,
+        (Part::Universe(version), Declaration::Rule(_)) => Some(Part::Rules(version)),
+        (Part::Universe(version), _) => Some(Part::Universe(version)),
+        (
+            Part::Rules(version),
+            Declaration::Rule(_) | Declaration::Enter(..) | Declaration::Also(..),
+        ) => Some(Part::Rules(version)),
         _ => None,
     }
 }
@@ -118,7 +150,8 @@ fn take_line(
 /// The declarations of a sheet's text, line by line, or the fault of its first line at fault.
 ///
 /// The text is split into lines at LF, and one CR before it is dropped. The first line that is neither blank nor a
-/// comment is `sheet 1`, and the sheet ends with its `begin` line, behind which blank lines and comments alone stand.
+/// comment is `sheet 1` or `sheet 2`, and the sheet ends with its `begin` line, behind which blank lines and comments
+/// alone stand. An `also` line may stand in a `sheet 2` alone.
 /// On one line the order of faults is `NotUtf8`, `TooDeep`, `Syntax`, `WrongVersion`. A text whose lines are all right
 /// and that has no `begin` line is `NoBegin`.
 pub fn parse_sheet(alloc: Global, bytes: &[u8]) -> Result<SheetTree, SheetFault>

@@ -41,13 +41,16 @@ pub enum Declaration {
     },
     Rule(RuleTree),
     Enter(CellTree, ValueTree),
+    Also(CellTree, ValueTree),
 }
 
 /// What a command asks for.
 #[derive(Debug, Drop)]
 pub enum Command {
     Enter(CellTree, ValueTree),
+    Also(CellTree, ValueTree),
     Clear(CellTree),
+    ClearOne(CellTree, ValueTree),
     AddRule(RuleTree),
     DropRule(Name),
     Budget(u64),
@@ -78,7 +81,7 @@ pub enum SheetFault {
     Syntax { line: u32 },
     #[error("no line is `begin`")]
     NoBegin,
-    #[error("line {line} has another version than 1")]
+    #[error("line {line} has another version than 1 or 2")]
     WrongVersion { line: u32 },
     #[error("line {line} goes too deep")]
     TooDeep { line: u32 },
