@@ -11,7 +11,7 @@ use Rattle.pc_syntax.specs.declared.tree.Command.{Command}
 use Rattle.pc_syntax.specs.declared.tree.CommandFault.{CommandFault}
 use Rattle.pc_syntax.specs.declared.tree.CommandFault.TheVariants as command_fault
 use Rattle.pc_syntax.specs.Spelling.{IsNothing, IsSpelled}
-use Rattle.pc_syntax.specs.Tree.{Asked, asked_of, asks_enter, asks_clear, asks_rule, asks_drop, asks_budget, asks_show, asks_grid, asks_json, asks_why, asks_dump}
+use Rattle.pc_syntax.specs.Tree.{Asked, asked_of, asks_enter, asks_also, asks_clear, asks_clear_one, asks_rule, asks_drop, asks_budget, asks_show, asks_grid, asks_json, asks_why, asks_dump}
 use Rattle.pc_syntax.specs.Command.{command_keyword, FollowsCommand, IsCommand, HasCommand, no_words, some_words, CommandReading, no_command, asks, IsCommandReading, empty_command, spelled_command, faulty_command, TakesNoMemory}
 use Rattle.pc_syntax.specs.Told.{Spells, SpellsNone, IsLone, command_fault_of, IsCommandTold, TellsCommand}
 use Rattle.pc_syntax.specs.Sized.{too_many, IsSizedReading, IsNestedReading}
@@ -31,7 +31,9 @@ tells line (Err command_fault.Memory) told q is = tt
 -- the word that starts a command is a name
 is_a_name : (a : Asked) → word Name (command_keyword a) ≡ name (command_keyword a)
 is_a_name (asks_enter c v) = refl
+is_a_name (asks_also c v) = refl
 is_a_name (asks_clear c) = refl
+is_a_name (asks_clear_one c v) = refl
 is_a_name (asks_rule n f) = refl
 is_a_name (asks_drop n) = refl
 is_a_name (asks_budget n) = refl

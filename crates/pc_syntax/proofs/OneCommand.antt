@@ -1,10 +1,13 @@
 -- A command line has one reading.
-use Rattle.std.proofs.Common.{◌≡◌, ℕ, Bool, true, List, [], refl, sym, ◌∙◌, ap, subst, if◌then◌else◌}
+use Rattle.std.proofs.Common.{◌≡◌, ℕ, Bool, true, List, [], ◌∷◌, refl, sym, ◌∙◌, ap, subst, arith, if◌then◌else◌}
 use Rattle.std.specs.Prelude.{codes, bytes_eq}
 use Rattle.std.specs.Str.{IsUtf8}
-use Rattle.pc_formula.specs.Word.{Word}
+use Rattle.pc_token.specs.declared.token.Kind.TheVariants.{Equal}
+use Rattle.pc_formula.specs.Word.{Word, sign}
 use Rattle.pc_formula.specs.Tree.{Formula, Cell, Value}
-use Rattle.pc_syntax.specs.Tree.{Asked, asks_enter, asks_clear, asks_rule, asks_drop, asks_budget, asks_show, asks_grid, asks_json, asks_why, asks_dump}
+use Rattle.pc_formula.specs.Value.{DerivesCell}
+use Rattle.pc_formula.specs.Equation.{IsEquation}
+use Rattle.pc_syntax.specs.Tree.{Asked, asks_enter, asks_also, asks_clear, asks_clear_one, asks_rule, asks_drop, asks_budget, asks_show, asks_grid, asks_json, asks_why, asks_dump}
 use Rattle.pc_syntax.specs.Spelling.{IsTooDeep}
 use Rattle.pc_syntax.specs.Fault.{Fault, IsAtFault}
 use Rattle.pc_syntax.specs.Command.{command_keyword, FollowsCommand, IsCommand, HasCommand, no_words, some_words, CommandReading, asks, at_fault, IsCommandReading, empty_command, spelled_command, faulty_command}
@@ -19,6 +22,7 @@ use Rattle.pc_syntax.proofs.OneFault.{fault_once, deep_unspelled, form_no_fault}
 
 data Start : Type 0 where
   of_enter : Start
+  of_also : Start
   of_clear : Start
   of_rule : Start
   of_drop : Start
@@ -33,6 +37,7 @@ data Start : Type 0 where
 start : List ℕ → Start
 start text =
     if bytes_eq text (codes "enter") then of_enter
+    else (if bytes_eq text (codes "also") then of_also
     else (if bytes_eq text (codes "clear") then of_clear
     else (if bytes_eq text (codes "rule") then of_rule
     else (if bytes_eq text (codes "drop") then of_drop
@@ -41,11 +46,13 @@ start text =
     else (if bytes_eq text (codes "grid") then of_grid
     else (if bytes_eq text (codes "json") then of_json
     else (if bytes_eq text (codes "why") then of_why
-    else (if bytes_eq text (codes "dump") then of_dump else of_none)))))))))
+    else (if bytes_eq text (codes "dump") then of_dump else of_none))))))))))
 
 start_of : Asked → Start
 start_of (asks_enter c v) = of_enter
+start_of (asks_also c v) = of_also
 start_of (asks_clear c) = of_clear
+start_of (asks_clear_one c v) = of_clear
 start_of (asks_rule n f) = of_rule
 start_of (asks_drop n) = of_drop
 start_of (asks_budget n) = of_budget
@@ -58,7 +65,9 @@ start_of asks_dump = of_dump
 start_is : (a : Asked) → start (command_keyword a) ≡ start_of a
 unfolding start start_of
 start_is (asks_enter c v) = refl
+start_is (asks_also c v) = refl
 start_is (asks_clear c) = refl
+start_is (asks_clear_one c v) = refl
 start_is (asks_rule n f) = refl
 start_is (asks_drop n) = refl
 start_is (asks_budget n) = refl
@@ -70,7 +79,9 @@ start_is asks_dump = refl
 
 data Shape : Start → Asked → Type 0 where
   an_enter : (c : Cell) (v : Value) → Shape of_enter (asks_enter c v)
+  an_also : (c : Cell) (v : Value) → Shape of_also (asks_also c v)
   a_clear : (c : Cell) → Shape of_clear (asks_clear c)
+  a_clear_one : (c : Cell) (v : Value) → Shape of_clear (asks_clear_one c v)
   a_rule : (n : List ℕ) (f : Formula) → Shape of_rule (asks_rule n f)
   a_drop : (n : List ℕ) → Shape of_drop (asks_drop n)
   a_budget : (n : ℕ) → Shape of_budget (asks_budget n)
@@ -83,7 +94,9 @@ data Shape : Start → Asked → Type 0 where
 shape : (a : Asked) → Shape (start_of a) a
 unfolding start_of
 shape (asks_enter c v) = an_enter c v
+shape (asks_also c v) = an_also c v
 shape (asks_clear c) = a_clear c
+shape (asks_clear_one c v) = a_clear_one c v
 shape (asks_rule n f) = a_rule n f
 shape (asks_drop n) = a_drop n
 shape (asks_budget n) = a_budget n
@@ -93,15 +106,25 @@ shape asks_json = a_json
 shape (asks_why c v h) = a_why c v h
 shape asks_dump = a_dump
 
--- a command is the one that its first word says
+-- a command is one of those that its first word says
 shape_of : (a : Asked) (text : List ℕ) (t : Start) → start text ≡ t → command_keyword a ≡ text → Shape t a
 shape_of a text t is same = subst (λ s. Shape s a) (sym (start_is a) ∙ ap start same ∙ is) (shape a)
 
 -- ---- one command
 
+-- words that are a cell are no cell with a value
+no_cell_of_equation : (ws : List Word) (c d : Cell) (v : Value) → DerivesCell ws c [] → IsEquation ws Equal d v → ⊥
+no_cell_of_equation ws c d v a b =
+    let behind = (one_cell ws c d [] (sign Equal ∷ b.rest) tt (omega arith) a b.cell).1 in
+    cc
+
 one_shape : (t : Start) (a b : Asked) (ws : List Word) → Shape t a → Shape t b → FollowsCommand a ws → FollowsCommand b ws → a ≡ b
 one_shape t a b ws (an_enter c v) (an_enter d w) p q = let both = equation_once ws c d v w true true p q in ap (λ m. asks_enter m v) both.0 ∙ ap (λ u. asks_enter d u) both.1
+one_shape t a b ws (an_also c v) (an_also d w) p q = let both = equation_once ws c d v w true true p q in ap (λ m. asks_also m v) both.0 ∙ ap (λ u. asks_also d u) both.1
 one_shape t a b ws (a_clear c) (a_clear d) p q = ap asks_clear (one_cell ws c d [] [] tt tt p q).0
+one_shape t a b ws (a_clear c) (a_clear_one d w) p q = absurd (no_cell_of_equation ws c d w p q)
+one_shape t a b ws (a_clear_one c v) (a_clear d) p q = absurd (no_cell_of_equation ws d c v q p)
+one_shape t a b ws (a_clear_one c v) (a_clear_one d w) p q = let both = equation_once ws c d v w true true p q in ap (λ m. asks_clear_one m v) both.0 ∙ ap (λ u. asks_clear_one d u) both.1
 one_shape t a b ws (a_rule n f) (a_rule k g) p q = let both = one_rule ws n k f g p q in ap (λ m. asks_rule m f) both.0 ∙ ap (λ h. asks_rule k h) both.1
 one_shape t a b ws (a_drop n) (a_drop k) p q = let words = sym p ∙ q in let names : n ≡ k = cc in ap asks_drop names
 one_shape t a b ws (a_budget n) (a_budget k) p q = ap asks_budget (number_once ws n k [] [] p q).0

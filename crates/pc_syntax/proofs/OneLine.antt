@@ -6,7 +6,7 @@ use Rattle.pc_formula.specs.Word.{Word, name, sign, nesting}
 use Rattle.pc_formula.specs.Value.{DerivesName, DerivesNumber, DerivesInt, DerivesValue, InParentheses, Arguments}
 use Rattle.pc_formula.specs.Grammar.{IsFormula}
 use Rattle.pc_formula.specs.Tree.{Formula, Cell, Value}
-use Rattle.pc_syntax.specs.Tree.{Declared, list_sort, range_sort, table, row, cell, rule, enter}
+use Rattle.pc_syntax.specs.Tree.{Declared, list_sort, range_sort, table, row, cell, rule, enter, also}
 use Rattle.pc_syntax.specs.Spelling.{IsSpelled, IsTooDeep}
 use Rattle.pc_syntax.specs.Clause.{IsRule}
 use Rattle.pc_syntax.specs.Line.{LineForm, nothing, heading, declares, begins, keyword, AreBounds, IsRangeDeclared, IsTable, IsRow, IsFamily, StandsBehind, IsDeclaration, IsHeading, IsForm, IsBegin, IsLine, empty_line, begin_line, spelled_line}
@@ -35,6 +35,7 @@ data Start : Type 0 where
   of_cell : Start
   of_rule : Start
   of_enter : Start
+  of_also : Start
   of_none : Start
 
 start : List ℕ → Start
@@ -44,7 +45,8 @@ start text =
     else (if bytes_eq text (codes "row") then of_row
     else (if bytes_eq text (codes "cell") then of_cell
     else (if bytes_eq text (codes "rule") then of_rule
-    else (if bytes_eq text (codes "enter") then of_enter else of_none)))))
+    else (if bytes_eq text (codes "enter") then of_enter
+    else (if bytes_eq text (codes "also") then of_also else of_none))))))
 
 start_of : Declared → Start
 start_of (list_sort n values) = of_sort
@@ -54,6 +56,7 @@ start_of (row n values) = of_row
 start_of (cell n sorts result) = of_cell
 start_of (rule n f) = of_rule
 start_of (enter c v) = of_enter
+start_of (also c v) = of_also
 
 start_is : (d : Declared) → start (keyword d) ≡ start_of d
 unfolding start start_of
@@ -64,6 +67,7 @@ start_is (row n values) = refl
 start_is (cell n sorts result) = refl
 start_is (rule n f) = refl
 start_is (enter c v) = refl
+start_is (also c v) = refl
 
 starts_some : (d : Declared) → start_of d ≡ of_none → ⊥
 unfolding start_of
@@ -74,6 +78,7 @@ starts_some (row n values) is = cc
 starts_some (cell n sorts result) is = cc
 starts_some (rule n f) is = cc
 starts_some (enter c v) is = cc
+starts_some (also c v) is = cc
 
 -- a word that starts no declaration
 no_keyword : (text : List ℕ) → start text ≡ of_none → (d : Declared) → keyword d ≡ text → ⊥
@@ -87,6 +92,7 @@ data Shape : Start → Declared → Type 0 where
   a_cell : (n : List ℕ) (sorts : List (List ℕ)) (r : List ℕ) → Shape of_cell (cell n sorts r)
   a_rule : (n : List ℕ) (f : Formula) → Shape of_rule (rule n f)
   an_entry : (c : Cell) (v : Value) → Shape of_enter (enter c v)
+  a_further_entry : (c : Cell) (v : Value) → Shape of_also (also c v)
 
 shape : (d : Declared) → Shape (start_of d) d
 unfolding start_of
@@ -97,6 +103,7 @@ shape (row n values) = a_row n values
 shape (cell n sorts r) = a_cell n sorts r
 shape (rule n f) = a_rule n f
 shape (enter c v) = an_entry c v
+shape (also c v) = a_further_entry c v
 
 -- ---- one declaration
 
@@ -173,6 +180,7 @@ one_shape t d e ws (a_row n xs) (a_row k ys) a b = one_row ws n k xs ys a b
 one_shape t d e ws (a_cell n xs p) (a_cell k ys q) a b = one_family ws n k xs ys p q a b
 one_shape t d e ws (a_rule n f) (a_rule k g) a b = let both = one_rule ws n k f g a b in ap (λ m. rule m f) both.0 ∙ ap (λ h. rule k h) both.1
 one_shape t d e ws (an_entry c v) (an_entry p w) a b = let both = equation_once ws c p v w true true a b in ap (λ m. enter m v) both.0 ∙ ap (λ u. enter p u) both.1
+one_shape t d e ws (a_further_entry c v) (a_further_entry p w) a b = let both = equation_once ws c p v w true true a b in ap (λ m. also m v) both.0 ∙ ap (λ u. also p u) both.1
 
 one_declaration : (ws : List Word) (d e : Declared) → IsDeclaration ws d → IsDeclaration ws e → d ≡ e
 one_declaration ws d e a b =

@@ -5,7 +5,7 @@ use Rattle.std.specs.List.{list_any}
 use Rattle.std.specs.Str.Lines.{lines}
 use Rattle.pc_syntax.specs.Tree.{Declared}
 use Rattle.pc_syntax.specs.Line.{LineForm, nothing, heading, declares, begins}
-use Rattle.pc_syntax.specs.Sheet.{is_rule, is_rule_line, is_of_universe, is_open, AreStanding, declared_from, sheet, IsSheetReading, whole, HasNoUniverse, HasUniverseFirst}
+use Rattle.pc_syntax.specs.Sheet.{is_rule, is_rule_line, is_of_universe, is_also, is_second, is_open, AreStanding, declared_from, sheet, IsSheetReading, whole, HasNoUniverse, HasUniverseFirst}
 use Rattle.pc_syntax.proofs.Parts.{grown}
 
 or_true : (a : Bool) → (a || true) ≡ true
@@ -13,18 +13,18 @@ or_true true = refl
 or_true false = refl
 
 -- a line of the universe may not stand behind a rule
-ruled_out : (o u r : Bool) → (o && (not u || not r)) ≡ true → r ≡ true → u ≡ false
-ruled_out o false r may rules = refl
-ruled_out true true true may rules = cc
-ruled_out true true false may rules = cc
-ruled_out false true r may rules = cc
+ruled_out : (o u r s : Bool) → (o && ((not u || not r) && s)) ≡ true → r ≡ true → u ≡ false
+ruled_out o false r s may rules = refl
+ruled_out true true true s may rules = cc
+ruled_out true true false s may rules = cc
+ruled_out false true r s may rules = cc
 
 behind_rule : (n : ℕ) (before : List LineForm) (ls : List (List ℕ)) (fs : List LineForm) → list_any is_rule_line before ≡ true → AreStanding before ls fs → HasNoUniverse (declared_from n fs)
 behind_rule n before [] [] rules standing = tt
 behind_rule n before [] (f ∷ fs) rules standing = absurd standing
 behind_rule n before (l ∷ ls) [] rules standing = absurd standing
 behind_rule n before (l ∷ ls) (declares d ∷ fs) rules standing =
-    (ruled_out (is_open before) (is_of_universe d) (list_any is_rule_line before) standing.1 rules, behind_rule (n + 1) (before ++ declares d ∷ []) ls fs (grown is_rule_line before (declares d) true (is_rule d) rules refl) standing.2)
+    (ruled_out (is_open before) (is_of_universe d) (list_any is_rule_line before) (not (is_also d) || list_any is_second before) standing.1 rules, behind_rule (n + 1) (before ++ declares d ∷ []) ls fs (grown is_rule_line before (declares d) true (is_rule d) rules refl) standing.2)
 behind_rule n before (l ∷ ls) (nothing ∷ fs) rules standing = behind_rule (n + 1) (before ++ nothing ∷ []) ls fs (grown is_rule_line before nothing true false rules refl) standing.2
 behind_rule n before (l ∷ ls) (heading v ∷ fs) rules standing = behind_rule (n + 1) (before ++ heading v ∷ []) ls fs (grown is_rule_line before (heading v) true false rules refl) standing.2
 behind_rule n before (l ∷ ls) (begins ∷ fs) rules standing = behind_rule (n + 1) (before ++ begins ∷ []) ls fs (grown is_rule_line before begins true false rules refl) standing.2

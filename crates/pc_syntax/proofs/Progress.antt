@@ -31,7 +31,7 @@ pub record Progress (text : List ℕ) (p : Part) (n : ℕ) (rest : List (List �
   pub declared : seen ≡ declared_from 1 forms
 
 pub starts : (text : List ℕ) (seen : List (ℕ × Declared)) → seen ≡ [] → Progress text Heading 1 (lines text) seen
-starts text seen none = record { before = []; forms = []; parted = refl; standing = tt; part = (refl, refl, refl); number = omega arith; declared = none }
+starts text seen none = record { before = []; forms = []; parted = refl; standing = tt; part = (refl, refl, refl, refl); number = omega arith; declared = none }
 
 -- ---- one line more
 
@@ -75,8 +75,8 @@ place_blamed Heading (heading v) n line is goes = (refl, within.by_place (headin
 place_blamed Heading nothing n line is goes = (refl, within.by_place nothing is goes)
 place_blamed Heading begins n line is goes = (refl, within.by_place begins is goes)
 place_blamed Heading (declares d) n line is goes = (refl, within.by_place (declares d) is goes)
-place_blamed Universe f n line is goes = (refl, within.by_place f is goes)
-place_blamed Rules f n line is goes = (refl, within.by_place f is goes)
+place_blamed (Universe v) f n line is goes = (refl, within.by_place f is goes)
+place_blamed (Rules v) f n line is goes = (refl, within.by_place f is goes)
 place_blamed End f n line is goes = (refl, within.by_place f is goes)
 
 -- ---- the whole
@@ -130,8 +130,8 @@ module _ (text : List ℕ) (p : Part) (n : ℕ) (rest : List (List ℕ)) (seen :
       where
         go : (q : Part) → IsPartBehind q so_far.forms → (q ≡ End → ⊥) → IsSheetReading text no_begin
         go Heading is o = endless so_far.forms all_standing is.1
-        go Universe is o = endless so_far.forms all_standing is.1
-        go Rules is o = endless so_far.forms all_standing is.1
+        go (Universe v) is o = endless so_far.forms all_standing is.1
+        go (Rules v) is o = endless so_far.forms all_standing is.1
         go End is o = absurd (o refl)
 
 pub tells : (text : List ℕ) (r : Result SheetTree SheetFault) → IsSheetTold text r → (q : SheetReading) → IsSheetReading text q → TellsSheet r q

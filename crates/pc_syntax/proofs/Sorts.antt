@@ -3,7 +3,7 @@ use Rattle.std.proofs.Common.{◌≡◌, ℕ, ℤ, List, [], ◌∷◌, ◌++◌
 use Rattle.std.specs.Prelude.{codes}
 use Rattle.pc_token.specs.declared.token.Kind.TheVariants.{Equal}
 use Rattle.pc_formula.specs.Word.{Word, name, sign}
-use Rattle.pc_syntax.specs.Tree.{Declared, list_sort, range_sort, table, row, cell, rule, enter}
+use Rattle.pc_syntax.specs.Tree.{Declared, list_sort, range_sort, table, row, cell, rule, enter, also}
 use Rattle.pc_syntax.specs.Line.{keyword, AreBounds, StandsBehind, IsDeclarationOf}
 use Rattle.pc_syntax.proofs.Families.{no_int_of_name}
 use Rattle.pc_syntax.proofs.OneLine.{differ}
@@ -36,6 +36,7 @@ sort_of (row n values) is = absurd (differ (codes "row") (codes "sort") refl ref
 sort_of (cell n sorts r) is = absurd (differ (codes "cell") (codes "sort") refl refl is)
 sort_of (rule n f) is = absurd (differ (codes "rule") (codes "sort") refl refl is)
 sort_of (enter c v) is = absurd (differ (codes "enter") (codes "sort") refl refl is)
+sort_of (also c v) is = absurd (differ (codes "also") (codes "sort") refl refl is)
 
 module _ (old behind left : List Word) (text : List ℕ) (found : List (List ℕ)) (first : old ≡ name text ∷ sign Equal ∷ behind) (names : behind ≡ map name found ++ left) (all : (n : List ℕ) (more : List Word) → left ≡ name n ∷ more → ⊥) where
   -- with words left, no listed sort was read
