@@ -7,3 +7,4 @@ pub mod Items
 pub mod Statements
 pub mod Universe
 pub mod Sheets
+pub mod LaterEntries

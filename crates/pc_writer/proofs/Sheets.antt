@@ -2,7 +2,7 @@
 use Rattle.std.proofs.Common.{◌≡◌, [], ◌∷◌, ◌++◌, codes, map, ap, ◌∙◌}
 use Rattle.std.specs.List.{flat_map}
 use Rattle.pc_sheet.specs.Sheet.{Universe, Sheet}
-use Rattle.pc_writer.specs.SheetText.{ended, lines_text, sort_line, table_line, row_lines, family_line, rule_line, enter_line, universe_lines, sheet_text}
+use Rattle.pc_writer.specs.SheetText.{ended, lines_text, sort_line, table_line, row_lines, family_line, rule_line, entry_lines, heading_line, universe_lines, sheet_text}
 use Rattle.pc_writer.proofs.InPieces.{lines-append}
 
 pub universe_parts : (u : Universe) → lines_text (universe_lines u)
@@ -16,12 +16,12 @@ universe_parts u =
     ∙ ap (λ t. lines_text sorts ++ t) (lines-append tables (rows ++ families) ∙ ap (λ t. lines_text tables ++ t) (lines-append rows families))
 
 pub sheet_parts : (s : Sheet) → sheet_text s
-    ≡ ended (codes "sheet 1") ++ (lines_text (universe_lines s.universe) ++ (lines_text (map (rule_line s.universe) s.rules) ++ (lines_text (map (enter_line s.universe) s.entries) ++ ended (codes "begin"))))
+    ≡ ended (heading_line s.entries) ++ (lines_text (universe_lines s.universe) ++ (lines_text (map (rule_line s.universe) s.rules) ++ (lines_text (entry_lines s.universe s.entries) ++ ended (codes "begin"))))
 sheet_parts s =
     let rules = map (rule_line s.universe) s.rules in
-    let entries = map (enter_line s.universe) s.entries in
+    let entries = entry_lines s.universe s.entries in
     let last = codes "begin" ∷ [] in
-    ap (λ t. ended (codes "sheet 1") ++ t) (
+    ap (λ t. ended (heading_line s.entries) ++ t) (
     lines-append (universe_lines s.universe) (rules ++ (entries ++ last))
     ∙ ap (λ t. lines_text (universe_lines s.universe) ++ t) (lines-append rules (entries ++ last) ∙ ap (λ t. lines_text rules ++ t) (lines-append entries last))
     )

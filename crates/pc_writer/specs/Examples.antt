@@ -1,10 +1,10 @@
--- Two sheets, with their texts.
+-- Three sheets, with their texts.
 use Rattle.std.specs.Prelude.{◌≡◌, ℕ, pos, neg_ℤ, List, [], ◌∷◌, codes, map}
 use Rattle.pc_name.specs.declared.sign.Op.TheVariants.{Eq, Ne, Lt}
 use Rattle.pc_name.specs.declared.sign.Sign.TheVariants.{Plus, Minus}
 use Rattle.pc_sheet.specs.Sheet.{listed, range, Family, Item, no_items, item, variable, constant, number, cell, Sum, Statement, no_statements, statement, compare, in_table, negation, all_of, some_of, implies, iff, for_all, NamedStatement, Sheet}
 use Rattle.pc_sheet.specs.declared.ids.Entry.{Entry}
-use Rattle.pc_writer.specs.SheetText.{enter_line, lines_text, rule_line, sheet_text, universe_lines}
+use Rattle.pc_writer.specs.SheetText.{entry_lines, lines_text, rule_line, sheet_text, universe_lines}
 
 -- a family without arguments
 abbrev family : List ℕ → ℕ → Family
@@ -53,6 +53,26 @@ three_lines =
     ∷ codes "rule ab : a = b"
     ∷ codes "rule bc : b = c"
     ∷ codes "enter a = red"
+    ∷ codes "begin"
+    ∷ []
+
+-- ---- the same with two views of the last cell, between which another cell is entered
+
+abbrev pub views : Sheet
+views = record three { entries = entry 2 1 ∷ entry 0 0 ∷ entry 2 0 ∷ [] }
+
+abbrev pub views_lines : List (List ℕ)
+views_lines =
+    codes "sheet 2"
+    ∷ codes "sort color = red green"
+    ∷ codes "cell a : color"
+    ∷ codes "cell b : color"
+    ∷ codes "cell c : color"
+    ∷ codes "rule ab : a = b"
+    ∷ codes "rule bc : b = c"
+    ∷ codes "enter c = green"
+    ∷ codes "enter a = red"
+    ∷ codes "also c = red"
     ∷ codes "begin"
     ∷ []
 
@@ -135,9 +155,10 @@ tour_rules =
 abbrev pub tour_entries : List (List ℕ)
 tour_entries = codes "enter tint = red" ∷ codes "enter shift(0) = -1" ∷ []
 
--- the texts of the two sheets are these lines
+-- the texts of the three sheets are these lines
 pub record TextsAreWorked : Type 0 where
   pub of_three : sheet_text three ≡ lines_text three_lines
+  pub of_views : sheet_text views ≡ lines_text views_lines
   pub universe_of_tour : universe_lines tour.universe ≡ tour_universe
   pub rules_of_tour : map (rule_line tour.universe) tour.rules ≡ tour_rules
-  pub entries_of_tour : map (enter_line tour.universe) tour.entries ≡ tour_entries
+  pub entries_of_tour : entry_lines tour.universe tour.entries ≡ tour_entries

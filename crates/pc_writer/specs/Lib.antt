@@ -3,5 +3,6 @@ pub mod Separator
 pub mod Writes
 pub mod FormulaText
 pub mod SheetText
+pub mod Versions
 pub mod Examples
 pub mod inside

@@ -1,9 +1,10 @@
 -- The canonical text of a sheet, line by line.
-use Rattle.std.specs.Prelude.{ℕ, List, [], ◌∷◌, ◌++◌, codes, map}
-use Rattle.std.specs.List.{flat_map}
+use Rattle.std.specs.Prelude.{ℕ, Bool, List, [], ◌∷◌, ◌++◌, codes, length, map, nat_le, if◌then◌else◌}
+use Rattle.std.specs.List.{flat_map, list_any}
 use Rattle.std.specs.Fmt.{signed_decimal}
 use Rattle.pc_sheet.specs.Sheet.{Values, listed, range, Sort, Table, Family, Universe, NamedStatement, Sheet}
 use Rattle.pc_sheet.specs.declared.ids.ValueId.{ValueId}
+use Rattle.pc_sheet.specs.WellFormed.{is_of_cell, entries_of}
 use Rattle.pc_sheet.specs.declared.ids.Entry.{Entry}
 use Rattle.pc_writer.specs.Spelling.{value_texts, entry_text}
 use Rattle.pc_writer.specs.FormulaText.{parenthesized, in_parentheses, sort_name, statement_text}
@@ -40,6 +41,40 @@ rule_line u r = codes "rule " ++ (r.name ++ (codes " : " ++ statement_text u [] 
 abbrev pub enter_line : Universe → Entry → List ℕ
 enter_line u e = codes "enter " ++ entry_text u e
 
+abbrev pub also_line : Universe → Entry → List ℕ
+also_line u e = codes "also " ++ entry_text u e
+
+-- ---- entries
+
+-- an older entry is of its cell
+abbrev pub is_later : List Entry → Entry → Bool
+is_later older e = list_any (is_of_cell e.cell) older
+
+-- the first entry of a cell is entered, and a later one stands beside it
+abbrev pub entry_line : Universe → List Entry → Entry → List ℕ
+entry_line u older e = if is_later older e then also_line u e else enter_line u e
+
+-- each with what is before it, where these come first
+abbrev pub each_behind : {A B : Type 0} → (List A → A → B) → List A → List A → List B
+each_behind f before [] = []
+each_behind f before (x ∷ xs) = f before x ∷ each_behind f (before ++ x ∷ []) xs
+
+abbrev pub entry_lines : Universe → List Entry → List (List ℕ)
+entry_lines u es = each_behind (entry_line u) [] es
+
+-- ---- the version
+
+-- some cell has two entries or more
+abbrev pub has_several : List Entry → Bool
+has_several es = list_any (λ e. nat_le 2 (length (entries_of e.cell es))) es
+
+-- the first one in which these entries can be written
+abbrev pub version : List Entry → ℕ
+version es = if has_several es then 2 else 1
+
+abbrev pub heading_line : List Entry → List ℕ
+heading_line es = if has_several es then codes "sheet 2" else codes "sheet 1"
+
 -- ---- the sheet
 
 -- all sorts, all tables, the rows table by table, and all families
@@ -49,7 +84,7 @@ universe_lines u = map sort_line u.sorts ++ (map (table_line u) u.tables ++ (fla
 -- the version, the universe, all rules, all entries with the oldest first, and the end
 abbrev pub sheet_lines : Sheet → List (List ℕ)
 sheet_lines s =
-    codes "sheet 1" ∷ (universe_lines s.universe ++ (map (rule_line s.universe) s.rules ++ (map (enter_line s.universe) s.entries ++ codes "begin" ∷ [])))
+    heading_line s.entries ∷ (universe_lines s.universe ++ (map (rule_line s.universe) s.rules ++ (entry_lines s.universe s.entries ++ codes "begin" ∷ [])))
 
 -- a line with its end
 abbrev pub ended : List ℕ → List ℕ

@@ -1,7 +1,14 @@
-// Worked examples, as the contract of a function that does nothing.
+// Worked examples and a law, each the contract of a function that does nothing.
 ghost use Rattle.pc_writer.specs.Examples.{TextsAreWorked};
+ghost use Rattle.pc_writer.specs.Versions.{VersionsTell};
 
-/// The canonical texts of two sheets: a small one, and one with a range, a table, arguments, quantifiers and sums.
+/// The canonical texts of three sheets: a small one, the same with two entries of a cell, and one with a range, a table,
+/// arguments, quantifiers and sums.
 pub fn texts_are_worked()
     ensures { TextsAreWorked }
+{}
+
+/// A text's version tells whether some cell has two entries or more, and so whether some line is an `also` line.
+pub fn versions_tell()
+    ensures { VersionsTell }
 {}

@@ -5,6 +5,7 @@ mod cell;
 mod declared;
 mod entry;
 mod formula;
+mod later;
 mod law;
 mod lines;
 mod number;
@@ -16,7 +17,7 @@ mod value;
 
 pub use cell::{sort_of, write_cell, write_separated_cell};
 pub use entry::{write_entries, write_entry};
-pub use law::texts_are_worked;
+pub use law::{texts_are_worked, versions_tell};
 pub use number::write_integer;
 pub use pieces::write_text;
 pub use sheet::write_sheet;

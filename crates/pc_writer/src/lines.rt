@@ -1,5 +1,5 @@
 // The lines of a sheet, without their ends.
-ghost use Rattle.std.specs.Prelude.{◌≡◌, ◌<◌, codes, length, map, None};
+ghost use Rattle.std.specs.Prelude.{◌≡◌, ◌<◌, codes, length, map, None, if◌then◌else◌};
 ghost use Rattle.std.specs.List.{flat_map};
 ghost use Rattle.pc_sheet.specs.Entailment.{AreWithin};
 ghost use Rattle.pc_sheet.specs.Sheet.{range};
@@ -9,7 +9,7 @@ ghost use Rattle.pc_sheet.specs.WellFormed.{IsEntryOf, IsWellFormedRule, IsWellF
 ghost use Rattle.pc_sheet.specs.WellSorted.{names_of_values};
 ghost use Rattle.pc_logic.specs.Named.{bounds_of};
 ghost use Rattle.pc_writer.specs.FormulaText.{family_at, sort_at, table_at};
-ghost use Rattle.pc_writer.specs.SheetText.{enter_line, family_line, row_line, rule_line, sort_line, spaced, table_line, values_text};
+ghost use Rattle.pc_writer.specs.SheetText.{also_line, enter_line, family_line, row_line, rule_line, sort_line, spaced, table_line, values_text};
 ghost use Rattle.pc_writer.specs.Spelling.{joined, value_texts};
 ghost use Rattle.pc_writer.specs.Writes.{Writes};
 
@@ -139,10 +139,34 @@ pub(crate) fn write_rule<O: Sink>(book: &Book, rule: &Rule, out: &mut O) -> Resu
     write_formula(book, &[], &rule.formula, out)
 }
 
-pub(crate) fn write_enter<O: Sink>(book: &Book, entry: Entry, out: &mut O) -> Result<(), Failed>
+fn write_enter<O: Sink>(book: &Book, entry: Entry, out: &mut O) -> Result<(), Failed>
     requires { IsEntryOf book.now.universe entry }
     ensures { Writes O.given O.faults out.old out.new result (enter_line book.now.universe entry) }
 {
     write_text(b"enter ", out)?;
     write_entry(book, entry, out)
+}
+
+fn write_also<O: Sink>(book: &Book, entry: Entry, out: &mut O) -> Result<(), Failed>
+    requires { IsEntryOf book.now.universe entry }
+    ensures { Writes O.given O.faults out.old out.new result (also_line book.now.universe entry) }
+{
+    write_text(b"also ", out)?;
+    write_entry(book, entry, out)
+}
+
+/// Writes the line of an entry that is the first of its cell, or of a later one.
+pub(crate) fn write_entry_line<O: Sink>(
+    book: &Book,
+    later: bool,
+    entry: Entry,
+    out: &mut O,
+) -> Result<(), Failed>
+    requires { IsEntryOf book.now.universe entry }
+    ensures { Writes O.given O.faults out.old out.new result (if later then also_line book.now.universe entry else enter_line book.now.universe entry) }
+{
+    if later {
+        return write_also(book, entry, out);
+    }
+    write_enter(book, entry, out)
 }

@@ -1,16 +1,19 @@
 // Whole sheets, in canonical form.
-ghost use Rattle.std.specs.Prelude.{◌<◌, length, map};
+ghost use Rattle.std.specs.Prelude.{◌<◌, [], length, map};
 ghost use Rattle.std.specs.List.{flat_map};
 ghost use Rattle.pc_sheet.specs.WellFormed.{IsWellFormed};
 ghost use Rattle.pc_writer.specs.FormulaText.{table_at};
-ghost use Rattle.pc_writer.specs.SheetText.{enter_line, family_line, lines_text, row_lines, rule_line, sheet_text, sort_line, table_line, universe_lines};
+ghost use Rattle.pc_writer.specs.SheetText.{ended, entry_lines, family_line, heading_line, lines_text, row_lines, rule_line, sheet_text, sort_line, table_line, universe_lines};
 ghost use Rattle.pc_writer.specs.Writes.{Writes};
 
-use crate::lines::{write_enter, write_family, write_row, write_rule, write_sort, write_table};
+use crate::later::{has_several, note};
+use crate::lines::{
+    write_entry_line, write_family, write_row, write_rule, write_sort, write_table,
+};
 use crate::pieces::write_text;
 use pc_logic::{Book, well_formed};
 use pc_port::{Failed, Sink};
-use pc_sheet::{FamilyId, SortId, TableId};
+use pc_sheet::{FamilyId, MOST_CELLS, SortId, TableId};
 
 fn write_sorts<O: Sink>(book: &Book, out: &mut O) -> Result<(), Failed>
     requires { IsWellFormed book.now }
@@ -79,15 +82,29 @@ fn write_rules<O: Sink>(book: &Book, out: &mut O) -> Result<(), Failed>
     Ok(())
 }
 
-fn write_entered<O: Sink>(book: &Book, out: &mut O) -> Result<(), Failed>
+/// Writes the entries, the oldest first.
+fn write_entry_lines<O: Sink>(book: &Book, out: &mut O) -> Result<(), Failed>
     requires { IsWellFormed book.now }
-    ensures { Writes O.given O.faults out.old out.new result (lines_text (map (enter_line book.now.universe) book.now.entries)) }
+    ensures { Writes O.given O.faults out.old out.new result (lines_text (entry_lines book.now.universe book.now.entries)) }
 {
+    let mut noted = [false; MOST_CELLS];
     for entry in book.entries() {
-        write_enter(book, *entry, out)?;
+        let later = note(&mut noted, entry.cell);
+        write_entry_line(book, later, *entry, out)?;
         write_text(b"\n", out)?;
     }
     Ok(())
+}
+
+/// Writes the first line: version 2 where some cell has two entries or more, else version 1.
+fn write_heading<O: Sink>(book: &Book, out: &mut O) -> Result<(), Failed>
+    requires { IsWellFormed book.now }
+    ensures { Writes O.given O.faults out.old out.new result (ended (heading_line book.now.entries)) }
+{
+    if has_several(book) {
+        return write_text(b"sheet 2\n", out);
+    }
+    write_text(b"sheet 1\n", out)
 }
 
 /// Writes the declarations of the universe.
@@ -102,14 +119,14 @@ fn write_universe<O: Sink>(book: &Book, out: &mut O) -> Result<(), Failed>
 }
 
 /// Writes the canonical text of a book: the version, all sorts, all tables, the rows table by table, all families, all
-/// rules, all entries with the oldest first, and `begin`.
+/// rules, all entries with the oldest first, and `begin`. It takes no memory, and goes over the entries twice.
 pub fn write_sheet<O: Sink>(book: &Book, out: &mut O) -> Result<(), Failed>
     ensures { Writes O.given O.faults out.old out.new result (sheet_text book.now) }
 {
     well_formed(book);
-    write_text(b"sheet 1\n", out)?;
+    write_heading(book, out)?;
     write_universe(book, out)?;
     write_rules(book, out)?;
-    write_entered(book, out)?;
+    write_entry_lines(book, out)?;
     write_text(b"begin\n", out)
 }

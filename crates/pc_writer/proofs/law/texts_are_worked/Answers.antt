@@ -16,6 +16,7 @@ pub returns : goal.returns
 returns c =
     record {
       of_three = refl;
+      of_views = refl;
       universe_of_tour = simp (zero_text, one_text, two_text);
       rules_of_tour = simp (one_text, two_text);
       entries_of_tour = simp (zero_text, one_text);

@@ -1,0 +1,5 @@
+use Rattle.pc_writer.proofs.LaterEntries.{version_tells}
+use Rattle.pc_writer.proofs.law.versions_tell.Goals as goal
+
+pub returns : goal.returns
+returns c = version_tells
