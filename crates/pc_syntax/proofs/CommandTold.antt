@@ -1,5 +1,5 @@
 -- What is told of a command line.
-use Rattle.std.proofs.Common.{◌≡◌, ℕ, ◌≤◌, Result, Ok, Err, Option, Some, None, List, [], ◌∷◌, ◌⊎◌, length, ⊎_elim, refl, sym, subst, arith}
+use Rattle.std.proofs.Common.{◌≡◌, ℕ, ◌≤◌, Result, Ok, Err, Option, Some, None, List, [], ◌∷◌, length, ⊎_elim, refl, sym, subst, arith}
 use Rattle.std.specs.Prelude.{codes}
 use Rattle.std.specs.Str.{IsUtf8}
 use Rattle.pc_token.specs.declared.token.Kind.TheVariants.{Name}
