@@ -4,6 +4,7 @@ use Rattle.std.specs.List.{flat_map}
 use Rattle.pc_sheet.specs.Sheet.{Sheet}
 use Rattle.pc_syntax.specs.Tree.{Declared}
 use Rattle.pc_sortcheck.specs.Declaring.{Declares, DeclareAll}
+use Rattle.pc_writer.specs.SheetText.{each_behind}
 use Rattle.pc_canonical.specs.Declared.{declared_in}
 use Rattle.pc_canonical.proofs.Sublists.{one_more}
 
@@ -38,3 +39,10 @@ module _ {A : Type 0} (all : List A) where
     pub each_declared : (after before : List A) → all ≡ before ++ after → DeclareEach (state before after) (map declare after) (state all [])
     each_declared [] before is = ap (λ xs. state xs []) (is ∙ append-nil before)
     each_declared (x ∷ after) before is = (state (before ++ x ∷ []) after, step before x after is, each_declared after (before ++ x ∷ []) (one_more all before x after is))
+
+  -- one that goes by what stands before it
+  module _ (state : List A → List A → Sheet) (declare : List A → A → Declared)
+      (step : (before : List A) (x : A) (after : List A) → all ≡ before ++ x ∷ after → Declares (state before (x ∷ after)) (declare before x) (state (before ++ x ∷ []) after)) where
+    pub behind_declared : (after before : List A) → all ≡ before ++ after → DeclareEach (state before after) (each_behind declare before after) (state all [])
+    behind_declared [] before is = ap (λ xs. state xs []) (is ∙ append-nil before)
+    behind_declared (x ∷ after) before is = (state (before ++ x ∷ []) after, step before x after is, behind_declared after (before ++ x ∷ []) (one_more all before x after is))

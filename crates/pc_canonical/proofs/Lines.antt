@@ -1,5 +1,5 @@
 -- The lines of a canonical text read back, each as its declaration.
-use Rattle.std.proofs.Common.{◌≡◌, ◌≢◌, ℕ, zero, suc, ◌<◌, ◌≤◌, ℤ, true, false, List, [], ◌∷◌, ◌++◌, length, map, codes, All, Contains, arith, refl, ap, subst, sym, ◌∙◌, ⊎_elim}
+use Rattle.std.proofs.Common.{◌≡◌, ◌≢◌, ℕ, zero, suc, ◌<◌, ◌≤◌, ◌^◌, ℤ, Bool, true, false, cond, List, [], ◌∷◌, ◌++◌, length, map, codes, All, Contains, arith, refl, ap, subst, sym, ◌∙◌, ⊎_elim}
 use Rattle.std.proofs.lemmas.List.{append-nil, append_assoc, length-map}
 use Rattle.std.proofs.lemmas.List.Elements.{All-head, All-tail}
 use Rattle.std.proofs.lemmas.Fmt.{decimal_digit}
@@ -24,14 +24,16 @@ use Rattle.pc_token.specs.Token.{is_blank, IsTokenOf}
 use Rattle.pc_token.specs.declared.token.Kind.TheVariants.{Name, Equal, Colon, Range}
 use Rattle.pc_formula.specs.Word.{Word, name, number, sign, HasWords}
 use Rattle.pc_formula.specs.Value.{DerivesName, DerivesNumber, DerivesValue, a_cell}
+use Rattle.pc_formula.specs.Tree.{Cell, Value}
+use Rattle.pc_formula.specs.Equation.{IsEquation}
 use Rattle.pc_syntax.specs.Tree.{Declared, list_sort, range_sort}
 use Rattle.pc_syntax.specs.Spelling.{IsNothing}
 use Rattle.pc_syntax.specs.Line.{LineForm, IsLine, IsForm, spelled_line, begin_line, declares, heading, begins, keyword, StandsBehind}
-use Rattle.pc_writer.specs.Spelling.{value_texts, application_of, family_of, name_of, arguments_text, sort_of, value_text}
+use Rattle.pc_writer.specs.Spelling.{value_texts, application_of, family_of, name_of, arguments_text, sort_of, value_text, entry_text}
 use Rattle.pc_writer.specs.FormulaText.{in_parentheses, parenthesized, sort_name, statement_text}
-use Rattle.pc_writer.specs.SheetText.{spaced, values_text, table_line, row_line, family_line, rule_line, enter_line}
+use Rattle.pc_writer.specs.SheetText.{spaced, values_text, table_line, row_line, family_line, rule_line, enter_line, also_line, is_later, entry_line, has_several, version, heading_line}
 use Rattle.pc_writer.proofs.CellLemmas.{family_within, arguments_within, entered_cell, entered_value}
-use Rattle.pc_canonical.specs.Declarations.{written_values, values_declaration, table_declaration, row_declaration, family_declaration, rule_declaration, entry_declaration}
+use Rattle.pc_canonical.specs.Declarations.{written_values, values_declaration, table_declaration, row_declaration, family_declaration, rule_declaration, written_cell, written_value, also_declaration, enter_declaration, entry_declaration}
 use Rattle.pc_canonical.specs.ReadBack.{AreVariablesNamed}
 use Rattle.pc_canonical.proofs.Counting.{levels, levels_are, integer_levels, nests_as_counted}
 use Rattle.pc_canonical.proofs.Cuts.{Cuts, done, blank, cuts_utf8, splits_from_cuts, is_ascii_text, ascii_utf8, token_here}
@@ -100,6 +102,10 @@ enter_starts : StartsLine 101 (110 ∷ 116 ∷ 101 ∷ 114 ∷ [])
 unfolding all_letters
 enter_starts = starts_line _ _ refl refl (omega arith) refl (omega arith)
 
+also_starts : StartsLine 97 (108 ∷ 115 ∷ 111 ∷ [])
+unfolding all_letters
+also_starts = starts_line _ _ refl refl (omega arith) refl (omega arith)
+
 sheet_starts : StartsLine 115 (104 ∷ 101 ∷ 101 ∷ 116 ∷ [])
 unfolding all_letters
 sheet_starts = starts_line _ _ refl refl (omega arith) refl (omega arith)
@@ -139,12 +145,19 @@ cuts_to_end text ws cuts = subst (λ t. Cuts t ws) (append-nil text) cuts
 
 -- ---- the first line and the last one
 
-pub heading_reads_back : ReadsAsLine (codes "sheet 1") (heading 1)
-heading_reads_back =
-    let one : decimal 1 ≡ codes "1" = decimal_digit 1 (omega arith) in
-    let cuts = cuts_to_end (decimal 1) (number (decimal 1) ∷ []) (cut_digits 1 [] [] (omega arith) nothing done) in
-    line_from_words _ _ sheet_starts (heading 1) (codes "1") (number (codes "1") ∷ []) (subst (λ l. Cuts l (number l ∷ [])) one cuts) (omega arith)
-    (record { rest = number (codes "1") ∷ []; words = refl; number = subst (λ l. DerivesNumber (number l ∷ []) 1 []) one (derive_number 1 [] (omega arith)) })
+-- a version of one digit
+version_reads_back : (n : ℕ) (text : List ℕ) → decimal n ≡ text → n < 10 ^ 18 → ReadsAsLine (codes "sheet " ++ text) (heading n)
+version_reads_back n text written short =
+    let cuts = cuts_to_end (decimal n) (number (decimal n) ∷ []) (cut_digits n [] [] short nothing done) in
+    line_from_words _ _ sheet_starts (heading n) text (number text ∷ []) (subst (λ l. Cuts l (number l ∷ [])) written cuts) (omega arith)
+    (record { rest = number text ∷ []; words = refl; number = subst (λ l. DerivesNumber (number l ∷ []) n []) written (derive_number n [] short) })
+
+pub heading_reads_back : (es : List Entry) → ReadsAsLine (heading_line es) (heading (version es))
+heading_reads_back es = by (has_several es)
+  where
+    by : (b : Bool) → ReadsAsLine (cond b (codes "sheet 2") (codes "sheet 1")) (heading (cond b 2 1))
+    by true = version_reads_back 2 (codes "2") (decimal_digit 2 (omega arith)) (omega arith)
+    by false = version_reads_back 1 (codes "1") (decimal_digit 1 (omega arith)) (omega arith)
 
 pub begin_reads_back : ReadsAsLine (codes "begin") begins
 unfolding is_ascii_text all_letters
@@ -272,8 +285,15 @@ module _ (u : Universe) (formed : IsWellFormedUniverse u) where
       let f = (application_of u c).family in
       subst (λ found. IsName (name_of found)) (sym (slice_get-get_or u.families f.0 (record { name = []; sorts = []; result_sort = record { 0 = 0 } }) below)) (family_named u formed f below)
 
-  pub entry_reads_back : (e : Entry) → IsEntryOf u e → ReadsAsLine (enter_line u e) (declares (entry_declaration u e))
-  entry_reads_back e entered =
+  -- the words of an entry
+  record SpellsEntry (text : List ℕ) (c : Cell) (v : Value) : Type 0 where
+    words : List Word
+    cuts : Cuts text words
+    shallow : levels words ≤ 128
+    is : IsEquation words Equal c v
+
+  entry_spelled : (e : Entry) → IsEntryOf u e → SpellsEntry (entry_text u e) (written_cell u e.cell) (written_value u (sort_of u e.cell) e.value)
+  entry_spelled e entered =
       let within = entered_cell u e entered in
       let own = name_of (family_of u e.cell) in
       let ss = argument_sorts (family_of u e.cell) in
@@ -289,5 +309,27 @@ module _ (u : Universe) (formed : IsWellFormedUniverse u) where
       let cuts = spelled.cuts (codes " = " ++ value_part) end space (cut_op last Eq) in
       let named = family_name e.cell (family_within u e.cell within) in
       let behind : Cuts (own ++ (in_parentheses texts ++ (codes " = " ++ value_part))) (name own ∷ spelled.words end) = cut_name own _ _ named (ends_parentheses texts (codes " = " ++ value_part) space) cuts in
-      let read = declaration_from_words _ _ enter_starts (entry_declaration u e) refl _ _ behind (omega (arith, spelled.shallow end, value.shallow [])) (record { rest = value.words []; cell = a_cell own (spelled.derives end); value = value.derives [] }) in
-      subst (λ l. ReadsAsLine (codes "enter " ++ l) (declares (entry_declaration u e))) (ap (λ l. own ++ (l ++ (codes " = " ++ value_part))) (sym (arguments_are ss vs fit)) ∙ sym (append_assoc own (arguments_text u ss vs) (codes " = " ++ value_part))) read
+      let same = ap (λ l. own ++ (l ++ (codes " = " ++ value_part))) (sym (arguments_are ss vs fit)) ∙ sym (append_assoc own (arguments_text u ss vs) (codes " = " ++ value_part)) in
+      record {
+        words = name own ∷ spelled.words end;
+        cuts = subst (λ l. Cuts l (name own ∷ spelled.words end)) same behind;
+        shallow = omega (arith, spelled.shallow end, value.shallow []);
+        is = record { rest = value.words []; cell = a_cell own (spelled.derives end); value = value.derives [] };
+      }
+
+  enter_reads_back : (e : Entry) → IsEntryOf u e → ReadsAsLine (enter_line u e) (declares (enter_declaration u e))
+  enter_reads_back e entered =
+      let spelled = entry_spelled e entered in
+      declaration_from_words _ _ enter_starts (enter_declaration u e) refl (entry_text u e) spelled.words spelled.cuts spelled.shallow spelled.is
+
+  also_reads_back : (e : Entry) → IsEntryOf u e → ReadsAsLine (also_line u e) (declares (also_declaration u e))
+  also_reads_back e entered =
+      let spelled = entry_spelled e entered in
+      declaration_from_words _ _ also_starts (also_declaration u e) refl (entry_text u e) spelled.words spelled.cuts spelled.shallow spelled.is
+
+  pub entry_reads_back : (older : List Entry) (e : Entry) → IsEntryOf u e → ReadsAsLine (entry_line u older e) (declares (entry_declaration u older e))
+  entry_reads_back older e entered = by (is_later older e)
+    where
+      by : (b : Bool) → ReadsAsLine (cond b (also_line u e) (enter_line u e)) (declares (cond b (also_declaration u e) (enter_declaration u e)))
+      by true = also_reads_back e entered
+      by false = enter_reads_back e entered

@@ -13,7 +13,7 @@ use Rattle.pc_canonical.proofs.Sublists.{kept_each, kept_pairs, kept_here, front
 use Rattle.pc_canonical.proofs.StandingTrees.{statement_stands}
 
 pub no_entries : (u : Universe) → AreWellFormedEntries u []
-no_entries u = record { each = All-nil (IsEntryOf u); distinct = λ i j d order l. absurd (omega arith) }
+no_entries u = record { each = All-nil (IsEntryOf u); distinct = λ i j d order l. absurd (omega arith); few = λ c. omega arith }
 
 pub no_rules : (u : Universe) → AreWellFormedRules u []
 no_rules u = record { limit = omega arith; each = All-nil (IsWellFormedRule u); different = λ i j d order l. absurd (omega arith) }

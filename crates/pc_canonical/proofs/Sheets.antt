@@ -1,5 +1,5 @@
 -- The canonical text of a sheet is read as its declarations.
-use Rattle.std.proofs.Common.{◌≡◌, ℕ, true, false, List, [], ◌∷◌, ◌++◌, map, codes, slice_index_or, refl, subst, sym}
+use Rattle.std.proofs.Common.{◌≡◌, ℕ, Bool, true, false, cond, List, [], ◌∷◌, ◌++◌, map, codes, slice_index_or, refl, subst, sym}
 use Rattle.std.proofs.lemmas.List.{append_assoc, map-append}
 use Rattle.std.proofs.lemmas.List.Elements.{All-get_or, Contains-append_right}
 use Rattle.std.specs.List.{flat_map, AllByRecursion}
@@ -13,34 +13,45 @@ use Rattle.pc_sheet.specs.declared.ids.SortId.{SortId}
 use Rattle.pc_sheet.specs.declared.ids.Entry.{Entry}
 use Rattle.pc_syntax.specs.Tree.{Declared}
 use Rattle.pc_syntax.specs.Line.{LineForm, heading, declares, begins}
-use Rattle.pc_syntax.specs.Sheet.{is_rule, is_of_universe, is_open, AreStanding, whole, IsSheet}
-use Rattle.pc_writer.specs.SheetText.{sort_line, table_line, row_line, row_lines, family_line, rule_line, enter_line, universe_lines, sheet_lines, sheet_text}
-use Rattle.pc_canonical.specs.Declarations.{values_declaration, sort_declaration, table_declaration, row_declaration, row_declarations, family_declaration, rule_declaration, entry_declaration, universe_declarations, declarations_of, numbered_declarations}
+use Rattle.pc_syntax.specs.Sheet.{may_stand, AreStanding, whole, IsSheet}
+use Rattle.pc_writer.specs.SheetText.{sort_line, table_line, row_line, row_lines, family_line, rule_line, is_later, entry_line, entry_lines, has_several, version, universe_lines, sheet_lines, sheet_text}
+use Rattle.pc_writer.proofs.LaterEntries.{later_behind}
+use Rattle.pc_canonical.specs.Declarations.{values_declaration, sort_declaration, table_declaration, row_declaration, row_declarations, family_declaration, rule_declaration, also_declaration, enter_declaration, entry_declaration, entry_declarations, universe_declarations, declarations_of, numbered_declarations}
 use Rattle.pc_canonical.proofs.Lines.{heading_reads_back, begin_reads_back, values_read_back, table_reads_back, row_reads_back, family_reads_back, rule_reads_back, entry_reads_back}
 use Rattle.pc_canonical.proofs.Spelled.{family_named, table_named, sort_named, in_sort}
-use Rattle.pc_canonical.proofs.Standing.{AreDeclared, declared_append, declared_unbroken, unbroken_append, declared_map, declared_each, declared_flat_map, all_append, all_map, all_flat_map, stand_before_rules, stand_anywhere, numbered_by_line, has_begin}
+use Rattle.pc_canonical.proofs.Standing.{AreDeclared, declared_append, declared_unbroken, unbroken_append, declared_map, declared_each, declared_behind, declared_flat_map, all_append, all_map, all_flat_map, all_behind, IsBegun, IsOfUniverse, MayFollow, stand_before_rules, stand_anywhere, numbered_by_line, has_begin}
 use Rattle.pc_canonical.proofs.Unbroken.{AreUnbroken, lines_are}
 
--- ---- none of the universe's declarations is a rule
+-- ---- which declarations may stand where
 
-abbrev IsNoRule : Declared → Type 0
-IsNoRule d = is_rule d ≡ false
+values_of_universe : (n : List ℕ) (v : Values) → IsOfUniverse (values_declaration n v)
+values_of_universe n (listed names) = refl
+values_of_universe n (range low high) = refl
 
-abbrev IsOutside : Declared → Type 0
-IsOutside d = is_of_universe d ≡ false
-
-values_no_rule : (n : List ℕ) (v : Values) → is_rule (values_declaration n v) ≡ false
-values_no_rule n (listed names) = refl
-values_no_rule n (range low high) = refl
-
-universe_no_rule : (u : Universe) → AllByRecursion IsNoRule (universe_declarations u)
-universe_no_rule u =
+all_of_universe : (u : Universe) → AllByRecursion IsOfUniverse (universe_declarations u)
+all_of_universe u =
     let rows = flat_map (row_declarations u) u.tables in
     let families = map (family_declaration u) u.families in
     let tables = map (table_declaration u) u.tables in
-    all_append IsNoRule (map sort_declaration u.sorts) (tables ++ (rows ++ families)) (all_map IsNoRule sort_declaration u.sorts (λ s. values_no_rule s.name s.values))
-    (all_append IsNoRule tables (rows ++ families) (all_map IsNoRule (table_declaration u) u.tables (λ t. refl))
-    (all_append IsNoRule rows families (all_flat_map IsNoRule (row_declarations u) u.tables (λ t. all_map IsNoRule (row_declaration u t) t.rows (λ r. refl))) (all_map IsNoRule (family_declaration u) u.families (λ f. refl))))
+    all_append IsOfUniverse (map sort_declaration u.sorts) (tables ++ (rows ++ families)) (all_map IsOfUniverse sort_declaration u.sorts (λ s. values_of_universe s.name s.values))
+    (all_append IsOfUniverse tables (rows ++ families) (all_map IsOfUniverse (table_declaration u) u.tables (λ t. refl))
+    (all_append IsOfUniverse rows families (all_flat_map IsOfUniverse (row_declarations u) u.tables (λ t. all_map IsOfUniverse (row_declaration u t) t.rows (λ r. refl))) (all_map IsOfUniverse (family_declaration u) u.families (λ f. refl))))
+
+rules_follow : (u : Universe) (second : Bool) (rules : List NamedStatement) → AllByRecursion (MayFollow second) (map (rule_declaration u) rules)
+rules_follow u second rules = all_map (MayFollow second) (rule_declaration u) rules (λ r. record { outside = refl; version = refl })
+
+-- a later entry of a cell makes the version the second one
+entry_follows : (u : Universe) (older : List Entry) (e : Entry) (after : List Entry) → MayFollow (has_several (older ++ e ∷ after)) (entry_declaration u older e)
+entry_follows u older e after = by (is_later older e) refl
+  where
+    by : (b : Bool) → is_later older e ≡ b → MayFollow (has_several (older ++ e ∷ after)) (cond b (also_declaration u e) (enter_declaration u e))
+    by true later = record { outside = refl; version = later_behind older e after later }
+    by false first = record { outside = refl; version = refl }
+
+entries_follow : (u : Universe) (es : List Entry) → AllByRecursion (MayFollow (has_several es)) (entry_declarations u es)
+entries_follow u es =
+    let P = MayFollow (has_several es) in
+    all_behind P (entry_declaration u) es (λ older e after is. subst (λ all. MayFollow (has_several all) (entry_declaration u older e)) (sym is) (entry_follows u older e after)) [] es refl
 
 -- ---- each line of a well-formed sheet
 
@@ -72,14 +83,22 @@ module _ (u : Universe) (formed : IsWellFormedUniverse u) where
   rules_declared : (rules : List NamedStatement) → AreWellFormedRules u rules → AreDeclared (map (rule_line u) rules) (map (rule_declaration u) rules)
   rules_declared rules well = declared_each (IsWellFormedRule u) (rule_line u) (rule_declaration u) rules (λ r each. rule_reads_back u r formed each) well.each
 
-  entries_declared : (entries : List Entry) → AreWellFormedEntries u entries → AreDeclared (map (enter_line u) entries) (map (entry_declaration u) entries)
-  entries_declared entries well = declared_each (IsEntryOf u) (enter_line u) (entry_declaration u) entries (entry_reads_back u formed) well.each
+  entries_declared : (entries : List Entry) → AreWellFormedEntries u entries → AreDeclared (entry_lines u entries) (entry_declarations u entries)
+  entries_declared entries well = declared_behind (IsEntryOf u) (entry_line u) (entry_declaration u) (entry_reads_back u formed) [] entries well.each
 
 -- ---- the whole text
 
--- the forms of a sheet's lines
-forms_of : List Declared → List LineForm
-forms_of ds = heading 1 ∷ (map declares ds ++ begins ∷ [])
+-- the forms of the lines of a sheet of this version
+forms_of : ℕ → List Declared → List LineForm
+forms_of n ds = heading n ∷ (map declares ds ++ begins ∷ [])
+
+heading_stands : (b : Bool) → may_stand [] (heading (cond b 2 1)) ≡ true
+heading_stands true = refl
+heading_stands false = refl
+
+begun : (b : Bool) → IsBegun b (heading (cond b 2 1) ∷ [])
+begun true = record { begun = refl; version = refl }
+begun false = record { begun = refl; version = refl }
 
 part_forms : (first second third : List Declared) (end : List LineForm) → map declares first ++ (map declares second ++ (map declares third ++ end)) ≡ map declares (first ++ (second ++ third)) ++ end
 part_forms first second third end = simp (map-append, append_assoc)
@@ -89,29 +108,32 @@ module _ (s : Sheet) (well : IsWellFormed s) where
   all_unbroken =
       let u = s.universe in
       let rules = map (rule_line u) s.rules in
-      let entries = map (enter_line u) s.entries in (
-        heading_reads_back.whole,
+      let entries = entry_lines u s.entries in (
+        (heading_reads_back s.entries).whole,
         unbroken_append (universe_lines u) (rules ++ (entries ++ codes "begin" ∷ [])) (declared_unbroken _ _ (universe_declared u well.universe))
             (unbroken_append rules (entries ++ codes "begin" ∷ []) (declared_unbroken _ _ (rules_declared u well.universe s.rules well.rules))
             (unbroken_append entries (codes "begin" ∷ []) (declared_unbroken _ _ (entries_declared u well.universe s.entries well.entries)) (begin_reads_back.whole, tt))),
       )
 
-  all_stand : AreStanding [] (sheet_lines s) (forms_of (declarations_of s))
+  all_stand : AreStanding [] (sheet_lines s) (forms_of (version s.entries) (declarations_of s))
   unfolding forms_of
   all_stand =
       let u = s.universe in
+      let second = has_several s.entries in
+      let first = heading (version s.entries) in
       let rules = map (rule_declaration u) s.rules in
-      let entries = map (entry_declaration u) s.entries in
-      let behind_entries : (before : List LineForm) → is_open before ≡ true → AreStanding before (codes "begin" ∷ []) (begins ∷ []) = λ before is. (begin_reads_back.is, is, tt) in
-      let behind_rules = λ (before : List LineForm) (is : is_open before ≡ true). stand_anywhere _ _ (entries_declared u well.universe s.entries well.entries) (all_map IsOutside (entry_declaration u) s.entries (λ e. refl)) before is _ _ behind_entries in
-      let behind_universe = λ (before : List LineForm) (is : is_open before ≡ true). stand_anywhere _ _ (rules_declared u well.universe s.rules well.rules) (all_map IsOutside (rule_declaration u) s.rules (λ r. refl)) before is _ _ behind_rules in
-      let standing = stand_before_rules _ _ (universe_declared u well.universe) (universe_no_rule u) (heading 1 ∷ []) refl refl _ _ behind_universe in
-      (heading_reads_back.is, refl, subst (AreStanding (heading 1 ∷ []) _) (part_forms (universe_declarations u) rules entries (begins ∷ [])) standing)
+      let entries = entry_declarations u s.entries in
+      let behind_entries : (before : List LineForm) → IsBegun second before → AreStanding before (codes "begin" ∷ []) (begins ∷ []) = λ before is. (begin_reads_back.is, is.begun, tt) in
+      let behind_rules = λ (before : List LineForm) (is : IsBegun second before). stand_anywhere second _ _ (entries_declared u well.universe s.entries well.entries) (entries_follow u s.entries) before is _ _ behind_entries in
+      let behind_universe = λ (before : List LineForm) (is : IsBegun second before). stand_anywhere second _ _ (rules_declared u well.universe s.rules well.rules) (rules_follow u second s.rules) before is _ _ behind_rules in
+      let standing = stand_before_rules second _ _ (universe_declared u well.universe) (all_of_universe u) (first ∷ []) (begun second) refl _ _ behind_universe in
+      ((heading_reads_back s.entries).is, heading_stands second, subst (AreStanding (first ∷ []) _) (part_forms (universe_declarations u) rules entries (begins ∷ [])) standing)
 
   pub sheet_reads_back : IsSheet (sheet_text s) (numbered_declarations s)
   unfolding forms_of
   sheet_reads_back =
       let ds = declarations_of s in
-      let forms = forms_of ds in
+      let n = version s.entries in
+      let forms = forms_of n ds in
       let standing : AreStanding [] (lines (sheet_text s)) forms = subst (λ ls. AreStanding [] ls forms) (sym (lines_are (sheet_lines s) all_unbroken)) all_stand in
-      subst (λ l. IsSheet (sheet_text s) l) (numbered_by_line ds 2) (whole forms standing (has_begin (heading 1 ∷ map declares ds)))
+      subst (λ l. IsSheet (sheet_text s) l) (numbered_by_line ds 2) (whole forms standing (has_begin (heading n ∷ map declares ds)))

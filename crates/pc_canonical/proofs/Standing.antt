@@ -3,11 +3,13 @@ use Rattle.std.proofs.Common.{◌≡◌, ℕ, suc, ◌+◌, ◌<◌, Bool, true,
 use Rattle.std.proofs.lemmas.List.Folds.{list_any-append}
 use Rattle.std.proofs.lemmas.List.Elements.{All-head, All-tail}
 use Rattle.std.specs.List.{flat_map, list_any, AllByRecursion}
-use Rattle.pc_syntax.specs.Tree.{Declared}
+use Rattle.pc_syntax.specs.Tree.{Declared, list_sort, range_sort, table, row, cell, rule, enter, also}
 use Rattle.pc_syntax.specs.Line.{LineForm, declares, begins}
-use Rattle.pc_syntax.specs.Sheet.{is_heading, is_begin, is_rule, is_rule_line, is_of_universe, is_open, may_stand, AreStanding, declared_from}
+use Rattle.pc_syntax.specs.Sheet.{is_heading, is_begin, is_rule, is_rule_line, is_of_universe, is_also, is_second, is_open, may_stand, AreStanding, declared_from}
+use Rattle.pc_writer.specs.SheetText.{each_behind}
 use Rattle.pc_canonical.specs.Declarations.{numbered_from}
 use Rattle.pc_canonical.proofs.Lines.{ReadsAsLine}
+use Rattle.pc_canonical.proofs.Sublists.{one_more}
 use Rattle.pc_canonical.proofs.Unbroken.{AreUnbroken}
 
 -- each line declares what stands at its place
@@ -50,6 +52,11 @@ pub declared_each : {A : Type 0} (P : A → Type 0) (line : A → List ℕ) (dec
 declared_each P line declaration [] read all = tt
 declared_each P line declaration (x ∷ xs) read all = (read x (All-head P x xs all), declared_each P line declaration xs read (All-tail P x xs all))
 
+pub declared_behind : {A : Type 0} (P : A → Type 0) (line : List A → A → List ℕ) (declaration : List A → A → Declared) → ((before : List A) (x : A) → P x → ReadsAsLine (line before x) (declares (declaration before x)))
+    → (before xs : List A) → All P xs → AreDeclared (each_behind line before xs) (each_behind declaration before xs)
+declared_behind P line declaration read before [] all = tt
+declared_behind P line declaration read before (x ∷ xs) all = (read before x (All-head P x xs all), declared_behind P line declaration read (before ++ x ∷ []) xs (All-tail P x xs all))
+
 module _ {B : Type 0} (P : B → Type 0) where
   pub all_append : (xs ys : List B) → AllByRecursion P xs → AllByRecursion P ys → AllByRecursion P (xs ++ ys)
   all_append [] ys own rest = rest
@@ -63,6 +70,10 @@ module _ {B : Type 0} (P : B → Type 0) where
   all_flat_map f [] each = tt
   all_flat_map f (x ∷ xs) each = all_append (f x) (flat_map f xs) (each x) (all_flat_map f xs each)
 
+  pub all_behind : {A : Type 0} (f : List A → A → B) (all : List A) → ((before : List A) (x : A) (after : List A) → all ≡ before ++ x ∷ after → P (f before x)) → (before after : List A) → all ≡ before ++ after → AllByRecursion P (each_behind f before after)
+  all_behind f all each before [] is = tt
+  all_behind f all each before (x ∷ after) is = (each before x after is, all_behind f all each (before ++ x ∷ []) after (one_more all before x after is))
+
 -- ---- what may stand behind what
 
 or_false : (a : Bool) → (a || false) ≡ a
@@ -73,42 +84,83 @@ or_true : (a : Bool) → (a || true) ≡ true
 or_true true = refl
 or_true false = refl
 
-still_open : (before : List LineForm) (d : Declared) → is_open before ≡ true → is_open (before ++ declares d ∷ []) ≡ true
-still_open before d open_before =
-    ap₂ (λ x y. x && not y) (list_any-append is_heading before (declares d ∷ []) ∙ or_false (list_any is_heading before)) (list_any-append is_begin before (declares d ∷ []) ∙ or_false (list_any is_begin before)) ∙ open_before
+-- behind lines of these forms the sheet has begun and not ended, and `also` lines may stand there or not
+pub record IsBegun (second : Bool) (before : List LineForm) : Type 0 where
+  pub begun : is_open before ≡ true
+  pub version : list_any is_second before ≡ second
+
+still_begun : (second : Bool) (before : List LineForm) (d : Declared) → IsBegun second before → IsBegun second (before ++ declares d ∷ [])
+still_begun second before d is = record {
+  begun = ap₂ (λ x y. x && not y) (list_any-append is_heading before (declares d ∷ []) ∙ or_false (list_any is_heading before)) (list_any-append is_begin before (declares d ∷ []) ∙ or_false (list_any is_begin before)) ∙ is.begun;
+  version = list_any-append is_second before (declares d ∷ []) ∙ or_false (list_any is_second before) ∙ is.version;
+}
+
+-- of the universe, so neither a rule nor an entry
+abbrev pub IsOfUniverse : Declared → Type 0
+IsOfUniverse d = is_of_universe d ≡ true
+
+no_rule : (d : Declared) → IsOfUniverse d → is_rule d ≡ false
+no_rule (list_sort n values) is = refl
+no_rule (range_sort n low high) is = refl
+no_rule (table n sorts) is = refl
+no_rule (row n values) is = refl
+no_rule (cell n sorts result) is = refl
+no_rule (rule n f) is = absurd (cc)
+no_rule (enter c v) is = absurd (cc)
+no_rule (also c v) is = absurd (cc)
+
+no_also : (d : Declared) → IsOfUniverse d → is_also d ≡ false
+no_also (list_sort n values) is = refl
+no_also (range_sort n low high) is = refl
+no_also (table n sorts) is = refl
+no_also (row n values) is = refl
+no_also (cell n sorts result) is = refl
+no_also (rule n f) is = absurd (cc)
+no_also (enter c v) is = absurd (cc)
+no_also (also c v) is = absurd (cc)
 
 still_no_rule : (before : List LineForm) (d : Declared) → list_any is_rule_line before ≡ false → is_rule d ≡ false → list_any is_rule_line (before ++ declares d ∷ []) ≡ false
 still_no_rule before d none other = list_any-append is_rule_line before (declares d ∷ []) ∙ ap₂ (λ x y. x || (y || false)) none other
 
-stands_before_rules : (before : List LineForm) (d : Declared) → is_open before ≡ true → list_any is_rule_line before ≡ false → may_stand before (declares d) ≡ true
-stands_before_rules before d open_before none = ap₂ (λ x y. x && (not (is_of_universe d) || not y)) open_before none ∙ or_true (not (is_of_universe d))
+stands_before_rules : (second : Bool) (before : List LineForm) (d : Declared) → IsBegun second before → list_any is_rule_line before ≡ false → IsOfUniverse d → may_stand before (declares d) ≡ true
+stands_before_rules second before d is none own =
+    ap₂ (λ x y. x && ((not (is_of_universe d) || not y) && (not (is_also d) || list_any is_second before))) is.begun none
+    ∙ ap₂ (λ x y. x && (not y || list_any is_second before)) (or_true (not (is_of_universe d))) (no_also d own)
 
-stands_anywhere : (before : List LineForm) (d : Declared) → is_open before ≡ true → is_of_universe d ≡ false → may_stand before (declares d) ≡ true
-stands_anywhere before d open_before outside = ap₂ (λ x y. x && (not y || not (list_any is_rule_line before))) open_before outside
+-- not of the universe, and an `also` line in the second version alone
+pub record MayFollow (second : Bool) (d : Declared) : Type 0 where
+  pub outside : is_of_universe d ≡ false
+  pub version : (not (is_also d) || second) ≡ true
 
--- declarations without a rule stand behind such, with what stands behind them
-pub stand_before_rules : (lines : List (List ℕ)) (ds : List Declared) → AreDeclared lines ds → AllByRecursion (λ d. is_rule d ≡ false) ds → (before : List LineForm) → is_open before ≡ true → list_any is_rule_line before ≡ false
-    → (more : List (List ℕ)) (forms : List LineForm) → ((behind : List LineForm) → is_open behind ≡ true → AreStanding behind more forms) → AreStanding before (lines ++ more) (map declares ds ++ forms)
-stand_before_rules [] [] own others before open_before none more forms rest = rest before open_before
-stand_before_rules [] (d ∷ ds) own others before open_before none more forms rest = absurd own
-stand_before_rules (line ∷ lines) [] own others before open_before none more forms rest = absurd own
-stand_before_rules (line ∷ lines) (d ∷ ds) own others before open_before none more forms rest = (
-  own.0.is,
-  stands_before_rules before d open_before none,
-  stand_before_rules lines ds own.1 others.1 (before ++ declares d ∷ []) (still_open before d open_before) (still_no_rule before d none others.0) more forms rest,
-)
+stands_anywhere : (second : Bool) (before : List LineForm) (d : Declared) → IsBegun second before → MayFollow second d → may_stand before (declares d) ≡ true
+stands_anywhere second before d is may =
+    ap₂ (λ x y. x && ((not y || not (list_any is_rule_line before)) && (not (is_also d) || list_any is_second before))) is.begun may.outside
+    ∙ ap (λ x. not (is_also d) || x) is.version ∙ may.version
 
--- declarations of nothing of the universe stand behind any others
-pub stand_anywhere : (lines : List (List ℕ)) (ds : List Declared) → AreDeclared lines ds → AllByRecursion (λ d. is_of_universe d ≡ false) ds → (before : List LineForm) → is_open before ≡ true
-    → (more : List (List ℕ)) (forms : List LineForm) → ((behind : List LineForm) → is_open behind ≡ true → AreStanding behind more forms) → AreStanding before (lines ++ more) (map declares ds ++ forms)
-stand_anywhere [] [] own outside before open_before more forms rest = rest before open_before
-stand_anywhere [] (d ∷ ds) own outside before open_before more forms rest = absurd own
-stand_anywhere (line ∷ lines) [] own outside before open_before more forms rest = absurd own
-stand_anywhere (line ∷ lines) (d ∷ ds) own outside before open_before more forms rest = (
-  own.0.is,
-  stands_anywhere before d open_before outside.0,
-  stand_anywhere lines ds own.1 outside.1 (before ++ declares d ∷ []) (still_open before d open_before) more forms rest,
-)
+module _ (second : Bool) where
+  -- declarations of the universe stand behind such, with what stands behind them
+  pub stand_before_rules : (lines : List (List ℕ)) (ds : List Declared) → AreDeclared lines ds → AllByRecursion IsOfUniverse ds → (before : List LineForm) → IsBegun second before → list_any is_rule_line before ≡ false
+      → (more : List (List ℕ)) (forms : List LineForm) → ((behind : List LineForm) → IsBegun second behind → AreStanding behind more forms) → AreStanding before (lines ++ more) (map declares ds ++ forms)
+  stand_before_rules [] [] own each before begun none more forms rest = rest before begun
+  stand_before_rules [] (d ∷ ds) own each before begun none more forms rest = absurd own
+  stand_before_rules (line ∷ lines) [] own each before begun none more forms rest = absurd own
+  stand_before_rules (line ∷ lines) (d ∷ ds) own each before begun none more forms rest = (
+    own.0.is,
+    stands_before_rules second before d begun none each.0,
+    stand_before_rules lines ds own.1 each.1 (before ++ declares d ∷ []) (still_begun second before d begun) (still_no_rule before d none (no_rule d each.0)) more forms rest,
+  )
+
+  -- declarations of nothing of the universe stand behind any others
+  pub stand_anywhere : (lines : List (List ℕ)) (ds : List Declared) → AreDeclared lines ds → AllByRecursion (MayFollow second) ds → (before : List LineForm) → IsBegun second before
+      → (more : List (List ℕ)) (forms : List LineForm) → ((behind : List LineForm) → IsBegun second behind → AreStanding behind more forms) → AreStanding before (lines ++ more) (map declares ds ++ forms)
+  stand_anywhere [] [] own each before begun more forms rest = rest before begun
+  stand_anywhere [] (d ∷ ds) own each before begun more forms rest = absurd own
+  stand_anywhere (line ∷ lines) [] own each before begun more forms rest = absurd own
+  stand_anywhere (line ∷ lines) (d ∷ ds) own each before begun more forms rest = (
+    own.0.is,
+    stands_anywhere second before d begun each.0,
+    stand_anywhere lines ds own.1 each.1 (before ++ declares d ∷ []) (still_begun second before d begun) more forms rest,
+  )
 
 -- ---- what the lines declare
 

@@ -4,7 +4,7 @@ use Rattle.pc_sheet.specs.Sheet.{Sheet, empty_sheet}
 use Rattle.pc_sheet.specs.WellFormed.{IsWellFormed}
 use Rattle.pc_syntax.specs.Tree.{Declared}
 use Rattle.pc_sortcheck.specs.Declaring.{IsSheetOf}
-use Rattle.pc_canonical.specs.Declarations.{universe_declarations, rule_declaration, entry_declaration, declarations_of}
+use Rattle.pc_canonical.specs.Declarations.{universe_declarations, rule_declaration, entry_declarations, declarations_of}
 use Rattle.pc_canonical.specs.Declared.{declared_in, universe_alone, without_entries}
 use Rattle.pc_canonical.proofs.Chain.{DeclareEach, numbered_alike, one_after_another}
 use Rattle.pc_canonical.proofs.Entries.{entries_declared}
@@ -15,7 +15,7 @@ whole_declared : (s : Sheet) → IsWellFormed s → DeclareEach empty_sheet (dec
 whole_declared s formed =
     let u = s.universe in
     let rules = map (rule_declaration u) s.rules in
-    let entries = map (entry_declaration u) s.entries in
+    let entries = entry_declarations u s.entries in
     one_after_another empty_sheet (universe_alone u) s (universe_declarations u) (rules ++ entries) (universe_declared u formed.universe)
     (one_after_another (universe_alone u) (without_entries s) s rules entries (rules_declared u s.rules formed.universe formed.rules)
     (entries_declared u s.rules s.entries formed.universe formed.rules formed.entries))

@@ -1,5 +1,5 @@
 -- The declarations that a sheet's canonical text writes, in their order.
-use Rattle.std.specs.Prelude.{ℕ, ◌+◌, pos, ◌+ℤ◌, List, [], ◌∷◌, ◌++◌, map, slice_get, unwrap_or}
+use Rattle.std.specs.Prelude.{ℕ, ◌+◌, pos, ◌+ℤ◌, List, [], ◌∷◌, ◌++◌, map, slice_get, unwrap_or, if◌then◌else◌}
 use Rattle.std.specs.List.{flat_map}
 use Rattle.pc_sheet.specs.Sheet.{Values, listed, range, Sort, Table, Family, Universe, NamedStatement, Sheet}
 use Rattle.pc_sheet.specs.Sizes.{values_at, argument_sorts}
@@ -7,9 +7,10 @@ use Rattle.pc_sheet.specs.declared.ids.SortId.{SortId}
 use Rattle.pc_sheet.specs.declared.ids.CellId.{CellId}
 use Rattle.pc_sheet.specs.declared.ids.ValueId.{ValueId}
 use Rattle.pc_sheet.specs.declared.ids.Entry.{Entry}
-use Rattle.pc_syntax.specs.Tree.{Value, name_value, integer_value, Cell, Declared, list_sort, range_sort, table, row, cell, rule, enter}
+use Rattle.pc_syntax.specs.Tree.{Value, name_value, integer_value, Cell, Declared, list_sort, range_sort, table, row, cell, rule, enter, also}
 use Rattle.pc_writer.specs.Spelling.{application_of, family_of, name_of, sort_of}
 use Rattle.pc_writer.specs.FormulaText.{sort_name}
+use Rattle.pc_writer.specs.SheetText.{each_behind, is_later}
 use Rattle.pc_canonical.specs.Tree.{statement_tree}
 
 -- ---- values and cells
@@ -56,10 +57,20 @@ family_declaration u f = cell f.name (map (sort_name u) f.sorts) (sort_name u f.
 abbrev pub rule_declaration : Universe → NamedStatement → Declared
 rule_declaration u r = rule r.name (statement_tree u [] r.states)
 
-abbrev pub entry_declaration : Universe → Entry → Declared
-entry_declaration u e = enter (written_cell u e.cell) (written_value u (sort_of u e.cell) e.value)
+abbrev pub enter_declaration : Universe → Entry → Declared
+enter_declaration u e = enter (written_cell u e.cell) (written_value u (sort_of u e.cell) e.value)
+
+abbrev pub also_declaration : Universe → Entry → Declared
+also_declaration u e = also (written_cell u e.cell) (written_value u (sort_of u e.cell) e.value)
+
+-- behind these older ones: the first entry of a cell is entered, and a later one stands beside it
+abbrev pub entry_declaration : Universe → List Entry → Entry → Declared
+entry_declaration u older e = if is_later older e then also_declaration u e else enter_declaration u e
 
 -- ---- all of them
+
+abbrev pub entry_declarations : Universe → List Entry → List Declared
+entry_declarations u es = each_behind (entry_declaration u) [] es
 
 -- all sorts, all tables, the rows table by table, and all families
 abbrev pub universe_declarations : Universe → List Declared
@@ -69,7 +80,7 @@ universe_declarations u =
 -- the universe, all rules, and all entries with the oldest first
 abbrev pub declarations_of : Sheet → List Declared
 declarations_of s =
-    universe_declarations s.universe ++ (map (rule_declaration s.universe) s.rules ++ map (entry_declaration s.universe) s.entries)
+    universe_declarations s.universe ++ (map (rule_declaration s.universe) s.rules ++ entry_declarations s.universe s.entries)
 
 -- each with its line's number, the first having this one
 abbrev pub numbered_from : ℕ → List Declared → List (ℕ × Declared)

@@ -8,7 +8,7 @@ use Rattle.pc_writer.specs.SheetText.{sheet_text}
 use Rattle.pc_elaborate.specs.Elaboration.{IsStatement}
 use Rattle.pc_sortcheck.specs.Declaring.{DeclareAll, IsSheetOf, ReadsAs}
 use Rattle.pc_canonical.specs.Tree.{statement_tree}
-use Rattle.pc_canonical.specs.Declarations.{universe_declarations, rule_declaration, entry_declaration, declarations_of}
+use Rattle.pc_canonical.specs.Declarations.{universe_declarations, rule_declaration, entry_declarations, declarations_of}
 
 -- of each statement that is well sorted under the enclosing variables
 abbrev pub StatementsStandForThemselves : Type 0
@@ -39,7 +39,7 @@ RulesAreDeclared =
 -- those of its entries add these to its rules
 abbrev pub EntriesAreDeclared : Type 0
 EntriesAreDeclared =
-    (s : Sheet) → IsWellFormed s → (ds : List (ℕ × Declared)) → map declared_in ds ≡ map (entry_declaration s.universe) s.entries → DeclareAll (without_entries s) ds s
+    (s : Sheet) → IsWellFormed s → (ds : List (ℕ × Declared)) → map declared_in ds ≡ entry_declarations s.universe s.entries → DeclareAll (without_entries s) ds s
 
 -- and all of them together give the book
 abbrev pub DeclarationsGiveTheSheet : Type 0
