@@ -1,20 +1,21 @@
 -- Each declaration has one outcome: the sheet that it makes, or its first fault.
 use Rattle.std.proofs.Common.{◌≡◌, ℕ, ◌<◌, ◌≤◌, ℤ, List, [], ◌∷◌, slice_get, IsSomeAnd, length, map, Contains, arith, ap, ap₂, ◌∙◌, sym, subst, refl}
 use Rattle.pc_syntax.specs.Tree as tree
-use Rattle.pc_syntax.specs.Tree.{list_sort, range_sort, table, row, cell, rule, enter}
+use Rattle.pc_syntax.specs.Tree.{list_sort, range_sort, table, row, cell, rule, enter, also}
 use Rattle.pc_sheet.specs.Sheet.{Sheet, Universe, Table, Statement, with_rule}
 use Rattle.pc_sheet.specs.WellFormed.{IsWellFormed, rule_name}
 use Rattle.pc_sheet.specs.declared.ids.CellId.{CellId}
+use Rattle.pc_sheet.specs.declared.ids.Entry.{Entry}
 use Rattle.pc_sheet.specs.declared.ids.SortId.{SortId}
 use Rattle.pc_sheet.specs.declared.ids.TableId.{TableId}
 use Rattle.pc_sheet.specs.declared.ids.ValueId.{ValueId}
-use Rattle.pc_logic.specs.Edits.{table_from, family_from, with_table, with_row, with_family, entered}
+use Rattle.pc_logic.specs.Edits.{table_from, family_from, with_table, with_row, with_family, entered, also_entered}
 use Rattle.pc_logic.specs.declared.names.Named.TheVariants as named
 use Rattle.pc_logic.proofs.NamesLemmas.{name_is_declared}
 use Rattle.pc_elaborate.specs.declared.fault.SortFault.{SortFault}
 use Rattle.pc_elaborate.specs.declared.fault.SortFault.TheVariants.{DuplicateName, WrongArity, EmptySort, Limit}
-use Rattle.pc_sheet.specs.declared.limits.Limited.TheVariants.{Sorts, Values, Number, Tables, Families, Arity, Cells, Rows, Rules}
-use Rattle.pc_elaborate.specs.Elaboration.{IsSortNamed, IsTableNamed, StandsForValue, AreValuesOf, IsCell}
+use Rattle.pc_sheet.specs.declared.limits.Limited.TheVariants.{Sorts, Values, Number, Tables, Families, Arity, Cells, Rows, Rules, Entries}
+use Rattle.pc_elaborate.specs.Elaboration.{IsSortNamed, IsTableNamed, StandsForValue, AreValuesOf, IsCell, IsEntryNamed}
 use Rattle.pc_elaborate.specs.FormulaFaults.{IsSomeSort, IsSomeTable, IsNameFault, IsSortNameFault, AreValuesFault, IsSortedFormula, IsFormulaFault, IsCellFault, IsValueFault}
 use Rattle.pc_elaborate.specs.Laws.{HaveOneOutcome}
 use Rattle.pc_elaborate.specs.Outcome.{HasOneOutcome}
@@ -22,7 +23,7 @@ use Rattle.pc_elaborate.specs.Tests.{no_test, test}
 use Rattle.pc_elaborate.proofs.Testing.{IsOne, IsNever, none_one, none_never, test_one, test_never, part_one, part_never}
 use Rattle.pc_elaborate.proofs.Values.{both_at, name_fault_one, name_fault_never, as_many_values}
 use Rattle.pc_sortcheck.specs.Declaring.{Declares, AreSortsNamed, IsTableWithSorts}
-use Rattle.pc_sortcheck.specs.DeclarationFaults.{IsNew, AreNewValues, AreSortNamesFault, AreSomeSorts, HasRoomForRow, IsRowFault, HasRoomForCells, IsDeclarationFault}
+use Rattle.pc_sortcheck.specs.DeclarationFaults.{IsNew, AreNewValues, AreSortNamesFault, AreSomeSorts, HasRoomForRow, IsRowFault, HasRoomForCells, IsEntryFault, HasRoomForEntry, IsDeclarationFault}
 use Rattle.pc_sortcheck.proofs.DeclaredSorts.{list_needs, range_needs}
 use Rattle.pc_sortcheck.proofs.DeclaredTables.{named_table}
 use Rattle.pc_sortcheck.proofs.FoundSorts.{as_many_sorts}
@@ -30,6 +31,7 @@ use Rattle.pc_sortcheck.proofs.WithTable.{table_needs}
 use Rattle.pc_sortcheck.proofs.WithRow.{row_needs}
 use Rattle.pc_sortcheck.proofs.WithFamily.{family_needs}
 use Rattle.pc_sortcheck.proofs.WithRule.{rule_needs}
+use Rattle.pc_sortcheck.proofs.WithEntry.{also_needs}
 
 module _ (old : Sheet) (trees : HaveOneOutcome old.universe) where
   abbrev u : Universe
@@ -254,31 +256,58 @@ module _ (old : Sheet) (trees : HaveOneOutcome old.universe) where
   cells_one : (c : tree.Cell) (k l : CellId) (s t : SortId) → IsCell u c k s → IsCell u c l t → (k ≡ l) × (s ≡ t)
   cells_one c k l s t h m = let e = (trees.cells c).one (k, s) (l, t) h m in (ap (λ p. p.0) e, ap (λ p. p.1) e)
 
+  values_same : (c : tree.Cell) (v : tree.Value) → IsOne (ValueFault c v)
+  values_same c v e f h k =
+      let same = cells_one c k.0 h.0 k.1 h.1 k.2 h.2 in
+      (trees.values h.1 v).same e f h.3 (subst (λ (s : SortId). IsValueFault u s v f) same.1 k.3)
+
+  entries_one : (c : tree.Cell) (v : tree.Value) (e f : Entry) → IsEntryNamed u c v e → IsEntryNamed u c v f → e ≡ f
+  entries_one c v e f a b =
+      let same = cells_one c e.cell f.cell a.sort b.sort a.cell b.cell in
+      let values = (trees.values b.sort v).one e.value f.value (subst (λ (s : SortId). StandsForValue u s v e.value) same.1 a.value) b.value in
+      ap₂ (λ (p : CellId) (q : ValueId). let x : Entry = record { cell = p; value = q } in x) same.0 values
+
+  entry_same : (c : tree.Cell) (v : tree.Value) → IsOne (IsEntryFault u c v)
+  entry_same c v = part_one ((k : CellId) × (s : SortId) × IsCell u c k s) (IsCellFault u c) (ValueFault c v) (λ some. (trees.cells c).never (some.0, some.1) some.2) (trees.cells c).same (values_same c v)
+
+  entry_never : (c : tree.Cell) (v : tree.Value) (e : Entry) → IsEntryNamed u c v e → IsNever (IsEntryFault u c v)
+  entry_never c v e is =
+      part_never ((k : CellId) × (s : SortId) × IsCell u c k s) (IsCellFault u c) (ValueFault c v) ((trees.cells c).never (e.cell, is.sort) is.cell)
+      (λ f k. let same = cells_one c k.0 e.cell k.1 is.sort k.2 is.cell in (trees.values is.sort v).never e.value is.value f (subst (λ (s : SortId). IsValueFault u s v f) same.1 k.3))
+
   enter_outcome : (c : tree.Cell) (v : tree.Value) → HasOneOutcome (Declares old (enter c v)) (IsDeclarationFault old (enter c v))
   enter_outcome c v = record {
-    one = one;
+    one = λ x y h k. let a = h.0 in let b = k.0 in a.2 ∙ ap (entered old) (entries_one c v a.0 b.0 a.1 b.1) ∙ sym b.2;
+    never = λ new h. let a = h.0 in entry_never c v a.0 a.1;
+    same = entry_same c v;
+  }
+
+  -- the test of a cell's entries, the entry being known
+  abbrev FurtherFault : tree.Cell → tree.Value → SortFault → Type 0
+  FurtherFault c v f = (e : Entry) × IsEntryNamed u c v e × test (HasRoomForEntry old e) (Limit Entries) no_test f
+
+  further_same : (c : tree.Cell) (v : tree.Value) → IsOne (FurtherFault c v)
+  further_same c v e f h k =
+      let same = entries_one c v k.0 h.0 k.1 h.1 in
+      test_one (HasRoomForEntry old h.0) (Limit Entries) no_test none_one e f h.2 (subst (λ (x : Entry). test (HasRoomForEntry old x) (Limit Entries) no_test f) same k.2)
+
+  further_never : (c : tree.Cell) (v : tree.Value) (x : Entry) → IsEntryNamed u c v x → HasRoomForEntry old x → IsNever (FurtherFault c v)
+  further_never c v x is room e h =
+      let same = entries_one c v h.0 x h.1 is in
+      test_never (HasRoomForEntry old x) (Limit Entries) no_test room none_never e (subst (λ (y : Entry). test (HasRoomForEntry old y) (Limit Entries) no_test e) same h.2)
+
+  also_outcome : (c : tree.Cell) (v : tree.Value) → HasOneOutcome (Declares old (also c v)) (IsDeclarationFault old (also c v))
+  also_outcome c v = record {
+    one = λ x y h k. let a = h.0 in let b = k.0 in a.2 ∙ ap (also_entered old) (entries_one c v a.0 b.0 a.1 b.1) ∙ sym b.2;
     never = never;
-    same = part_one ((k : CellId) × (s : SortId) × IsCell u c k s) (IsCellFault u c) (ValueFault c v) (λ some. (trees.cells c).never (some.0, some.1) some.2) (trees.cells c).same values_same;
+    same = part_one ((e : Entry) × IsEntryNamed u c v e) (IsEntryFault u c v) (FurtherFault c v) (λ some. entry_never c v some.0 some.1) (entry_same c v) (further_same c v);
   }
     where
-      values_same : IsOne (ValueFault c v)
-      values_same e f h k =
-          let same = cells_one c k.0 h.0 k.1 h.1 k.2 h.2 in
-          (trees.values h.1 v).same e f h.3 (subst (λ (s : SortId). IsValueFault u s v f) same.1 k.3)
-
-      one : (x y : Sheet) → Declares old (enter c v) x → Declares old (enter c v) y → x ≡ y
-      one x y h k =
-          let a = h.0 in
-          let b = k.0 in
-          let same = cells_one c a.0.cell b.0.cell a.1.sort b.1.sort a.1.cell b.1.cell in
-          let values = (trees.values b.1.sort v).one a.0.value b.0.value (subst (λ (s : SortId). StandsForValue u s v a.0.value) same.1 a.1.value) b.1.value in
-          a.2 ∙ ap₂ (λ (p : CellId) (q : ValueId). entered old (record { cell = p; value = q })) same.0 values ∙ sym b.2
-
-      never : (new : Sheet) → Declares old (enter c v) new → IsNever (IsDeclarationFault old (enter c v))
+      never : (new : Sheet) → Declares old (also c v) new → IsNever (IsDeclarationFault old (also c v))
       never new h =
           let a = h.0 in
-          part_never ((k : CellId) × (s : SortId) × IsCell u c k s) (IsCellFault u c) (ValueFault c v) ((trees.cells c).never (a.0.cell, a.1.sort) a.1.cell)
-          (λ e k. let same = cells_one c k.0 a.0.cell k.1 a.1.sort k.2 a.1.cell in (trees.values a.1.sort v).never a.0.value a.1.value e (subst (λ (s : SortId). IsValueFault u s v e) same.1 k.3))
+          let room = also_needs old a.0 (subst IsWellFormed a.2 h.1) in
+          part_never ((e : Entry) × IsEntryNamed u c v e) (IsEntryFault u c v) (FurtherFault c v) (entry_never c v a.0 a.1) (further_never c v a.0 a.1 room)
 
   -- ---- each
 
@@ -290,3 +319,4 @@ module _ (old : Sheet) (trees : HaveOneOutcome old.universe) where
   declaration_outcome (cell n sorts result) = cell_outcome n sorts result
   declaration_outcome (rule n f) = rule_outcome n f
   declaration_outcome (enter c v) = enter_outcome c v
+  declaration_outcome (also c v) = also_outcome c v

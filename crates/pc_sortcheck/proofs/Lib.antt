@@ -6,6 +6,7 @@ pub mod WithTable
 pub mod WithFamily
 pub mod WithRow
 pub mod WithRule
+pub mod WithEntry
 pub mod DeclaredSorts
 pub mod Rows
 pub mod FoundSorts

@@ -3,7 +3,7 @@ use Rattle.std.proofs.Common.{◌≡◌, ◌⊎◌, ℕ, zero, suc, ◌+◌, ◌
 use Rattle.std.proofs.Math.ListN.{get_or-map}
 use Rattle.std.proofs.lemmas.List.{take_more, drop_more, length-map}
 use Rattle.pc_syntax.specs.Tree as tree
-use Rattle.pc_syntax.specs.Tree.{list_sort, range_sort, table, row, cell, rule, enter, declared_of}
+use Rattle.pc_syntax.specs.Tree.{list_sort, range_sort, table, row, cell, rule, enter, also, declared_of}
 use Rattle.pc_syntax.specs.Sheet.{is_rule, is_of_universe, HasUniverseFirst, HasNoUniverse}
 use Rattle.pc_syntax.specs.Sized.{HasSizedRules, HasNestedRules}
 use Rattle.pc_syntax.specs.declared.tree.Declaration.{Declaration}
@@ -32,6 +32,7 @@ rules_stay s new (row n values) h no_rule e = let made = h.0 in ap (λ (t : Shee
 rules_stay s new (cell n sorts result) h no_rule e = let made = h.0 in ap (λ (t : Sheet). t.rules) made.4 ∙ e
 rules_stay s new (rule n f) h no_rule e = absurd (cc)
 rules_stay s new (enter c v) h no_rule e = let made = h.0 in ap (λ (t : Sheet). t.rules) made.2 ∙ e
+rules_stay s new (also c v) h no_rule e = let made = h.0 in ap (λ (t : Sheet). t.rules) made.2 ∙ e
 
 -- the fault of a line behind lines that declare
 first_at : (ds : List Line) (i : ℕ) (d : Line) (old s : Sheet) (e : SortFault) → d ≡ get_or ds i d → i < length ds → DeclareAll old (take i ds) s → IsDeclarationFault s d.1 e → IsFirstFault old ds d.0 e
@@ -49,6 +50,7 @@ sized_head (n, row k values) ds h i = tt
 sized_head (n, cell k sorts result) ds h i = tt
 sized_head (n, rule k f) ds h i = (h.0, i.0)
 sized_head (n, enter c v) ds h i = tt
+sized_head (n, also c v) ds h i = tt
 
 sized_tail : (d : Line) (ds : List Line) → HasSizedRules (d ∷ ds) → HasSizedRules ds
 sized_tail (n, list_sort k values) ds h = h
@@ -58,6 +60,7 @@ sized_tail (n, row k values) ds h = h
 sized_tail (n, cell k sorts result) ds h = h
 sized_tail (n, rule k f) ds h = h.1
 sized_tail (n, enter c v) ds h = h
+sized_tail (n, also c v) ds h = h
 
 nested_tail : (d : Line) (ds : List Line) → HasNestedRules (d ∷ ds) → HasNestedRules ds
 nested_tail (n, list_sort k values) ds h = h
@@ -67,6 +70,7 @@ nested_tail (n, row k values) ds h = h
 nested_tail (n, cell k sorts result) ds h = h
 nested_tail (n, rule k f) ds h = h.1
 nested_tail (n, enter c v) ds h = h
+nested_tail (n, also c v) ds h = h
 
 -- ---- all of them
 

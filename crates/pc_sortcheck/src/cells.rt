@@ -1,11 +1,10 @@
-//! Lines that declare a family or enter a value.
+//! Lines that declare a family.
 ghost use Rattle.std.specs.Prelude.{◌≡◌, ◌↔◌, ◌+◌, ◌≤◌, ◌^◌, ℕ, List, [], All, IsTrue, MatchResult, length, map};
 ghost use Rattle.pc_sheet.specs.Limits.{most_arguments, most_cells, most_values};
 ghost use Rattle.pc_sheet.specs.Sizes.{product, size_of};
 ghost use Rattle.pc_sheet.specs.Entailment.{cell_sizes};
 ghost use Rattle.pc_sheet.specs.WellFormed.{IsDeclaredSort};
 ghost use Rattle.pc_syntax.specs.Tree as tree;
-ghost use Rattle.pc_syntax.specs.Tree.{cell_of, value_of};
 ghost use Rattle.pc_elaborate.specs.Told.{IsFaultOf};
 ghost use Rattle.pc_sortcheck.specs.DeclarationFaults.{IsDeclarationFault};
 ghost use Rattle.pc_sortcheck.specs.Declaring.{Declares};
@@ -13,10 +12,9 @@ ghost use Rattle.pc_sortcheck.specs.inside.Fits.{FamilyFits};
 
 use crate::names::{is_name, is_new, keeps_form};
 use crate::tables::find_sorts;
-use pc_elaborate::{SortFault, find_cell, find_sort, find_value};
-use pc_logic::{Book, Entry, Name, SortId};
+use pc_elaborate::{SortFault, find_sort};
+use pc_logic::{Book, Name, SortId};
 use pc_sheet::{Limited, MOST_ARGUMENTS, MOST_CELLS, MOST_FAMILIES};
-use pc_syntax::{CellTree, ValueTree};
 use std::alloc::Global;
 
 /// The tests of a family before its sorts, in their order.
@@ -88,19 +86,5 @@ pub(crate) fn declare_cell(
     }
     let name = name.clone()?;
     book.add_family(name, sorts, result_sort)?;
-    Ok(())
-}
-
-pub(crate) fn declare_entry(
-    book: &mut Book,
-    cell: &CellTree,
-    value: &ValueTree,
-) -> Result<(), SortFault>
-    ensures { MatchResult result (λ _. Declares book.old (tree.enter (cell_of cell.now) (value_of value.now)) book.new) (IsFaultOf (IsDeclarationFault book.old (tree.enter (cell_of cell.now) (value_of value.now)))) }
-{
-    let cell = find_cell(book, cell)?;
-    let value = find_value(book, cell, value)?;
-    book.set_entry(Entry { cell, value })?;
-    keeps_form(book);
     Ok(())
 }

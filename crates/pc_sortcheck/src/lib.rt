@@ -2,6 +2,7 @@
 #![tactic(auto)]
 
 mod cells;
+mod entries;
 mod fault;
 mod law;
 mod names;
@@ -10,6 +11,7 @@ mod sheet;
 mod sorts;
 mod tables;
 
+pub use entries::{find_entry, find_further_entry, has_room_for_entry};
 pub use fault::SheetSortFault;
 pub use law::sheets_are_well_formed;
 pub use pc_elaborate::{SortFault, find_cell, find_value};

@@ -10,7 +10,8 @@ ghost use Rattle.pc_sortcheck.specs.DeclarationFaults.{IsDeclarationFault, IsShe
 ghost use Rattle.pc_sortcheck.specs.Declaring.{Declares, IsSheetOf};
 ghost use Rattle.pc_sortcheck.specs.inside.Fits.{HasWrittenRule};
 
-use crate::cells::{declare_cell, declare_entry};
+use crate::cells::declare_cell;
+use crate::entries::{declare_entry, declare_further_entry};
 use crate::fault::SheetSortFault;
 use crate::rule::declare_rule;
 use crate::sorts::{declare_list, declare_range};
@@ -38,6 +39,7 @@ fn declare(alloc: Global, book: &mut Book, declaration: &Declaration) -> Result<
         } => declare_cell(alloc, book, name, sorts, result),
         Declaration::Rule(rule) => declare_rule(alloc, book, rule),
         Declaration::Enter(cell, value) => declare_entry(book, cell, value),
+        Declaration::Also(cell, value) => declare_further_entry(book, cell, value),
     }
 }
 

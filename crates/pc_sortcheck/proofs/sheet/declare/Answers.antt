@@ -44,3 +44,8 @@ pub returns-in-Enter : goal.returns-in-Enter
 returns-in-Enter c =
     told_of c.args.book.now c.declare_entry.new.book c.declare_entry.result (declared_of c.args.declaration.now) (tree.enter (tree.cell_of c.in-Enter.cell) (value_of c.in-Enter.value))
     (ap declared_of c.in-Enter.is) c.declare_entry.ensures
+
+pub returns-in-Also : goal.returns-in-Also
+returns-in-Also c =
+    told_of c.args.book.now c.declare_further_entry.new.book c.declare_further_entry.result (declared_of c.args.declaration.now) (tree.also (tree.cell_of c.in-Also.cell) (value_of c.in-Also.value))
+    (ap declared_of c.in-Also.is) c.declare_further_entry.ensures
