@@ -65,7 +65,12 @@ const COMMANDS: &str = r#" => nothing
 enter a = red => Enter(CellTree { name: Name { text: "a" }, args: [] }, Name(Name { text: "red" }))
 enter x(b, -2)=03 => Enter(CellTree { name: Name { text: "x" }, args: [Name(Name { text: "b" }), Number(-2)] }, Number(3))
 enter enter = show => Enter(CellTree { name: Name { text: "enter" }, args: [] }, Name(Name { text: "show" }))
+also a = green => Also(CellTree { name: Name { text: "a" }, args: [] }, Name(Name { text: "green" }))
+also also = also => Also(CellTree { name: Name { text: "also" }, args: [] }, Name(Name { text: "also" }))
 clear x(1) => Clear(CellTree { name: Name { text: "x" }, args: [Number(1)] })
+clear a = red => ClearOne(CellTree { name: Name { text: "a" }, args: [] }, Name(Name { text: "red" }))
+clear x(1, b)= -02 => ClearOne(CellTree { name: Name { text: "x" }, args: [Number(1), Name(Name { text: "b" })] }, Number(-2))
+clear clear => Clear(CellTree { name: Name { text: "clear" }, args: [] })
 rule r : a != 1 => AddRule(RuleTree { name: Name { text: "r" }, formula: Compare { left: SideTree { first: Named { name: Name { text: "a" }, args: [] }, rest: [] }, op: Ne, right: SideTree { first: Number(1), rest: [] } } })
 drop größe => DropRule(Name { text: "größe" })
 budget 0100 => Budget(100)
@@ -97,7 +102,17 @@ enter a = red b
 enter a != red
 enter a() = red
 enter forall = red
+also a
+also a = red b
+also a != red
+clear
 clear a b
+clear a(
+clear a =
+clear a(1) 2
+clear a != red
+clear a = red b
+clear = red
 drop 1
 budget a
 budget -1
@@ -168,7 +183,7 @@ fn reads_a_sheet(rt: HostRuntime) -> Result<(), Fail> {
     Ok(())
 }
 
-// Texts that are no sheet, each with its fault, texts with lines that go deep, and two sheets.
+// Texts that are no sheet, each with its fault, texts with lines that go deep, and sheets.
 const FAULTS: &str = "\
 /; begin/ => NoBegin
  => NoBegin
@@ -177,10 +192,23 @@ sheet 1/sort color = red/ => NoBegin
 begin => Syntax { line: 1 }
 //sheet 9/begin => WrongVersion { line: 3 }
 sheet 2 x/begin => Syntax { line: 1 }
+sheet 3/also a = b/begin => WrongVersion { line: 1 }
+sheet 0/begin => WrongVersion { line: 1 }
 sheet/begin => Syntax { line: 1 }
 cell a : t/sheet 1/begin => Syntax { line: 1 }
 sheet 1//sheet 1/begin => Syntax { line: 3 }
 sheet 1/sheet 9/begin => Syntax { line: 2 }
+sheet 2/sheet 2/begin => Syntax { line: 2 }
+sheet 1/sheet 2/also a = b/begin => Syntax { line: 2 }
+also a = b/sheet 2/begin => Syntax { line: 1 }
+sheet 1/also a = b/begin => Syntax { line: 2 }
+sheet 1/rule r : a = b/enter a = b/also a = b/begin => Syntax { line: 4 }
+sheet 1/also @!/begin => TooDeep { line: 2 }
+sheet 2/also a/begin => Syntax { line: 2 }
+sheet 2/also a != b/begin => Syntax { line: 2 }
+sheet 2/clear a = b/begin => Syntax { line: 2 }
+sheet 2/rule r : a = b/sort t = x/begin => Syntax { line: 3 }
+sheet 2/begin/also a = b => Syntax { line: 3 }
 sheet 1/begin//begin => Syntax { line: 4 }
 sheet 1/begin/show => Syntax { line: 3 }
 sheet 1/show/begin => Syntax { line: 2 }
@@ -211,6 +239,10 @@ sheet 1/rule r : @!a = b #/begin => Syntax { line: 2 }
 sheet 1/; @!/begin => []
 sheet 1/rule r : @a = b/begin => [(2, Rule(
 sheet 1/begin => []
+sheet 2/begin => []
+;/sheet 02/also a = b/begin => [(3, Also(
+sheet 2/rule r : a = b/also a = b/begin => [(2, Rule(
+sheet 2/rule also : also = b/enter also = b/also also = also/begin => [(2, Rule(
 ";
 
 #[test]
