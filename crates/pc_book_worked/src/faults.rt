@@ -101,6 +101,13 @@ enter c = a => 7 UnknownName
 enter c = s => 7 WrongSort
 enter c = 1 => 7 WrongSort
 enter c = w/enter f(1) = 3/enter c = v => ok
+also a(4) = a => 7 UnknownName
+also t(4) = a => 7 WrongSort
+also c(a) = a => 7 WrongArity
+also f(4) = a => 7 NotAValue
+also f(3) = 4 => 7 NotAValue
+also c = 1 => 7 WrongSort
+also c = w/enter c = v/also c = w/also c = v => ok
 /table x(v)/table y(a) => 8 WrongSort
 sort u = a b/sort x = a/sort y = => 8 DuplicateName
  => ok
@@ -135,6 +142,12 @@ sort k = 1 .. 2/cell c : k/[1023:rule r# : c = 1/]rule x : c = 2 => ok
 sort k = 1 .. 2/cell c : k/[1023:rule r# : c = 1/]rule r1 : c = 2 => 1027 DuplicateName
 sort k = 1 .. 2/cell c : k/[1024:rule r# : c = 1/]rule r1 : c = 1 => 1028 Limit(Rules)
 sort k = 1 .. 2/cell c : k/[1024:rule r# : c = 1/]rule r1 : c = a => 1028 UnknownName
+sort k = 0 .. 9/cell c : k/[8:also c = #/] => ok
+sort k = 0 .. 9/cell c : k/[9:also c = #/] => 12 Limit(Entries)
+sort k = 0 .. 9/cell c : k/[8:also c = #/]also c = 7/also c = 0 => ok
+sort k = 0 .. 9/cell c : k/[8:also c = #/]also c = 10 => 12 NotAValue
+sort k = 0 .. 9/cell c : k/[8:also c = #/]enter c = 9/also c = 8 => ok
+sort k = 0 .. 9/cell c : k/cell d : k/[8:also c = #/]also d = 8 => ok
 ";
 
 #[test]
@@ -165,5 +178,40 @@ row u(200) => 20005 NotAValue
 fn rows_are_counted(rt: HostRuntime) -> Result<(), Fail> {
     let lines = all_rows(rt.alloc())?;
     assert_eq!(rt; first_wrong(rt.alloc(), lines.as_str(), FURTHER)?, "none");
+    Ok(())
+}
+
+// The numbers of the cell and of the value of each of the sheet's entries, oldest first.
+fn entries_of(alloc: Global, lines: &str) -> Result<String, AllocError> {
+    let mut text = String::new(alloc);
+    if let Some(Ok(book)) = checked(alloc, lines) {
+        for entry in book.entries() {
+            let entry = format!(in alloc; " {}={}", entry.cell.0, entry.value.0)?;
+            text.push_str(entry.as_str())?;
+        }
+    }
+    Ok(text)
+}
+
+// Whether the sheet of the row's lines has the row's entries.
+fn has_entries(alloc: Global, row: &str) -> Result<bool, AllocError> {
+    let (lines, want) = row.split_once(" =>").unwrap_or((row, ""));
+    let lines = in_full(alloc, "sort k = 0 .. 9\ncell a : k\ncell b : k\n", lines)?;
+    Ok(entries_of(alloc, lines.as_str())?.as_str() == want)
+}
+
+// Lines that enter, and the entries then.
+const ENTRIES: &str = "\
+enter a = 3/enter b = 5/also a = 4 => 0=3 1=5 0=4
+enter a = 3/enter b = 5/also a = 4/enter a = 3 => 0=3 1=5
+enter a = 3/enter b = 5/also a = 4/enter a = 7 => 1=5 0=7
+also a = 3/also a = 4/also a = 3 => 0=3 0=4
+";
+
+#[test]
+fn entries_stand_in_their_order(rt: HostRuntime) -> Result<(), Fail> {
+    for row in ENTRIES.lines() {
+        assert!(rt; has_entries(rt.alloc(), row)?, "{row}");
+    }
     Ok(())
 }

@@ -4,9 +4,9 @@ use pc_sortcheck::{SheetSortFault, check_sheet};
 use pc_syntax::parse_sheet;
 use std::alloc::{AllocError, Global};
 
-/// What the sheet with these lines behind its first one gives. None where it is no sheet, or where memory ran out.
+/// What the sheet with these lines behind its first one, `sheet 2`, gives. None where it is no sheet, or where memory ran out.
 pub fn checked(alloc: Global, lines: &str) -> Option<Result<Book, SheetSortFault>> {
-    let text = format!(in alloc; "sheet 1\n{lines}\nbegin\n").ok()?;
+    let text = format!(in alloc; "sheet 2\n{lines}\nbegin\n").ok()?;
     if text.len() > 4_194_304 {
         return None;
     }
