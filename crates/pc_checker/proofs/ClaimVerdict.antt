@@ -1,9 +1,9 @@
 -- The verdict on the used entries and the assignment, from what each test found.
-use Rattle.std.proofs.Common.{◌≡◌, ℕ, ◌<◌, inl, inr, List, map, length, get_or, slice_get, All, refl, sym, subst, arith, Option, None, Some}
+use Rattle.std.proofs.Common.{◌≡◌, ℕ, ◌*◌, ◌<◌, Bool, inl, inr, List, map, length, get_or, slice_get, All, refl, sym, subst, arith, Option, None, Some}
 use Rattle.std.proofs.lemmas.List.Elements.{All-map}
 use Rattle.pc_sheet.specs.Sheet.{Sheet}
 use Rattle.pc_sheet.specs.Entailment.{cell_sizes}
-use Rattle.pc_sheet.specs.WellFormed.{IsEntryOf}
+use Rattle.pc_sheet.specs.WellFormed.{IsWellFormedUniverse, IsEntryOf}
 use Rattle.pc_sheet.specs.declared.ids.Entry.{Entry}
 use Rattle.pc_sheet.specs.declared.ids.ValueId.{ValueId}
 use Rattle.pc_cert.specs.Text.{CertificateReading}
@@ -15,6 +15,8 @@ use Rattle.pc_cert.specs.ReadFor.{IsReadFor}
 use Rattle.pc_checker.specs.inside.Parts.{IsFirstLine, IsLineOfValues, IsRuleBroken, IsTargetVerdict}
 use Rattle.pc_checker.specs.Verdicts.{Numbered, IsEntered, AreEntered, AreValues, AreHeld, IsHeld, Stands, values_in}
 use Rattle.pc_lemmas.proofs.Options.{some_and}
+use Rattle.pc_checker.specs.Entered.{HasPlace}
+use Rattle.pc_checker.proofs.EnteredLemmas.{entry_has_place}
 use Rattle.pc_checker.proofs.ClaimLemmas.{values_assign, within_length}
 use Rattle.std.proofs.lemmas.Option.{slice_get_within}
 
@@ -48,16 +50,11 @@ module _ (sheet : Sheet) (c : Cert) (read : IsReadFor sheet c) where
   pub held : (o : Option ℕ) → o ≡ None → IsFirstLine (IsHeld (values_in r)) r.uses o → AreHeld r
   held o none h = subst (IsFirstLine (IsHeld (values_in r)) r.uses) none h
 
-  pub entered_requires : (entered : List (Option ValueId)) (uses : List Said) → length entered ≡ length (cell_sizes sheet.universe) → uses ≡ c.uses.items
-      → All (λ (s : Said). s.entry.cell.0 < length entered) uses
-  entered_requires entered uses each_cell same_uses =
-      let here : All (λ (s : Said). s.entry.cell.0 < length entered) c.uses.items =
-      λ k d within.
-      let s = get_or c.uses.items k d in
-      let size = some_and (slice_get (cell_sizes sheet.universe) s.entry.cell.0) (λ n. s.entry.value.0 < n) (read.uses k d within) in
-      omega (arith, each_cell, slice_get_within (cell_sizes sheet.universe) s.entry.cell.0 size.0 size.1)
-      in
-      subst (All (λ (s : Said). s.entry.cell.0 < length entered)) (sym same_uses) here
+  pub entered_requires : IsWellFormedUniverse sheet.universe → (marks : List Bool) (uses : List Said) → length marks ≡ length (cell_sizes sheet.universe) * 256 → uses ≡ c.uses.items
+      → All (λ (s : Said). HasPlace marks s.entry) uses
+  entered_requires formed marks uses count same_uses =
+      subst (All (λ (s : Said). HasPlace marks s.entry)) (sym same_uses)
+      (λ k d within. entry_has_place sheet.universe marks (get_or c.uses.items k d).entry formed count (read.uses k d within))
 
   pub held_requires : AreValues sheet r → (a : List ValueId) (uses : List Said) → a ≡ values_in r → uses ≡ c.uses.items → All (λ (s : Said). s.entry.cell.0 < length a) uses
   held_requires values a uses same_values same_uses =

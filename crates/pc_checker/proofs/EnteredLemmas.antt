@@ -1,60 +1,88 @@
--- Entries that are laid out by cell.
-use Rattle.std.proofs.Common.{◌≡◌, ◌≢◌, ℕ, ◌+◌, ◌<◌, ⊎_elim, List, [], ◌∷◌, ◌++◌, take, length, get_or, set, Contains, Option, None, Some, sym, ap, ◌∙◌, subst, arith}
+-- Entries that are marked by cell and value.
+use Rattle.std.proofs.Common.{◌≡◌, ℕ, ◌+◌, ◌*◌, ◌<◌, ◌≤◌, ⊎_elim, Bool, true, false, List, [], ◌∷◌, ◌++◌, take, length, get_or, set, slice_get, All, Contains, Some, replicate, sym, ap, ◌∙◌, subst, arith}
+use Rattle.std.specs.List.{flat_map}
 use Rattle.std.proofs.lemmas.Bool.{cases_eq}
-use Rattle.std.proofs.lemmas.List.{take_more, length-take-le, length-set, get_or_default, get_or-take, get_or-set_same, get_or-set_other}
-use Rattle.std.proofs.lemmas.List.Elements.{Contains-push, Contains-push_cases, Contains-append_left}
-use Rattle.pc_sheet.specs.Entailment.{HaveDistinctCells}
-use Rattle.pc_sheet.specs.declared.ids.CellId.{CellId}
-use Rattle.pc_sheet.specs.declared.ids.ValueId.{ValueId}
+use Rattle.std.proofs.lemmas.Option.{slice_get-get_or, slice_get_within, get_or_from_slice_get}
+use Rattle.std.proofs.lemmas.List.{take_more, length-set, get_or-set_same, get_or-set_other}
+use Rattle.std.proofs.lemmas.List.Elements.{All-nil, All-append, All-replicate, All-head, All-tail, All-weaker, Contains-push, Contains-push_cases, Contains-append_left}
+use Rattle.pc_sheet.specs.Sheet.{Values, listed, range, Sort, Family, Universe}
+use Rattle.pc_sheet.specs.Sizes.{size_of, cells_in, count_of, values_of_sort}
+use Rattle.pc_sheet.specs.Entailment.{cell_sizes}
+use Rattle.pc_sheet.specs.WellFormed.{IsWellFormedUniverse, IsWellFormedFamily, IsDeclaredSort, AreWellFormedValues, IsEntryOf}
+use Rattle.pc_sheet.specs.declared.ids.SortId.{SortId}
 use Rattle.pc_sheet.specs.declared.ids.Entry.{Entry}
-use Rattle.pc_checker.specs.Entered.{AreByCell}
+use Rattle.pc_checker.specs.Entered.{pair_place, HasPlace, ArePairsMarked}
 use Rattle.pc_checker.proofs.ClaimLemmas.{same_entry}
+use Rattle.pc_lemmas.proofs.Options.{some_and}
 
-same_cell : (b c : CellId) → b.0 ≡ c.0 → b ≡ c
-same_cell b c same = let make : ℕ → CellId = λ n. record { 0 = n } in ap make same
+-- ---- how many values a cell has
 
-some_cancel : (v w : ValueId) → Some v ≡ Some w → v.0 ≡ w.0
-some_cancel v w h = let same : v ≡ w = cc in let number : ValueId → ℕ = λ x. x.0 in ap number same
+few_of : (v : Values) → AreWellFormedValues v → count_of v ≤ 256
+few_of (listed names) formed = formed.1
+few_of (range low high) formed = formed.3
 
-none_some : (v : ValueId) → None ≡ Some v → ⊥
-none_some v h = cc
+few_in_sort : (u : Universe) (s : SortId) → IsWellFormedUniverse u → IsDeclaredSort u s → size_of u s ≤ 256
+few_in_sort u s formed declared =
+    let d : Sort = record { name = []; values = listed [] } in
+    let at : slice_get u.sorts s.0 ≡ Some (get_or u.sorts s.0 d) = slice_get-get_or u.sorts s.0 d declared in
+    subst (λ v. count_of v ≤ 256) (sym (ap values_of_sort at)) (few_of (get_or u.sorts s.0 d).values (formed.sorts s.0 d declared))
 
--- one entry more, of a cell that none of the others has
-by_cell_push : (es : List Entry) (x : Entry) (values : List (Option ValueId)) → ((e : Entry) → Contains es e → e.cell.0 ≢ x.cell.0) → x.cell.0 < length values → AreByCell es values
-    → AreByCell (es ++ x ∷ []) (set values x.cell.0 (Some x.value))
-by_cell_push es x values apart room laid e within =
-    let before : e.cell.0 < length values = omega (arith, length-set values x.cell.0 (Some x.value)) in
+abbrev IsFew : ℕ → Type 0
+IsFew n = n ≤ 256
+
+few_in_families : (u : Universe) (families : List Family) → All (λ f. IsFew (size_of u f.result_sort)) families → All IsFew (flat_map (λ f. replicate (cells_in u f) (size_of u f.result_sort)) families)
+few_in_families u [] each = All-nil IsFew
+few_in_families u (f ∷ fs) each =
+    All-append IsFew (replicate (cells_in u f) (size_of u f.result_sort)) (flat_map (λ g. replicate (cells_in u g) (size_of u g.result_sort)) fs)
+    (All-replicate IsFew (cells_in u f) (size_of u f.result_sort) (All-head (λ (g : Family). IsFew (size_of u g.result_sort)) f fs each))
+    (few_in_families u fs (All-tail (λ (g : Family). IsFew (size_of u g.result_sort)) f fs each))
+
+few_values : (u : Universe) → IsWellFormedUniverse u → All IsFew (cell_sizes u)
+few_values u formed =
+    few_in_families u u.families
+    (All-weaker (IsWellFormedFamily u) (λ (f : Family). IsFew (size_of u f.result_sort)) (λ f is. few_in_sort u f.result_sort formed is.result_sort) u.families formed.families)
+
+-- an entry of the sheet has a place where each pair of the sheet has one
+pub entry_has_place : (u : Universe) (marks : List Bool) (e : Entry) → IsWellFormedUniverse u → length marks ≡ length (cell_sizes u) * 256 → IsEntryOf u e → HasPlace marks e
+entry_has_place u marks e formed count is =
+    let size = some_and (slice_get (cell_sizes u) e.cell.0) (λ n. e.value.0 < n) is in
+    let within : e.cell.0 < length (cell_sizes u) = slice_get_within (cell_sizes u) e.cell.0 size.0 size.1 in
+    let few : get_or (cell_sizes u) e.cell.0 0 ≤ 256 = few_values u formed e.cell.0 0 within in
+    let same : get_or (cell_sizes u) e.cell.0 0 ≡ size.0 = get_or_from_slice_get (cell_sizes u) e.cell.0 size.0 0 size.1 in
+    let less : e.value.0 < size.0 = size.2 in
+    record { value = omega (arith, few, same, less); within = omega (arith, few, same, less, within, count) }
+
+pub entries_have_places : (u : Universe) (marks : List Bool) (entries : List Entry) → IsWellFormedUniverse u → length marks ≡ length (cell_sizes u) * 256 → All (IsEntryOf u) entries → All (HasPlace marks) entries
+entries_have_places u marks entries formed count each = All-weaker (IsEntryOf u) (HasPlace marks) (λ e is. entry_has_place u marks e formed count is) entries each
+
+pub still_has_place : (old new : List Bool) (e : Entry) → length new ≡ length old → HasPlace old e → HasPlace new e
+still_has_place old new e same has = record { value = has.value; within = omega (arith, same, has.within) }
+
+-- ---- marks
+
+-- one entry more
+pair_push : (es : List Entry) (x : Entry) (marks : List Bool) → HasPlace marks x → ArePairsMarked es marks → ArePairsMarked (es ++ x ∷ []) (set marks (pair_place x) true)
+pair_push es x marks room are e has_place =
+    let after : List Bool = set marks (pair_place x) true in
+    let before : HasPlace marks e = record { value = has_place.value; within = omega (arith, has_place.within, length-set marks (pair_place x) true) } in
     ⊎_elim
     (λ at_same.
-    let now : get_or (set values x.cell.0 (Some x.value)) e.cell.0 None ≡ Some x.value = rw at_same (get_or-set_same values x.cell.0 (Some x.value) None room) in (
-      λ is. let same : x ≡ e = same_entry x e (sym at_same) (some_cancel x.value e.value (sym now ∙ is)) in subst (λ (y : Entry). Contains (es ++ x ∷ []) y) same (Contains-push es x),
-      λ has. ⊎_elim
-          (λ old. absurd (apart e old at_same))
-          (λ same. let value_in_some : Entry → Option ValueId = λ y. Some y.value in now ∙ ap value_in_some same)
-          (Contains-push_cases es x e has),
+    let here : get_or after (pair_place e) false ≡ true = ap (λ i. get_or after i false) at_same ∙ get_or-set_same marks (pair_place x) true false room.within in
+    let same : x ≡ e = same_entry x e (omega (arith, at_same, has_place.value, room.value)) (omega (arith, at_same, has_place.value, room.value)) in (
+      λ is. subst (λ (y : Entry). Contains (es ++ x ∷ []) y) same (Contains-push es x),
+      λ has. here,
     ))
     (λ other.
-    let kept : get_or (set values x.cell.0 (Some x.value)) e.cell.0 None ≡ get_or values e.cell.0 None = get_or-set_other values x.cell.0 e.cell.0 (Some x.value) None other in
-    let number : Entry → ℕ = λ y. y.cell.0 in (
-      λ is. Contains-append_left es (x ∷ []) e ((laid e before).0 (sym kept ∙ is)),
-      λ has. kept ∙ ⊎_elim ((laid e before).1) (λ same. absurd (other (ap number (sym same)))) (Contains-push_cases es x e has),
+    let kept : get_or after (pair_place e) false ≡ get_or marks (pair_place e) false = get_or-set_other marks (pair_place x) (pair_place e) true false other in (
+      λ is. Contains-append_left es (x ∷ []) e ((are e before).0 (sym kept ∙ is)),
+      λ has. kept ∙ ⊎_elim ((are e before).1) (λ same. absurd (other (ap pair_place (sym same)))) (Contains-push_cases es x e has),
     ))
-    (cases_eq e.cell.0 x.cell.0)
+    (cases_eq (pair_place e) (pair_place x))
 
--- no earlier entry has the cell of this one
-apart_before : (entries : List Entry) (i : ℕ) (d : Entry) → i < length entries → HaveDistinctCells entries → (e : Entry) → Contains (take i entries) e → e.cell.0 ≢ (get_or entries i d).cell.0
-apart_before entries i d within distinct e has same =
-    let k = has.0 in
-    let less : k < i = omega (arith, has.1, length-take-le i entries (omega arith)) in
-    let first : get_or entries k d ≡ e = get_or_default entries k d e (omega arith) ∙ sym (get_or-take i entries k e less) ∙ has.2 in
-    let cell : Entry → CellId = λ y. y.cell in
-    distinct k i d less within (ap cell first ∙ same_cell e.cell (get_or entries i d).cell same)
-
--- the next entry is laid out
-pub by_cell_more : (entries : List Entry) (i j : ℕ) (d : Entry) (values : List (Option ValueId)) → i < length entries → HaveDistinctCells entries → j ≡ (get_or entries i d).cell.0
-    → (get_or entries i d).cell.0 < length values → AreByCell (take i entries) values → AreByCell (take (i + 1) entries) (set values j (Some (get_or entries i d).value))
-by_cell_more entries i j d values within distinct at room laid =
+-- the next entry is marked
+pub pair_more : (entries : List Entry) (i j : ℕ) (d : Entry) (marks : List Bool) → i < length entries → j ≡ pair_place (get_or entries i d) → HasPlace marks (get_or entries i d)
+    → ArePairsMarked (take i entries) marks → ArePairsMarked (take (i + 1) entries) (set marks j true)
+pair_more entries i j d marks within at room are =
     let x = get_or entries i d in
-    subst (λ (n : ℕ). AreByCell (take (i + 1) entries) (set values n (Some x.value))) (sym at)
-    (subst (λ (es : List Entry). AreByCell es (set values x.cell.0 (Some x.value))) (sym (take_more entries i d within))
-    (by_cell_push (take i entries) x values (apart_before entries i d within distinct) room laid))
+    subst (λ (n : ℕ). ArePairsMarked (take (i + 1) entries) (set marks n true)) (sym at)
+    (subst (λ (es : List Entry). ArePairsMarked es (set marks (pair_place x) true)) (sym (take_more entries i d within)) (pair_push (take i entries) x marks room are))

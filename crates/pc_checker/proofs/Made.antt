@@ -7,7 +7,7 @@ use Rattle.pc_cert.specs.declared.cert.Cert.{Cert}
 use Rattle.pc_cert.specs.declared.cert.CertLine.{CertLine}
 use Rattle.pc_checker.specs.declared.scratch.Scratch.{Scratch}
 use Rattle.pc_cert.specs.ReadFor.{IsNamedIn, IsReadFor}
-use Rattle.pc_checker.specs.Entered.{AreEnteredValues}
+use Rattle.pc_checker.specs.Entered.{AreEnteredPairs}
 use Rattle.pc_checker.specs.Made.{IsPrepared, IsMadeFor}
 use Rattle.pc_checker.specs.Drafts.{Draft, AreWritten}
 use Rattle.pc_cert.specs.Numbered.{StartsWith}
@@ -18,7 +18,7 @@ use Rattle.pc_checker.proofs.RoomLemmas.{prepared_grown}
 pub made : (sheet : Sheet) (c : Cert) (s : Scratch) (lines : List CertLine) (start mid last : Draft) (first : List Symbol) → IsReadFor sheet c → lines ≡ c.lines.items → first ≡ symbols_of c
     → ArePrepared sheet lines (length lines) first mid.symbols s.clauses s.axioms.items → start.symbols ≡ mid.symbols → start.clause ≡ [] → AreWritten start last (allowed_in (reading_of c))
     → map (literal_of last.symbols) s.allowed.items ≡ last.clause → All (IsNamedIn last.symbols) s.allowed.items → length s.values ≡ length last.symbols → AreSymbolsDistinct last.symbols
-    → s.assignment ≡ values_in (reading_of c) → AreEnteredValues sheet s.entered.items → IsMadeFor sheet c s
+    → s.assignment ≡ values_in (reading_of c) → AreEnteredPairs sheet s.entered.items → IsMadeFor sheet c s
 made sheet c s lines start mid last first read same_lines same_first are begun blank written literals within room distinct values entered =
     let grows : StartsWith mid.symbols last.symbols = subst (λ (xs : List Symbol). StartsWith xs last.symbols) begun written.grows in
     let ready = prepared_grown sheet c.lines.items (length c.lines.items) (symbols_of c) mid.symbols last.symbols s.clauses s.axioms.items grows

@@ -14,7 +14,7 @@ use Rattle.pc_cert.specs.declared.cert.Said.{Said}
 use Rattle.pc_cert.specs.Views.{symbols_of, literal_of, reading_of, AreSymbolsDistinct}
 use Rattle.pc_cert.specs.ReadFor.{IsNamedIn, IsReadFor}
 use Rattle.pc_checker.specs.declared.scratch.Scratch.{Scratch}
-use Rattle.pc_checker.specs.Entered.{AreEnteredValues}
+use Rattle.pc_checker.specs.Entered.{AreEnteredPairs}
 use Rattle.pc_checker.specs.Verdicts.{values_in, allowed_in}
 
 abbrev pub value_said : Said → ValueId
@@ -26,13 +26,13 @@ IsPrepared sheet names clause good (Axiom a) =
     MatchBool good (IsClauseOf sheet (axiom_of a) (map (literal_of names) clause)) ((c : List Literal) → ¬ IsClauseOf sheet (axiom_of a) c)
 IsPrepared sheet names clause good (Step c hints) = clause ≡ c.items
 
--- all that the check needs: the entries by cell, the symbols of the clauses, the certificate's first, and each clause by
+-- all that the check needs: the entries by cell and value, the symbols of the clauses, the certificate's first, and each clause by
 -- their numbers
 pub record IsPreparedFor (sheet : Sheet) (c : Cert) (s : Scratch) : Type 0 where
   pub more : List Symbol
   pub distinct : AreSymbolsDistinct (symbols_of c ++ more)
   pub room : length s.values ≡ length (symbols_of c ++ more)
-  pub entered : AreEnteredValues sheet s.entered.items
+  pub entered : AreEnteredPairs sheet s.entered.items
   pub assignment : s.assignment ≡ values_in (reading_of c)
   pub count : length s.clauses ≡ length c.lines.items
   pub marks : length s.axioms.items ≡ length c.lines.items

@@ -3,7 +3,7 @@
 ghost use Rattle.std.specs.Prelude.{◌<◌, ◌≤◌, All, Contains, List, length, map};
 ghost use Rattle.pc_sheet.specs.Limits.{most_rules};
 ghost use Rattle.pc_sheet.specs.declared.ids.Entry.{Entry as TheEntry};
-ghost use Rattle.pc_checker.specs.Entered.{AreByCell};
+ghost use Rattle.pc_checker.specs.Entered.{ArePairsMarked, HasPlace};
 ghost use Rattle.pc_checker.specs.inside.Parts.{IsFirstLine, IsLineOfValues, IsRuleBroken, IsClaimVerdict, IsTargetVerdict};
 ghost use Rattle.pc_checker.specs.inside.Prepared.{IsClaimPrepared};
 ghost use Rattle.pc_checker.specs.Verdicts.{IsHeld};
@@ -19,7 +19,7 @@ use pc_sheet::ValueId;
 pub(crate) fn claim_verdict(
     book: &Book,
     cert: &Cert,
-    entered: &[Option<ValueId>],
+    entered: &[bool],
     values: &Assignment,
 ) -> Option<Verdict>
     requires { IsClaimPrepared book.now cert.now entered.now values.now }
@@ -35,12 +35,13 @@ pub(crate) fn claim_verdict(
 fn fault_of_claim(
     book: &Book,
     cert: &Cert,
-    entered: &[Option<ValueId>],
+    entered: &[bool],
     values: &Assignment,
 ) -> Option<Verdict>
     requires { IsClaimPrepared book.now cert.now entered.now values.now }
     ensures { IsTargetVerdict book.now (reading_of cert.now) result }
 {
+    well_formed(book);
     if let Some(line) = first_not_entered(entered, &cert.uses) {
         return Some(Verdict::UseNotEntered { line });
     }
@@ -50,7 +51,6 @@ fn fault_of_claim(
     if let Some(line) = first_not_held(values.values(), &cert.uses) {
         return Some(Verdict::UseNotHeld { line });
     }
-    well_formed(book);
     if let Some(rule) = first_broken(book, values) {
         return Some(Verdict::RuleBroken { rule });
     }
@@ -58,9 +58,9 @@ fn fault_of_claim(
 }
 
 // The line of the first used entry that isn't entered.
-fn first_not_entered(entered: &[Option<ValueId>], uses: &[Said]) -> Option<u32>
-    requires { All (λ s. s.entry.cell.0 < length entered.now) uses.now }
-    ensures { (entries : List TheEntry) → AreByCell entries entered.now → IsFirstLine (λ e. Contains entries e.1) (map said_of uses.now) result }
+fn first_not_entered(entered: &[bool], uses: &[Said]) -> Option<u32>
+    requires { All (λ s. HasPlace entered.now s.entry) uses.now }
+    ensures { (entries : List TheEntry) → ArePairsMarked entries entered.now → IsFirstLine (λ e. Contains entries e.1) (map said_of uses.now) result }
 {
     for said in uses {
         if !is_entered(entered, said.entry) {

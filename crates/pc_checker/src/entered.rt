@@ -1,42 +1,45 @@
-//! The entries of a book by cell, so that one look tells whether an entry is there.
+//! The entries of a book by cell and value, so that one look tells whether an entry is there.
 
-ghost use Rattle.std.specs.Prelude.{◌≡◌, ◌<◌, ◌↔◌, All, Contains, IfOk, IsTrue, List, None, length, replicate};
-ghost use Rattle.pc_sheet.specs.Entailment.{HaveDistinctCells};
+ghost use Rattle.std.specs.Prelude.{◌≡◌, ◌↔◌, All, Contains, IfOk, IsTrue, List, false, length, replicate};
 ghost use Rattle.pc_sheet.specs.declared.ids.Entry.{Entry as TheEntry};
-ghost use Rattle.pc_checker.specs.Entered.{AreByCell, AreEnteredValues};
+ghost use Rattle.pc_checker.specs.Entered.{AreEnteredPairs, ArePairsMarked, HasPlace, pair_place};
 
-use pc_logic::Book;
-use pc_sheet::{Entry, ValueId};
+use pc_logic::{Book, well_formed};
+use pc_sheet::{Entry, MOST_VALUES};
 use std::alloc::{AllocError, Global};
 
-/// The value that each cell is entered with.
-pub(crate) fn entered_values(alloc: Global, book: &Book) -> Result<Vec<Option<ValueId>>, AllocError>
-    ensures { IfOk result (λ values. AreEnteredValues book.now values.items) }
+/// Whether each pair of a cell and a value is entered.
+pub(crate) fn entered_pairs(alloc: Global, book: &Book) -> Result<Vec<bool>, AllocError>
+    ensures { IfOk result (λ marks. AreEnteredPairs book.now marks.items) }
 {
-    let mut values = vec![in alloc; None; book.cells()]?;
-    lay_out(book.entries(), &mut values);
-    Ok(values)
+    well_formed(book);
+    let mut marks = vec![in alloc; false; book.cells() * MOST_VALUES]?;
+    mark_pairs(book.entries(), &mut marks);
+    Ok(marks)
 }
 
-// Lays the entries out by cell.
-fn lay_out(entries: &[Entry], values: &mut [Option<ValueId>])
-    requires distinct { HaveDistinctCells entries.now }
-    requires within { All (λ e. e.cell.0 < length values.old) entries.now }
-    requires blank { values.old ≡ replicate (length values.old) None }
-    ensures { AreByCell entries.now values.new }
+// Marks the pairs that are entered.
+fn mark_pairs(entries: &[Entry], marks: &mut [bool])
+    requires within { All (HasPlace marks.old) entries.now }
+    requires blank { marks.old ≡ replicate (length marks.old) false }
+    ensures { ArePairsMarked entries.now marks.new }
 {
     for entry in entries {
-        values[usize::from(entry.cell.0)] = Some(entry.value);
+        marks[place_of(*entry)] = true;
     }
 }
 
-/// Whether the entry is one of those that were laid out.
-pub(crate) fn is_entered(values: &[Option<ValueId>], entry: Entry) -> bool
-    requires { entry.cell.0 < length values.now }
-    ensures { (entries : List TheEntry) → AreByCell entries values.now → (IsTrue result ↔ Contains entries entry) }
+// The place of a pair.
+fn place_of(entry: Entry) -> usize
+    ensures { result ≡ pair_place entry }
 {
-    match values[usize::from(entry.cell.0)] {
-        Some(value) => value.0 == entry.value.0,
-        None => false,
-    }
+    usize::from(entry.cell.0) * MOST_VALUES + usize::from(entry.value.0)
+}
+
+/// Whether the entry is one of those that were marked.
+pub(crate) fn is_entered(marks: &[bool], entry: Entry) -> bool
+    requires { HasPlace marks.now entry }
+    ensures { (entries : List TheEntry) → ArePairsMarked entries marks.now → (IsTrue result ↔ Contains entries entry) }
+{
+    marks[place_of(entry)]
 }

@@ -12,7 +12,7 @@ ghost use Rattle.pc_checker.specs.inside.Prepared.{ArePrepared, IsLinePrepared, 
 ghost use Rattle.pc_checker.specs.Verdicts.{allowed_in};
 
 use crate::draft::ClauseDraft;
-use crate::entered::entered_values;
+use crate::entered::entered_pairs;
 use crate::line_clauses::LineClauses;
 use crate::scratch::Scratch;
 use crate::shared::Shared;
@@ -51,7 +51,7 @@ pub fn room_for(alloc: Global, book: &Book, cert: &Cert) -> Result<Scratch, Allo
     write_allowed(alloc, cert, &mut draft)?;
     let allowed = Vec::from_slice(alloc, draft.literals())?;
     let values = Values::new(alloc, draft.symbols())?;
-    let entered = entered_values(alloc, book)?;
+    let entered = entered_pairs(alloc, book)?;
     let assignment = assignment_of(alloc, &cert.values)?;
     Ok(Scratch {
         entered,

@@ -3,14 +3,13 @@
 use crate::line_clauses::LineClauses;
 use pc_lits::{Lit, Values};
 use pc_logic::Assignment;
-use pc_sheet::ValueId;
 
 /// What is prepared for the check of one certificate, so that the check itself takes no memory. The symbols of all
 /// clauses have numbers, the certificate's own first.
 #[derive(Drop)]
 pub struct Scratch {
-    // The value that each cell is entered with.
-    pub(crate) entered: Vec<Option<ValueId>>,
+    // Whether each pair of a cell and a value is entered.
+    pub(crate) entered: Vec<bool>,
     // The values of the certificate's `value` lines.
     pub(crate) assignment: Assignment,
     // The clause of each line of the derivation.

@@ -11,7 +11,7 @@ use Rattle.pc_cert.specs.ReadFor.{IsNamedIn, IsReadFor}
 use Rattle.pc_cert.specs.Views.{reading_of}
 use Rattle.pc_checker.specs.Made.{IsPrepared}
 use Rattle.pc_cert.specs.Numbered.{StartsWith}
-use Rattle.pc_checker.specs.Entered.{AreEnteredValues}
+use Rattle.pc_checker.specs.Entered.{AreEnteredPairs}
 use Rattle.pc_checker.specs.Verdicts.{values_in}
 
 -- one clause more is stored, which is prepared for the part
@@ -36,9 +36,9 @@ pub record ArePrepared (sheet : Sheet) (lines : List CertLine) (n : ℕ) (symbol
   pub within : All (All (IsNamedIn names)) clauses
   pub each : (i : ℕ) (d : CertLine) → i < n → IsPrepared sheet names (slice_index_or clauses i []) (slice_index_or axioms i false) (slice_index_or lines i d).part
 
--- what the tests of a claim need: a certificate that was read for the sheet, the sheet's entries by cell, and the
+-- what the tests of a claim need: a certificate that was read for the sheet, the sheet's entries by cell and value, and the
 -- assignment that the certificate gives
-pub record IsClaimPrepared (sheet : Sheet) (c : Cert) (by_cell : List (Option ValueId)) (assigned : List ValueId) : Type 0 where
+pub record IsClaimPrepared (sheet : Sheet) (c : Cert) (entered_pairs : List Bool) (assigned : List ValueId) : Type 0 where
   pub read : IsReadFor sheet c
-  pub entered : AreEnteredValues sheet by_cell
+  pub entered : AreEnteredPairs sheet entered_pairs
   pub values : assigned ≡ values_in (reading_of c)

@@ -1,6 +1,6 @@
 use Rattle.std.proofs.Common.{sym, subst}
 use Rattle.pc_cert.specs.Views.{reading_of}
-use Rattle.pc_checker.specs.Entered.{AreEnteredValues}
+use Rattle.pc_checker.specs.Entered.{AreEnteredPairs}
 use Rattle.pc_checker.proofs.ClaimVerdict.{none_from}
 use Rattle.pc_checker.proofs.CheckVerdict.{claim_stands, at_fault, accepted, wrong_end}
 use Rattle.pc_checker.proofs.checking.check.Goals as goal
@@ -8,7 +8,7 @@ use Rattle.pc_checker.proofs.checking.check.Goals as goal
 pub claim_verdict-requires : goal.claim_verdict-requires
 claim_verdict-requires c = record {
   read = c.requires.read;
-  entered = subst (AreEnteredValues c.args.book.now) (sym c.deref.ensures.value) c.requires.prepared.entered;
+  entered = subst (AreEnteredPairs c.args.book.now) (sym c.deref.ensures.value) c.requires.prepared.entered;
   values = c.requires.prepared.assignment;
 }
 
