@@ -1,9 +1,14 @@
 pub mod Computing
 pub mod NewestHolds
 pub mod LargestSetsHold
+pub mod SeveralHolds
 pub mod PartSheetsHold
 pub mod WorldsHold
 pub mod WithoutHolds
 pub mod TranscriptsHold
 pub mod RowsHold
+pub mod Deciding
+pub mod TrailsHold
+pub mod LogsHold
 pub mod SpendingsHold
+pub mod LogSpendings

@@ -19,7 +19,7 @@ use Rattle.pc_worked_laws.specs.Spendings.{HasNoLog, IsOfOnePart, WorkedSpending
 use Rattle.pc_worked_laws.proofs.Computing.{is_consistent, lists}
 
 -- what is spent on the only part, or on the first
-on_first : (sheet : Sheet) (touched : Option CellId) (limit : ℕ) (s : Spending) (p : PartSpending) (more : List PartSpending) → s.parts.items ≡ p ∷ more → (l : IsLawful sheet touched limit s) → IsSpentOn sheet touched l.of_sheet.kept p
+pub on_first : (sheet : Sheet) (touched : Option CellId) (limit : ℕ) (s : Spending) (p : PartSpending) (more : List PartSpending) → s.parts.items ≡ p ∷ more → (l : IsLawful sheet touched limit s) → IsSpentOn sheet touched l.of_sheet.kept p
 on_first sheet touched limit s p more are l = All-head (IsSpentOn sheet touched l.of_sheet.kept) p more (subst (All (IsSpentOn sheet touched l.of_sheet.kept)) are l.of_sheet.each)
 
 abbrev nowhere : Part
@@ -30,10 +30,10 @@ part_or_none None = nowhere
 part_or_none (Some part) = part
 
 -- the sheet's part of that number
-abbrev numbered : Sheet → ℕ → Part
+abbrev pub numbered : Sheet → ℕ → Part
 numbered sheet k = part_or_none (slice_get (parts_of (rules_alone sheet)) k)
 
-is_numbered : (sheet : Sheet) (k n : ℕ) (part : Part) → k ≡ n → slice_get (parts_of (rules_alone sheet)) k ≡ Some part → part ≡ numbered sheet n
+pub is_numbered : (sheet : Sheet) (k n : ℕ) (part : Part) → k ≡ n → slice_get (parts_of (rules_alone sheet)) k ≡ Some part → part ≡ numbered sheet n
 is_numbered sheet k n part is at = sym (ap part_or_none at) ∙ ap (numbered sheet) is
 
 missing : (part : Part) (k : ℕ) → k ≡ 1 → slice_get (parts_of (rules_alone equal_cells)) k ≡ Some part → ⊥
@@ -50,7 +50,7 @@ not_there c = elim (contains_cases 0 (1 ∷ []) 3 c) [
 
 -- ---- calls
 
-abbrev whole : Part
+abbrev pub whole : Part
 whole = numbered equal_cells 0
 
 rules : AreRulesConsistent equal_cells
@@ -59,7 +59,7 @@ rules = let h = is_consistent equal_cells 2 (2 ∷ []) refl [] refl in (h.0, h.1
 abbrev two_sets : List (List Entry)
 two_sets = (entry 0 red ∷ []) ∷ (entry 1 green ∷ []) ∷ []
 
-sets : ListsExactly (List Entry) (IsSetOf equal_cells whole) two_sets
+pub sets : ListsExactly (List Entry) (IsSetOf equal_cells whole) two_sets
 sets =
     let all = lists (sheet_of equal_cells whole) 2 (2 ∷ []) refl two_sets refl in
     record { exact = λ s. (λ c. (rules, (all.exact s).0 c), λ h. (all.exact s).1 h.1); different = all.different }

@@ -1,7 +1,10 @@
 pub mod Newest
 pub mod LargestSets
+pub mod Several
 pub mod PartSheets
 pub mod Worlds
 pub mod Transcripts
 pub mod Rows
+pub mod Trails
+pub mod Logs
 pub mod Spendings

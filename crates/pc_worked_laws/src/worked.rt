@@ -5,7 +5,10 @@ ghost use Rattle.pc_worked_laws.specs.PartSheets.{WorkedPartSheets};
 ghost use Rattle.pc_worked_laws.specs.Worlds.{WorkedWorlds, WorkedWithout};
 ghost use Rattle.pc_worked_laws.specs.Transcripts.{WorkedTranscripts, WorkedAnswers};
 ghost use Rattle.pc_worked_laws.specs.Rows.{WorkedRows};
-ghost use Rattle.pc_worked_laws.specs.Spendings.{WorkedSpendings};
+ghost use Rattle.pc_worked_laws.specs.Several.{WorkedViews, WorkedEdits, WorkedLimit};
+ghost use Rattle.pc_worked_laws.specs.Trails.{WorkedSettled, WorkedFirstPoint};
+ghost use Rattle.pc_worked_laws.specs.Logs.{WorkedNewClauses, WorkedLawfulLogs, WorkedListingLogs};
+ghost use Rattle.pc_worked_laws.specs.Spendings.{WorkedSpendings, WorkedLogSpendings};
 
 /// The newest entry on which two supports differ decides which one is less.
 pub fn newest_decides()
@@ -16,6 +19,13 @@ pub fn newest_decides()
 pub fn largest_sets_are_worked()
     ensures nothing_kept { NothingIsKept }
     ensures four_sets { PairsHaveFourSets }
+{}
+
+/// What cells with several entries imply, what edits make of them, and how many a cell may have.
+pub fn several_entries_are_worked()
+    ensures views { WorkedViews }
+    ensures edits { WorkedEdits }
+    ensures limit { WorkedLimit }
 {}
 
 /// The sheets of the parts of small sheets.
@@ -40,7 +50,21 @@ pub fn rows_are_worked()
     ensures { WorkedRows }
 {}
 
-/// Spendings that no search of small sheets may tell.
+/// Which clauses a small trail settles, and where a conflict has its first unique implication point.
+pub fn trails_are_worked()
+    ensures settled { WorkedSettled }
+    ensures first_point { WorkedFirstPoint }
+{}
+
+/// Which logs of a small sheet are lawful, and which of these list its maximal sets.
+pub fn logs_are_worked()
+    ensures new { WorkedNewClauses }
+    ensures lawful { WorkedLawfulLogs }
+    ensures listing { WorkedListingLogs }
+{}
+
+/// What a search of small sheets may say that it has spent, and what it may not.
 pub fn spendings_are_worked()
-    ensures { WorkedSpendings }
+    ensures counts { WorkedSpendings }
+    ensures logs { WorkedLogSpendings }
 {}
