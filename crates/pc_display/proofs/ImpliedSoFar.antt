@@ -9,8 +9,8 @@ use Rattle.pc_writer.specs.Spelling.{joined, sort_of}
 use Rattle.pc_writer.specs.Writes.{Writes}
 use Rattle.pc_writer.proofs.InTurn.{Writes-then, Writes-cut, Writes-same}
 use Rattle.pc_display.specs.Supports.{Reasoning}
-use Rattle.pc_display.specs.Show.{reason_of}
-use Rattle.pc_display.specs.Grid.{implied_text, listed_texts}
+use Rattle.pc_display.specs.Show.{listed_texts, reason_of}
+use Rattle.pc_display.specs.Grid.{implied_text}
 use Rattle.pc_display.specs.inside.Columns.{next_text, some_more}
 use Rattle.pc_display.proofs.Below.{one_more, rest_of}
 use Rattle.pc_display.proofs.Joining.{is_any, any_next, joined_next, listed_front}

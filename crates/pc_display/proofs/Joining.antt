@@ -7,7 +7,8 @@ use Rattle.pc_sheet.specs.declared.ids.SortId.{SortId}
 use Rattle.pc_sheet.specs.declared.ids.ValueId.{ValueId}
 use Rattle.pc_sheet.specs.declared.ids.Entry.{Entry}
 use Rattle.pc_writer.specs.Spelling.{joined, value_text}
-use Rattle.pc_display.specs.Grid.{implied_text, listed_texts}
+use Rattle.pc_display.specs.Show.{listed_texts}
+use Rattle.pc_display.specs.Grid.{implied_text}
 use Rattle.pc_display.specs.inside.Columns.{next_text, some_more}
 
 abbrev commas : List (List ℕ) → List ℕ

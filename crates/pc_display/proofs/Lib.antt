@@ -5,6 +5,7 @@ pub mod KeptLemmas
 pub mod LineLemmas
 pub mod Marked
 pub mod ObjectLemmas
+pub mod OwnEntries
 pub mod PlainData
 pub mod SameDisplay
 pub mod SheetLemmas

@@ -7,14 +7,15 @@ use Rattle.serde_json.specs.Written.{has_float, items_have_float}
 use Rattle.pc_sheet.specs.Sheet.{Universe, Sheet}
 use Rattle.pc_sheet.specs.Sizes.{size_of}
 use Rattle.pc_sheet.specs.Cells.{cells, values_below}
+use Rattle.pc_sheet.specs.WellFormed.{entries_of}
 use Rattle.pc_sheet.specs.declared.ids.SortId.{SortId}
 use Rattle.pc_sheet.specs.declared.ids.CellId.{CellId}
 use Rattle.pc_sheet.specs.declared.ids.ValueId.{ValueId}
 use Rattle.pc_sheet.specs.declared.ids.Entry.{Entry}
 use Rattle.pc_writer.specs.Spelling.{sort_of, value_text}
 use Rattle.pc_display.specs.Supports.{Reasoning}
-use Rattle.pc_display.specs.Show.{cells_below, conflict_of, entry_of, reason_of}
-use Rattle.pc_display.specs.Json.{all_implied_data, array_of, cell_data, conflict_data, entered_data, entries_data, entry_data, implied_data, sheet_data}
+use Rattle.pc_display.specs.Show.{cells_below, conflict_of, reason_of}
+use Rattle.pc_display.specs.Json.{all_implied_data, array_of, cell_data, conflict_data, conflicts_data, entered_data, entries_data, entry_data, implied_data, one_or_all, sheet_data, value_data}
 
 -- without a number that has a fraction, and at most so many levels deep
 pub record IsPlain (most : ℕ) (d : Data) : Type 0 where
@@ -37,6 +38,14 @@ items_plain n (d ∷ ds) each =
 array_plain : (n : ℕ) (ds : List Data) → ArePlain n ds → IsPlain (n + 1) (array_of ds)
 array_plain n ds each = let inner = items_plain n ds each in record { float = inner.0; deep = omega (arith, inner.1) }
 
+null_plain : IsPlain 0 null
+null_plain = record { float = refl; deep = omega arith }
+
+one_or_all_plain : (n : ℕ) (ds : List Data) → ArePlain n ds → IsPlain (n + 1) (one_or_all ds)
+one_or_all_plain n [] each = deeper 0 (n + 1) null (omega arith) null_plain
+one_or_all_plain n (d ∷ []) each = deeper n (n + 1) d (omega arith) each.0
+one_or_all_plain n (d ∷ e ∷ ds) each = array_plain n (d ∷ e ∷ ds) each
+
 append_plain : (n : ℕ) (ds es : List Data) → ArePlain n ds → ArePlain n es → ArePlain n (ds ++ es)
 append_plain n [] es each more = more
 append_plain n (d ∷ ds) es each more = (each.0, append_plain n ds es each.1 more)
@@ -53,9 +62,6 @@ module _ {X : Type 0} (n : ℕ) where
 string_plain : (text : List ℕ) → IsPlain 0 (string text)
 string_plain text = record { float = refl; deep = omega arith }
 
-null_plain : IsPlain 0 null
-null_plain = record { float = refl; deep = omega arith }
-
 module _ (u : Universe) where
   entries_plain : (es : List Entry) → IsPlain 1 (entries_data u es)
   entries_plain es = array_plain 0 (map (entry_data u) es) (map_plain 0 (entry_data u) (λ e. record { float = refl; deep = omega arith }) es)
@@ -64,9 +70,13 @@ module _ (u : Universe) where
   conflict_plain None = deeper 0 1 null (omega arith) null_plain
   conflict_plain (Some support) = entries_plain support
 
-  entered_plain : (s : SortId) (entry : Option Entry) → IsPlain 0 (entered_data u s entry)
-  entered_plain s None = null_plain
-  entered_plain s (Some e) = string_plain (value_text u s e.value)
+  conflicts_plain : (reason : Reasoning) (es : List Entry) → IsPlain 2 (conflicts_data u reason es)
+  conflicts_plain reason es =
+      let clash : Entry → Data = λ e. conflict_data u (conflict_of reason e) in
+      one_or_all_plain 1 (map clash es) (map_plain 1 clash (λ e. conflict_plain (conflict_of reason e)) es)
+
+  entered_plain : (s : SortId) (es : List Entry) → IsPlain 1 (entered_data u s es)
+  entered_plain s es = one_or_all_plain 0 (map (value_data u s) es) (map_plain 0 (value_data u s) (λ e. string_plain (value_text u s e.value)) es)
 
   implied_plain : (s : SortId) (v : ValueId) (found : Option (List Entry)) → ArePlain 2 (implied_data u s v found)
   implied_plain s v None = tt
@@ -77,9 +87,9 @@ module _ (u : Universe) where
 cell_plain : (sheet : Sheet) (reason : Reasoning) (c : CellId) → IsPlain 4 (cell_data sheet reason c)
 cell_plain sheet reason c =
     let u = sheet.universe in
-    let entry = entry_of sheet.entries c in
-    let conflict = conflict_plain u (conflict_of reason entry) in
-    let entered = entered_plain u (sort_of u c) entry in
+    let es = entries_of c sheet.entries in
+    let conflict = conflicts_plain u reason es in
+    let entered = entered_plain u (sort_of u c) es in
     let implied = array_plain 2 (all_implied_data u reason c) (flat_plain 2 (λ v. implied_data u (sort_of u c) v (reason_of reason c v)) (λ v. implied_plain u (sort_of u c) v (reason_of reason c v)) (values_below (size_of u (sort_of u c)))) in
     record {
       float = ap₂ (λ a b. a || b) conflict.float (ap₂ (λ a b. a || b) entered.float (ap₂ (λ a b. a || b) implied.float refl));

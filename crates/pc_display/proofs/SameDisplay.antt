@@ -1,7 +1,8 @@
 -- Two reasonings of a sheet give the same displays, since least supports are unique.
-use Rattle.std.proofs.Common.{◌≡◌, ℕ, zero, suc, ◌<◌, true, false, List, [], ◌∷◌, ◌++◌, codes, length, map, Option, None, Some, is_some, IfSome, arith, refl, sym, ◌∙◌, ap, ap₂, inl, inr}
-use Rattle.std.specs.List.{flat_map}
+use Rattle.std.proofs.Common.{◌≡◌, ℕ, zero, suc, ◌+◌, ◌<◌, Bool, true, ◌||◌, List, [], ◌∷◌, ◌++◌, codes, length, map, Option, None, Some, is_some, All, arith, refl, sym, ◌∙◌, ap, ap₂, inl, inr}
+use Rattle.std.specs.List.{flat_map, list_any}
 use Rattle.std.proofs.lemmas.List.{map-append}
+use Rattle.std.proofs.lemmas.List.Elements.{All-head, All-tail}
 use Rattle.std.proofs.lemmas.List.Concat.{flat_map-append}
 use Rattle.serde_json.specs.Data.{Data}
 use Rattle.serde_json.specs.Written.{compact_text}
@@ -11,8 +12,8 @@ use Rattle.pc_sheet.proofs.CellsListed.{cells_are_numbered}
 use Rattle.pc_sheet.specs.Sheet.{Sheet}
 use Rattle.pc_sheet.specs.Sizes.{size_of}
 use Rattle.pc_sheet.specs.Cells.{cells, values_below}
-use Rattle.pc_sheet.specs.Entailment.{cell_sizes}
-use Rattle.pc_sheet.specs.WellFormed.{IsWellFormed, IsEntryOf}
+use Rattle.pc_sheet.specs.Entailment.{cell_sizes, opposite_of}
+use Rattle.pc_sheet.specs.WellFormed.{entries_of, IsWellFormed, IsEntryOf}
 use Rattle.pc_sheet.specs.declared.ids.CellId.{CellId}
 use Rattle.pc_sheet.specs.declared.ids.ValueId.{ValueId}
 use Rattle.pc_sheet.specs.declared.ids.Entry.{Entry}
@@ -21,11 +22,26 @@ use Rattle.pc_writer.specs.Spelling.{cell_text, sort_of}
 use Rattle.pc_reason.specs.Reasons.{IsTargetOf}
 use Rattle.pc_display.specs.OneDisplay.{HasOneText, SheetHasOneDisplay}
 use Rattle.pc_display.specs.Supports.{IsSupportFor, IsReasoning, Reasoning}
-use Rattle.pc_display.specs.Show.{cell_lines, cells_below, conflict_line, conflict_of, entry_of, head_line, reason_of, value_line, show_text}
+use Rattle.pc_display.specs.Show.{are_several, cell_lines, cells_below, conflict_line, conflict_of, have_conflict, head_line, listed_texts, reason_of, value_line, show_text}
 use Rattle.pc_writer.specs.SheetText.{ended}
-use Rattle.pc_display.specs.Grid.{conflict_column, entry_column, grid_line, grid_text, implied_text, listed_texts, padded, widest}
-use Rattle.pc_display.specs.Json.{array_of, cell_data, conflict_data, entered_data, implied_data, json_text, object_data, sheet_data}
-use Rattle.pc_display.proofs.SheetLemmas.{entry_is_of, is_target, same_reason}
+use Rattle.pc_display.specs.Grid.{conflict_column, entry_column, grid_line, grid_text, implied_text, padded, widest}
+use Rattle.pc_display.specs.Json.{array_of, cell_data, conflict_data, entered_data, implied_data, json_text, object_data, one_or_all, sheet_data}
+use Rattle.pc_display.proofs.SheetLemmas.{is_target, own_are_entries, same_reason}
+
+-- ---- the same of each entry
+
+module _ (P : Entry → Type 0) where
+  same_any : (f g : Entry → Bool) → ((e : Entry) → P e → f e ≡ g e) → (es : List Entry) → All P es → list_any f es ≡ list_any g es
+  same_any f g same [] each = refl
+  same_any f g same (e ∷ es) each = ap₂ (λ a b. a || b) (same e (All-head P e es each)) (same_any f g same es (All-tail P e es each))
+
+  same_map : {A : Type 0} (f g : Entry → A) → ((e : Entry) → P e → f e ≡ g e) → (es : List Entry) → All P es → map f es ≡ map g es
+  same_map f g same [] each = refl
+  same_map f g same (e ∷ es) each = ap₂ (λ x xs. x ∷ xs) (same e (All-head P e es each)) (same_map f g same es (All-tail P e es each))
+
+  same_flat_map : {A : Type 0} (f g : Entry → List A) → ((e : Entry) → P e → f e ≡ g e) → (es : List Entry) → All P es → flat_map f es ≡ flat_map g es
+  same_flat_map f g same [] each = refl
+  same_flat_map f g same (e ∷ es) each = ap₂ (λ xs ys. xs ++ ys) (same e (All-head P e es each)) (same_flat_map f g same es (All-tail P e es each))
 
 -- ---- the same lists one after another
 
@@ -48,9 +64,11 @@ module _ (sheet : Sheet) (formed : IsWellFormed sheet) (one other : Reasoning) (
   same_at : (t : Target) → IsTargetOf sheet.universe t → one t ≡ other t
   same_at t target = same_reason sheet t (one t) (other t) (is t target) (so t target)
 
-  same_conflict : (entry : Option Entry) → IfSome entry (IsEntryOf sheet.universe) → conflict_of one entry ≡ conflict_of other entry
-  same_conflict None fit = refl
-  same_conflict (Some e) fit = same_at (record { cell = e.cell; value = e.value; holds = false }) fit
+  same_conflict : (e : Entry) → IsEntryOf sheet.universe e → conflict_of one e ≡ conflict_of other e
+  same_conflict e fit = same_at (opposite_of e) fit
+
+  same_clashes : (es : List Entry) → All (IsEntryOf sheet.universe) es → have_conflict one es ≡ have_conflict other es
+  same_clashes es each = same_any (IsEntryOf sheet.universe) (λ e. is_some (conflict_of one e)) (λ e. is_some (conflict_of other e)) (λ e fit. ap is_some (same_conflict e fit)) es each
 
   -- what a cell's values give by their reasons
   same_values : {A : Type 0} (list : ValueId → Option (List Entry) → List A) (c : CellId) → c.0 < length (cell_sizes sheet.universe)
@@ -69,10 +87,13 @@ module _ (sheet : Sheet) (formed : IsWellFormed sheet) (one other : Reasoning) (
   same_lines : (c : CellId) → c.0 < length (cell_sizes sheet.universe) → cell_lines sheet one c ≡ cell_lines sheet other c
   same_lines c within =
       let u = sheet.universe in
-      let entry = entry_of sheet.entries c in
-      let conflict = same_conflict entry (entry_is_of sheet formed c) in
-      ap₂ (λ xs ys. xs ++ ys) (ap (λ o. head_line u c entry (is_some o)) conflict)
-      (ap₂ (λ xs ys. xs ++ ys) (same_values (value_line u (sort_of u c)) c within) (ap (conflict_line u) conflict))
+      let s = sort_of u c in
+      let es = entries_of c sheet.entries in
+      let each = own_are_entries u sheet.entries formed.entries.each c in
+      let line : Reasoning → Entry → List ℕ = λ reason e. conflict_line u s (are_several es) e.value (conflict_of reason e) in
+      ap₂ (λ xs ys. xs ++ ys) (ap (head_line u c es) (same_clashes es each))
+      (ap₂ (λ xs ys. xs ++ ys) (same_values (value_line u s) c within)
+      (same_flat_map (IsEntryOf u) (line one) (line other) (λ e fit. ap (conflict_line u s (are_several es) e.value) (same_conflict e fit)) es each))
 
   same_shown : show_text sheet one ≡ show_text sheet other
   same_shown =
@@ -84,10 +105,11 @@ module _ (sheet : Sheet) (formed : IsWellFormed sheet) (one other : Reasoning) (
   same_line : (cell_width entry_width : ℕ) (c : CellId) → c.0 < length (cell_sizes sheet.universe) → grid_line sheet one cell_width entry_width c ≡ grid_line sheet other cell_width entry_width c
   same_line cell_width entry_width c within =
       let u = sheet.universe in
-      let line : Option (List Entry) → List (List ℕ) → List ℕ = λ conflict texts. ended (
-      padded cell_width (cell_text u c) ++ (codes "  " ++ (padded entry_width (entry_column sheet c) ++ (codes "  " ++ (conflict_column (is_some conflict) ++ (codes "  " ++ listed_texts texts)))))
+      let es = entries_of c sheet.entries in
+      let line : Bool → List (List ℕ) → List ℕ = λ clashes texts. ended (
+      padded cell_width (cell_text u c) ++ (codes "  " ++ (padded entry_width (entry_column sheet c) ++ (codes "  " ++ (conflict_column clashes ++ (codes "  " ++ listed_texts texts)))))
       ) in
-      ap₂ line (same_conflict (entry_of sheet.entries c) (entry_is_of sheet formed c)) (same_values (implied_text u (sort_of u c)) c within)
+      ap₂ line (same_clashes es (own_are_entries u sheet.entries formed.entries.each c)) (same_values (implied_text u (sort_of u c)) c within)
 
   same_grid : grid_text sheet one ≡ grid_text sheet other
   same_grid =
@@ -102,9 +124,10 @@ module _ (sheet : Sheet) (formed : IsWellFormed sheet) (one other : Reasoning) (
   same_object : (c : CellId) → c.0 < length (cell_sizes sheet.universe) → cell_data sheet one c ≡ cell_data sheet other c
   same_object c within =
       let u = sheet.universe in
-      let entry = entry_of sheet.entries c in
-      let whole : Option (List Entry) → List Data → Data = λ conflict implied. object_data (cell_text u c) (conflict_data u conflict) (entered_data u (sort_of u c) entry) (array_of implied) in
-      ap₂ whole (same_conflict entry (entry_is_of sheet formed c)) (same_values (implied_data u (sort_of u c)) c within)
+      let es = entries_of c sheet.entries in
+      let clash : Reasoning → Entry → Data = λ reason e. conflict_data u (conflict_of reason e) in
+      let whole : List Data → List Data → Data = λ conflicts implied. object_data (cell_text u c) (one_or_all conflicts) (entered_data u (sort_of u c) es) (array_of implied) in
+      ap₂ whole (same_map (IsEntryOf u) (clash one) (clash other) (λ e fit. ap (conflict_data u) (same_conflict e fit)) es (own_are_entries u sheet.entries formed.entries.each c)) (same_values (implied_data u (sort_of u c)) c within)
 
   same_data : sheet_data sheet one ≡ sheet_data sheet other
   same_data =

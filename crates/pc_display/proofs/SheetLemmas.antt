@@ -1,13 +1,14 @@
--- What a display asks for is of the sheet: entries that it finds, and supports that reasons give.
-use Rattle.std.proofs.Common.{◌≡◌, ℕ, ◌<◌, Bool, true, false, cond, List, [], ◌∷◌, ◌++◌, codes, length, Option, None, Some, is_some, slice_get, IsSomeAnd, IfSome, All, nat_eq, eqb-true, refl, sym, ◌∙◌, ap, subst, inl, inr}
+-- What a display asks for is of the sheet: the cell's entries that it finds, and supports that reasons give.
+use Rattle.std.proofs.Common.{◌≡◌, ℕ, ◌<◌, ◌≤◌, Bool, true, List, [], ◌∷◌, length, get_or, Option, None, Some, is_some, slice_get, IsSomeAnd, All, eqb-true, arith, refl, sym, ◌∙◌, ap, subst, inl, inr}
 use Rattle.std.specs.Borrow.{Bor}
 use Rattle.std.specs.Option.{option_copied}
-use Rattle.std.proofs.lemmas.List.Elements.{All-cons, All-head, All-tail}
+use Rattle.std.proofs.lemmas.List.Elements.{All-cons, All-head, All-tail, All-filter, All-get_or, filter_passes}
 use Rattle.pc_laws.proofs.Order.{irreflexive, transitive}
 use Rattle.pc_sheet.specs.Sheet.{Universe, Sheet}
 use Rattle.pc_sheet.specs.Sizes.{size_of}
-use Rattle.pc_sheet.specs.Entailment.{cell_sizes, IsSublist, IsLeastSupport}
-use Rattle.pc_sheet.specs.WellFormed.{IsWellFormed, IsEntryOf}
+use Rattle.pc_sheet.specs.Entailment.{cell_sizes, opposite_of, IsSublist, IsLeastSupport}
+use Rattle.pc_sheet.specs.Limits.{most_entries}
+use Rattle.pc_sheet.specs.WellFormed.{is_of_cell, entries_of, IsWellFormed, IsEntryOf}
 use Rattle.pc_sheet.specs.declared.ids.CellId.{CellId}
 use Rattle.pc_sheet.specs.declared.ids.ValueId.{ValueId}
 use Rattle.pc_sheet.specs.declared.ids.Entry.{Entry}
@@ -16,49 +17,39 @@ use Rattle.pc_writer.specs.Spelling.{sort_of}
 use Rattle.pc_writer.proofs.CellLemmas.{cell_size, entered_value}
 use Rattle.pc_reason.specs.Reasons.{IsTargetOf}
 use Rattle.pc_display.specs.Supports.{IsSupportFor, IsReasoning, Reasoning}
-use Rattle.pc_display.specs.Show.{against, conflict_line, conflict_of, entry_of, head_line, IsConflictOf}
-use Rattle.pc_writer.specs.SheetText.{ended}
+use Rattle.pc_display.specs.Show.{conflict_of, have_conflict}
+use Rattle.pc_display.specs.inside.Entered.{HaveValuesOf}
 
-sublist_all : (P : Entry → Type 0) (es s : List Entry) → IsSublist es s → All P es → All P s
+pub sublist_all : (P : Entry → Type 0) (es s : List Entry) → IsSublist es s → All P es → All P s
 sublist_all P [] s sub each = subst (All P) (sym sub) each
 sublist_all P (e ∷ es) s (inl sub) each = sublist_all P es s sub (All-tail P e es each)
 sublist_all P (e ∷ es) s (inr found) each =
     subst (All P) (sym found.1) (All-cons P e found.0 (All-head P e es each) (sublist_all P es found.0 found.2 (All-tail P e es each)))
 
-found_by : (test : Bool) (x : Entry) (rest : Option Entry) (Q : Entry → Type 0) → (test ≡ true → Q x) → IfSome rest Q → IfSome (cond test (Some x) rest) Q
-found_by true x rest Q here later = here refl
-found_by false x rest Q here later = later
-
-pub found_in : (c : CellId) (P Q : Entry → Type 0) → ((e : Entry) → P e → e.cell ≡ c → Q e) → (es : List Entry) → All P es → IfSome (entry_of es c) Q
-found_in c P Q so [] each = tt
-found_in c P Q so (e ∷ es) each =
-    found_by (nat_eq e.cell.0 c.0) e (entry_of es c) Q
-    (λ same. so e (All-head P e es each) (let number : ℕ → CellId = λ n. record { 0 = n } in ap number (eqb-true e.cell.0 c.0 same)))
-    (found_in c P Q so es (All-tail P e es each))
-
 pub is_some-copied : {X : Type 0} (o : Option (Bor X)) → is_some o ≡ is_some (option_copied o)
 is_some-copied None = refl
 is_some-copied (Some x) = refl
 
+-- those of a cell are entries, of that cell, and have values of its sort
+module _ (u : Universe) (es : List Entry) (each : All (IsEntryOf u) es) (c : CellId) where
+  pub own_are_entries : All (IsEntryOf u) (entries_of c es)
+  own_are_entries = All-filter (is_of_cell c) (IsEntryOf u) es each
+
+  own_have_values : HaveValuesOf u (sort_of u c) (entries_of c es)
+  own_have_values k d below =
+      let own = entries_of c es in
+      let e = get_or own k d in
+      let fit = All-get_or (IsEntryOf u) own k d below own_are_entries in
+      let same : e.cell.0 ≡ c.0 = eqb-true e.cell.0 c.0 (All-get_or (λ f. is_of_cell c f ≡ true) own k d below (filter_passes (is_of_cell c) es)) in
+      let number : ℕ → CellId = λ n. record { 0 = n } in
+      entered_value u e fit (sort_of u c) (ap (λ n. sort_of u (number n)) (sym same))
+
 module _ (sheet : Sheet) (formed : IsWellFormed sheet) where
-  pub entry_is_of : (c : CellId) → IfSome (entry_of sheet.entries c) (IsEntryOf sheet.universe)
-  entry_is_of c = found_in c (IsEntryOf sheet.universe) (IsEntryOf sheet.universe) (λ e fit same. fit) sheet.entries formed.entries.each
-
-  pub entry_value_fits : (c : CellId) → IfSome (entry_of sheet.entries c) (λ e. e.value.0 < size_of sheet.universe (sort_of sheet.universe c))
-  entry_value_fits c =
-      found_in c (IsEntryOf sheet.universe) (λ e. e.value.0 < size_of sheet.universe (sort_of sheet.universe c))
-      (λ e fit same. entered_value sheet.universe e fit (sort_of sheet.universe c) (ap (sort_of sheet.universe) (sym same)))
-      sheet.entries formed.entries.each
-
   pub support_fits : (t : Target) (found : Option (List Entry)) (s : List Entry) → IsSupportFor sheet t found → found ≡ Some s → All (IsEntryOf sheet.universe) s
   support_fits t None s is same = absurd (cc)
   support_fits t (Some r) s is same =
       let equal : r ≡ s = cc in
       subst (All (IsEntryOf sheet.universe)) equal (sublist_all (IsEntryOf sheet.universe) sheet.entries r is.supports.among formed.entries.each)
-
-  pub conflict_fits : (entry : Option Entry) (found : Option (List Entry)) (s : List Entry) → IsConflictOf sheet entry found → found ≡ Some s → All (IsEntryOf sheet.universe) s
-  conflict_fits None found s is same = absurd (cc)
-  conflict_fits (Some e) found s is same = support_fits (record { cell = e.cell; value = e.value; holds = false }) found s is same
 
 module _ (u : Universe) (c : CellId) (within : c.0 < length (cell_sizes u)) where
   pub is_target : (v : ValueId) (holds : Bool) → v.0 < size_of u (sort_of u c) → IsTargetOf u (record { cell = c; value = v; holds = holds })
@@ -92,54 +83,36 @@ same_reason sheet t None (Some s) p q = absurd (p (s, q.supports))
 same_reason sheet t (Some s) None p q = absurd (q (s, p.supports))
 same_reason sheet t (Some s) (Some r) p q = ap Some (same_least sheet s r t p q)
 
-same_conflict : (sheet : Sheet) (reason : Reasoning) → IsReasoning sheet reason → (entry : Option Entry) → IfSome entry (IsEntryOf sheet.universe) → (found : Option (List Entry)) → IsConflictOf sheet entry found → found ≡ conflict_of reason entry
-same_conflict sheet reason is None fit found none = none
-same_conflict sheet reason is (Some e) fit found so =
-    let t : Target = record { cell = e.cell; value = e.value; holds = false } in
-    same_reason sheet t found (reason t) so (is t fit)
+pub same_conflict : (sheet : Sheet) (reason : Reasoning) → IsReasoning sheet reason → (e : Entry) → IsEntryOf sheet.universe e → (found : Option (List Entry)) → IsSupportFor sheet (opposite_of e) found → found ≡ conflict_of reason e
+same_conflict sheet reason is e fit found so = same_reason sheet (opposite_of e) found (reason (opposite_of e)) so (is (opposite_of e) fit)
 
--- ---- the cell's entry, found in the book, and its conflict
+-- ---- the cell's entries, found in the book
 
-module _ (sheet book : Sheet) (same : book ≡ sheet) (formed : IsWellFormed book) (es : List Entry) (are : es ≡ book.entries) (c : CellId) (found : Option Entry) (is : found ≡ entry_of es c) where
-  found_is : found ≡ entry_of sheet.entries c
-  found_is = is ∙ ap (λ xs. entry_of xs c) are ∙ ap (λ s. entry_of s.entries c) same
+module _ (sheet book : Sheet) (same : book ≡ sheet) (formed : IsWellFormed book) (c : CellId) (own : List Entry) (are : own ≡ entries_of c book.entries) where
+  pub own_are : own ≡ entries_of c sheet.entries
+  own_are = are ∙ ap (λ s. entries_of c s.entries) same
 
-  pub found_fits : IfSome found (IsEntryOf sheet.universe)
-  found_fits =
-      let P : Option Entry → Type 0 = λ o. IfSome o (IsEntryOf sheet.universe) in
-      subst P (sym found_is) (entry_is_of sheet (subst IsWellFormed same formed) c)
+  pub own_fit : All (IsEntryOf sheet.universe) own
+  own_fit = subst (All (IsEntryOf sheet.universe)) (sym own_are) (own_are_entries sheet.universe sheet.entries (subst IsWellFormed same formed).entries.each c)
 
-  pub found_value_fits : IfSome found (λ e. e.value.0 < size_of book.universe (sort_of book.universe c))
-  found_value_fits =
-      let P : Option Entry → Type 0 = λ o. IfSome o (λ e. e.value.0 < size_of book.universe (sort_of book.universe c)) in
-      subst P (sym (is ∙ ap (λ xs. entry_of xs c) are)) (entry_value_fits book formed c)
+  pub own_values : HaveValuesOf sheet.universe (sort_of sheet.universe c) own
+  own_values = subst (HaveValuesOf sheet.universe (sort_of sheet.universe c)) (sym own_are) (own_have_values sheet.universe sheet.entries (subst IsWellFormed same formed).entries.each c)
 
-  module _ (conflict : Option (Bor (List Entry))) (against_it : IsConflictOf sheet found (option_copied conflict)) where
-    pub conflict_support_fits : (support : Bor (List Entry)) → conflict ≡ Some support → All (IsEntryOf book.universe) support.now
-    conflict_support_fits support some =
-        let P : Sheet → Type 0 = λ s. All (IsEntryOf s.universe) support.now in
-        subst P (sym same) (conflict_fits sheet (subst IsWellFormed same formed) found (option_copied conflict) support.now against_it (ap option_copied some))
+  pub own_few : length own ≤ most_entries
+  own_few = let few = formed.entries.few c in omega (arith, few, ap (λ (es : List Entry). length es) are)
 
-    module _ (reason : Reasoning) (reasons : IsReasoning sheet reason) where
-      pub conflict_is : option_copied conflict ≡ conflict_of reason (entry_of sheet.entries c)
-      conflict_is = same_conflict sheet reason reasons found found_fits (option_copied conflict) against_it ∙ ap (conflict_of reason) found_is
+-- ... which is the sheet
+pub book_values : (book : Sheet) → IsWellFormed book → (c : CellId) (own : List Entry) → own ≡ entries_of c book.entries → HaveValuesOf book.universe (sort_of book.universe c) own
+book_values book formed c own are = own_values book book refl formed c own are
 
-      -- what is made of the cell's entry, and of whether it clashes
-      pub with_entry : {A : Type 0} (made : Universe → Option Entry → Bool → A) (clashes : Bool) → clashes ≡ is_some conflict
-          → made book.universe found clashes ≡ made sheet.universe (entry_of sheet.entries c) (is_some (conflict_of reason (entry_of sheet.entries c)))
-      with_entry made clashes is =
-          ap (λ s. made s.universe found clashes) same
-          ∙ ap (λ o. made sheet.universe o clashes) found_is
-          ∙ ap (made sheet.universe (entry_of sheet.entries c)) (is ∙ is_some-copied conflict ∙ ap is_some conflict_is)
+-- what is made of the cell's entries, and of whether one of them clashes
+pub with_entries : {A : Type 0} (sheet book : Sheet) → book ≡ sheet → (c : CellId) (own : List Entry) → own ≡ entries_of c book.entries → (reason : Reasoning) (clashes : Bool) → clashes ≡ have_conflict reason own
+    → (made : Universe → List Entry → Bool → A) → made book.universe own clashes ≡ made sheet.universe (entries_of c sheet.entries) (have_conflict reason (entries_of c sheet.entries))
+with_entries sheet book same c own are reason clashes is made =
+    ap (made book.universe own) is
+    ∙ ap (λ es. made book.universe es (have_conflict reason es)) are
+    ∙ ap (λ s. made s.universe (entries_of c s.entries) (have_conflict reason (entries_of c s.entries))) same
 
-      pub head_is : (clashes : Bool) → clashes ≡ is_some conflict → head_line book.universe c found clashes ≡ head_line sheet.universe c (entry_of sheet.entries c) (is_some (conflict_of reason (entry_of sheet.entries c)))
-      head_is clashes is = with_entry (λ u entry b. head_line u c entry b) clashes is
-
-      pub no_conflict_line : conflict ≡ None → [] ≡ conflict_line sheet.universe (conflict_of reason (entry_of sheet.entries c))
-      no_conflict_line none = ap (conflict_line sheet.universe) (sym (ap option_copied none) ∙ conflict_is)
-
-      pub conflict_line_is : (support : Bor (List Entry)) → conflict ≡ Some support
-          → ended (codes "  ! against " ++ against book.universe support.now) ≡ conflict_line sheet.universe (conflict_of reason (entry_of sheet.entries c))
-      conflict_line_is support some =
-          ap (λ s. ended (codes "  ! against " ++ against s.universe support.now)) same
-          ∙ ap (conflict_line sheet.universe) (sym (ap option_copied some) ∙ conflict_is)
+-- whether an entry has a conflict, as its support was answered
+pub clashes_is : (sheet : Sheet) (reason : Reasoning) → IsReasoning sheet reason → (e : Entry) → IsEntryOf sheet.universe e → (found : Option (Bor (List Entry))) → IsSupportFor sheet (opposite_of e) (option_copied found) → is_some found ≡ is_some (conflict_of reason e)
+clashes_is sheet reason is e fit found so = is_some-copied found ∙ ap is_some (same_conflict sheet reason is e fit (option_copied found) so)

@@ -4,7 +4,7 @@ use Rattle.std.specs.List.{flat_map}
 use Rattle.std.specs.Str.{IsUtf8}
 use Rattle.std.proofs.Math.Utf8.{encode}
 use Rattle.std.proofs.lemmas.Fmt.{IsAscii-signed}
-use Rattle.std.proofs.lemmas.List.Elements.{All-get_or}
+use Rattle.std.proofs.lemmas.List.Elements.{All-get_or, All-head, All-tail}
 use Rattle.std.proofs.lemmas.Option.{slice_get-get_or}
 use Rattle.std.proofs.lemmas.Str.{IsUtf8-append, IsUtf8-nil, IsUtf8-from_ascii}
 use Rattle.pc_name.specs.Names.{IsName}
@@ -22,6 +22,8 @@ use Rattle.pc_writer.proofs.CellLemmas.{arguments_within, entered_cell, entered_
 use Rattle.pc_canonical.proofs.Named.{IsSpelledValue}
 use Rattle.pc_canonical.proofs.Scalars.{name_utf8}
 use Rattle.pc_canonical.proofs.Spelled.{family_named, value_spelled}
+use Rattle.pc_display.specs.Show.{entered_texts}
+use Rattle.pc_display.specs.inside.Entered.{HaveValuesOf}
 
 -- ---- lists of texts
 
@@ -75,6 +77,10 @@ module _ (u : Universe) (formed : IsWellFormedUniverse u) where
   values_utf8 [] vs within = tt
   values_utf8 (s ∷ ss) [] within = tt
   values_utf8 (s ∷ ss) (v ∷ vs) within = (value_utf8 s v within.0, values_utf8 ss vs within.1)
+
+  pub entered_utf8 : (s : SortId) (es : List Entry) → HaveValuesOf u s es → AreUtf8 (entered_texts u s es)
+  entered_utf8 s [] each = tt
+  entered_utf8 s (e ∷ es) each = (value_utf8 s e.value (All-head (λ f. f.value.0 < size_of u s) e es each), entered_utf8 s es (All-tail (λ f. f.value.0 < size_of u s) e es each))
 
   pub cell_named : (c : CellId) → c.0 < length (cell_sizes u) → IsName (name_of (family_of u c))
   cell_named c within =

@@ -94,6 +94,32 @@ two_entries = colored (codes "a" ∷ codes "b" ∷ codes "c" ∷ []) (entry 0 0 
 abbrev pub two_entries_reasons : Reasoning
 two_entries_reasons = listed_reasons ((has 0 0, entry 0 0 ∷ []) ∷ (has 1 0, entry 1 0 ∷ []) ∷ (has 2 0, entry 0 0 ∷ entry 1 0 ∷ []) ∷ [])
 
+-- three equal cells, of which the first has two views
+abbrev pub two_views : Sheet
+two_views = colored (codes "a" ∷ codes "b" ∷ codes "c" ∷ []) (entry 0 0 ∷ entry 0 1 ∷ [])
+
+abbrev pub a_is_green : List Entry
+a_is_green = entry 0 1 ∷ []
+
+abbrev pub two_views_reasons : Reasoning
+two_views_reasons =
+    listed_reasons (
+    (has 0 0, a_is_red) ∷ (has 0 1, a_is_green) ∷ (has 1 0, a_is_red) ∷ (has 1 1, a_is_green) ∷ (has 2 0, a_is_red) ∷ (has 2 1, a_is_green)
+    ∷ (lacks 0 0, a_is_green) ∷ (lacks 0 1, a_is_red) ∷ []
+    )
+
+-- a cell that is entered as green first, and then as red too, with an entry of another cell between the two
+abbrev pub green_and_red : Sheet
+green_and_red = colored (codes "a" ∷ codes "b" ∷ []) (entry 0 1 ∷ entry 1 0 ∷ entry 0 0 ∷ [])
+
+-- where the rules want the first cell red, the view that it is green clashes, and the other one doesn't
+abbrev pub rules_want_red : Reasoning
+rules_want_red = listed_reasons ((has 0 0, []) ∷ (lacks 0 1, []) ∷ (has 1 0, entry 1 0 ∷ []) ∷ [])
+
+-- where they contradict each other nothing is implied, so nothing clashes
+abbrev pub nothing_implied : Reasoning
+nothing_implied = listed_reasons []
+
 -- a number of each person and each number from -1 to 1, where f(ann, 1) = -1 is entered
 abbrev pub numbers_of_persons : Sheet
 numbers_of_persons = record {
@@ -119,6 +145,20 @@ pub record DisplaysAreThese : Type 0 where
   -- an entry that the rules alone are against
   pub without_rules : show_text against_rules against_rules_reasons
       ≡ lines (codes "a : red !" ∷ codes "  = green always" ∷ codes "  ! against the rules" ∷ [])
+  -- two views of one cell
+  pub views : show_text two_views two_views_reasons
+      ≡ lines (
+      codes "a : red, green !" ∷ codes "  = red because a = red" ∷ codes "  = green because a = green" ∷ codes "  ! red against a = green" ∷ codes "  ! green against a = red"
+      ∷ codes "b : -" ∷ codes "  = red because a = red" ∷ codes "  = green because a = green"
+      ∷ codes "c : -" ∷ codes "  = red because a = red" ∷ codes "  = green because a = green" ∷ []
+      )
+  -- of which the oldest one clashes with the rules alone
+  pub one_view : show_text green_and_red rules_want_red
+      ≡ lines (
+      codes "a : green, red !" ∷ codes "  = red always" ∷ codes "  ! green against the rules" ∷ codes "b : red" ∷ codes "  = red because b = red" ∷ []
+      )
+  -- of which none does
+  pub no_view : show_text green_and_red nothing_implied ≡ lines (codes "a : green, red" ∷ codes "b : red" ∷ [])
   -- a reason of two entries
   pub two_of_them : show_text two_entries two_entries_reasons
       ≡ lines (
@@ -156,6 +196,10 @@ pub record GridsAreThese : Type 0 where
   pub always : grid_text one_value (listed_reasons ((has 0 0, []) ∷ [])) ≡ lines (codes "a  -     v" ∷ [])
   pub clashing : grid_text clash clash_reasons ≡ lines (codes "a  red    !  red, green" ∷ codes "b  -         red, green" ∷ codes "c  green  !  red, green" ∷ [])
   pub without_rules : grid_text against_rules against_rules_reasons ≡ lines (codes "a  red  !  green" ∷ [])
+  pub views : grid_text two_views two_views_reasons
+      ≡ lines (codes "a  red, green  !  red, green" ∷ codes "b  -              red, green" ∷ codes "c  -              red, green" ∷ [])
+  pub one_view : grid_text green_and_red rules_want_red ≡ lines (codes "a  green, red  !  red" ∷ codes "b  red            red" ∷ [])
+  pub no_view : grid_text green_and_red nothing_implied ≡ lines (codes "a  green, red     -" ∷ codes "b  red            -" ∷ [])
   pub arguments : grid_text numbers_of_persons (listed_reasons ((has 2 0, entry 2 0 ∷ []) ∷ (has 5 1, entry 2 0 ∷ []) ∷ []))
       ≡ lines (
       codes "f(ann, -1)  -      -" ∷ codes "f(ann, 0)   -      -" ∷ codes "f(ann, 1)   -1     -1"
@@ -183,5 +227,13 @@ pub record JsonTextsAreThese : Type 0 where
   pub clashing : json_text (colored (codes "a" ∷ codes "b" ∷ []) (entry 0 0 ∷ entry 1 1 ∷ [])) (listed_reasons ((has 0 0, a_is_red) ∷ (has 0 1, entry 1 1 ∷ []) ∷ (lacks 0 0, entry 1 1 ∷ []) ∷ []))
       ≡ codes "[{\"cell\":\"a\",\"conflict\":[\"b = green\"],\"entry\":\"red\",\"implied\":[{\"because\":[\"a = red\"],\"value\":\"red\"},{\"because\":[\"b = green\"],\"value\":\"green\"}]},"
       ++ codes "{\"cell\":\"b\",\"conflict\":null,\"entry\":\"green\",\"implied\":[]}]"
+  -- two views of one cell: each clashes, the oldest alone, none
+  pub each_view : json_text (colored (codes "a" ∷ []) (entry 0 1 ∷ entry 0 0 ∷ [])) two_views_reasons
+      ≡ codes "[{\"cell\":\"a\",\"conflict\":[[\"a = red\"],[\"a = green\"]],\"entry\":[\"green\",\"red\"],"
+      ++ codes "\"implied\":[{\"because\":[\"a = red\"],\"value\":\"red\"},{\"because\":[\"a = green\"],\"value\":\"green\"}]}]"
+  pub one_view : json_text (colored (codes "a" ∷ []) (entry 0 1 ∷ entry 0 0 ∷ [])) rules_want_red
+      ≡ codes "[{\"cell\":\"a\",\"conflict\":[[],null],\"entry\":[\"green\",\"red\"],\"implied\":[{\"because\":[],\"value\":\"red\"}]}]"
+  pub no_view : json_text (colored (codes "a" ∷ []) (entry 0 1 ∷ entry 0 0 ∷ [])) nothing_implied
+      ≡ codes "[{\"cell\":\"a\",\"conflict\":[null,null],\"entry\":[\"green\",\"red\"],\"implied\":[]}]"
   -- of a sheet without cells
   pub nothing : json_text (colored [] []) (listed_reasons []) ≡ codes "[]"

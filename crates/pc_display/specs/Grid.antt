@@ -1,17 +1,18 @@
--- The display as a table: a line for each cell, with its entry, the mark of a conflict and its implied values in columns.
-use Rattle.std.specs.Prelude.{◌≡◌, ℕ, ◌-◌, max, Bool, true, false, List, [], ◌∷◌, ◌++◌, codes, chars, length, map, replicate, Option, Some, None, is_some}
+-- The display as a table: a line for each cell, with its entries, the mark of a conflict and its implied values in columns.
+use Rattle.std.specs.Prelude.{◌≡◌, ℕ, ◌-◌, max, Bool, true, false, List, [], ◌∷◌, ◌++◌, codes, chars, length, map, replicate, Option, Some, None}
 use Rattle.std.specs.List.{flat_map}
 use Rattle.unicode_width.specs.Width.{str_width}
 use Rattle.pc_sheet.specs.Sheet.{Universe, Sheet}
 use Rattle.pc_sheet.specs.Sizes.{size_of}
 use Rattle.pc_sheet.specs.Cells.{cells, values_below}
+use Rattle.pc_sheet.specs.WellFormed.{entries_of}
 use Rattle.pc_sheet.specs.declared.ids.SortId.{SortId}
 use Rattle.pc_sheet.specs.declared.ids.CellId.{CellId}
 use Rattle.pc_sheet.specs.declared.ids.ValueId.{ValueId}
 use Rattle.pc_sheet.specs.declared.ids.Entry.{Entry}
-use Rattle.pc_writer.specs.Spelling.{value_text, cell_text, sort_of, joined}
+use Rattle.pc_writer.specs.Spelling.{value_text, cell_text, sort_of}
 use Rattle.pc_display.specs.Supports.{Reasoning, IsReasoning}
-use Rattle.pc_display.specs.Show.{entry_of, entered_text, conflict_of, reason_of, cells_below}
+use Rattle.pc_display.specs.Show.{entered_text, have_conflict, listed_texts, reason_of, cells_below}
 use Rattle.pc_writer.specs.SheetText.{ended}
 
 -- ---- columns
@@ -31,11 +32,11 @@ padded width text = text ++ replicate (width - columns text) 32
 
 -- ---- what stands in the columns
 
--- the cell's entry, or a dash
+-- the values of the cell's entries, oldest first, or a dash
 abbrev pub entry_column : Sheet → CellId → List ℕ
-entry_column sheet c = entered_text sheet.universe (sort_of sheet.universe c) (entry_of sheet.entries c)
+entry_column sheet c = entered_text sheet.universe (sort_of sheet.universe c) (entries_of c sheet.entries)
 
--- a mark where the entry has a conflict, and else a space
+-- a mark where an entry has a conflict, and else a space
 abbrev pub conflict_column : Bool → List ℕ
 conflict_column false = codes " "
 conflict_column true = codes "!"
@@ -49,18 +50,13 @@ implied_text u s v (Some support) = value_text u s v ∷ []
 abbrev pub implied_texts : Universe → Reasoning → CellId → List (List ℕ)
 implied_texts u reason c = flat_map (λ v. implied_text u (sort_of u c) v (reason_of reason c v)) (values_below (size_of u (sort_of u c)))
 
--- texts with commas between them, or a dash where there are none
-abbrev pub listed_texts : List (List ℕ) → List ℕ
-listed_texts [] = codes "-"
-listed_texts (text ∷ texts) = joined (codes ", ") (text ∷ texts)
-
 -- ---- lines
 
 -- two spaces stand between columns, and the last column isn't filled up
 abbrev pub grid_line : Sheet → Reasoning → ℕ → ℕ → CellId → List ℕ
 grid_line sheet reason cell_width entry_width c =
     let u = sheet.universe in
-    let clashes = is_some (conflict_of reason (entry_of sheet.entries c)) in
+    let clashes = have_conflict reason (entries_of c sheet.entries) in
     ended (
     padded cell_width (cell_text u c) ++ (codes "  " ++ (padded entry_width (entry_column sheet c) ++ (codes "  " ++ (conflict_column clashes ++ (codes "  " ++ listed_texts (implied_texts u reason c))))))
     )

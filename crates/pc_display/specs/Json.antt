@@ -1,4 +1,4 @@
--- The display as JSON: an array with an object for each cell, which has its entry, what that clashes with, and its implied values
+-- The display as JSON: an array with an object for each cell, which has its entries, what they clash with, and its implied values
 -- with their reasons.
 use Rattle.std.specs.Prelude.{◌≡◌, ℕ, List, [], ◌∷◌, codes, length, map, Option, Some, None}
 use Rattle.std.specs.List.{flat_map}
@@ -8,13 +8,14 @@ use Rattle.serde_json.specs.Written.{compact_text}
 use Rattle.pc_sheet.specs.Sheet.{Universe, Sheet}
 use Rattle.pc_sheet.specs.Sizes.{size_of}
 use Rattle.pc_sheet.specs.Cells.{cells, values_below}
+use Rattle.pc_sheet.specs.WellFormed.{entries_of}
 use Rattle.pc_sheet.specs.declared.ids.SortId.{SortId}
 use Rattle.pc_sheet.specs.declared.ids.CellId.{CellId}
 use Rattle.pc_sheet.specs.declared.ids.ValueId.{ValueId}
 use Rattle.pc_sheet.specs.declared.ids.Entry.{Entry}
 use Rattle.pc_writer.specs.Spelling.{value_text, cell_text, entry_text, sort_of}
 use Rattle.pc_display.specs.Supports.{Reasoning, IsReasoning}
-use Rattle.pc_display.specs.Show.{entry_of, conflict_of, reason_of, cells_below}
+use Rattle.pc_display.specs.Show.{conflict_of, reason_of, cells_below}
 
 abbrev pub array_of : List Data → Data
 array_of ds = array (items_of ds)
@@ -28,15 +29,27 @@ entry_data u e = string (entry_text u e)
 abbrev pub entries_data : Universe → List Entry → Data
 entries_data u es = array_of (map (entry_data u) es)
 
--- what the entry clashes with, or null where it has no conflict
+-- null for none, one as it is, and an array of several
+abbrev pub one_or_all : List Data → Data
+one_or_all [] = null
+one_or_all (d ∷ []) = d
+one_or_all (d ∷ e ∷ ds) = array_of (d ∷ e ∷ ds)
+
+abbrev pub value_data : Universe → SortId → Entry → Data
+value_data u s e = string (value_text u s e.value)
+
+-- the values of the cell's entries, oldest first
+abbrev pub entered_data : Universe → SortId → List Entry → Data
+entered_data u s es = one_or_all (map (value_data u s) es)
+
+-- what an entry clashes with, or null where it has no conflict
 abbrev pub conflict_data : Universe → Option (List Entry) → Data
 conflict_data u None = null
 conflict_data u (Some support) = entries_data u support
 
--- the value that is entered, or null
-abbrev pub entered_data : Universe → SortId → Option Entry → Data
-entered_data u s None = null
-entered_data u s (Some e) = string (value_text u s e.value)
+-- of each of the cell's entries, oldest first
+abbrev pub conflicts_data : Universe → Reasoning → List Entry → Data
+conflicts_data u reason es = one_or_all (map (λ e. conflict_data u (conflict_of reason e)) es)
 
 -- a value with its reason
 abbrev pub reasoned_data : Data → List ℕ → Data
@@ -60,8 +73,8 @@ object_data cell conflict entry implied =
 abbrev pub cell_data : Sheet → Reasoning → CellId → Data
 cell_data sheet reason c =
     let u = sheet.universe in
-    let entry = entry_of sheet.entries c in
-    object_data (cell_text u c) (conflict_data u (conflict_of reason entry)) (entered_data u (sort_of u c) entry) (array_of (all_implied_data u reason c))
+    let es = entries_of c sheet.entries in
+    object_data (cell_text u c) (conflicts_data u reason es) (entered_data u (sort_of u c) es) (array_of (all_implied_data u reason c))
 
 -- an object for each cell, in the order of cells
 abbrev pub sheet_data : Sheet → Reasoning → Data

@@ -1,33 +1,28 @@
--- The display line by line: each cell with its entry, its implied values with their reasons, and what its entry clashes with.
-use Rattle.std.specs.Prelude.{◌≡◌, ℕ, zero, suc, Bool, true, false, List, [], ◌∷◌, ◌++◌, codes, length, Option, Some, None, is_some, find, nat_eq}
-use Rattle.std.specs.List.{flat_map}
+-- The display line by line: each cell with its entries, its implied values with their reasons, and what its entries clash with.
+use Rattle.std.specs.Prelude.{◌≡◌, ℕ, zero, suc, Bool, true, false, List, [], ◌∷◌, ◌++◌, codes, length, map, Option, Some, None, is_some}
+use Rattle.std.specs.List.{flat_map, list_any}
 use Rattle.pc_writer.specs.SheetText.{ended}
 use Rattle.pc_sheet.specs.Entailment.{opposite_of}
 use Rattle.pc_sheet.specs.Sheet.{Universe, Sheet}
 use Rattle.pc_sheet.specs.Sizes.{size_of}
 use Rattle.pc_sheet.specs.Cells.{cells, values_below}
+use Rattle.pc_sheet.specs.WellFormed.{entries_of}
 use Rattle.pc_sheet.specs.declared.ids.SortId.{SortId}
 use Rattle.pc_sheet.specs.declared.ids.CellId.{CellId}
 use Rattle.pc_sheet.specs.declared.ids.ValueId.{ValueId}
 use Rattle.pc_sheet.specs.declared.ids.Entry.{Entry}
-use Rattle.pc_writer.specs.Spelling.{value_text, cell_text, sort_of, entries_text}
-use Rattle.pc_display.specs.Supports.{Reasoning, IsSupportFor, IsReasoning}
+use Rattle.pc_writer.specs.Spelling.{value_text, cell_text, sort_of, joined, entries_text}
+use Rattle.pc_display.specs.Supports.{Reasoning, IsReasoning}
 
 -- ---- what a cell has
 
--- the cell's entry, where it has one
-abbrev pub entry_of : List Entry → CellId → Option Entry
-entry_of es c = find (λ e. nat_eq e.cell.0 c.0) es
+-- the least support of the opposite of the entry, where it has one
+abbrev pub conflict_of : Reasoning → Entry → Option (List Entry)
+conflict_of reason e = reason (opposite_of e)
 
--- the least support of the opposite of the cell's entry
-abbrev pub conflict_of : Reasoning → Option Entry → Option (List Entry)
-conflict_of reason None = None
-conflict_of reason (Some e) = reason (opposite_of e)
-
--- what the cell's entry clashes with
-abbrev pub IsConflictOf : Sheet → Option Entry → Option (List Entry) → Type 0
-IsConflictOf sheet None found = found ≡ None
-IsConflictOf sheet (Some e) found = IsSupportFor sheet (opposite_of e) found
+-- whether some of the entries has a conflict
+abbrev pub have_conflict : Reasoning → List Entry → Bool
+have_conflict reason es = list_any (λ e. is_some (conflict_of reason e)) es
 
 -- the reason why the cell has that value
 abbrev pub reason_of : Reasoning → CellId → ValueId → Option (List Entry)
@@ -35,17 +30,25 @@ reason_of reason c v = reason (record { cell = c; value = v; holds = true })
 
 -- ---- lines
 
-abbrev pub entered_text : Universe → SortId → Option Entry → List ℕ
-entered_text u s None = codes "-"
-entered_text u s (Some e) = value_text u s e.value
+-- texts with commas between them, or a dash where there are none
+abbrev pub listed_texts : List (List ℕ) → List ℕ
+listed_texts [] = codes "-"
+listed_texts (text ∷ texts) = joined (codes ", ") (text ∷ texts)
+
+-- the values of entries, oldest first
+abbrev pub entered_texts : Universe → SortId → List Entry → List (List ℕ)
+entered_texts u s es = map (λ e. value_text u s e.value) es
+
+abbrev pub entered_text : Universe → SortId → List Entry → List ℕ
+entered_text u s es = listed_texts (entered_texts u s es)
 
 abbrev pub mark_of : Bool → List ℕ
 mark_of false = []
 mark_of true = codes " !"
 
--- the cell, its entry or a dash, and a mark where the entry has a conflict
-abbrev pub head_line : Universe → CellId → Option Entry → Bool → List ℕ
-head_line u c entry clashes = ended (cell_text u c ++ (codes " : " ++ (entered_text u (sort_of u c) entry ++ mark_of clashes)))
+-- the cell, its entries' values or a dash, and a mark where an entry has a conflict
+abbrev pub head_line : Universe → CellId → List Entry → Bool → List ℕ
+head_line u c es clashes = ended (cell_text u c ++ (codes " : " ++ (entered_text u (sort_of u c) es ++ mark_of clashes)))
 
 abbrev pub because : Universe → List Entry → List ℕ
 because u [] = codes " always"
@@ -64,16 +67,31 @@ abbrev pub against : Universe → List Entry → List ℕ
 against u [] = codes "the rules"
 against u (e ∷ es) = entries_text u (e ∷ es)
 
--- what the entry clashes with, where it has a conflict
-abbrev pub conflict_line : Universe → Option (List Entry) → List ℕ
-conflict_line u None = []
-conflict_line u (Some support) = ended (codes "  ! against " ++ against u support)
+-- there are two or more
+abbrev pub are_several : List Entry → Bool
+are_several [] = false
+are_several (e ∷ []) = false
+are_several (e ∷ f ∷ es) = true
+
+-- what tells an entry from the cell's others, where there are others: its value
+abbrev pub value_told : Universe → SortId → Bool → ValueId → List ℕ
+value_told u s false v = []
+value_told u s true v = value_text u s v ++ codes " "
+
+-- what an entry of that value clashes with, where it has a conflict
+abbrev pub conflict_line : Universe → SortId → Bool → ValueId → Option (List Entry) → List ℕ
+conflict_line u s several v None = []
+conflict_line u s several v (Some support) = ended (codes "  ! " ++ (value_told u s several v ++ (codes "against " ++ against u support)))
+
+-- of each of the cell's entries, oldest first
+abbrev pub conflict_lines : Universe → Reasoning → SortId → List Entry → List ℕ
+conflict_lines u reason s es = flat_map (λ e. conflict_line u s (are_several es) e.value (conflict_of reason e)) es
 
 abbrev pub cell_lines : Sheet → Reasoning → CellId → List ℕ
 cell_lines sheet reason c =
-    let entry = entry_of sheet.entries c in
-    let conflict = conflict_of reason entry in
-    head_line sheet.universe c entry (is_some conflict) ++ (value_lines sheet.universe reason c ++ conflict_line sheet.universe conflict)
+    let u = sheet.universe in
+    let es = entries_of c sheet.entries in
+    head_line u c es (have_conflict reason es) ++ (value_lines u reason c ++ conflict_lines u reason (sort_of u c) es)
 
 -- ---- the whole display
 

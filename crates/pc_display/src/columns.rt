@@ -2,18 +2,20 @@
 //
 // A text stands in no single slice. Its pieces are measured one by one, since a parenthesis or a comma ends each sequence
 // of characters that is not as wide as its parts.
-ghost use Rattle.std.specs.Prelude.{◌≡◌, ◌<◌, ◌≤◌, IfSome, codes, length, map};
+ghost use Rattle.std.specs.Prelude.{◌≡◌, ◌<◌, ◌≤◌, codes, length, map};
 ghost use Rattle.std.specs.Fmt.{signed_decimal};
 ghost use Rattle.pc_sheet.specs.Cells.{cells};
 ghost use Rattle.pc_sheet.specs.Entailment.{cell_sizes};
+ghost use Rattle.pc_sheet.specs.Limits.{most_entries};
 ghost use Rattle.pc_sheet.specs.Sizes.{argument_sorts, size_of};
 ghost use Rattle.pc_sheet.specs.WellFormed.{IsWellFormed};
 ghost use Rattle.pc_writer.specs.Separator.{separator_at};
 ghost use Rattle.pc_writer.specs.Spelling.{application_of, arguments_text, cell_text, family_of, joined, sort_of, value_text, value_texts};
-ghost use Rattle.pc_display.specs.Show.{cells_below, entered_text};
+ghost use Rattle.pc_display.specs.Show.{cells_below, entered_text, entered_texts};
 ghost use Rattle.pc_display.specs.Grid.{columns, entry_column, widest};
+ghost use Rattle.pc_display.specs.inside.Entered.{HaveValuesOf};
 
-use crate::lines::entry_of;
+use crate::cell_entries::entries_of;
 use itoa::Buffer;
 use pc_logic::Book;
 use pc_sheet::{CellId, Entry, SortId, ValueId};
@@ -92,17 +94,43 @@ pub(crate) fn cell_columns(book: &Book, cell: CellId) -> usize
     name.width() + arguments_columns(book, cell, book.family_sorts(family))
 }
 
-/// How many columns the cell's entry takes, or a dash.
-pub(crate) fn entered_columns(book: &Book, cell: CellId, entry: Option<Entry>) -> usize
+/// The columns of the values of entries and the commas between them.
+fn values_columns(book: &Book, sort: SortId, entries: &[Entry]) -> usize
+    requires formed { IsWellFormed book.now }
+    requires few { length entries.now ≤ most_entries }
+    requires values { HaveValuesOf book.now.universe sort entries.now }
+    ensures { result ≡ columns (joined (codes ", ") (entered_texts book.now.universe sort entries.now)) }
+{
+    let mut total = 0;
+    for (i, entry) in entries.iter().enumerate() {
+        total += separator_columns(i) + value_columns(book, sort, entry.value);
+    }
+    total
+}
+
+/// How many columns the values of the cell's entries take, or a dash.
+pub(crate) fn entered_columns(book: &Book, cell: CellId, entries: &[Entry]) -> usize
     requires formed { IsWellFormed book.now }
     requires cell { cell.0 < length (cell_sizes book.now.universe) }
-    requires value { IfSome entry (λ e. e.value.0 < size_of book.now.universe (sort_of book.now.universe cell)) }
-    ensures { result ≡ columns (entered_text book.now.universe (sort_of book.now.universe cell) entry) }
+    requires few { length entries.now ≤ most_entries }
+    requires values { HaveValuesOf book.now.universe (sort_of book.now.universe cell) entries.now }
+    ensures { result ≡ columns (entered_text book.now.universe (sort_of book.now.universe cell) entries.now) }
 {
-    match entry {
-        None => 1,
-        Some(entry) => value_columns(book, sort_of(book, cell), entry.value),
+    if entries.is_empty() {
+        1
+    } else {
+        values_columns(book, sort_of(book, cell), entries)
     }
+}
+
+/// How many columns the cell's entry column takes by itself.
+fn entry_columns(book: &Book, cell: CellId) -> usize
+    requires { cell.0 < length (cell_sizes book.now.universe) }
+    ensures exact { result ≡ columns (entry_column book.now cell) }
+    ensures formed { IsWellFormed book.now }
+{
+    let found = entries_of(book, cell);
+    entered_columns(book, cell, found.as_slice())
 }
 
 /// How many columns the cells take, and how many their entries.
@@ -112,17 +140,16 @@ pub(crate) struct Widths {
     pub(crate) entry: usize,
 }
 
-/// The most columns that a cell's text takes, and that an entry or a dash takes.
+/// The most columns that a cell's text takes, and that the values of a cell's entries take, or a dash.
 pub(crate) fn widths_of(book: &Book) -> Widths
     ensures cell { result.cell ≡ widest (map (cell_text book.now.universe) (cells_below (length (cells book.now.universe)))) }
     ensures entry { result.entry ≡ widest (map (entry_column book.now) (cells_below (length (cells book.now.universe)))) }
 {
-    let entries = book.entries();
     let mut widths = Widths { cell: 0, entry: 0 };
     for number in 0..book.cells() {
         let cell = CellId(number as u16);
+        let entered = entry_columns(book, cell);
         widths.cell = widths.cell.max(cell_columns(book, cell));
-        let entered = entered_columns(book, cell, entry_of(entries, cell));
         widths.entry = widths.entry.max(entered);
     }
     widths

@@ -1,34 +1,46 @@
 // The display line by line.
-ghost use Rattle.std.specs.Prelude.{ℕ, ◌<◌, List, IfSome, length};
+ghost use Rattle.std.specs.Prelude.{◌≡◌, ℕ, ◌<◌, All, List, length};
 ghost use Rattle.std.specs.Option.{option_copied};
-ghost use Rattle.pc_sheet.specs.Entailment.{cell_sizes};
+ghost use Rattle.pc_sheet.specs.Entailment.{cell_sizes, opposite_of};
 ghost use Rattle.pc_sheet.specs.Sizes.{size_of};
 ghost use Rattle.pc_sheet.specs.WellFormed.{IsEntryOf, IsWellFormed};
 ghost use Rattle.pc_writer.specs.Spelling.{sort_of};
 ghost use Rattle.pc_writer.specs.Writes.{Writes};
-ghost use Rattle.pc_display.specs.Supports.{IsReasoning, Reasoning};
-ghost use Rattle.pc_display.specs.Show.{cell_lines, reason_of, value_line, value_lines, IsConflictOf, IsShown};
+ghost use Rattle.pc_display.specs.Supports.{IsReasoning, IsSupportFor, Reasoning};
+ghost use Rattle.pc_display.specs.Show.{cell_lines, conflict_line, conflict_lines, conflict_of, have_conflict, reason_of, value_line, value_lines, IsShown};
+ghost use Rattle.pc_display.specs.inside.Entered.{HaveValuesOf};
 
-use crate::lines::{entry_of, write_conflict_line, write_head_line, write_value_line};
+use crate::cell_entries::{are_several, entries_of};
+use crate::lines::{write_conflict_line, write_head_line, write_value_line};
 use crate::supports::Supports;
 use pc_logic::Book;
 use pc_port::{Failed, Sink};
-use pc_sheet::{CellId, Entry, Target, ValueId};
+use pc_sheet::{CellId, Entry, SortId, Target, ValueId};
 use pc_writer::sort_of;
 
 /// The least support of the opposite of an entry, where it has one.
-pub(crate) fn conflict_of<V: Supports>(view: &V, entry: Option<Entry>) -> Option<&[Entry]>
-    requires { IfSome entry (IsEntryOf (V.sheet view.now).universe) }
-    ensures { IsConflictOf (V.sheet view.now) entry (option_copied result) }
+pub(crate) fn conflict_of<V: Supports>(view: &V, entry: Entry) -> Option<&[Entry]>
+    requires { IsEntryOf (V.sheet view.now).universe entry }
+    ensures { IsSupportFor (V.sheet view.now) (opposite_of entry) (option_copied result) }
 {
-    match entry {
-        None => None,
-        Some(entry) => view.support(Target {
-            cell: entry.cell,
-            value: entry.value,
-            holds: false,
-        }),
+    view.support(Target {
+        cell: entry.cell,
+        value: entry.value,
+        holds: false,
+    })
+}
+
+/// Whether some of the entries has a conflict.
+pub(crate) fn have_conflict<V: Supports>(view: &V, entries: &[Entry]) -> bool
+    requires { All (IsEntryOf (V.sheet view.now).universe) entries.now }
+    ensures { (reason : Reasoning) → IsReasoning (V.sheet view.now) reason → result ≡ have_conflict reason entries.now }
+{
+    for entry in entries {
+        if conflict_of(view, *entry).is_some() {
+            return true;
+        }
     }
+    false
 }
 
 /// Writes a value of the cell with its reason, where it is implied.
@@ -75,6 +87,48 @@ fn write_value_lines<V: Supports, O: Sink>(
     Ok(())
 }
 
+/// Writes what an entry of a cell of that sort clashes with, where it has a conflict.
+fn write_if_clashing<V: Supports, O: Sink>(
+    view: &V,
+    sort: SortId,
+    several: bool,
+    entry: Entry,
+    out: &mut O,
+) -> Result<(), Failed>
+    requires formed { IsWellFormed (V.sheet view.now) }
+    requires entry { IsEntryOf (V.sheet view.now).universe entry }
+    requires value { entry.value.0 < size_of (V.sheet view.now).universe sort }
+    ensures { (reason : Reasoning) → IsReasoning (V.sheet view.now) reason → Writes O.given O.faults out.old out.new result
+        (conflict_line (V.sheet view.now).universe sort several entry.value (conflict_of reason entry)) }
+{
+    match conflict_of(view, entry) {
+        None => Ok(()),
+        Some(support) => {
+            write_conflict_line(view.book(), sort, several, entry.value, support, out)
+        }
+    }
+}
+
+/// Writes what each of a cell's entries clashes with, oldest first.
+fn write_conflict_lines<V: Supports, O: Sink>(
+    view: &V,
+    sort: SortId,
+    entries: &[Entry],
+    out: &mut O,
+) -> Result<(), Failed>
+    requires formed { IsWellFormed (V.sheet view.now) }
+    requires entries { All (IsEntryOf (V.sheet view.now).universe) entries.now }
+    requires values { HaveValuesOf (V.sheet view.now).universe sort entries.now }
+    ensures { (reason : Reasoning) → IsReasoning (V.sheet view.now) reason → Writes O.given O.faults out.old out.new result
+        (conflict_lines (V.sheet view.now).universe reason sort entries.now) }
+{
+    let several = are_several(entries);
+    for entry in entries {
+        write_if_clashing(view, sort, several, *entry, out)?;
+    }
+    Ok(())
+}
+
 /// Writes the lines of a cell.
 fn write_cell_lines<V: Supports, O: Sink>(view: &V, cell: CellId, out: &mut O) -> Result<(), Failed>
     requires { cell.0 < length (cell_sizes (V.sheet view.now).universe) }
@@ -82,18 +136,15 @@ fn write_cell_lines<V: Supports, O: Sink>(view: &V, cell: CellId, out: &mut O) -
         (cell_lines (V.sheet view.now) reason cell) }
 {
     let book = view.book();
-    let entry = entry_of(book.entries(), cell);
-    let conflict = conflict_of(view, entry);
-    write_head_line(book, cell, entry, conflict.is_some(), out)?;
+    let found = entries_of(book, cell);
+    let entries = found.as_slice();
+    write_head_line(book, cell, entries, have_conflict(view, entries), out)?;
     write_value_lines(view, cell, out)?;
-    match conflict {
-        None => Ok(()),
-        Some(support) => write_conflict_line(book, support, out),
-    }
+    write_conflict_lines(view, sort_of(book, cell), entries, out)
 }
 
-/// Writes the display line by line: each cell with its entry, then its implied values with their reasons, then what its
-/// entry clashes with.
+/// Writes the display line by line: each cell with its entries, then its implied values with their reasons, then what its
+/// entries clash with.
 ///
 /// It fails only where the sink does, and has then written a front of the display.
 pub fn show<V: Supports, O: Sink>(view: &V, out: &mut O) -> Result<(), Failed>

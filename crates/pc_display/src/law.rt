@@ -8,7 +8,8 @@ pub fn sheet_has_one_display()
     ensures { SheetHasOneDisplay }
 {}
 
-/// An entry is marked exactly where it is in some minimal inconsistent sublist of the entries.
+/// An entry has a conflict exactly where it is in some minimal inconsistent sublist of the entries, and a cell is marked exactly
+/// where one of its entries is.
 pub fn marks_show_conflicts()
     ensures { MarksShowConflicts }
 {}

@@ -5,6 +5,7 @@
 //! it is made in memory.
 #![tactic(auto)]
 
+mod cell_entries;
 mod columns;
 mod display;
 mod law;

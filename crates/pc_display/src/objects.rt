@@ -1,6 +1,5 @@
 // The display as JSON.
-ghost use Rattle.std.specs.Prelude.{◌≡◌, ◌<◌, ◌++◌, ℕ, All, IfOk, IfSome, List, OnOk, Some, length, map, string_bytes};
-ghost use Rattle.std.specs.Option.{option_copied};
+ghost use Rattle.std.specs.Prelude.{◌≡◌, ◌<◌, ◌++◌, ℕ, All, IfOk, List, OnOk, Some, length, map, string_bytes};
 ghost use Rattle.serde_json.specs.Data.{Data};
 ghost use Rattle.serde_json.specs.Read.{read};
 ghost use Rattle.serde_json.specs.View.{view as data_of};
@@ -9,15 +8,16 @@ ghost use Rattle.pc_sheet.specs.Sizes.{size_of};
 ghost use Rattle.pc_sheet.specs.WellFormed.{IsEntryOf, IsWellFormed};
 ghost use Rattle.pc_writer.specs.Spelling.{sort_of};
 ghost use Rattle.pc_display.specs.Supports.{IsReasoning, Reasoning};
-ghost use Rattle.pc_display.specs.Show.{reason_of};
-ghost use Rattle.pc_display.specs.Json.{all_implied_data, array_of, cell_data, conflict_data, entered_data, entries_data, implied_data, object_data, reasoned_data, sheet_data, IsJson, IsJsonData};
+ghost use Rattle.pc_display.specs.Show.{conflict_of, reason_of};
+ghost use Rattle.pc_display.specs.Json.{all_implied_data, array_of, cell_data, conflict_data, conflicts_data, entered_data, entries_data, implied_data, object_data, one_or_all, reasoned_data, sheet_data, IsJson, IsJsonData};
+ghost use Rattle.pc_display.specs.inside.Entered.{HaveValuesOf};
 
+use crate::cell_entries::entries_of;
 use crate::display::conflict_of;
-use crate::lines::entry_of;
 use crate::supports::Supports;
 use crate::texts::{cell_text, entry_text, value_text};
 use pc_logic::Book;
-use pc_sheet::{CellId, Entry, Target, ValueId};
+use pc_sheet::{CellId, Entry, SortId, Target, ValueId};
 use pc_writer::sort_of;
 use serde_json::{Value, json};
 use std::alloc::{AllocError, Global};
@@ -35,43 +35,67 @@ fn entries_json(alloc: Global, book: &Book, entries: &[Entry]) -> Result<Value, 
     Ok(Value::Array(list))
 }
 
-/// What an entry clashes with, or null where it has no conflict.
-fn conflict_json(
-    alloc: Global,
-    book: &Book,
-    conflict: Option<&[Entry]>,
-) -> Result<Value, AllocError>
-    requires formed { IsWellFormed book.now }
-    requires conflict { IfSome conflict (λ support. All (IsEntryOf book.now.universe) support.now) }
-    ensures { IfOk result (λ found. data_of found ≡ conflict_data book.now.universe (option_copied conflict.entry)) }
+/// Null for none, one as it is, and an array of several.
+fn one_or_all(mut list: Vec<Value>) -> Value
+    ensures { data_of result ≡ one_or_all (map data_of list.items) }
 {
-    match conflict {
-        None => Ok(Value::Null),
-        Some(support) => entries_json(alloc, book, support),
+    if list.len() > 1 {
+        return Value::Array(list);
+    }
+    match list.pop() {
+        None => Value::Null,
+        Some(value) => value,
     }
 }
 
-/// The value that is entered in the cell, or null.
+/// What an entry clashes with, or null where it has no conflict.
+fn conflict_json<V: Supports>(alloc: Global, view: &V, entry: Entry) -> Result<Value, AllocError>
+    requires formed { IsWellFormed (V.sheet view.now) }
+    requires entry { IsEntryOf (V.sheet view.now).universe entry }
+    ensures { (reason : Reasoning) → IsReasoning (V.sheet view.now) reason
+        → IfOk result (λ found. data_of found ≡ conflict_data (V.sheet view.now).universe (conflict_of reason entry)) }
+{
+    match conflict_of(view, entry) {
+        None => Ok(Value::Null),
+        Some(support) => entries_json(alloc, view.book(), support),
+    }
+}
+
+/// What the cell's entries clash with.
+fn conflicts_json<V: Supports>(
+    alloc: Global,
+    view: &V,
+    entries: &[Entry],
+) -> Result<Value, AllocError>
+    requires formed { IsWellFormed (V.sheet view.now) }
+    requires entries { All (IsEntryOf (V.sheet view.now).universe) entries.now }
+    ensures { (reason : Reasoning) → IsReasoning (V.sheet view.now) reason
+        → IfOk result (λ found. data_of found ≡ conflicts_data (V.sheet view.now).universe reason entries.now) }
+{
+    let mut list = Vec::new(alloc);
+    for entry in entries {
+        list.push(conflict_json(alloc, view, *entry)?)?;
+    }
+    Ok(one_or_all(list))
+}
+
+/// The values of the entries of a cell of that sort.
 fn entered_json(
     alloc: Global,
     book: &Book,
-    cell: CellId,
-    entry: Option<Entry>,
+    sort: SortId,
+    entries: &[Entry],
 ) -> Result<Value, AllocError>
     requires formed { IsWellFormed book.now }
-    requires cell { cell.0 < length (cell_sizes book.now.universe) }
-    requires value { IfSome entry (λ e. e.value.0 < size_of book.now.universe (sort_of book.now.universe cell)) }
-    ensures { IfOk result (λ found. data_of found ≡ entered_data book.now.universe (sort_of book.now.universe cell) entry) }
+    requires values { HaveValuesOf book.now.universe sort entries.now }
+    ensures { IfOk result (λ found. data_of found ≡ entered_data book.now.universe sort entries.now) }
 {
-    match entry {
-        None => Ok(Value::Null),
-        Some(entry) => Ok(Value::String(value_text(
-            alloc,
-            book,
-            sort_of(book, cell),
-            entry.value,
-        )?)),
+    let mut list = Vec::new(alloc);
+    for entry in entries {
+        let text = value_text(alloc, book, sort, entry.value)?;
+        list.push(Value::String(text))?;
     }
+    Ok(one_or_all(list))
 }
 
 fn reasoned_json(alloc: Global, because: Value, value: String) -> Result<Value, AllocError>
@@ -142,9 +166,10 @@ fn cell_json<V: Supports>(alloc: Global, view: &V, cell: CellId) -> Result<Value
     ensures { (reason : Reasoning) → IsReasoning (V.sheet view.now) reason → IfOk result (λ found. data_of found ≡ cell_data (V.sheet view.now) reason cell) }
 {
     let book = view.book();
-    let entry = entry_of(book.entries(), cell);
-    let conflict = conflict_json(alloc, book, conflict_of(view, entry))?;
-    let entered = entered_json(alloc, book, cell, entry)?;
+    let found = entries_of(book, cell);
+    let entries = found.as_slice();
+    let conflict = conflicts_json(alloc, view, entries)?;
+    let entered = entered_json(alloc, book, sort_of(book, cell), entries)?;
     let implied = values_json(alloc, view, cell)?;
     object_json(
         alloc,
@@ -165,8 +190,8 @@ fn cells_json<V: Supports>(alloc: Global, view: &V) -> Result<Value, AllocError>
     Ok(Value::Array(list))
 }
 
-/// The display as JSON, in one line without its end: an array with an object for each cell, which has its entry, what that
-/// clashes with, and its implied values with their reasons.
+/// The display as JSON, in one line without its end: an array with an object for each cell, which has its entries, what they
+/// clash with, and its implied values with their reasons.
 ///
 /// It fails only for want of memory.
 pub fn json<V: Supports>(alloc: Global, view: &V) -> Result<String, AllocError>

@@ -1,18 +1,21 @@
 // The display as a table.
-ghost use Rattle.std.specs.Prelude.{◌≡◌, ◌<◌, ◌++◌, ◌∷◌, [], ℕ, IfOk, IfSome, List, codes, length, replicate};
+ghost use Rattle.std.specs.Prelude.{◌≡◌, ◌<◌, ◌≤◌, ◌++◌, ◌∷◌, [], ℕ, IfOk, List, codes, length, replicate};
 ghost use Rattle.pc_sheet.specs.Entailment.{cell_sizes};
+ghost use Rattle.pc_sheet.specs.Limits.{most_entries};
 ghost use Rattle.pc_sheet.specs.Sizes.{size_of};
 ghost use Rattle.pc_sheet.specs.WellFormed.{IsWellFormed};
 ghost use Rattle.pc_writer.specs.Spelling.{cell_text, sort_of, value_text};
 ghost use Rattle.pc_writer.specs.Writes.{Writes};
 ghost use Rattle.pc_display.specs.Supports.{IsReasoning, Reasoning};
-ghost use Rattle.pc_display.specs.Show.{entered_text, reason_of};
-ghost use Rattle.pc_display.specs.Grid.{conflict_column, grid_line, implied_text, implied_texts, listed_texts, padded, IsGrid};
+ghost use Rattle.pc_display.specs.Show.{entered_text, listed_texts, reason_of};
+ghost use Rattle.pc_display.specs.Grid.{conflict_column, grid_line, implied_text, implied_texts, padded, IsGrid};
 ghost use Rattle.pc_display.specs.inside.Columns.{comma_after, front_text, next_text, some_more};
+ghost use Rattle.pc_display.specs.inside.Entered.{HaveValuesOf};
 
+use crate::cell_entries::entries_of;
 use crate::columns::{Widths, cell_columns, entered_columns, widths_of};
-use crate::display::conflict_of;
-use crate::lines::{entry_of, write_entered};
+use crate::display::have_conflict;
+use crate::lines::write_entered;
 use crate::supports::Supports;
 use pc_logic::Book;
 use pc_port::{Failed, Sink};
@@ -45,23 +48,24 @@ fn write_padded_cell<O: Sink>(
     write_spaces(width.saturating_sub(cell_columns(book, cell)), out)
 }
 
-/// Writes the cell's entry, or a dash, with spaces behind it, up to so many columns.
-fn write_padded_entry<O: Sink>(
+/// Writes the values of the cell's entries, or a dash, with spaces behind them, up to so many columns.
+fn write_padded_entries<O: Sink>(
     book: &Book,
     cell: CellId,
-    entry: Option<Entry>,
+    entries: &[Entry],
     width: usize,
     out: &mut O,
 ) -> Result<(), Failed>
     requires formed { IsWellFormed book.now }
     requires cell { cell.0 < length (cell_sizes book.now.universe) }
-    requires value { IfSome entry (λ e. e.value.0 < size_of book.now.universe (sort_of book.now.universe cell)) }
+    requires few { length entries.now ≤ most_entries }
+    requires values { HaveValuesOf book.now.universe (sort_of book.now.universe cell) entries.now }
     ensures { Writes O.given O.faults out.old out.new result
-        (padded width (entered_text book.now.universe (sort_of book.now.universe cell) entry)) }
+        (padded width (entered_text book.now.universe (sort_of book.now.universe cell) entries.now)) }
 {
-    write_entered(book, cell, entry, out)?;
+    write_entered(book, cell, entries, out)?;
     write_spaces(
-        width.saturating_sub(entered_columns(book, cell, entry)),
+        width.saturating_sub(entered_columns(book, cell, entries)),
         out,
     )
 }
@@ -80,19 +84,20 @@ fn write_conflict<O: Sink>(clashes: bool, out: &mut O) -> Result<(), Failed>
 fn write_front<O: Sink>(
     book: &Book,
     cell: CellId,
-    entry: Option<Entry>,
+    entries: &[Entry],
     clashes: bool,
     widths: Widths,
     out: &mut O,
 ) -> Result<(), Failed>
     requires formed { IsWellFormed book.now }
     requires cell { cell.0 < length (cell_sizes book.now.universe) }
-    requires value { IfSome entry (λ e. e.value.0 < size_of book.now.universe (sort_of book.now.universe cell)) }
-    ensures { Writes O.given O.faults out.old out.new result (front_text book.now.universe widths.cell widths.entry cell entry clashes) }
+    requires few { length entries.now ≤ most_entries }
+    requires values { HaveValuesOf book.now.universe (sort_of book.now.universe cell) entries.now }
+    ensures { Writes O.given O.faults out.old out.new result (front_text book.now.universe widths.cell widths.entry cell entries.now clashes) }
 {
     write_padded_cell(book, cell, widths.cell, out)?;
     write_text(b"  ", out)?;
-    write_padded_entry(book, cell, entry, widths.entry, out)?;
+    write_padded_entries(book, cell, entries, widths.entry, out)?;
     write_conflict(clashes, out)
 }
 
@@ -172,15 +177,16 @@ fn write_grid_line<V: Supports, O: Sink>(
         (grid_line (V.sheet view.now) reason widths.cell widths.entry cell) }
 {
     let book = view.book();
-    let entry = entry_of(book.entries(), cell);
-    let conflict = conflict_of(view, entry);
-    write_front(book, cell, entry, conflict.is_some(), widths, out)?;
+    let found = entries_of(book, cell);
+    let entries = found.as_slice();
+    let clashes = have_conflict(view, entries);
+    write_front(book, cell, entries, clashes, widths, out)?;
     write_implied(view, cell, out)?;
     write_text(b"\n", out)
 }
 
-/// Writes the display as a table: a line for each cell, with its entry, a mark where that has a conflict, and its implied
-/// values, in columns as wide as a terminal shows them.
+/// Writes the display as a table: a line for each cell, with its entries, a mark where one of them has a conflict, and its
+/// implied values, in columns as wide as a terminal shows them.
 ///
 /// It fails only where the sink does, and has then written a front of the table.
 pub fn grid<V: Supports, O: Sink>(view: &V, out: &mut O) -> Result<(), Failed>

@@ -1,5 +1,5 @@
 -- The parts of a line of the table, as they are written.
-use Rattle.std.specs.Prelude.{ℕ, Bool, true, false, List, [], ◌∷◌, ◌++◌, codes, Option}
+use Rattle.std.specs.Prelude.{ℕ, Bool, true, false, List, [], ◌∷◌, ◌++◌, codes}
 use Rattle.pc_sheet.specs.Sheet.{Universe}
 use Rattle.pc_sheet.specs.declared.ids.CellId.{CellId}
 use Rattle.pc_sheet.specs.declared.ids.Entry.{Entry}
@@ -8,9 +8,9 @@ use Rattle.pc_display.specs.Show.{entered_text}
 use Rattle.pc_display.specs.Grid.{conflict_column, padded}
 
 -- all columns but the last
-abbrev pub front_text : Universe → ℕ → ℕ → CellId → Option Entry → Bool → List ℕ
-front_text u cell_width entry_width c entry clashes =
-    padded cell_width (cell_text u c) ++ (codes "  " ++ (padded entry_width (entered_text u (sort_of u c) entry) ++ (codes "  " ++ (conflict_column clashes ++ codes "  "))))
+abbrev pub front_text : Universe → ℕ → ℕ → CellId → List Entry → Bool → List ℕ
+front_text u cell_width entry_width c es clashes =
+    padded cell_width (cell_text u c) ++ (codes "  " ++ (padded entry_width (entered_text u (sort_of u c) es) ++ (codes "  " ++ (conflict_column clashes ++ codes "  "))))
 
 -- what parts a text from others before it
 abbrev pub comma_after : Bool → List ℕ

@@ -1,28 +1,17 @@
-use Rattle.std.proofs.Common.{◌≡◌, ◌∙◌, ap, arith, length, map, refl}
+use Rattle.std.proofs.Common.{◌≡◌, ◌∙◌, ap, arith, length, map}
 use Rattle.pc_sheet.specs.Cells.{cells}
 use Rattle.pc_sheet.proofs.CellsListed.{cells_are_numbered}
-use Rattle.pc_sheet.specs.declared.ids.CellId.{CellId}
-use Rattle.pc_writer.specs.Spelling.{cell_text, sort_of}
-use Rattle.pc_display.specs.Show.{cells_below, entered_text, entry_of}
-use Rattle.pc_display.specs.Grid.{columns, entry_column, widest}
-use Rattle.pc_display.proofs.SheetLemmas.{found_value_fits}
+use Rattle.pc_writer.specs.Spelling.{cell_text}
+use Rattle.pc_display.specs.Show.{cells_below}
+use Rattle.pc_display.specs.Grid.{entry_column, widest}
 use Rattle.pc_display.proofs.Widths.{widest_more}
 use Rattle.pc_display.proofs.columns.widths_of.Goals as goal
 
-pub entered_columns-entered-requires-clause-value : goal.entered_columns-entered-requires-clause-value
-entered_columns-entered-requires-clause-value c =
-    let book = c.args.book.now in
-    found_value_fits book book refl c.entries-entries.ensures.well_formed c.entries-entries.result.now c.entries-entries.ensures.items (record { 0 = c.loop-number.number }) c.entry_of.result c.entry_of.ensures
-
 pub loop-number-preserved : goal.loop-number-preserved
 loop-number-preserved c =
-    let book = c.args.book.now in
-    let cell : CellId = record { 0 = c.loop-number.number } in
-    let found = c.entry_of.ensures ∙ ap (λ es. entry_of es cell) c.entries-entries.ensures.items in
-    let entered : c.entered_columns-entered.result ≡ columns (entry_column book cell) =
-    c.entered_columns-entered.ensures ∙ ap (λ entry. columns (entered_text book.universe (sort_of book.universe cell) entry)) found in (
+    let book = c.args.book.now in (
       omega (arith, widest_more (cell_text book.universe) c.loop-number.number, c.max.ensures, c.cell_columns.ensures, c.loop-number.invariant.0),
-      omega (arith, widest_more (entry_column book) c.loop-number.number, c.max-in-loop-number.ensures, entered, c.loop-number.invariant.1),
+      omega (arith, widest_more (entry_column book) c.loop-number.number, c.max-in-loop-number.ensures, c.entry_columns-entered.ensures.exact, c.loop-number.invariant.1),
     )
 
 pub returns-clause-cell : goal.returns-clause-cell

@@ -8,14 +8,14 @@ pub returns-in_err-write_cell : goal.returns-in_err-write_cell
 returns-in_err-write_cell g c =
     let u = c.args.book.now.universe in
     Writes-cut c.from_residual.result (10 ∷ []) c.from_residual.ensures.0
-    (Writes-cut {T = Unit {0}} {U = Unit {0}} (Err c.in_err-write_cell.field-0.0) (codes " : " ++ (entered_text u (sort_of u c.args.cell) c.args.entry ++ mark_of c.args.clashes)) refl c.in_err-write_cell.ensures)
+    (Writes-cut {T = Unit {0}} {U = Unit {0}} (Err c.in_err-write_cell.field-0.0) (codes " : " ++ (entered_text u (sort_of u c.args.cell) c.args.entries.now ++ mark_of c.args.clashes)) refl c.in_err-write_cell.ensures)
 
 pub returns-in_err-write_text : goal.returns-in_err-write_text
 returns-in_err-write_text g c =
     let u = c.args.book.now.universe in
     Writes-cut c.from_residual-in_err-write_text.result (10 ∷ []) c.from_residual-in_err-write_text.ensures.0
     (Writes-then c.in_ok-write_cell.ensures
-    (Writes-cut {T = Unit {0}} {U = Unit {0}} (Err c.in_err-write_text.field-0.0) (entered_text u (sort_of u c.args.cell) c.args.entry ++ mark_of c.args.clashes) refl c.in_err-write_text.ensures))
+    (Writes-cut {T = Unit {0}} {U = Unit {0}} (Err c.in_err-write_text.field-0.0) (entered_text u (sort_of u c.args.cell) c.args.entries.now ++ mark_of c.args.clashes) refl c.in_err-write_text.ensures))
 
 pub returns-in_err-write_entered : goal.returns-in_err-write_entered
 returns-in_err-write_entered g c =

@@ -2,7 +2,7 @@ use Rattle.std.proofs.Common.{◌≡◌, arith, refl, sym, ◌∙◌, ap}
 use Rattle.pc_sheet.specs.Sizes.{size_of}
 use Rattle.pc_writer.specs.Spelling.{sort_of}
 use Rattle.pc_writer.proofs.InTurn.{Writes-nil, Writes-then, Writes-same}
-use Rattle.pc_display.specs.Grid.{listed_texts}
+use Rattle.pc_display.specs.Show.{listed_texts}
 use Rattle.pc_display.proofs.ImpliedSoFar.{any_more, so_far, value_cut, value_written}
 use Rattle.pc_display.proofs.Joining.{listed_none, listed_some}
 use Rattle.pc_display.proofs.SheetLemmas.{values_end}
