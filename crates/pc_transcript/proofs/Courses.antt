@@ -11,11 +11,11 @@ use Rattle.pc_refusals.specs.Refusals.{sheet_refusal_text}
 use Rattle.pc_transcript.specs.declared.machine.LoadStop.{LoadStop}
 use Rattle.pc_transcript.specs.declared.machine.LoadStop.TheVariants as load_stop
 use Rattle.pc_transcript.specs.Answer.{Answer, StopsBy}
-use Rattle.pc_refusals.specs.Endings.{Printing, printed, too_long_text, IsPrinted, TellsAtEnd, AppendsPart, memory_text, sheet_memory_text}
+use Rattle.pc_refusals.specs.Endings.{Printing, printed, too_long_text, IsPrinted, TellsAtEnd, AppendsPart, sheet_memory_text}
 use Rattle.pc_transcript.specs.SheetPart.{TakesSheet, StopsInSheet, PassesSheetLimit, HasTaken}
-use Rattle.pc_transcript.specs.Run.{Answers, AnswersBy, LacksRoom, LacksMemoryForSheet, RefusesSheet, HasLongSheet, IsCutOff, at_memory, at_sheet_memory, at_sheet, at_long_sheet, at_limit, at_answer, Replays, Replayed, TellsStop, GoesOn, by_refusal, by_want, by_answers}
+use Rattle.pc_transcript.specs.Run.{Answers, AnswersBy, LacksMemoryForSheet, RefusesSheet, HasLongSheet, IsCutOff, at_sheet_memory, at_sheet, at_long_sheet, at_limit, at_answer, Replays, Replayed, TellsStop, GoesOn, by_refusal, by_want, by_answers}
 use Rattle.pc_transcript.proofs.Ends.{read_ahead}
-use Rattle.pc_transcript.proofs.SheetLines.{has_taken}
+use Rattle.pc_transcript.proofs.SheetLines.{has_taken, nothing_taken}
 
 -- a front of a text that has no other piece
 pub cut_short : {sink sink' : Option (List ℕ)} {text : List ℕ} → AppendsFront sink sink' text → AppendsPart sink sink' (printed [] text)
@@ -31,17 +31,16 @@ told IsSheet Refuses Allows status result notes notes' text source source' sink 
       | inr w ↦ subst (λ (s : Status). Replayed IsSheet Refuses Allows s notes notes' source source' sink sink') (sym w.0) record { text = printed [] text; course = cut; written = cut_short w.1 }
     ]
 
-pub lacks_room : {S N : Type 0} (IsSheet : List ℕ → S → Type 0) (Refuses : List ℕ → SheetRefusal → List ℕ → N → N → Type 0) (Allows : S × N → List ℕ → Answer → S × N → Type 0) (result : Status) (notes : N) (source sink sink' : Option (List ℕ))
-    → TellsAtEnd Memory memory_text result sink sink' → Replayed IsSheet Refuses Allows result notes notes source source sink sink'
-lacks_room IsSheet Refuses Allows result notes source sink sink' tells =
-    let lacks : LacksRoom notes notes (printed [] memory_text) source source = record { unread = refl; none_noted = refl; text_is = refl } in
-    told IsSheet Refuses Allows Memory result notes notes memory_text source source sink sink' (inl lacks) (at_memory lacks) (λ w. w) tells
-
 pub lacks_memory : {S N : Type 0} (IsSheet : List ℕ → S → Type 0) (Refuses : List ℕ → SheetRefusal → List ℕ → N → N → Type 0) (Allows : S × N → List ℕ → Answer → S × N → Type 0) (result : Status) (notes notes' : N) (source source' sink sink' : Option (List ℕ))
     → notes' ≡ notes → HasTaken source source' → TellsAtEnd Memory sheet_memory_text result sink sink' → Replayed IsSheet Refuses Allows result notes notes' source source' sink sink'
 lacks_memory IsSheet Refuses Allows result notes notes' source source' sink sink' none taken tells =
     let lacks : LacksMemoryForSheet notes notes' (printed [] sheet_memory_text) source source' = record { taken = taken; none_noted = none; text_is = refl } in
-    told IsSheet Refuses Allows Memory result notes notes' sheet_memory_text source source' sink sink' (inr (inl lacks)) (at_sheet_memory lacks) (λ w. w) tells
+    told IsSheet Refuses Allows Memory result notes notes' sheet_memory_text source source' sink sink' (inl lacks) (at_sheet_memory lacks) (λ w. w) tells
+
+-- before the first byte
+pub lacks_room : {S N : Type 0} (IsSheet : List ℕ → S → Type 0) (Refuses : List ℕ → SheetRefusal → List ℕ → N → N → Type 0) (Allows : S × N → List ℕ → Answer → S × N → Type 0) (result : Status) (notes : N) (source sink sink' : Option (List ℕ))
+    → TellsAtEnd Memory sheet_memory_text result sink sink' → Replayed IsSheet Refuses Allows result notes notes source source sink sink'
+lacks_room IsSheet Refuses Allows result notes source sink sink' tells = lacks_memory IsSheet Refuses Allows result notes notes source source sink sink' refl (nothing_taken source) tells
 
 pub long_sheet : {S N : Type 0} (IsSheet : List ℕ → S → Type 0) (Refuses : List ℕ → SheetRefusal → List ℕ → N → N → Type 0) (Allows : S × N → List ℕ → Answer → S × N → Type 0) (result : Status) (notes : N) (source source' sink sink' : Option (List ℕ))
     → PassesSheetLimit source source' → TellsAtEnd TooLong too_long_text result sink sink' → Replayed IsSheet Refuses Allows result notes notes source source' sink sink'
@@ -76,7 +75,7 @@ answered : {S N : Type 0} (IsSheet : List ℕ → S → Type 0) (Refuses : List 
     → IsSheet sheet start → TakesSheet sheet source rest → AnswersBy Allows (start, notes) (end, notes') status text rest source' → Replays IsSheet Refuses Allows status notes notes' text source source'
 answered IsSheet Refuses Allows start end notes notes' Done sheet text source rest source' is takes by = record { sheet = sheet; rest = rest; takes = takes; start = start; is = is; end = end; goes_on = by }
 answered IsSheet Refuses Allows start end notes notes' SomeRefused sheet text source rest source' is takes by = record { sheet = sheet; rest = rest; takes = takes; start = start; is = is; end = end; goes_on = by }
-answered IsSheet Refuses Allows start end notes notes' Memory sheet text source rest source' is takes by = inr (inr record { sheet = sheet; rest = rest; takes = takes; start = start; is = is; end = end; goes_on = by })
+answered IsSheet Refuses Allows start end notes notes' Memory sheet text source rest source' is takes by = inr record { sheet = sheet; rest = rest; takes = takes; start = start; is = is; end = end; goes_on = by }
 answered IsSheet Refuses Allows start end notes notes' ReadFault sheet text source rest source' is takes by = inr record { sheet = sheet; rest = rest; takes = takes; start = start; is = is; end = end; goes_on = by }
 answered IsSheet Refuses Allows start end notes notes' TooLong sheet text source rest source' is takes by = inr record { sheet = sheet; rest = rest; takes = takes; start = start; is = is; end = end; goes_on = by }
 answered IsSheet Refuses Allows start end notes notes' WriteFault sheet text source rest source' is takes by =

@@ -9,10 +9,10 @@ use Rattle.pc_refusals.specs.declared.status.Status.{Status}
 use Rattle.pc_refusals.specs.declared.status.Status.TheVariants.{SheetRefused, ReadFault, WriteFault, Memory, TooLong}
 use Rattle.pc_refusals.specs.Refusals.{sheet_refusal_text}
 use Rattle.pc_transcript.specs.Answer.{Answer}
-use Rattle.pc_refusals.specs.Endings.{printed, too_long_text, IsPrinted, TellsAtEnd, memory_text, sheet_memory_text}
+use Rattle.pc_refusals.specs.Endings.{printed, too_long_text, IsPrinted, TellsAtEnd, sheet_memory_text}
 use Rattle.pc_transcript.specs.Run.{Answers, GoesOn, by_refusal, by_want, by_answers}
-use Rattle.pc_refusals.specs.Files.{AsksOnce, TakesFile, TakesLongFile, HasLongFile}
-use Rattle.pc_transcript.specs.Edit.{RefusesFile, LacksMemoryToEdit, StopsAtFile, Edited}
+use Rattle.pc_refusals.specs.Files.{AsksOnce, TakesFile, TakesLongFile, LacksMemoryForFile, HasLongFile}
+use Rattle.pc_transcript.specs.Edit.{RefusesFile, StopsAtFile, Edited}
 use Rattle.pc_transcript.proofs.Courses.{cut_short, holds_nothing}
 
 module _ {S N : Type 0} (IsSheet : List ℕ → S → Type 0) (Refuses : List ℕ → SheetRefusal → List ℕ → N → N → Type 0) (Allows : S × N → List ℕ → Answer → S × N → Type 0) (kept : Option Files) (file : List ℕ) (asked asked' : List (List ℕ)) (notes notes' : N) (source sink sink' : Option (List ℕ)) where
@@ -27,15 +27,10 @@ module _ {S N : Type 0} (IsSheet : List ℕ → S → Type 0) (Refuses : List �
         | inr w ↦ subst (λ (s : Status). Edited IsSheet Refuses Allows kept file s asked asked' notes notes' source source sink sink') (sym w.0) record { text = printed [] text; course = inl cut; written = cut_short w.1 }
       ]
 
-  pub lacks_room : (result : Status) → notes' ≡ notes → asked' ≡ asked → TellsAtEnd Memory memory_text result sink sink' → Edited IsSheet Refuses Allows kept file result asked asked' notes notes' source source sink sink'
-  lacks_room result none unasked tells =
-      let lacks : LacksMemoryToEdit file asked asked' notes notes' (printed [] memory_text) source source = inl (record { unread = refl; none_noted = none; text_is = refl }, unasked) in
-      told Memory result memory_text lacks (inr (inl lacks)) (λ w. w) tells
-
   pub lacks_memory : (result : Status) → notes' ≡ notes → AsksOnce file asked asked' → TellsAtEnd Memory sheet_memory_text result sink sink' → Edited IsSheet Refuses Allows kept file result asked asked' notes notes' source source sink sink'
   lacks_memory result none asks tells =
-      let lacks : LacksMemoryToEdit file asked asked' notes notes' (printed [] sheet_memory_text) source source = inr (record { asks = asks; unread = refl; text_is = refl }, none) in
-      told Memory result sheet_memory_text lacks (inr (inl lacks)) (λ w. w) tells
+      let lacks : LacksMemoryForFile file (printed [] sheet_memory_text) asked asked' source source = record { asks = asks; unread = refl; text_is = refl } in
+      told Memory result sheet_memory_text (lacks, none) (inr (inl (lacks, none))) (λ w. w) tells
 
   pub long_file : (result : Status) → notes' ≡ notes → TakesLongFile kept file asked asked' → TellsAtEnd TooLong too_long_text result sink sink' → Edited IsSheet Refuses Allows kept file result asked asked' notes notes' source source sink sink'
   long_file result none takes tells =

@@ -144,6 +144,17 @@ last_front last rest ends = elim ends [
 ]
 
 -- the sheet's part was taken, and what follows is read ahead
+-- no line is the front of any
+pub nothing_taken : (source : Option (List ℕ)) → HasTaken source source
+nothing_taken source = record {
+  text = [];
+  front = record { earlier = []; last = []; is = refl; others = All-nil IsEarlier; one_line = inl (All-nil (λ b. b ≢ 10)) };
+  small = omega arith;
+  rest = source;
+  taken = Consumes-nil source;
+  ahead = record { held = []; more = Consumes-nil source; few = omega arith };
+}
+
 pub has_taken : (text : List ℕ) (source : Option (List ℕ)) (held : List ℕ) (left : Option (List ℕ)) → TakesSheet text source (prepend_known held left) → length held ≤ CHUNK → HasTaken source left
 has_taken text source held left takes few =
     let part = takes.part in

@@ -10,9 +10,7 @@ use crate::resources::Resources;
 use crate::run::open;
 use pc_lines::LineReader;
 use pc_port::{Shelf, Sink, Source};
-use pc_refusals::{
-    SheetStop, Status, take_file, tell_no_memory, tell_no_memory_for_sheet, tell_too_long,
-};
+use pc_refusals::{SheetStop, Status, take_file, tell_no_memory_for_sheet, tell_too_long};
 
 /// Runs the commands on the input, on the sheet in the shelf's file of that name.
 ///
@@ -38,7 +36,7 @@ pub fn edit<M: Machine, I: Source, H: Shelf, O: Sink>(
     ensures no_write_fault { result ≢ Status.WriteFault → O.faults out.new ≡ O.faults out.old }
 {
     let Ok(mut reader) = LineReader::new(resources.alloc, LINE_LIMIT) else {
-        return tell_no_memory(out);
+        return tell_no_memory_for_sheet(out);
     };
     match take_file(resources.alloc, file, shelf) {
         Ok(sheet) => open::<M, I, O>(resources, &sheet, &mut reader, notes, input, out),

@@ -12,9 +12,7 @@ use crate::sheet::take_sheet;
 use crate::showing::tell_stop;
 use pc_lines::LineReader;
 use pc_port::{Sink, Source};
-use pc_refusals::{
-    SHEET_LIMIT, SheetStop, Status, tell_no_memory, tell_no_memory_for_sheet, tell_too_long,
-};
+use pc_refusals::{SHEET_LIMIT, SheetStop, Status, tell_no_memory_for_sheet, tell_too_long};
 
 /// Reads the sheet, and then answers each command line that is still to come.
 pub(crate) fn open<M: Machine, I: Source, O: Sink>(
@@ -82,7 +80,7 @@ pub fn replay<M: Machine, I: Source, O: Sink>(
     ensures no_write_fault { result ≢ Status.WriteFault → O.faults out.new ≡ O.faults out.old }
 {
     let Ok(mut reader) = LineReader::new(resources.alloc, SHEET_LIMIT) else {
-        return tell_no_memory(out);
+        return tell_no_memory_for_sheet(out);
     };
     replay_from::<M, I, O>(resources, &mut reader, notes, input, out)
 }

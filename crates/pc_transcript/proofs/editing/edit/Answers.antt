@@ -1,10 +1,10 @@
 use Rattle.std.proofs.Common.{refl, inl}
-use Rattle.pc_transcript.proofs.EditCourses.{lacks_room, lacks_memory, long_file, lacks_file, edits_from}
+use Rattle.pc_transcript.proofs.EditCourses.{lacks_memory, long_file, lacks_file, edits_from}
 use Rattle.pc_transcript.proofs.editing.edit.Goals as goal
 
 pub returns-in_default-clause-edited : goal.returns-in_default-clause-edited
 returns-in_default-clause-edited g c =
-    lacks_room (g.M.Machine.IsSheet c.args.resources.budget) (g.M.Machine.RefusesText c.args.resources.budget) g.M.Machine.Allows (g.H.Shelf.kept c.args.shelf.now) c.args.file.now (g.H.Shelf.asked c.args.shelf.now) (g.H.Shelf.asked c.args.shelf.now) c.args.notes.now c.args.notes.now (g.I.Source.left c.args.input.now) (g.O.Sink.given c.args.out.now) (g.O.Sink.given c.tell_no_memory.new.out) c.tell_no_memory.result refl refl c.tell_no_memory.ensures.told
+    lacks_memory (g.M.Machine.IsSheet c.args.resources.budget) (g.M.Machine.RefusesText c.args.resources.budget) g.M.Machine.Allows (g.H.Shelf.kept c.args.shelf.now) c.args.file.now (g.H.Shelf.asked c.args.shelf.now) (g.H.Shelf.asked c.args.shelf.now) c.args.notes.now c.args.notes.now (g.I.Source.left c.args.input.now) (g.O.Sink.given c.args.out.now) (g.O.Sink.given c.tell_no_memory_for_sheet.new.out) c.tell_no_memory_for_sheet.result refl (inl refl) c.tell_no_memory_for_sheet.ensures.told
 
 pub returns-in-Ok-take_file-clause-edited : goal.returns-in-Ok-take_file-clause-edited
 returns-in-Ok-take_file-clause-edited g c =
