@@ -12,7 +12,7 @@ use Rattle.pc_logic.specs.Edits.{without_rule}
 use Rattle.pc_lines.specs.Lines as a_line
 use Rattle.pc_syntax.specs.Tree.{Asked}
 use Rattle.pc_transcript.specs.Answer.{Answer, silent, accepted, shown, refused, no_memory}
-use Rattle.pc_spreadsheet.specs.Judgement.{State, IsLight, Task, entering, clearing, adding, dropping, budgeting, asking, showing, showing_grid, showing_json, dumping, IsTaskOf, IsEdit, state_after}
+use Rattle.pc_spreadsheet.specs.Judgement.{State, IsLight, Task, entering, entering_beside, clearing, removing, adding, dropping, budgeting, asking, showing, showing_grid, showing_json, dumping, IsTaskOf, IsEdit, state_after}
 use Rattle.pc_spreadsheet.specs.Allowed.{Notes, Allows, as_judged, as_contradiction, as_spent}
 use Rattle.pc_spreadsheet.specs.Laws.{StartsAreWellFormed, AnswersKeepForm}
 use Rattle.pc_afresh.specs.Afresh.{IsOpen, StartsAreOpen, AnswersKeepOpen, TranscriptsKeepOpen}
@@ -42,7 +42,9 @@ IsFit sheet = IsLight sheet × AreRulesConsistent sheet
 
 edit_fits : (state : State) (asked : Asked) (task : Task) → IsFit state.sheet → IsTaskOf state.sheet asked task → IsEdit task → IsFit (state_after state task).sheet
 edit_fits state asked task fit (entering e named) edit = fit
+edit_fits state asked task fit (entering_beside e named room) edit = fit
 edit_fits state asked task fit (clearing k named has) edit = fit
+edit_fits state asked task fit (removing e named stands) edit = fit
 edit_fits state asked task fit (adding r new light consistent) edit = (light, consistent)
 edit_fits state asked task fit (dropping place at) edit = (lighter state.sheet place at.0 fit.0, still_consistent state.sheet place fit.1)
 edit_fits state asked task fit (budgeting within) edit = fit

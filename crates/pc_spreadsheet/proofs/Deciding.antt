@@ -50,25 +50,35 @@ lone_reading line ws a spelled known follows one =
 
 -- ---- commands that may want memory
 
-abbrev WantsIn : CommandReading → Type 0
-WantsIn (asks a) = MayWantMemory a
-WantsIn reading = ⊥
+abbrev WantsIn : Sheet → CommandReading → Type 0
+WantsIn sheet (asks a) = MayWantMemory sheet a
+WantsIn sheet reading = ⊥
 
-module _ (line : List ℕ) (a : Asked) (may : MayWantMemory a) (only : (r : CommandReading) → IsCommandReading line r → r ≡ asks a) where
+-- one of these wants none
+showing_wants : (sheet : Sheet) → ¬ MayWantMemory sheet asks_show
+showing_wants sheet may = elim may.2 [ ]
+
+grid_wants : (sheet : Sheet) → ¬ MayWantMemory sheet asks_grid
+grid_wants sheet may = elim may.2 [ ]
+
+dumping_wants : (sheet : Sheet) → ¬ MayWantMemory sheet asks_dump
+dumping_wants sheet may = elim may.2 [ ]
+
+module _ (sheet : Sheet) (line : List ℕ) (a : Asked) (may : MayWantMemory sheet a) (only : (r : CommandReading) → IsCommandReading line r → r ≡ asks a) where
   lone : (ws : List Word) → IsSpelled line ws → ¬ TakesNoMemory line
   lone ws spelled takes = elim takes [
-    | inl n ↦ subst WantsIn (sym (only no_command (empty_command n))) may
+    | inl n ↦ subst (WantsIn sheet) (sym (only no_command (empty_command n))) may
     | inr names ↦ elim names [
-      | inl show ↦ subst WantsIn (sym (only (asks asks_show) (lone_reading line ws asks_show spelled refl refl show))) may
+      | inl show ↦ showing_wants sheet (subst (WantsIn sheet) (sym (only (asks asks_show) (lone_reading line ws asks_show spelled refl refl show))) may)
       | inr others ↦ elim others [
-        | inl grid ↦ subst WantsIn (sym (only (asks asks_grid) (lone_reading line ws asks_grid spelled refl refl grid))) may
-        | inr dump ↦ subst WantsIn (sym (only (asks asks_dump) (lone_reading line ws asks_dump spelled refl refl dump))) may
+        | inl grid ↦ grid_wants sheet (subst (WantsIn sheet) (sym (only (asks asks_grid) (lone_reading line ws asks_grid spelled refl refl grid))) may)
+        | inr dump ↦ dumping_wants sheet (subst (WantsIn sheet) (sym (only (asks asks_dump) (lone_reading line ws asks_dump spelled refl refl dump))) may)
       ]
     ]
   ]
 
-takes_memory : (line : List ℕ) (a : Asked) → MayWantMemory a → IsCommandReading line (asks a) → ((r : CommandReading) → IsCommandReading line r → r ≡ asks a) → ¬ TakesNoMemory line
-takes_memory line a may (spelled_command ws spelled is) only = lone line a may only ws spelled
+takes_memory : (sheet : Sheet) (line : List ℕ) (a : Asked) → MayWantMemory sheet a → IsCommandReading line (asks a) → ((r : CommandReading) → IsCommandReading line r → r ≡ asks a) → ¬ TakesNoMemory line
+takes_memory sheet line a may (spelled_command ws spelled is) only = lone sheet line a may only ws spelled
 
 -- ---- commands
 
@@ -86,7 +96,7 @@ pub obeyed_line : (old new : State × Notes) (line : List ℕ) (a : Asked) (repl
 obeyed_line old new line a Accepted answer reading only does is = rw is (does.0, (a, reading, does.1), does.2, does.3)
 obeyed_line old new line a (Shown page) answer reading only does is = rw is.2 (kind_of page, (a, reading, does.0), subst (λ (s : State × Notes). IsPage page s.0 is.0) does.2 is.1, does.2)
 obeyed_line old new line a (Refused why proof) answer reading only does is = rw is.2 (refused_line old new line a why proof is.0 reading does is.1)
-obeyed_line old new line a Memory answer reading only does is = rw is (takes_memory line a does.0 reading only, does.1)
+obeyed_line old new line a Memory answer reading only does is = rw is (takes_memory old.0.sheet line a does.0 reading only, does.1)
 obeyed_line old new line a Silent answer reading only does is = absurd does
 
 -- a page that is shown can be

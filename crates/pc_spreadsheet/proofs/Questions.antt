@@ -11,7 +11,7 @@ use Rattle.pc_sheet.specs.declared.limits.Limited.TheVariants.{Budget}
 use Rattle.pc_refusals.specs.declared.refusal.Refusal.TheVariants.{Limit}
 use Rattle.pc_spreadsheet.specs.Judgement.{State, IsBudget, budgets, budgeting, shows, why_page, showing_json, IsTaskOf, IsRefusalOf, by_fault}
 use Rattle.pc_spreadsheet.specs.Allowed.{Notes}
-use Rattle.pc_spreadsheet.specs.Commands.{Told, state_of, Explains, by_page, by_refusal, by_memory, ShowsJson, by_text, for_memory, Obeys, judged}
+use Rattle.pc_spreadsheet.specs.Commands.{Told, state_of, Explains, by_page, by_refusal, ShowsJson, by_text, for_memory, Obeys, judged}
 
 abbrev pair_of : State → Notes → State × Notes
 pair_of state notes = (state, notes)
@@ -21,7 +21,6 @@ pub explained_in : (s : SessionView) (n : Notes) (book : Sheet) (c : Cell) (v : 
 explained_in s n book c v holds reply is (by_page t task target) =
     (subst (λ (b : Sheet). IsTaskOf b (asks_why c v holds) (shows (why_page t))) is task, subst (λ (b : Sheet). IsTargetOf b.universe t) is target, refl)
 explained_in s n book c v holds reply is (by_refusal why refused) = judged (subst (λ (b : Sheet). IsRefusalOf b (asks_why c v holds) why) is refused) refl refl
-explained_in s n book c v holds reply is by_memory = (tt, refl)
 
 -- the display as JSON
 pub shown_json : (s : SessionView) (n : Notes) (reply : Told) → ShowsJson s.sheet reply → Obeys (state_of s, n) asks_json reply (state_of s, n)

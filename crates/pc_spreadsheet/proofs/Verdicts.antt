@@ -1,7 +1,7 @@
 -- That a command line has one verdict at most.
-use Rattle.std.proofs.Common.{◌≡◌, ℕ, Bool, ◌<◌, List, [], length, Option, Some, None, refl, sym, ap, ap₂, subst, arith, inl, inr, ◌∙◌}
+use Rattle.std.proofs.Common.{◌≡◌, ℕ, Bool, ◌<◌, List, [], length, Contains, Option, Some, None, refl, sym, ap, ap₂, subst, arith, inl, inr, ◌∙◌}
 use Rattle.pc_syntax.specs.Fault.{Fault, not_utf8, too_deep, syntax, wrong_version}
-use Rattle.pc_syntax.specs.Tree.{Cell, Value, Formula, Asked, enter, asks_enter, asks_clear, asks_rule, asks_drop, asks_budget, asks_show, asks_grid, asks_json, asks_why, asks_dump}
+use Rattle.pc_syntax.specs.Tree.{Cell, Value, Formula, Asked, enter, also, asks_enter, asks_also, asks_clear, asks_clear_one, asks_rule, asks_drop, asks_budget, asks_show, asks_grid, asks_json, asks_why, asks_dump}
 use Rattle.pc_syntax.specs.Command.{CommandReading, no_command, asks, at_fault, IsCommandReading}
 use Rattle.pc_sheet.specs.Sheet.{Sheet, Statement, some_of, no_statements, NamedStatement, with_rule}
 use Rattle.pc_sheet.specs.MaximalSets.{AreRulesConsistent}
@@ -12,16 +12,18 @@ use Rattle.pc_sheet.specs.declared.ids.SortId.{SortId}
 use Rattle.pc_sheet.specs.declared.ids.ValueId.{ValueId}
 use Rattle.pc_sheet.specs.declared.ids.Entry.{Entry}
 use Rattle.pc_elaborate.specs.declared.fault.SortFault.{SortFault}
+use Rattle.pc_elaborate.specs.declared.fault.SortFault.TheVariants as sort_fault
+use Rattle.pc_sheet.specs.declared.limits.Limited.TheVariants as limited
 use Rattle.pc_elaborate.specs.Elaboration.{IsCell, StandsForValue, IsEntryNamed, IsCellNamed}
 use Rattle.pc_elaborate.specs.FormulaFaults.{IsValueFault, IsSortedFormula}
 use Rattle.pc_elaborate.specs.Laws.{HaveOneOutcome, TreesHaveOneOutcome}
 use Rattle.pc_elaborate.specs.Tests.{no_test, test}
-use Rattle.pc_sortcheck.specs.DeclarationFaults.{IsDeclarationFault, IsRuleFault}
+use Rattle.pc_sortcheck.specs.DeclarationFaults.{HasRoomForEntry, IsDeclarationFault, IsRuleFault}
 use Rattle.pc_refusals.specs.declared.refusal.Refusal.{Refusal}
 use Rattle.pc_refusals.specs.declared.refusal.Refusal.TheVariants.{NotUtf8, Syntax, TooDeep}
 use Rattle.pc_load.specs.Refusals.{IsSortRefusal}
 use Rattle.pc_load.proofs.OneRefusal.{one_refusal, some_is}
-use Rattle.pc_spreadsheet.specs.Judgement.{State, IsLight, Task, enters, clears, adds, drops, shows, why_page, HasEntryOf, IsRuleOf, IsTaskOf, entering, clearing, adding, dropping, budgeting, asking, showing, showing_grid, showing_json, dumping, IsAskedFault, IsRefusalOf, by_fault, without_entry, of_old_name, of_no_rule, too_large, MakesContradiction, contradicting, IsRefused, for_utf8, for_depth, for_syntax, for_asked, Verdict, nothing, does, refuses, contradicts, IsVerdictOn}
+use Rattle.pc_spreadsheet.specs.Judgement.{State, IsLight, Task, enters, enters_beside, clears, removes, adds, drops, shows, why_page, HasEntryOf, IsRuleOf, IsTaskOf, entering, entering_beside, clearing, removing, adding, dropping, budgeting, asking, showing, showing_grid, showing_json, dumping, IsAskedFault, IsRefusalOf, by_fault, without_entry, without_that, of_old_name, of_no_rule, too_large, MakesContradiction, contradicting, IsRefused, for_utf8, for_depth, for_syntax, for_asked, Verdict, nothing, does, refuses, contradicts, IsVerdictOn}
 use Rattle.pc_spreadsheet.specs.Judgement as judgement
 use Rattle.pc_spreadsheet.proofs.Places.{not_new, one_place}
 use Rattle.pc_spreadsheet.specs.Laws.{LinesHaveOneVerdict}
@@ -85,6 +87,17 @@ module _ (sheet : Sheet) (one : HaveOneOutcome sheet.universe) (formed : IsWellF
       let sorts : x.1.1 ≡ y.1.1 = ap (λ (p : CellId × SortId). p.1) (pair_is c x.1.0 y.1.0 x.1.1 y.1.1 x.1.2 y.1.2) in
       (one.values y.1.1 v).same e f (subst (λ (s : SortId). IsValueFault sheet.universe s v e) sorts x.1.3) y.1.3
 
+  -- the entry that is further entered is the named one
+  further_never : (c : Cell) (v : Value) (e : Entry) → IsEntryNamed sheet.universe c v e → HasRoomForEntry sheet e → (f : SortFault) → ¬ IsDeclarationFault sheet (also c v) f
+  further_never c v e named room f (inl fails) = entry_never c v e named f fails
+  further_never c v e named room f (inr fails) = test_never (subst (HasRoomForEntry sheet) (entry_is c v e fails.1.0 named fails.1.1) room) f fails.1.2
+
+  further_same : (c : Cell) (v : Value) (e f : SortFault) → IsDeclarationFault sheet (also c v) e → IsDeclarationFault sheet (also c v) f → e ≡ f
+  further_same c v e f (inl x) (inl y) = entry_same c v e f x y
+  further_same c v e f (inl x) (inr y) = absurd (entry_never c v y.0.0 y.0.1 e x)
+  further_same c v e f (inr x) (inl y) = absurd (entry_never c v x.0.0 x.0.1 f y)
+  further_same c v e f (inr x) (inr y) = test_same e f (subst (λ (d : Entry). test (HasRoomForEntry sheet d) (sort_fault.Limit limited.Entries) no_test e) (entry_is c v x.1.0 y.1.0 x.1.1 y.1.1) x.1.2) y.1.2
+
   rule_never : (f : Formula) → IsSortedFormula sheet.universe [] f → length sheet.rules < 1024 → (e : SortFault) → ¬ IsRuleFault sheet f no_test e
   rule_never f sorted few e (inl fails) = (one.formulas f).never sorted.0 (sorted.1, sorted.2) e fails
   rule_never f sorted few e (inr fails) = test_never few e fails.1
@@ -108,6 +121,8 @@ module _ (sheet : Sheet) (one : HaveOneOutcome sheet.universe) (formed : IsWellF
 
   fault_same : (a : Asked) (e f : SortFault) → IsAskedFault sheet a e → IsAskedFault sheet a f → e ≡ f
   fault_same (asks_enter c v) e f x y = entry_same c v e f x y
+  fault_same (asks_also c v) e f x y = further_same c v e f x y
+  fault_same (asks_clear_one c v) e f x y = entry_same c v e f x y
   fault_same (asks_why c v holds) e f x y = entry_same c v e f x y
   fault_same (asks_clear c) e f x y = (one.cells c).same e f x y
   fault_same (asks_rule n g) e f x y = rule_same g e f x y
@@ -120,6 +135,8 @@ module _ (sheet : Sheet) (one : HaveOneOutcome sheet.universe) (formed : IsWellF
 
   task_never : {a : Asked} {task : Task} → IsTaskOf sheet a task → (e : SortFault) → ¬ IsAskedFault sheet a e
   task_never (entering {c = c} {v = v} d named) e = entry_never c v d named e
+  task_never (entering_beside {c = c} {v = v} d named room) e = further_never c v d named room e
+  task_never (removing {c = c} {v = v} d named stands) e = entry_never c v d named e
   task_never (clearing {c = c} k named has) e = cell_never c k named.0 named.1 e
   task_never (adding {n = n} {f = f} r new light consistent) e = rule_of_never n f r new.0 e
   task_never (dropping place at) e = λ fails. fails
@@ -136,6 +153,8 @@ module _ (sheet : Sheet) (one : HaveOneOutcome sheet.universe) (formed : IsWellF
   -- two tasks are one
   task_is : {a : Asked} {s t : Task} → IsTaskOf sheet a s → IsTaskOf sheet a t → s ≡ t
   task_is (entering {c = c} {v = v} d x) (entering e y) = ap enters (entry_is c v d e x y)
+  task_is (entering_beside {c = c} {v = v} d x room) (entering_beside e y room') = ap enters_beside (entry_is c v d e x y)
+  task_is (removing {c = c} {v = v} d x stands) (removing e y stands') = ap removes (entry_is c v d e x y)
   task_is (clearing {c = c} k x has) (clearing l y has') = ap clears (cell_is c k l x y)
   task_is (adding {n = n} {f = f} r x light consistent) (adding q y light' consistent') = ap adds (statement_is n f r q x.0 y.0)
   task_is (dropping {n = n} i x) (dropping j y) = ap drops (one_place sheet n no_rule i j formed x y)
@@ -151,11 +170,14 @@ module _ (sheet : Sheet) (one : HaveOneOutcome sheet.universe) (formed : IsWellF
   refusal_is : {a : Asked} {q r : Refusal} → IsRefusalOf sheet a q → IsRefusalOf sheet a r → q ≡ r
   refusal_is {a = a} {q = q} {r = r} (by_fault e fails tells) (by_fault f failing telling) = one_refusal f q r (subst (λ (g : SortFault). IsSortRefusal g q) (fault_same a e f fails failing) tells) telling
   refusal_is (by_fault e fails tells) (without_entry {c = c} k named lacks) = absurd (cell_never c k named.0 named.1 e fails)
+  refusal_is (by_fault e fails tells) (without_that {c = c} {v = v} d named lacks) = absurd (entry_never c v d named e fails)
   refusal_is (by_fault e fails tells) (of_old_name {n = n} {f = f} r is has) = absurd (rule_of_never n f r is e fails)
   refusal_is (by_fault e fails tells) (of_no_rule lacks) = absurd fails
   refusal_is (by_fault e fails tells) (too_large {n = n} {f = f} r new heavy) = absurd (rule_of_never n f r new.0 e fails)
   refusal_is (without_entry {c = c} k named lacks) (by_fault e fails tells) = absurd (cell_never c k named.0 named.1 e fails)
   refusal_is (without_entry k named lacks) (without_entry l named' lacks') = refl
+  refusal_is (without_that {c = c} {v = v} d named lacks) (by_fault e fails tells) = absurd (entry_never c v d named e fails)
+  refusal_is (without_that d named lacks) (without_that e named' lacks') = refl
   refusal_is (of_old_name {n = n} {f = f} r is has) (by_fault e fails tells) = absurd (rule_of_never n f r is e fails)
   refusal_is (of_old_name r is has) (of_old_name q is' has') = refl
   refusal_is (of_old_name r is has) (too_large q new heavy) = absurd (has new.1)
@@ -169,6 +191,7 @@ module _ (sheet : Sheet) (one : HaveOneOutcome sheet.universe) (formed : IsWellF
   task_or_refusal : {a : Asked} {t : Task} {q : Refusal} → IsTaskOf sheet a t → IsRefusalOf sheet a q → ⊥
   task_or_refusal task (by_fault e fails tells) = task_never task e fails
   task_or_refusal (clearing {c = c} k named has) (without_entry l named' lacks) = lacks (subst (HasEntryOf sheet) (cell_is c k l named named') has)
+  task_or_refusal (removing {c = c} {v = v} d named stands) (without_that e named' lacks) = lacks (subst (Contains sheet.entries) (entry_is c v d e named named') stands)
   task_or_refusal (adding r new light consistent) (of_old_name q is has) = has new.1
   task_or_refusal (adding {n = n} {f = f} r new light consistent) (too_large q new' heavy) = light_or_heavy n f q r new'.0 new.0 heavy light
   task_or_refusal (dropping {n = n} place at) (of_no_rule lacks) = not_new sheet.rules n place no_rule at lacks
@@ -178,6 +201,8 @@ module _ (sheet : Sheet) (one : HaveOneOutcome sheet.universe) (formed : IsWellF
   task_or_contradiction (adding {n = n} {f = f} q new light consistent) (contradicting r new' light' never) =
       never (subst (λ (s : NamedStatement). AreRulesConsistent (with_rule sheet s)) (statement_is n f q r new.0 new'.0) consistent)
   task_or_contradiction (entering e named) makes = elim makes [ ]
+  task_or_contradiction (entering_beside e named room) makes = elim makes [ ]
+  task_or_contradiction (removing e named stands) makes = elim makes [ ]
   task_or_contradiction (clearing k named has) makes = elim makes [ ]
   task_or_contradiction (dropping place at) makes = elim makes [ ]
   task_or_contradiction (budgeting within) makes = elim makes [ ]
@@ -192,6 +217,7 @@ module _ (sheet : Sheet) (one : HaveOneOutcome sheet.universe) (formed : IsWellF
   refusal_or_contradiction (of_old_name q is has) (contradicting r new light never) = has new.1
   refusal_or_contradiction (too_large {n = n} {f = f} q new heavy) (contradicting r new' light never) = light_or_heavy n f q r new.0 new'.0 heavy light
   refusal_or_contradiction (without_entry k named lacks) makes = elim makes [ ]
+  refusal_or_contradiction (without_that e named lacks) makes = elim makes [ ]
   refusal_or_contradiction (of_no_rule lacks) makes = elim makes [ ]
 
   contradiction_is : {a : Asked} {q r : NamedStatement} → MakesContradiction sheet a q → MakesContradiction sheet a r → q ≡ r

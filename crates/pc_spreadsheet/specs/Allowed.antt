@@ -1,17 +1,18 @@
 -- What may answer a sheet and a command line, and what is noted on the way.
 use Rattle.std.specs.Prelude.{◌≡◌, ℕ, List, [], ◌∷◌, ◌++◌, Option, Some, None, Contains}
-use Rattle.pc_syntax.specs.Tree.{Asked, asks_enter, asks_clear, asks_rule, asks_drop, Cell, Value, Formula}
+use Rattle.pc_syntax.specs.Tree.{Asked, asks_enter, asks_also, asks_clear, asks_clear_one, asks_rule, asks_drop, Cell, Value, Formula}
 use Rattle.pc_syntax.specs.Command.{IsCommandReading, asks, TakesNoMemory}
 use Rattle.pc_sheet.specs.Sheet.{Sheet, NamedStatement, with_rule}
+use Rattle.pc_sheet.specs.WellFormed.{is_of_cell}
 use Rattle.pc_sheet.specs.declared.ids.CellId.{CellId}
 use Rattle.pc_sheet.specs.declared.ids.Entry.{Entry}
-use Rattle.pc_logic.specs.Edits.{entered, without_entry, without_rule}
+use Rattle.pc_logic.specs.Edits.{is_same_entry, entered, also_entered, without_entry, without_cell, without_rule, HasRoomFor}
 use Rattle.pc_elaborate.specs.Elaboration.{IsEntryNamed, IsCellNamed}
 use Rattle.pc_sortcheck.specs.Declaring.{ReadsAs}
 use Rattle.pc_lits.specs.declared.tally.Tally.{Tally}
 use Rattle.pc_theory.specs.Spendings.{IsLawful}
 use Rattle.pc_theory.specs.declared.spending.Spending.{Spending}
-use Rattle.pc_session.specs.Answers.{IsSpare}
+use Rattle.pc_session.specs.Answers.{AreSpare, StandsAlone}
 use Rattle.pc_session.specs.NoteViews.{NoteView}
 use Rattle.pc_session.specs.Rules.{IsRuleAt}
 use Rattle.pc_session.specs.Views as session
@@ -55,11 +56,14 @@ pub data RefusesText (budget : ℕ) (text : List ℕ) (why : SheetRefusal) (more
 -- ---- command lines
 
 -- The command asks for an edit that needs a search, of the parts that an edit of this cell touches, or of all, and would make this sheet:
--- to enter another value than stands; to clear an entry that is in some implied target's least support; to add a rule of a new name, with
--- which the sheet isn't too large; to drop a rule.
+-- to enter a value, unless it stands alone in its cell; to enter one that doesn't stand beside the cell's others; to clear a cell, or one entry,
+-- of which something is in some implied target's least support; to add a rule of a new name, with which the sheet isn't too large; to drop
+-- a rule.
 pub data NeedsSearch (sheet : Sheet) : Asked → Option CellId → Sheet → Type 0 where
-  to_enter : {c : Cell} {v : Value} (e : Entry) → IsEntryNamed sheet.universe c v e → ¬ Contains sheet.entries e → NeedsSearch sheet (asks_enter c v) (Some e.cell) (entered sheet e)
-  to_clear : {c : Cell} (k : CellId) → IsCellNamed sheet.universe c k → HasEntryOf sheet k → ¬ IsSpare sheet k → NeedsSearch sheet (asks_clear c) (Some k) (without_entry sheet k)
+  to_enter : {c : Cell} {v : Value} (e : Entry) → IsEntryNamed sheet.universe c v e → ¬ StandsAlone sheet.entries e → NeedsSearch sheet (asks_enter c v) (Some e.cell) (entered sheet e)
+  to_enter_beside : {c : Cell} {v : Value} (e : Entry) → IsEntryNamed sheet.universe c v e → HasRoomFor sheet e → NeedsSearch sheet (asks_also c v) (Some e.cell) (also_entered sheet e)
+  to_clear : {c : Cell} (k : CellId) → IsCellNamed sheet.universe c k → HasEntryOf sheet k → ¬ AreSpare sheet (is_of_cell k) → NeedsSearch sheet (asks_clear c) (Some k) (without_cell sheet k)
+  to_remove : {c : Cell} {v : Value} (e : Entry) → IsEntryNamed sheet.universe c v e → Contains sheet.entries e → ¬ AreSpare sheet (is_same_entry e) → NeedsSearch sheet (asks_clear_one c v) (Some e.cell) (without_entry sheet e)
   to_add : {n : List ℕ} {f : Formula} (r : NamedStatement) → IsNewRule sheet n f r → IsLight (with_rule sheet r) → NeedsSearch sheet (asks_rule n f) None (with_rule sheet r)
   to_drop : {n : List ℕ} (place : ℕ) → IsRuleAt sheet.rules n place → NeedsSearch sheet (asks_drop n) None (without_rule sheet place)
 

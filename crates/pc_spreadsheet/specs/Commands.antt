@@ -5,7 +5,7 @@ use Rattle.std.specs.declared.option.Option.{Option}
 use Rattle.std.specs.declared.option.Option.TheVariants.{Some, None}
 use Rattle.pc_syntax.specs.declared.tree.CommandFault.{CommandFault}
 use Rattle.pc_syntax.specs.declared.tree.CommandFault.TheVariants as command_fault
-use Rattle.pc_syntax.specs.Tree.{Asked, asks_enter, asks_clear, asks_rule, asks_drop, asks_json, asks_why}
+use Rattle.pc_syntax.specs.Tree.{Asked, asks_rule, asks_json}
 use Rattle.pc_sheet.specs.Sheet.{Sheet, NamedStatement, with_rule}
 use Rattle.pc_sheet.specs.declared.ids.CellId.{CellId}
 use Rattle.pc_sheet.specs.declared.ids.Target.{Target}
@@ -26,7 +26,7 @@ use Rattle.pc_display.specs.Json.{IsJson}
 use Rattle.pc_load.specs.Refusals.{IsSortRefusal}
 use Rattle.pc_spreadsheet.specs.Judgement.{State, Task, shows, why_page, IsTaskOf, IsEdit, state_after, MakesContradiction, IsRefusalOf}
 use Rattle.pc_spreadsheet.specs.Pages.{CanShow, kind_of}
-use Rattle.pc_spreadsheet.specs.Allowed.{Notes, told_counts_of, SpendsFor}
+use Rattle.pc_spreadsheet.specs.Allowed.{Notes, told_counts_of, NeedsSearch, SpendsFor}
 use Rattle.pc_spreadsheet.specs.declared.page.Page.{Page}
 use Rattle.pc_spreadsheet.specs.declared.page.Page.TheVariants.{Json, Why}
 
@@ -64,26 +64,23 @@ pub data NotesSpent (sheet : Sheet) (cell : Option CellId) (spending : Spending)
   noted : (counts : Counts) → counts ≡ told_counts_of spending.tally → new ≡ old ++ record { sheet = sheet; cell = cell; tally = session.counts_of spending.tally } ∷ [] → NotesSpent sheet cell spending old new (Refused (Spent counts) None)
   not_noted : new ≡ old → NotesSpent sheet cell spending old new Memory
 
--- a question is a page, or it is refused
+-- a question is a page, or it is refused; it wants no memory
 pub data Explains (sheet : Sheet) (a : Asked) : Told → Type 0 where
   by_page : (t : Target) → IsTaskOf sheet a (shows (why_page t)) → IsTargetOf sheet.universe t → Explains sheet a (Shown (Why t))
   by_refusal : (why : Refusal) → IsRefusalOf sheet a why → Explains sheet a (Refused why None)
-  by_memory : Explains sheet a Memory
 
 -- the display as JSON is a page, or there was no memory for it
 pub data ShowsJson (sheet : Sheet) : Told → Type 0 where
   by_text : (text : String Global) → IsJson sheet (string_bytes text) → ShowsJson sheet (Shown (Json text))
   for_memory : ShowsJson sheet Memory
 
--- the commands that may want memory once they are read
-abbrev pub MayWantMemory : Asked → Type 0
-MayWantMemory (asks_enter c v) = Unit {0}
-MayWantMemory (asks_clear c) = Unit {0}
-MayWantMemory (asks_rule n f) = Unit {0}
-MayWantMemory (asks_drop n) = Unit {0}
-MayWantMemory (asks_why c v holds) = Unit {0}
-MayWantMemory asks_json = Unit {0}
-MayWantMemory a = ⊥
+-- The commands that may want memory once they are read: to add a rule, to show the display as JSON, and each edit that needs a search. So a
+-- question wants none, nor does an edit that changes nothing, one that removes only entries that no least support has, nor a refusal for
+-- want of the entry or the rule.
+abbrev pub MayWantMemory : Sheet → Asked → Type 0
+MayWantMemory sheet (asks_rule n f) = Unit {0}
+MayWantMemory sheet asks_json = Unit {0}
+MayWantMemory sheet a = (cell : Option CellId) × (made : Sheet) × NeedsSearch sheet a cell made
 
 -- A refused command: as it is judged; as a contradiction, which the sheet with that rule shows; or since its search spends too much.
 pub data RefusesAsked (old : State × Notes) (a : Asked) (why : Refusal) (proof : Option Sheet) (new : State × Notes) : Type 0 where
@@ -96,5 +93,5 @@ abbrev pub Obeys : State × Notes → Asked → Told → State × Notes → Type
 Obeys old a Accepted new = (task : Task) × IsTaskOf old.0.sheet a task × IsEdit task × (new ≡ (state_after old.0 task, old.1))
 Obeys old a (Shown page) new = IsTaskOf old.0.sheet a (shows (kind_of page)) × CanShow page old.0 × (new ≡ old)
 Obeys old a (Refused why proof) new = RefusesAsked old a why proof new
-Obeys old a Memory new = MayWantMemory a × (new ≡ old)
+Obeys old a Memory new = MayWantMemory old.0.sheet a × (new ≡ old)
 Obeys old a Silent new = ⊥

@@ -1,7 +1,7 @@
 -- Which texts are sheets, why others are refused, and what a command line asks in a state.
-use Rattle.std.specs.Prelude.{◌≡◌, ℕ, Bool, ◌<◌, ◌≤◌, ◌⊎◌, List, [], length, Any}
+use Rattle.std.specs.Prelude.{◌≡◌, ℕ, Bool, ◌<◌, ◌≤◌, ◌⊎◌, List, [], length, Any, Contains}
 use Rattle.std.specs.declared.option.Option.TheVariants.{None}
-use Rattle.pc_syntax.specs.Tree.{enter, Asked, asks_enter, asks_clear, asks_rule, asks_drop, asks_budget, asks_show, asks_grid, asks_json, asks_why, asks_dump, Cell, Value, Formula}
+use Rattle.pc_syntax.specs.Tree.{enter, also, Asked, asks_enter, asks_also, asks_clear, asks_clear_one, asks_rule, asks_drop, asks_budget, asks_show, asks_grid, asks_json, asks_why, asks_dump, Cell, Value, Formula}
 use Rattle.pc_syntax.specs.Fault.{not_utf8, too_deep, syntax}
 use Rattle.pc_syntax.specs.Command.{IsCommandReading, no_command, asks, at_fault}
 use Rattle.pc_sheet.specs.Limits.{most_rules, most_weight}
@@ -12,7 +12,7 @@ use Rattle.pc_sheet.specs.WellFormed.{IsWellFormedRule}
 use Rattle.pc_sheet.specs.declared.ids.CellId.{CellId}
 use Rattle.pc_sheet.specs.declared.ids.Entry.{Entry}
 use Rattle.pc_sheet.specs.declared.ids.Target.{Target}
-use Rattle.pc_logic.specs.Edits.{entered, without_rule}
+use Rattle.pc_logic.specs.Edits.{entered, also_entered, without_cell, without_rule}
 use Rattle.pc_logic.specs.Edits as edits
 use Rattle.pc_elaborate.specs.declared.fault.SortFault.{SortFault}
 use Rattle.pc_elaborate.specs.declared.fault.SortFault.TheVariants as fault
@@ -21,7 +21,7 @@ use Rattle.pc_elaborate.specs.Elaboration.{IsEntryNamed, IsCellNamed, IsStatemen
 use Rattle.pc_elaborate.specs.FormulaFaults.{IsCellFault}
 use Rattle.pc_elaborate.specs.Tests.{no_test, test}
 use Rattle.pc_sortcheck.specs.Declaring.{ReadsAs}
-use Rattle.pc_sortcheck.specs.DeclarationFaults.{IsDeclarationFault, IsRuleFault}
+use Rattle.pc_sortcheck.specs.DeclarationFaults.{HasRoomForEntry, IsDeclarationFault, IsRuleFault}
 use Rattle.pc_session.specs.Rules.{IsNewName, IsRuleAt}
 use Rattle.pc_refusals.specs.declared.refusal.SheetRefusal.{SheetRefusal}
 use Rattle.pc_refusals.specs.declared.refusal.Refusal.{Refusal}
@@ -91,7 +91,9 @@ pub data PageKind : Type 0 where
 -- an edit of the sheet, a budget, or a page
 pub data Task : Type 0 where
   enters : Entry → Task
+  enters_beside : Entry → Task
   clears : CellId → Task
+  removes : Entry → Task
   adds : NamedStatement → Task
   drops : ℕ → Task
   budgets : ℕ → Task
@@ -120,7 +122,9 @@ entry_of_target t = record { cell = t.cell; value = t.value }
 -- the command asks for this, and it can be done
 pub data IsTaskOf (sheet : Sheet) : Asked → Task → Type 0 where
   entering : {c : Cell} {v : Value} (e : Entry) → IsEntryNamed sheet.universe c v e → IsTaskOf sheet (asks_enter c v) (enters e)
+  entering_beside : {c : Cell} {v : Value} (e : Entry) → IsEntryNamed sheet.universe c v e → HasRoomForEntry sheet e → IsTaskOf sheet (asks_also c v) (enters_beside e)
   clearing : {c : Cell} (k : CellId) → IsCellNamed sheet.universe c k → HasEntryOf sheet k → IsTaskOf sheet (asks_clear c) (clears k)
+  removing : {c : Cell} {v : Value} (e : Entry) → IsEntryNamed sheet.universe c v e → Contains sheet.entries e → IsTaskOf sheet (asks_clear_one c v) (removes e)
   adding : {n : List ℕ} {f : Formula} (r : NamedStatement) → IsNewRule sheet n f r → IsLight (with_rule sheet r) → AreRulesConsistent (with_rule sheet r) → IsTaskOf sheet (asks_rule n f) (adds r)
   dropping : {n : List ℕ} (place : ℕ) → IsRuleAt sheet.rules n place → IsTaskOf sheet (asks_drop n) (drops place)
   budgeting : {n : ℕ} → IsBudget n → IsTaskOf sheet (asks_budget n) (budgets n)
@@ -138,7 +142,9 @@ IsEdit task = Unit {0}
 -- the state after the task is done
 abbrev pub state_after : State → Task → State
 state_after state (enters e) = record state { sheet = entered state.sheet e }
-state_after state (clears k) = record state { sheet = edits.without_entry state.sheet k }
+state_after state (enters_beside e) = record state { sheet = also_entered state.sheet e }
+state_after state (clears k) = record state { sheet = without_cell state.sheet k }
+state_after state (removes e) = record state { sheet = edits.without_entry state.sheet e }
 state_after state (adds r) = record state { sheet = with_rule state.sheet r }
 state_after state (drops place) = record state { sheet = without_rule state.sheet place }
 state_after state (budgets n) = record state { budget = n }
@@ -146,20 +152,23 @@ state_after state (shows kind) = state
 
 -- ---- why a command is refused
 
--- the faults of a command's names and sorts, or of its number
+-- the faults of a command's names and sorts, of its cell's entries, or of its number
 abbrev pub IsAskedFault : Sheet → Asked → SortFault → Type 0
 IsAskedFault sheet (asks_enter c v) = IsDeclarationFault sheet (enter c v)
+IsAskedFault sheet (asks_also c v) = IsDeclarationFault sheet (also c v)
+IsAskedFault sheet (asks_clear_one c v) = IsDeclarationFault sheet (enter c v)
 IsAskedFault sheet (asks_why c v holds) = IsDeclarationFault sheet (enter c v)
 IsAskedFault sheet (asks_clear c) = IsCellFault sheet.universe c
 IsAskedFault sheet (asks_rule n f) = IsRuleFault sheet f no_test
 IsAskedFault sheet (asks_budget n) = test (IsBudget n) (fault.Limit limited.Budget) no_test
 IsAskedFault sheet asked = no_test
 
--- The command is refused so: for its names and sorts first; to clear a cell without an entry, to add a rule of a name that a rule has, to
--- drop a rule that isn't there; or to add a rule with which the sheet is too large.
+-- The command is refused so: for its names, sorts and limits first; to clear a cell without an entry, or an entry that doesn't stand; to add a
+-- rule of a name that a rule has, to drop a rule that isn't there; or to add a rule with which the sheet is too large.
 pub data IsRefusalOf (sheet : Sheet) : Asked → Refusal → Type 0 where
   by_fault : {a : Asked} {why : Refusal} (e : SortFault) → IsAskedFault sheet a e → IsSortRefusal e why → IsRefusalOf sheet a why
   without_entry : {c : Cell} (k : CellId) → IsCellNamed sheet.universe c k → ¬ HasEntryOf sheet k → IsRefusalOf sheet (asks_clear c) NoEntry
+  without_that : {c : Cell} {v : Value} (e : Entry) → IsEntryNamed sheet.universe c v e → ¬ Contains sheet.entries e → IsRefusalOf sheet (asks_clear_one c v) NoEntry
   of_old_name : {n : List ℕ} {f : Formula} (r : NamedStatement) → IsRuleOf sheet n f r → ¬ IsNewName sheet.rules n → IsRefusalOf sheet (asks_rule n f) DuplicateRule
   of_no_rule : {n : List ℕ} → IsNewName sheet.rules n → IsRefusalOf sheet (asks_drop n) NoRule
   too_large : {n : List ℕ} {f : Formula} (r : NamedStatement) → IsNewRule sheet n f r → most_weight < weight (with_rule sheet r) → IsRefusalOf sheet (asks_rule n f) TooLarge

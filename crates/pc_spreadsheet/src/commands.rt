@@ -8,8 +8,7 @@ ghost use Rattle.pc_spreadsheet.specs.Allowed.{Allows, Notes};
 ghost use Rattle.pc_spreadsheet.specs.Commands.{Explains, Obeys, ShowsJson, state_of};
 ghost use Rattle.pc_spreadsheet.specs.Pages.{CanShow, IsCertificateAgainst, IsPage};
 
-use crate::edits::{add_rule, clear, drop_rule, enter};
-use crate::names::find_entry;
+use crate::edits::{add_rule, clear, drop_rule, enter, enter_beside, remove};
 use crate::page::Page;
 use crate::pages::has_displays;
 use crate::refusal::{refuse, reply_to};
@@ -20,6 +19,7 @@ use pc_reason::Reasons;
 use pc_refusals::Refusal;
 use pc_session::{Session, Spendings};
 use pc_sheet::{Limited, Target};
+use pc_sortcheck::find_entry;
 use pc_syntax::{CellTree, Command, ValueTree, parse_command};
 use pc_transcript::{MOST_BUDGET, Reply};
 use std::alloc::{AllocError, Global};
@@ -70,7 +70,9 @@ fn obey(alloc: Global, session: &mut Session, command: &Command, notes: &mut Spe
         Command::Show => Reply::Shown(Page::Display),
         Command::Dump => Reply::Shown(Page::SheetText),
         Command::Enter(cell, value) => enter(alloc, session, cell, value, notes),
+        Command::Also(cell, value) => enter_beside(alloc, session, cell, value, notes),
         Command::Clear(cell) => clear(alloc, session, cell, notes),
+        Command::ClearOne(cell, value) => remove(alloc, session, cell, value, notes),
         Command::AddRule(rule) => add_rule(alloc, session, rule, notes),
         Command::DropRule(name) => drop_rule(alloc, session, name, notes),
         Command::Why { cell, value, holds } => explain(session.book(), cell, value, *holds),

@@ -3,17 +3,17 @@ ghost use Rattle.std.specs.Prelude.{◌≤◌, ◌<◌, ℕ, None, Some, IfSome,
 ghost use Rattle.pc_formula.specs.Nesting as written;
 ghost use Rattle.pc_formula.specs.Sized.{IsSized};
 ghost use Rattle.pc_formula.specs.Word.{most_nesting};
-ghost use Rattle.pc_logic.specs.Edits.{entered, without_entry, without_rule};
+ghost use Rattle.pc_logic.specs.Edits.{also_entered, entered, HasRoomFor, without_cell, without_entry, without_rule};
 ghost use Rattle.pc_sheet.specs.Sheet.{NamedStatement, with_rule};
 ghost use Rattle.pc_sheet.specs.Views.{rule_of};
 ghost use Rattle.pc_sheet.specs.WellFormed.{IsEntryOf};
-ghost use Rattle.pc_syntax.specs.Tree.{asks_clear, asks_drop, asks_enter, asks_rule, cell_of, formula_of, value_of};
+ghost use Rattle.pc_syntax.specs.Tree.{asks_also, asks_clear, asks_clear_one, asks_drop, asks_enter, asks_rule, cell_of, formula_of, value_of};
 ghost use Rattle.pc_theory.specs.Spendings.{IsLawful};
 ghost use Rattle.pc_session.specs.Rules.{IsNewName, IsRuleAt};
 ghost use Rattle.pc_spreadsheet.specs.Commands.{NotesSpent, Obeys, state_of};
 ghost use Rattle.pc_spreadsheet.specs.Judgement.{IsNewRule};
 
-use crate::names::find_entry;
+use crate::made::{with_entered, without_cell};
 use crate::refusal::refuse;
 use crate::spending::{Told, note_spent, parted};
 use pc_elaborate::trees_have_one_outcome;
@@ -21,7 +21,7 @@ use pc_logic::{Book, Entry, Name, Rule};
 use pc_reason::Reasons;
 use pc_session::{Session, Spending, Spendings};
 use pc_sheet::CellId;
-use pc_sortcheck::{check_rule, find_cell};
+use pc_sortcheck::{check_rule, find_cell, find_entry, find_further_entry};
 use pc_syntax::{CellTree, RuleTree, ValueTree};
 use pc_transcript::Reply;
 use std::alloc::{AllocError, Global};
@@ -38,13 +38,13 @@ fn note_entering(
     requires lawful { IsLawful (entered book.now entry) (Some entry.cell) spending.now.tally.limit spending.now }
     ensures { NotesSpent (entered book.now entry) (Some entry.cell) spending.now notes.old notes.new result }
 {
-    match book.with_entry(alloc, entry) {
+    match with_entered(alloc, book, entry) {
         Ok(made) => note_spent(&made, Some(entry.cell), spending, notes),
         Err(AllocError) => Reply::Memory,
     }
 }
 
-/// Enters the value into the cell.
+/// Enters the value into the cell: its others go.
 pub(crate) fn enter(
     alloc: Global,
     session: &mut Session,
@@ -67,6 +67,47 @@ pub(crate) fn enter(
     }
 }
 
+// Entering beside the cell's others has spent too much.
+fn note_entering_beside(
+    alloc: Global,
+    book: &Book,
+    entry: Entry,
+    spending: &Spending,
+    notes: &mut Spendings,
+) -> Told
+    requires room { HasRoomFor book.now entry }
+    requires lawful { IsLawful (also_entered book.now entry) (Some entry.cell) spending.now.tally.limit spending.now }
+    ensures { NotesSpent (also_entered book.now entry) (Some entry.cell) spending.now notes.old notes.new result }
+{
+    match book.with_entry(alloc, entry) {
+        Ok(made) => note_spent(&made, Some(entry.cell), spending, notes),
+        Err(AllocError) => Reply::Memory,
+    }
+}
+
+/// Enters the value into the cell, beside its others.
+pub(crate) fn enter_beside(
+    alloc: Global,
+    session: &mut Session,
+    cell: &CellTree,
+    value: &ValueTree,
+    notes: &mut Spendings,
+) -> Told
+    ensures { Obeys (state_of session.old, notes.old) (asks_also (cell_of cell.now) (value_of value.now)) result (state_of session.new, notes.new) }
+{
+    let entry = match find_further_entry(session.book(), cell, value) {
+        Ok(entry) => entry,
+        Err(fault) => return refuse(fault),
+    };
+    match session.also(entry.cell, entry.value) {
+        Ok(()) => Reply::Accepted,
+        Err(refused) => match parted(refused) {
+            Ok(spending) => note_entering_beside(alloc, session.book(), entry, &spending, notes),
+            Err(told) => told,
+        },
+    }
+}
+
 // Clearing has spent too much.
 fn note_clearing(
     alloc: Global,
@@ -75,16 +116,16 @@ fn note_clearing(
     spending: &Spending,
     notes: &mut Spendings,
 ) -> Told
-    requires { IsLawful (without_entry book.now cell) (Some cell) spending.now.tally.limit spending.now }
-    ensures { NotesSpent (without_entry book.now cell) (Some cell) spending.now notes.old notes.new result }
+    requires { IsLawful (without_cell book.now cell) (Some cell) spending.now.tally.limit spending.now }
+    ensures { NotesSpent (without_cell book.now cell) (Some cell) spending.now notes.old notes.new result }
 {
-    match book.without_entry(alloc, cell) {
+    match without_cell(alloc, book, cell) {
         Ok(made) => note_spent(&made, Some(cell), spending, notes),
         Err(AllocError) => Reply::Memory,
     }
 }
 
-/// Clears the cell.
+/// Clears the cell: all its entries go.
 pub(crate) fn clear(
     alloc: Global,
     session: &mut Session,
@@ -101,6 +142,46 @@ pub(crate) fn clear(
         Ok(()) => Reply::Accepted,
         Err(refused) => match parted(refused) {
             Ok(spending) => note_clearing(alloc, session.book(), cell, &spending, notes),
+            Err(told) => told,
+        },
+    }
+}
+
+// Removing the entry has spent too much.
+fn note_removing(
+    alloc: Global,
+    book: &Book,
+    entry: Entry,
+    spending: &Spending,
+    notes: &mut Spendings,
+) -> Told
+    requires { IsLawful (without_entry book.now entry) (Some entry.cell) spending.now.tally.limit spending.now }
+    ensures { NotesSpent (without_entry book.now entry) (Some entry.cell) spending.now notes.old notes.new result }
+{
+    match book.without_entry(alloc, entry) {
+        Ok(made) => note_spent(&made, Some(entry.cell), spending, notes),
+        Err(AllocError) => Reply::Memory,
+    }
+}
+
+/// Removes the value from the cell: its other entries stay.
+pub(crate) fn remove(
+    alloc: Global,
+    session: &mut Session,
+    cell: &CellTree,
+    value: &ValueTree,
+    notes: &mut Spendings,
+) -> Told
+    ensures { Obeys (state_of session.old, notes.old) (asks_clear_one (cell_of cell.now) (value_of value.now)) result (state_of session.new, notes.new) }
+{
+    let entry = match find_entry(session.book(), cell, value) {
+        Ok(entry) => entry,
+        Err(fault) => return refuse(fault),
+    };
+    match session.clear_one(entry.cell, entry.value) {
+        Ok(()) => Reply::Accepted,
+        Err(refused) => match parted(refused) {
+            Ok(spending) => note_removing(alloc, session.book(), entry, &spending, notes),
             Err(told) => told,
         },
     }

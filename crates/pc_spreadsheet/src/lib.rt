@@ -10,7 +10,7 @@ mod commands;
 mod edits;
 mod law;
 mod load;
-mod names;
+mod made;
 pub mod page;
 mod pages;
 mod refusal;

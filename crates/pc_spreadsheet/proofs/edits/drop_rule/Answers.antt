@@ -8,7 +8,7 @@ returns-in-Ok c = dropped_so c.args.session.now c.drop_rule.new.self c.args.note
 
 pub returns-in-Err-parted : goal.returns-in-Err-parted
 returns-in-Err-parted c =
-    dropping_told c.args.session.now c.drop_rule.new.self c.args.notes.now c.args.name.now c.in-Err.refused c.in-Err-parted.told (sym c.parted.ensures ∙ c.in-Err-parted.is) (rw c.as_str.ensures.text at c.in-Err.ensures.refused) c.in-Err.ensures.unchanged.0
+    dropping_told c.args.session.now c.drop_rule.new.self c.args.notes.now c.args.name.now c.drop_rule.result c.in-Err.refused c.in-Err-parted.told (sym c.parted.ensures ∙ c.in-Err-parted.is) c.in-Err.is (rw c.as_str.ensures.text at c.drop_rule.ensures.no_rule) (rw c.as_str.ensures.text at c.in-Err.ensures.refused) c.in-Err.ensures.unchanged.0
 
 pub returns-in-Ok-parted : goal.returns-in-Ok-parted
 returns-in-Ok-parted c =

@@ -1,0 +1,49 @@
+use Rattle.std.proofs.Common.{sym, subst, ◌∙◌}
+use Rattle.pc_syntax.specs.Tree.{asks_also, cell_of, value_of}
+use Rattle.pc_sheet.specs.Sheet.{Sheet}
+use Rattle.pc_logic.specs.Edits.{also_entered, HasRoomFor}
+use Rattle.pc_session.specs.Causes.{IsEntryCause}
+use Rattle.pc_spreadsheet.specs.Allowed.{to_enter_beside}
+use Rattle.pc_spreadsheet.specs.Commands.{state_of}
+use Rattle.pc_spreadsheet.proofs.Ample.{further_ample}
+use Rattle.pc_spreadsheet.proofs.Telling.{refused_for}
+use Rattle.pc_spreadsheet.proofs.Editing.{entered_beside_so, room_beside, entry_told, spent_so, same_sheet, of_spent}
+use Rattle.pc_spreadsheet.proofs.edits.enter_beside.Goals as goal
+
+pub returns-in-Err : goal.returns-in-Err
+returns-in-Err c =
+    let cell = cell_of c.args.cell.now in
+    let value = value_of c.args.value.now in
+    refused_for (state_of c.args.session.now, c.args.notes.now) c.book.result.now (asks_also cell value) c.in-Err.fault c.refuse.result (sym c.book.ensures) (further_ample c.book.result.now cell value) c.in-Err.ensures c.refuse.ensures
+
+pub returns-in-Ok-also : goal.returns-in-Ok-also
+returns-in-Ok-also c =
+    let found = rw c.book.ensures at c.in-Ok.ensures in
+    entered_beside_so c.args.session.now c.also.new.self c.args.notes.now c.in-Ok.entry (cell_of c.args.cell.now) (value_of c.args.value.now) found.0 found.2 c.in-Ok-also.ensures.sheet c.also.ensures.budget
+
+pub returns-in-Err-parted : goal.returns-in-Err-parted
+returns-in-Err-parted c =
+    let s = c.args.session.now in
+    let e = c.in-Ok.entry in
+    let found = rw c.book.ensures at c.in-Ok.ensures in
+    let room = room_beside s c.also.new.self c.args.notes.now e c.also.result c.in-Err-also.refused _ found.1 found.2 c.in-Err-also.is c.also.ensures.standing in
+    entry_told s c.also.new.self c.args.notes.now (asks_also (cell_of c.args.cell.now) (value_of c.args.value.now)) (also_entered s.sheet e) e.cell c.in-Err-also.refused c.in-Err-parted.told (sym c.parted.ensures ∙ c.in-Err-parted.is) (to_enter_beside e found.0 room) c.in-Err-also.ensures.refused c.in-Err-also.ensures.unchanged.0
+
+pub note_entering_beside-requires-clause-room : goal.note_entering_beside-requires-clause-room
+note_entering_beside-requires-clause-room c =
+    let s = c.args.session.now in
+    let e = c.in-Ok.entry in
+    let found = rw c.book.ensures at c.in-Ok.ensures in
+    let room = room_beside s c.also.new.self c.args.notes.now e c.also.result c.in-Err-also.refused _ found.1 found.2 c.in-Err-also.is c.also.ensures.standing in
+    subst (λ (b : Sheet). HasRoomFor b e) (sym (c.book-in-Ok-parted.ensures ∙ same_sheet s c.also.new.self c.in-Err-also.ensures.unchanged.0)) room
+
+pub returns-in-Ok-parted : goal.returns-in-Ok-parted
+returns-in-Ok-parted c =
+    let s = c.args.session.now in
+    let e = c.in-Ok.entry in
+    let found = rw c.book.ensures at c.in-Ok.ensures in
+    let spent = of_spent c.in-Err-also.refused c.in-Ok-parted.spending (sym c.parted.ensures ∙ c.in-Ok-parted.is) in
+    let lawful = subst (IsEntryCause (also_entered s.sheet e) e.cell s.budget) spent c.in-Err-also.ensures.refused in
+    let room = room_beside s c.also.new.self c.args.notes.now e c.also.result c.in-Err-also.refused _ found.1 found.2 c.in-Err-also.is c.also.ensures.standing in
+    spent_so s c.also.new.self c.args.notes.now (asks_also (cell_of c.args.cell.now) (value_of c.args.value.now)) _ (λ (b : Sheet). also_entered b e) c.in-Ok-parted.spending c.book-in-Ok-parted.result.now c.note_entering_beside.new.notes c.note_entering_beside.result
+    (to_enter_beside e found.0 room) lawful c.in-Err-also.ensures.unchanged.0 c.book-in-Ok-parted.ensures c.note_entering_beside.ensures
