@@ -1,17 +1,14 @@
 //! What each command does.
-ghost use Rattle.std.specs.Prelude.{◌≤◌, length};
 ghost use Rattle.pc_syntax.specs.Command.{asks};
 ghost use Rattle.pc_syntax.specs.Sized.{IsNestedReading, IsSizedReading};
 ghost use Rattle.pc_syntax.specs.Tree.{asked_of, asks_budget, asks_why, cell_of, value_of};
-ghost use Rattle.pc_transcript.specs.Answer.{Answer, CanBeTold, IsAnswer};
-ghost use Rattle.pc_spreadsheet.specs.Allowed.{Allows, Notes};
+ghost use Rattle.pc_spreadsheet.specs.Allowed.{Notes};
 ghost use Rattle.pc_spreadsheet.specs.Commands.{Explains, Obeys, ShowsJson, state_of};
-ghost use Rattle.pc_spreadsheet.specs.Pages.{CanShow, IsCertificateAgainst, IsPage};
 
 use crate::edits::{add_rule, clear, drop_rule, enter, enter_beside, remove};
 use crate::page::Page;
 use crate::pages::has_displays;
-use crate::refusal::{refuse, reply_to};
+use crate::refusal::refuse;
 use crate::spending::Told;
 use pc_display::json;
 use pc_logic::Book;
@@ -20,7 +17,7 @@ use pc_refusals::Refusal;
 use pc_session::{Session, Spendings};
 use pc_sheet::{Limited, Target};
 use pc_sortcheck::find_entry;
-use pc_syntax::{CellTree, Command, ValueTree, parse_command};
+use pc_syntax::{CellTree, Command, ValueTree};
 use pc_transcript::{MOST_BUDGET, Reply};
 use std::alloc::{AllocError, Global};
 
@@ -60,8 +57,13 @@ fn set_budget(session: &mut Session, number: u64) -> Told
     Reply::Accepted
 }
 
-// Does what the command asks for.
-fn obey(alloc: Global, session: &mut Session, command: &Command, notes: &mut Spendings) -> Told
+/// Does what the command asks for.
+pub(crate) fn obey(
+    alloc: Global,
+    session: &mut Session,
+    command: &Command,
+    notes: &mut Spendings,
+) -> Told
     requires sized { IsSizedReading (asks (asked_of command.now)) }
     requires nested { IsNestedReading (asks (asked_of command.now)) }
     ensures { Obeys (state_of session.old, notes.old) (asked_of command.now) result (state_of session.new, notes.new) }
@@ -79,23 +81,5 @@ fn obey(alloc: Global, session: &mut Session, command: &Command, notes: &mut Spe
         Command::Budget(number) => set_budget(session, *number),
         Command::Grid => Reply::Shown(Page::Grid),
         Command::Json => show_json(alloc, session),
-    }
-}
-
-/// Does what the line's text asks for, and says what is to be told of it.
-pub(crate) fn answer(
-    alloc: Global,
-    session: &mut Session,
-    line: &[u8],
-    notes: &mut Spendings,
-) -> Told
-    requires { length line.now ≤ 4096 }
-    ensures allowed { (answer : Answer) → IsAnswer IsPage IsCertificateAgainst (state_of session.new) result answer → Allows (state_of session.old, notes.old) line.now answer (state_of session.new, notes.new) }
-    ensures shown { CanBeTold CanShow (state_of session.new) result }
-{
-    match parse_command(alloc, line) {
-        Ok(Some(command)) => obey(alloc, session, &command, notes),
-        Ok(None) => Reply::Silent,
-        Err(fault) => reply_to(fault),
     }
 }

@@ -1,14 +1,20 @@
 //! What answers the command lines.
+ghost use Rattle.pc_syntax.specs.Command.{asks};
+ghost use Rattle.pc_syntax.specs.Sized.{IsNestedReading, IsSizedReading};
+ghost use Rattle.pc_syntax.specs.Tree.{asked_of};
+ghost use Rattle.pc_spreadsheet.specs.Commands.{Obeys};
 ghost use Rattle.pc_spreadsheet.specs.Summary.{IsSummary};
 
-use crate::commands::answer;
+use crate::commands::obey;
 use crate::load::load;
 use crate::page::Page;
 use crate::pages::{has_certificate, write_certificate, write_page};
+use crate::refusal::reply_to;
 use crate::summary::{Summary, sum_up};
 use pc_port::{Failed, Sink};
 use pc_reason::Refutation;
 use pc_session::{Session, Spendings};
+use pc_syntax::{Command, parse_command};
 use pc_transcript::{LoadStop, Machine, Reply};
 use std::alloc::Global;
 use std::marker::Model;
@@ -38,6 +44,21 @@ impl Spreadsheet {
         ensures { IsSummary self.now.sheet result }
     {
         sum_up(&self.session)
+    }
+
+    /// Does what a command asks for, once its line is read. Only a rule to add, the display as JSON and an edit that needs a
+    /// search may want memory.
+    pub fn obey(
+        &mut self,
+        alloc: Global,
+        command: &Command,
+        notes: &mut Spendings,
+    ) -> Reply<Page, Refutation>
+        requires sized { IsSizedReading (asks (asked_of command.now)) }
+        requires nested { IsNestedReading (asks (asked_of command.now)) }
+        ensures { Obeys (self.old, notes.old) (asked_of command.now) result (self.new, notes.new) }
+    {
+        obey(alloc, &mut self.session, command, notes)
     }
 }
 
@@ -79,7 +100,11 @@ impl Machine for Spreadsheet {
         line: &[u8],
         notes: &mut Spendings,
     ) -> Reply<Page, Refutation> {
-        answer(alloc, &mut self.session, line, notes)
+        match parse_command(alloc, line) {
+            Ok(Some(command)) => self.obey(alloc, &command, notes),
+            Ok(None) => Reply::Silent,
+            Err(fault) => reply_to(fault),
+        }
     }
 
     fn show<O: Sink>(&self, page: &Page, out: &mut O) -> Result<(), Failed> {

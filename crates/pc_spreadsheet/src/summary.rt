@@ -17,7 +17,7 @@ use pc_sheet::{CellId, Entry, Target, ValueId};
 pub struct Summary {
     /// How many cells there are.
     pub cells: usize,
-    /// How many of them have an entry.
+    /// How many entries there are.
     pub entries: usize,
     /// How many entries have a conflict.
     pub conflicts: usize,
