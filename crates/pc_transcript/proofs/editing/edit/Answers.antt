@@ -24,4 +24,4 @@ returns-in-Err-TooLong-clause-edited g c =
 pub returns-clause-edited : goal.returns-clause-edited
 returns-clause-edited g c =
     let none = rw c.in-Err-Memory.field-0-is at c.in-Err-Memory.ensures.gives in
-    lacks_memory (g.M.Machine.IsSheet c.args.resources.budget) (g.M.Machine.RefusesText c.args.resources.budget) g.M.Machine.Allows (g.H.Shelf.kept c.args.shelf.now) c.args.file.now (g.H.Shelf.asked c.args.shelf.now) (g.H.Shelf.asked c.take_file.new.shelf) c.args.notes.now c.args.notes.now (g.I.Source.left c.args.input.now) (g.O.Sink.given c.args.out.now) (g.O.Sink.given c.tell_no_memory_for_sheet.new.out) c.tell_no_memory_for_sheet.result refl (inl none) c.tell_no_memory_for_sheet.ensures.told
+    lacks_memory (g.M.Machine.IsSheet c.args.resources.budget) (g.M.Machine.RefusesText c.args.resources.budget) g.M.Machine.Allows (g.H.Shelf.kept c.args.shelf.now) c.args.file.now (g.H.Shelf.asked c.args.shelf.now) (g.H.Shelf.asked c.take_file.new.shelf) c.args.notes.now c.args.notes.now (g.I.Source.left c.args.input.now) (g.O.Sink.given c.args.out.now) (g.O.Sink.given c.tell_no_memory_for_sheet-in-Err-Memory.new.out) c.tell_no_memory_for_sheet-in-Err-Memory.result refl (inl none) c.tell_no_memory_for_sheet-in-Err-Memory.ensures.told
