@@ -14,4 +14,4 @@ pub loop-entry-preserved : goal.loop-entry-preserved
 loop-entry-preserved c = cleared_further c.loop-entry.book c.remove_entry.new.self c.args.book.now c.args.cell c.in-Some.entry c.in-Some.ensures.of_cell c.remove_entry.ensures c.loop-entry.invariant
 
 pub returns : goal.returns
-returns c = cleared_all c.loop-entry.book c.args.book.now c.args.cell (subst (HasNone (is_of_cell c.args.cell)) c.entries.ensures.items c.oldest_of.ensures.none) c.loop-entry.invariant
+returns c = cleared_all c.loop-entry.book c.args.book.now c.args.cell (subst (HasNone (is_of_cell c.args.cell)) c.entries.ensures.items c.in_default.ensures.none) c.loop-entry.invariant
