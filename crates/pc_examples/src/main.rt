@@ -14,6 +14,7 @@ const ROOM: usize = 16384;
 const EXAMPLES: &str = "\
 replay; clinic.sheet clinic.commands; clinic.display
 replay; configurator.sheet configurator.commands; configurator.display
+replay; nights.sheet nights.commands; nights.display
 replay; roster.sheet roster.commands; roster.display
 replay; school.sheet school.commands; school.display
 replay; server.sheet server.commands; server.display

@@ -37,23 +37,36 @@ a = red, red, 4 stop/ => CertRefused/refused syntax line 10/
 a = red, red,  => CertRefused/refused wrong-end/
 ";
 
+// Whether the certificate with these three ends so against the sheet; `/` ends a line.
+pub(crate) fn is_verdict(
+    alloc: Global,
+    sheet: &str,
+    used: &str,
+    value: &str,
+    last: &str,
+    want: &str,
+) -> Result<bool, AllocError> {
+    let used = used.replace(alloc, '/', "\n")?;
+    let last = last.replace(alloc, '/', "\n")?;
+    let want = want.replace(alloc, '/', "\n")?;
+    let text = CERTIFICATE.replace(alloc, "USED", used.as_str())?;
+    let text = text.as_str().replace(alloc, "VALUE", value)?;
+    let text = text.as_str().replace(alloc, "LAST", last.as_str())?;
+    ends_so(
+        alloc,
+        "check k.sheet",
+        sheet.as_bytes(),
+        text.as_bytes(),
+        want.as_str(),
+    )
+}
+
 // Whether the certificate of a row ends as the row says.
 fn is_checked(alloc: Global, row: &str) -> Result<bool, AllocError> {
     let (parts, want) = row.split_once(" => ").unwrap_or((row, ""));
     let (used, rest) = parts.split_once(", ").unwrap_or((parts, ""));
     let (value, last) = rest.split_once(", ").unwrap_or((rest, ""));
-    let text = CERTIFICATE.replace(alloc, "USED", used)?;
-    let text = text.as_str().replace(alloc, "VALUE", value)?;
-    let last = last.replace(alloc, '/', "\n")?;
-    let text = text.as_str().replace(alloc, "LAST", last.as_str())?;
-    let want = want.replace(alloc, '/', "\n")?;
-    ends_so(
-        alloc,
-        "check k.sheet",
-        ENTERED.as_bytes(),
-        text.as_bytes(),
-        want.as_str(),
-    )
+    is_verdict(alloc, ENTERED, used, value, last, want)
 }
 
 #[test]
@@ -90,8 +103,8 @@ fn cut_certificates(rt: HostRuntime) -> Result<(), Fail> {
 }
 
 // Sheets and commands; how their run ends and what is printed before a certificate; how that begins; and the sheet that it is
-// for, which accepts it. The certificates are of implied and of excluded values, with and without entries, and of rules that
-// contradict each other, in a sheet and with one rule more.
+// for, which accepts it. The certificates are of implied and of excluded values, with and without entries, by the older and by the
+// newer entry of a cell, and of rules that contradict each other, in a sheet and with one rule more.
 const WRITTEN: &str = "\
 sheet 1
 sort color = red green
@@ -150,6 +163,72 @@ rule ab : a = b
 rule bc : b = c
 enter c = green
 enter a = red
+begin
+===
+sheet 1
+sort color = red green
+cell a : color
+cell b : color
+cell c : color
+rule ab : a = b
+rule bc : b = c
+begin
+enter c = red
+also a = red
+also a = green
+clear c
+why a != green
+--- Done
+ok
+ok
+ok
+ok
+--- certificate 1
+claim a != green
+use a = red
+value a = red
+value b = red
+value c = red
+--- sheet 2
+sort color = red green
+cell a : color
+cell b : color
+cell c : color
+rule ab : a = b
+rule bc : b = c
+enter a = red
+also a = green
+begin
+===
+sheet 1
+sort color = red green
+cell a : color
+cell b : color
+cell c : color
+rule ab : a = b
+rule bc : b = c
+begin
+enter a = red
+also a = green
+why c = green
+--- Done
+ok
+ok
+--- certificate 1
+claim c = green
+use a = green
+value a = green
+value b = green
+value c = green
+--- sheet 2
+sort color = red green
+cell a : color
+cell b : color
+cell c : color
+rule ab : a = b
+rule bc : b = c
+enter a = red
+also a = green
 begin
 ===
 sheet 1

@@ -12,4 +12,6 @@ mod roster;
 #[cfg(test)]
 mod runs;
 #[cfg(test)]
+mod several;
+#[cfg(test)]
 mod sheets;

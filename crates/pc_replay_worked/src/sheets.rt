@@ -474,7 +474,7 @@ begin
 ";
 
 // Whether a run of `replay` over these lines and those of the block ends as the block says.
-fn is_worked(alloc: Global, before: &str, block: &str) -> Result<bool, AllocError> {
+pub(crate) fn is_worked(alloc: Global, before: &str, block: &str) -> Result<bool, AllocError> {
     let (lines, want) = block.split_once("--- ").unwrap_or((block, ""));
     let input = format!(in alloc; "{before}{lines}")?;
     ends_so(alloc, "replay", b"", input.as_bytes(), want)
@@ -524,11 +524,16 @@ const SHEET: Frame = Frame {
     behind: "",
 };
 
-// Sheets at fault, and two that weigh too much, one of them by a single literal.
+// Sheets at fault, of both versions and one that isn't, one with a ninth entry of a cell; and two that weigh too much, one of
+// them by a single literal.
 const SHEETS: &str = "\
 sheet 1/sort color = red green/cell a : color/rule r : a = => 2 syntax line 4
 sheet 1/sort color = red/ => 3 no-begin
-sheet 9/begin/ => 4 wrong-version line 1
+sheet 3/begin/ => 4 wrong-version line 1
+sheet 1/sort color = red green/cell a : color/also a = red/begin/ => 2 syntax line 4
+sheet 2/sort color = red green/cell a : color/also a : red/begin/ => 2 syntax line 4
+sheet 2/sort color = red green/cell a : color/also a = blue/begin/ => 5 unknown-name line 4
+sheet 2/sort n = 1 .. 9/cell x : n/also x = 1/also x = 2/also x = 3/also x = 4/also x = 5/also x = 6/also x = 7/also x = 8/also x = 8/also x = 9/begin/ => 11 limit line 13 entries
 sheet 1/sort n = 1 .. 200/rule r : forall a:n . forall b:n . forall c:n . a = a/begin/ => 12 too-large
 sheet 1/sort n = 1 .. 200/sort i = 1 .. 100/cell c(i) : n/sort u = 1 .. 1/cell d : u/begin/ => 12 too-large
 ";
@@ -564,6 +569,9 @@ const COMMAND: Frame = Frame {
 
 const COMMANDS: &str = "\
 enter a = => 2 syntax
+also a => 2 syntax
+clear a = => 2 syntax
+clear a != red => 2 syntax
 rule q : a => 2 syntax
 rule q : @!a = b => 21 too-deep
 ";
@@ -585,6 +593,13 @@ enter e = 4 => 9 not-a-value
 clear b => 16 no-entry
 clear d => 5 unknown-name
 clear a(red) => 7 wrong-arity
+clear b = red => 16 no-entry
+clear b = blue => 5 unknown-name
+clear a = 1 => 8 wrong-sort
+also d = red => 5 unknown-name
+also a(red) = red => 7 wrong-arity
+also a = 1 => 8 wrong-sort
+also e = 4 => 9 not-a-value
 rule q : a < b => 8 wrong-sort
 rule q : forall a:color . b = a => 6 duplicate-name
 rule ab : a = c => 17 duplicate-rule
