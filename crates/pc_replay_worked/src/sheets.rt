@@ -633,8 +633,9 @@ fn commands_at_fault(rt: HostRuntime) -> Result<(), Fail> {
     Ok(())
 }
 
-// Pigeons that don't fit, under a budget that is spent before that shows; a sheet that is loaded within so many
-// propagations, and edits of it that aren't, until the budget is raised; a rule that is too large for any.
+// Pigeons that don't fit, under budgets that are spent before that shows, one before anything is learned and one after; a sheet
+// that is loaded within so many propagations, and edits of it that aren't, until the budget is raised; a rule that is too large
+// for any.
 const BUDGETS: &str = "\
 replay --budget 50
 sheet 1
@@ -645,6 +646,16 @@ rule apart : forall x:pigeon . forall y:pigeon . x = y | nest(x) != nest(y)
 begin
 --- SheetRefused
 sheet refused 14 spent placed=50 learned=0 calls=1
+===
+replay --budget 5000
+sheet 1
+sort pigeon = 1 .. 7
+sort hole = 1 .. 6
+cell nest(pigeon) : hole
+rule apart : forall x:pigeon . forall y:pigeon . x = y | nest(x) != nest(y)
+begin
+--- SheetRefused
+sheet refused 14 spent placed=5000 learned=310 calls=1
 ===
 replay --budget=157688
 sheet 1
