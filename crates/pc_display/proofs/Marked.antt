@@ -1,5 +1,5 @@
 -- An entry has a conflict exactly where it is in a minimal inconsistent sublist, and a cell is marked where one of its entries is.
-use Rattle.std.proofs.Common.{◌≡◌, ◌↔◌, ℕ, Bool, true, false, List, [], ◌∷◌, Option, None, Some, is_some, IsSome, IsTrue, All, Contains, eqb-true, eq-eqb, refl, sym, ◌∙◌, ap}
+use Rattle.std.proofs.Common.{◌≡◌, ◌↔◌, ℕ, Bool, true, false, List, [], ◌∷◌, Option, None, Some, is_some, IsSome, IsTrue, Contains, eqb-true, eq-eqb, refl, ◌∙◌, ap}
 use Rattle.std.specs.List.{list_any}
 use Rattle.std.proofs.lemmas.List.Elements.{All-contains, All-contains_itself}
 use Rattle.std.proofs.lemmas.List.Folds.{list_any_at}
@@ -11,7 +11,7 @@ use Rattle.pc_sheet.specs.WellFormed.{is_of_cell, entries_of, IsEntryOf, IsWellF
 use Rattle.pc_sheet.specs.declared.ids.CellId.{CellId}
 use Rattle.pc_sheet.specs.declared.ids.Entry.{Entry}
 use Rattle.pc_sheet.specs.declared.ids.Target.{Target}
-use Rattle.pc_display.specs.Marks.{IsInMinimal, ShowConflicts, MarksShowConflicts}
+use Rattle.pc_display.specs.Marks.{IsInMinimal, MarksShowConflicts}
 use Rattle.pc_display.specs.Show.{conflict_of, have_conflict}
 use Rattle.pc_display.specs.Supports.{IsSupportFor, IsReasoning, Reasoning}
 use Rattle.pc_display.proofs.SheetLemmas.{sublist_all}

@@ -1,4 +1,4 @@
-use Rattle.std.proofs.Common.{◌≡◌, ◌∙◌, ap, sym}
+use Rattle.std.proofs.Common.{◌∙◌, ap, sym}
 use Rattle.pc_writer.specs.Spelling.{sort_of}
 use Rattle.pc_display.specs.Show.{entered_text}
 use Rattle.pc_display.specs.Grid.{columns}

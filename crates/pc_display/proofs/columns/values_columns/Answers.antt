@@ -1,4 +1,4 @@
-use Rattle.std.proofs.Common.{◌∙◌, ap, arith, codes, length, sym}
+use Rattle.std.proofs.Common.{◌∙◌, ap, arith, codes, sym}
 use Rattle.std.proofs.lemmas.List.{length-map, take_all}
 use Rattle.pc_writer.specs.Spelling.{joined, value_text}
 use Rattle.pc_display.specs.Grid.{columns}

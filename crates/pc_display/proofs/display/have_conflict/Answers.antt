@@ -1,4 +1,4 @@
-use Rattle.std.proofs.Common.{◌≡◌, Bool, true, false, ◌||◌, get_or, is_some, sym, ◌∙◌, ap, ap₂}
+use Rattle.std.proofs.Common.{Bool, ◌||◌, get_or, is_some, sym, ◌∙◌, ap, ap₂}
 use Rattle.std.proofs.lemmas.List.{take_all}
 use Rattle.std.proofs.lemmas.List.Folds.{list_any_at, list_any_more}
 use Rattle.pc_sheet.specs.declared.ids.Entry.{Entry}

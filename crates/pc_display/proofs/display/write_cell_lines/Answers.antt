@@ -1,6 +1,6 @@
 use Rattle.std.proofs.Common.{◌≡◌, ◌++◌, sym, ◌∙◌, ap, subst}
 use Rattle.pc_sheet.specs.Sheet.{Sheet}
-use Rattle.pc_sheet.specs.WellFormed.{entries_of, IsWellFormed}
+use Rattle.pc_sheet.specs.WellFormed.{entries_of}
 use Rattle.pc_writer.specs.Spelling.{sort_of}
 use Rattle.pc_writer.proofs.InTurn.{Writes-then, Writes-cut, Writes-same}
 use Rattle.pc_display.specs.Show.{conflict_lines, head_line, value_lines}
