@@ -111,7 +111,7 @@ refusal_is x y is = cc is
 
 -- it isn't for want of an entry
 pub no_entry_spent : (refused : EditRefused) (spending : Spending) → refused ≡ edit.Spent spending → refused ≡ edit.NoEntry → ⊥
-no_entry_spent refused spending spent none = cc (sym spent ∙ none)
+no_entry_spent refused spending is none = absurd (cc (sym is ∙ none))
 
 module _ (s s' : SessionView) (n : Notes) where
   -- ---- edits of entries
