@@ -98,7 +98,7 @@ value_at (suc (suc (suc (suc (suc (suc (suc (suc i)))))))) d l = absurd (omega (
 pub worked_limit : WorkedLimit
 worked_limit = record {
   eight = record {
-    each = All-from_recursion (IsEntryOf numbers) (first_views 8) (omega arith, omega arith, omega arith, omega arith, omega arith, omega arith, omega arith, omega arith, tt);
+    each = All-from_recursion (IsEntryOf numbers) (first_views 8) (omega arith, (omega arith, (omega arith, (omega arith, (omega arith, (omega arith, (omega arith, (omega arith, tt))))))));
     distinct = λ i j d below within is.
         let value : Entry → ℕ = λ e. e.value.0 in
         let first : (get_or (first_views 8) i d).value.0 ≡ i = value_at i d (omega (arith, below, within)) in
