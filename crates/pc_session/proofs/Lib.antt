@@ -1,10 +1,10 @@
 pub mod Places
 pub mod Apart
 pub mod Bytes
-pub mod CellEntries
+pub mod TakenEntries
 pub mod Changing
 pub mod Placing
-pub mod ClearedEntries
+pub mod Resting
 pub mod Making
 pub mod Unused
 pub mod RuleEdits

@@ -1,5 +1,5 @@
 -- An edit that is put in place leaves a session.
-use Rattle.std.proofs.Common.{◌≡◌, ◌≢◌, ℕ, ◌+◌, ◌<◌, ◌≤◌, ◌⊎◌, inl, inr, List, [], ◌∷◌, map, length, set, get_or, Contains, Some, slice_get, refl, arith, ap, sym, ◌∙◌, subst}
+use Rattle.std.proofs.Common.{◌≡◌, ◌≢◌, ℕ, ◌+◌, ◌<◌, ◌≤◌, ◌⊎◌, inl, inr, Bool, List, [], ◌∷◌, map, length, set, get_or, Contains, Some, slice_get, refl, arith, ap, sym, ◌∙◌, subst}
 use Rattle.std.specs.List.{AllZip}
 use Rattle.pc_lits.specs.declared.tally.Tally.{Tally}
 use Rattle.pc_sheet.specs.Sheet.{Sheet}
@@ -13,7 +13,7 @@ use Rattle.pc_parts.specs.PartSheets.{sheet_of}
 use Rattle.pc_parts.specs.Components.{parts_of}
 use Rattle.pc_components.specs.View.{number_of}
 use Rattle.pc_edits.specs.Reasons.{IsRowFor, IsJustifying}
-use Rattle.pc_edits.specs.Edits.{IsAdded, edited}
+use Rattle.pc_edits.specs.Edits.{IsEditOf, edited}
 use Rattle.pc_edits.specs.Laws.{EditedReasonsAreRight}
 use Rattle.pc_edits.proofs.OtherParts.{same_entries}
 use Rattle.pc_cache.specs.Rows.{TargetRow, HasRowOf, HaveTargets, row_of, target_of}
@@ -52,10 +52,10 @@ apart_at sheet theory known i j p q at_p at_q other c on off = elim (cases_lt i 
         known.division.apart i j p less (at_within parts j q at_q) c (subst P (sym (at_get parts i p p at_p)) on) (subst P (sym (at_get parts j q p at_q)) off)
 
 -- the worlds of a part without the cell stay
-worlds_stay : (sheet : Sheet) (c : CellId) (added : List Entry) (p : Part) (ws : List WorldView) → IsAdded c added → ¬ Contains p.cells c.0 → AreWorldsOf sheet p ws → AreWorldsOf (edited sheet c added) p ws
-worlds_stay sheet c added p ws is_added off h =
+worlds_stay : (sheet : Sheet) (c : CellId) (gone : Entry → Bool) (added : List Entry) (p : Part) (ws : List WorldView) → IsEditOf c gone added → ¬ Contains p.cells c.0 → AreWorldsOf sheet p ws → AreWorldsOf (edited sheet gone added) p ws
+worlds_stay sheet c gone added p ws is_edit off h =
     let P : List Entry → Type 0 = λ es. AreExact (record (sheet_of sheet p) { entries = es }) ws in
-    record { exact = subst P (sym (same_entries p.cells c off sheet.entries added is_added)) h.exact; fit = h.fit }
+    record { exact = subst P (sym (same_entries p.cells c off gone sheet.entries added is_edit)) h.exact; fit = h.fit }
 
 -- ---- the changes have places
 
@@ -96,9 +96,9 @@ module _ (sheet : Sheet) (theory : TheoryView) (worlds : List (List WorldView)) 
   pub index_within : (i : ℕ) → i < length theory.components.cells → i < length worlds
   index_within i below = omega (arith, as_many_worlds, below)
 
-  module _ (c : CellId) (added : List Entry) (is_added : IsAdded c added) (number : ℕ) (ws : List WorldView) (changes : List TargetRow) (most : ℕ) (edit : IsEdit sheet rows c added number ws changes most) where
+  module _ (c : CellId) (gone : Entry → Bool) (added : List Entry) (is_edit : IsEditOf c gone added) (number : ℕ) (ws : List WorldView) (changes : List TargetRow) (most : ℕ) (edit : IsEdit sheet rows c gone added number ws changes most) where
     abbrev new : Sheet
-    new = edited sheet c added
+    new = edited sheet gone added
 
     pub number_in : number < length worlds
     number_in = omega (arith, as_many_worlds, number_within sheet theory.components session.known.components number edit.part edit.numbered)
@@ -114,12 +114,12 @@ module _ (sheet : Sheet) (theory : TheoryView) (worlds : List (List WorldView)) 
           | inr other ↦
               let off = apart_at sheet theory session.known number j edit.part p edit.numbered at (λ is. other (sym is)) c.0 edit.has in
               subst (AreWorldsOf new p) (sym (get_set_other worlds number j ws [] other))
-              (worlds_stay sheet c added p (get_or worlds j []) is_added off (world_at j p [] (omega (arith, below, set_length worlds number ws)) at))
+              (worlds_stay sheet c gone added p (get_or worlds j []) is_edit off (world_at j p [] (omega (arith, below, set_length worlds number ws)) at))
         ])
 
     reasons_after : EditedReasonsAreRight → IsWellFormed new → IsJustifying new (after rows changes)
     reasons_after law formed_after =
-        law sheet (parts_of sheet) edit.part c added (row_of rows) (after rows changes) (division_here sheet session.known.division) consistent formed formed_after is_added
+        law sheet (parts_of sheet) edit.part c gone added (row_of rows) (after rows changes) (division_here sheet session.known.division) consistent formed formed_after is_edit
         (at_contained (parts_of (rules_alone sheet)) number edit.part edit.numbered) edit.has session.reasons edit.changes_are.each
 
     pub placed_session : EditedReasonsAreRight → IsWellFormed new → (rows_after : List TargetRow) → map target_of rows_after ≡ map target_of rows → ((t : Target) → row_of rows_after t ≡ after rows changes t)
@@ -138,7 +138,7 @@ module _ (sheet : Sheet) (theory : TheoryView) (worlds : List (List WorldView)) 
     -- ---- what stays
 
     module _ (rows_after : List TargetRow) (rows_are : (t : Target) → row_of rows_after t ≡ after rows changes t) where
-      pub rows_stay : Stay c rows rows_after
+      pub rows_stay : Stay gone rows rows_after
       rows_stay t j row lacks = rows_are t ∙ edit.changes_are.stays t j row lacks
 
       pub others_stay : OthersStay c theory.components rows rows_after
@@ -170,27 +170,27 @@ module _ (sheet : Sheet) (theory : TheoryView) (worlds : List (List WorldView)) 
 
 -- the edit has been put in place
 pub done : EditedReasonsAreRight → (sheet : Sheet) (theory : TheoryView) (worlds : List (List WorldView)) (rows : List TargetRow) (session : IsSession sheet theory worlds rows) (formed : IsWellFormed sheet)
-    (c : CellId) (added : List Entry) (limit : ℕ) (edit : Edit) → IsAdded c added → IsWellFormed (edited sheet c added) → IsMade sheet rows c added limit edit
+    (c : CellId) (gone : Entry → Bool) (added : List Entry) (limit : ℕ) (edit : Edit) → IsEditOf c gone added → IsWellFormed (edited sheet gone added) → IsMade sheet rows c gone added limit edit
     → (rows_after : List TargetRow) → map target_of rows_after ≡ map target_of rows → ((t : Target) → row_of rows_after t ≡ after rows edit.patch t)
-    → IsDone sheet theory rows c added limit edit.book (set worlds edit.part edit.worlds) rows_after edit.spending.tally
-done law sheet theory worlds rows session formed c added limit edit is_added formed_after made rows_after targets rows_are =
+    → IsDone sheet theory rows c gone added limit edit.book (set worlds edit.part edit.worlds) rows_after edit.spending.tally
+done law sheet theory worlds rows session formed c gone added limit edit is_edit formed_after made rows_after targets rows_are =
     let most = edit.spending.tally.learned + edit.spending.tally.calls in
     record {
       sheet_is = made.book;
       session =
           subst (λ b. IsSession b theory (set worlds edit.part edit.worlds) rows_after) (sym made.book)
-          (placed_session sheet theory worlds rows session formed c added is_added edit.part edit.worlds edit.patch most made.is law formed_after rows_after targets rows_are);
-      spends = inr (edit.spending, subst (λ b. IsSpendingOf b (Some c) edit.spending) (sym made.book) made.spends, made.limited, refl);
-      stays = rows_stay sheet theory worlds rows session formed c added is_added edit.part edit.worlds edit.patch most made.is rows_after rows_are;
-      others = others_stay sheet theory worlds rows session formed c added is_added edit.part edit.worlds edit.patch most made.is rows_after rows_are;
-      steps = steps_stay sheet theory worlds rows session formed c added is_added edit.part edit.worlds edit.patch most made.is rows_after rows_are edit.spending.tally refl;
+          (placed_session sheet theory worlds rows session formed c gone added is_edit edit.part edit.worlds edit.patch most made.is law formed_after rows_after targets rows_are);
+      spends = (edit.spending, subst (λ b. IsSpendingOf b (Some c) edit.spending) (sym made.book) made.spends, made.limited, refl);
+      stays = rows_stay sheet theory worlds rows session formed c gone added is_edit edit.part edit.worlds edit.patch most made.is rows_after rows_are;
+      others = others_stay sheet theory worlds rows session formed c gone added is_edit edit.part edit.worlds edit.patch most made.is rows_after rows_are;
+      steps = steps_stay sheet theory worlds rows session formed c gone added is_edit edit.part edit.worlds edit.patch most made.is rows_after rows_are edit.spending.tally refl;
     }
 
 -- where the edit may be put in place: its part has worlds, and its changes have places
 pub part_within : (sheet : Sheet) (theory : TheoryView) (worlds : List (List WorldView)) (rows : List TargetRow) (session : IsSession sheet theory worlds rows) (formed : IsWellFormed sheet)
-    (c : CellId) (added : List Entry) (limit : ℕ) (edit : Edit) → IsAdded c added → IsMade sheet rows c added limit edit → edit.part < length worlds
-part_within sheet theory worlds rows session formed c added limit edit is_added made =
-    number_in sheet theory worlds rows session formed c added is_added edit.part edit.worlds edit.patch (edit.spending.tally.learned + edit.spending.tally.calls) made.is
+    (c : CellId) (gone : Entry → Bool) (added : List Entry) (limit : ℕ) (edit : Edit) → IsEditOf c gone added → IsMade sheet rows c gone added limit edit → edit.part < length worlds
+part_within sheet theory worlds rows session formed c gone added limit edit is_edit made =
+    number_in sheet theory worlds rows session formed c gone added is_edit edit.part edit.worlds edit.patch (edit.spending.tally.learned + edit.spending.tally.calls) made.is
 
-pub changes_placed : (sheet : Sheet) (rows : List TargetRow) → HavePlaces sheet rows → (c : CellId) (added : List Entry) (limit : ℕ) (edit : Edit) → IsMade sheet rows c added limit edit → HaveTargets rows edit.patch
-changes_placed sheet rows places c added limit edit made = have_targets rows edit.patch (λ r has. (places r.target).1 (made.is.changes_are.targets r has))
+pub changes_placed : (sheet : Sheet) (rows : List TargetRow) → HavePlaces sheet rows → (c : CellId) (gone : Entry → Bool) (added : List Entry) (limit : ℕ) (edit : Edit) → IsMade sheet rows c gone added limit edit → HaveTargets rows edit.patch
+changes_placed sheet rows places c gone added limit edit made = have_targets rows edit.patch (λ r has. (places r.target).1 (made.is.changes_are.targets r has))

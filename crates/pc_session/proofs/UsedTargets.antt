@@ -1,4 +1,4 @@
--- Whether the reason of some target rests on an entry, target by target.
+-- Whether the reason of some target rests on an entry that is taken away, target by target.
 use Rattle.std.proofs.Common.{◌≡◌, ℕ, suc, ◌+◌, ◌<◌, inl, inr, Bool, true, false, List, [], ◌∷◌, length, take, get_or, Contains, Some, slice_get, arith, ap, sym, ◌∙◌, subst}
 use Rattle.std.proofs.lemmas.Bool.{false≢true}
 use Rattle.std.proofs.lemmas.List.{take_more}
@@ -21,12 +21,12 @@ there_of_cell cell n v holds t is below =
     let value : Target → ℕ = λ x. x.value.0 in
     of_cell_has t cell n (ap of is) (omega (arith, ap value is, below))
 
-pub none_more : (rows : List TargetRow) (e : Entry) (cell : CellId) (n : ℕ) (s t : Target) (used also : Bool) → s ≡ target_of_value cell n true → t ≡ target_of_value cell n false → used ≡ is_stale (Some e) false (row_of rows s) → also ≡ is_stale (Some e) false (row_of rows t)
-    → used ≡ false → also ≡ false → ((u : Target) → Contains (targets_on_cell cell n) u → is_stale (Some e) false (row_of rows u) ≡ true → ⊥)
-    → (u : Target) → Contains (targets_on_cell cell (n + 1)) u → is_stale (Some e) false (row_of rows u) ≡ true → ⊥
-none_more rows e cell n s t used also is_s is_t told_s told_t none_s none_t before u there uses =
+pub none_more : (rows : List TargetRow) (gone : Entry → Bool) (cell : CellId) (n : ℕ) (s t : Target) (used also : Bool) → s ≡ target_of_value cell n true → t ≡ target_of_value cell n false → used ≡ is_stale gone false (row_of rows s) → also ≡ is_stale gone false (row_of rows t)
+    → used ≡ false → also ≡ false → ((u : Target) → Contains (targets_on_cell cell n) u → is_stale gone false (row_of rows u) ≡ true → ⊥)
+    → (u : Target) → Contains (targets_on_cell cell (n + 1)) u → is_stale gone false (row_of rows u) ≡ true → ⊥
+none_more rows gone cell n s t used also is_s is_t told_s told_t none_s none_t before u there uses =
     let one_more : n + 1 ≡ suc n = omega arith in
-    let test : Target → Bool = λ x. is_stale (Some e) false (row_of rows x) in
+    let test : Target → Bool = λ x. is_stale gone false (row_of rows x) in
     elim (in_append (targets_on_cell cell n) (target_of_value cell n true ∷ target_of_value cell n false ∷ []) u (subst (λ k. Contains (targets_on_cell cell k) u) one_more there)) [
       | inl early ↦ before u early uses
       | inr late ↦ elim (contains_cases (target_of_value cell n true) (target_of_value cell n false ∷ []) u late) [

@@ -1,15 +1,17 @@
 -- A session that stays as it was.
-use Rattle.std.proofs.Common.{◌≡◌, ℕ, inl, inr, Result, Ok, Err, OnOk, OnErr, List, refl, ap, sym, ◌∙◌, subst}
+use Rattle.std.proofs.Common.{◌≡◌, ℕ, ◌+◌, ◌≤◌, inl, inr, Bool, Result, Ok, Err, OnOk, OnErr, List, refl, ap, sym, ◌∙◌, subst}
 use Rattle.pc_lits.specs.declared.tally.Tally.{Tally}
 use Rattle.pc_sheet.specs.Sheet.{Sheet}
 use Rattle.pc_sheet.specs.declared.ids.CellId.{CellId}
-use Rattle.pc_logic.specs.Edits.{without_entry}
-use Rattle.pc_cache.specs.Rows.{Cached, TargetRow}
+use Rattle.pc_sheet.specs.declared.ids.Entry.{Entry}
+use Rattle.pc_sheet.specs.declared.ids.Target.{Target}
+use Rattle.pc_edits.specs.Edits.{edited}
+use Rattle.pc_cache.specs.Rows.{Cached, TargetRow, bytes_of_rows, row_of}
 use Rattle.pc_theory.specs.Theories.{TheoryView}
 use Rattle.pc_session.specs.Answers.{IsUnchanged}
 use Rattle.pc_session.specs.Arena.{compacted}
 use Rattle.pc_session.specs.inside.Sessions.{IsSession}
-use Rattle.pc_session.specs.inside.States.{viewed, IsState, IsSame}
+use Rattle.pc_session.specs.inside.States.{viewed, IsEdited, IsLeftBy, IsState, IsSame, IsSameBut}
 use Rattle.pc_session.specs.Views.{Counts, SessionView, counts_of, none_spent}
 use Rattle.pc_session.specs.declared.state.State.{State}
 
@@ -64,10 +66,45 @@ still_seen budget old new v is same = subst (λ x. IsUnchanged x (viewed budget 
 abbrev seen_with : ℕ → Sheet → Counts → TheoryView → Cached → SessionView
 seen_with budget sheet counts theory cache = record { sheet = sheet; budget = budget; tally = counts; components = theory.components; rows = cache.rows; bytes = cache.bytes }
 
--- a session where an entry was cleared in place
-pub cleared_seen : (budget : ℕ) (old new : State) (c : CellId) (tally : Tally) → new.book ≡ without_entry old.book c → new.theory ≡ old.theory → new.cache ≡ old.cache → counts_of tally ≡ none_spent budget
-    → viewed budget (record new { tally = tally }) ≡ record (viewed budget old) { sheet = without_entry old.book c; tally = none_spent budget }
-cleared_seen budget old new c tally book theory cache counts =
-    ap (λ b. seen_with budget b (counts_of tally) new.theory new.cache) book
-    ∙ (ap (λ n. seen_with budget (without_entry old.book c) n new.theory new.cache) counts
-    ∙ (ap (λ th. seen_with budget (without_entry old.book c) (none_spent budget) th new.cache) theory ∙ ap (seen_with budget (without_entry old.book c) (none_spent budget) old.theory) cache))
+-- a session of another sheet, where nothing was spent
+pub but_seen : (budget : ℕ) (sheet : Sheet) (old new : State) → IsSameBut sheet budget old new → viewed budget new ≡ record (viewed budget old) { sheet = sheet; tally = none_spent budget }
+but_seen budget sheet old new same =
+    ap (λ b. seen_with budget b (counts_of new.tally) new.theory new.cache) same.book
+    ∙ (ap (λ n. seen_with budget sheet n new.theory new.cache) same.tally
+    ∙ (ap (λ th. seen_with budget sheet (none_spent budget) th new.cache) same.theory ∙ ap (seen_with budget sheet (none_spent budget) old.theory) same.cache))
+
+-- ---- what an edit leaves
+
+pub left_edited : (c : CellId) (gone : Entry → Bool) (added : List Entry) (limit : ℕ) (old new : State) → new.theory ≡ old.theory → new.cache.bytes ≤ compacted old.cache.rows old.cache.bytes + bytes_of_rows new.cache.rows → IsEdited old c gone added limit new → IsLeftBy c gone old new
+left_edited c gone added limit old new theory bytes done = record {
+  state = subst (λ th. IsSession new.book th new.worlds.items new.cache.rows) (sym theory) done.session;
+  stays = done.stays;
+  others = done.others;
+  steps = done.steps;
+  bytes = inr bytes;
+}
+
+pub left_same : (c : CellId) (gone : Entry → Bool) (old new : State) → IsState new → new.cache ≡ old.cache → IsLeftBy c gone old new
+left_same c gone old new state cache =
+    let rows : Cached → List TargetRow = λ x. x.rows in
+    let bytes : Cached → ℕ = λ x. x.bytes in
+    record {
+      state = state;
+      stays = λ t j row lacks. rows_are (ap rows cache) t ∙ row;
+      others = λ cells t listed has off. rows_are (ap rows cache) t;
+      steps = λ t j row. inl (sym (rows_are (ap rows cache) t) ∙ row);
+      bytes = inl (ap bytes cache);
+    }
+  where
+    rows_are : new.cache.rows ≡ old.cache.rows → (t : Target) → row_of new.cache.rows t ≡ row_of old.cache.rows t
+    rows_are is t = ap (λ rs. row_of rs t) is
+
+pub left_ok : {T E : Type 0} (r : Result T E) (c : CellId) (gone : Entry → Bool) (added : List Entry) (limit : ℕ) (old new : State) → new.theory ≡ old.theory → OnOk r (new.cache.bytes ≤ compacted old.cache.rows old.cache.bytes + bytes_of_rows new.cache.rows) → OnOk r (IsEdited old c gone added limit new)
+    → OnOk r (IsLeftBy c gone old new)
+left_ok (Ok x) c gone added limit old new theory bytes done = left_edited c gone added limit old new theory bytes done
+left_ok (Err e) c gone added limit old new theory bytes done = tt
+
+-- the book of an edit, where it has been put in place
+pub book_ok : {T E : Type 0} (r : Result T E) (c : CellId) (gone : Entry → Bool) (added : List Entry) (limit : ℕ) (old new : State) (made : Sheet) → made ≡ edited old.book gone added → OnOk r (IsEdited old c gone added limit new) → OnOk r (new.book ≡ made)
+book_ok (Ok x) c gone added limit old new made is done = done.sheet_is ∙ sym is
+book_ok (Err e) c gone added limit old new made is done = tt

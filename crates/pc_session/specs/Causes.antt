@@ -1,12 +1,12 @@
 -- Why a load or an edit is refused.
-use Rattle.std.specs.Prelude.{◌≡◌, ℕ, ◌<◌, ◌≤◌, None, Some}
+use Rattle.std.specs.Prelude.{◌≡◌, ℕ, ◌<◌, ◌≤◌, Bool, List, None, Some}
 use Rattle.pc_sheet.specs.Limits.{most_weight}
 use Rattle.pc_sheet.specs.Sheet.{Sheet}
 use Rattle.pc_sheet.specs.Weight.{weight}
 use Rattle.pc_sheet.specs.MaximalSets.{AreRulesConsistent}
 use Rattle.pc_sheet.specs.declared.ids.CellId.{CellId}
-use Rattle.pc_logic.specs.Edits.{without_entry}
-use Rattle.pc_edits.specs.Edits.{HasNoEntryOf}
+use Rattle.pc_sheet.specs.declared.ids.Entry.{Entry}
+use Rattle.pc_edits.specs.Edits.{HasNone}
 use Rattle.pc_theory.specs.Spendings.{IsLawful}
 use Rattle.pc_session.specs.declared.refused.LoadRefused.{LoadRefused}
 use Rattle.pc_session.specs.declared.refused.LoadRefused.TheVariants as load
@@ -30,12 +30,12 @@ IsEntryCause sheet cell budget edit.NoRule = ⊥
 IsEntryCause sheet cell budget edit.TooLarge = ⊥
 IsEntryCause sheet cell budget (edit.Inconsistent refutation) = ⊥
 
--- of clearing the cell: it has no entry, or its entry's removal spends too much
-abbrev pub IsClearCause : Sheet → CellId → ℕ → EditRefused → Type 0
-IsClearCause sheet cell budget edit.NoEntry = HasNoEntryOf sheet.entries cell
-IsClearCause sheet cell budget edit.DuplicateRule = ⊥
-IsClearCause sheet cell budget edit.NoRule = ⊥
-IsClearCause sheet cell budget edit.TooLarge = ⊥
-IsClearCause sheet cell budget (edit.Inconsistent refutation) = ⊥
-IsClearCause sheet cell budget (edit.Spent spending) = IsLawful (without_entry sheet cell) (Some cell) budget spending
-IsClearCause sheet cell budget edit.Memory = Unit {0}
+-- of taking entries of the cell away, which makes that sheet: there are none such, or the search spends too much
+abbrev pub IsRemovalCause : (Entry → Bool) → List Entry → Sheet → CellId → ℕ → EditRefused → Type 0
+IsRemovalCause gone es made cell budget edit.NoEntry = HasNone gone es
+IsRemovalCause gone es made cell budget edit.DuplicateRule = ⊥
+IsRemovalCause gone es made cell budget edit.NoRule = ⊥
+IsRemovalCause gone es made cell budget edit.TooLarge = ⊥
+IsRemovalCause gone es made cell budget (edit.Inconsistent refutation) = ⊥
+IsRemovalCause gone es made cell budget (edit.Spent spending) = IsLawful made (Some cell) budget spending
+IsRemovalCause gone es made cell budget edit.Memory = Unit {0}

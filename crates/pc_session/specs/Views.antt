@@ -1,5 +1,5 @@
 -- A session as its callers see it.
-use Rattle.std.specs.Prelude.{◌≡◌, ◌⊎◌, ℕ, List, Option}
+use Rattle.std.specs.Prelude.{◌≡◌, ℕ, List, Option}
 use Rattle.pc_sheet.specs.Sheet.{Sheet}
 use Rattle.pc_sheet.specs.declared.ids.CellId.{CellId}
 use Rattle.pc_lits.specs.declared.tally.Tally.{Tally}
@@ -31,6 +31,6 @@ pub record SessionView : Type 0 where
   pub rows : List TargetRow
   pub bytes : ℕ
 
--- within the limit nothing was spent, or the tally is that of a spending on the touched parts
+-- the tally is that of a spending on the touched parts, within the limit
 abbrev pub IsTallyOf : Sheet → Option CellId → ℕ → Counts → Type 0
-IsTallyOf sheet touched limit counts = (counts ≡ none_spent limit) ⊎ ((s : Spending) × IsSpendingOf sheet touched s × (s.tally.limit ≡ limit) × (counts_of s.tally ≡ counts))
+IsTallyOf sheet touched limit counts = (s : Spending) × IsSpendingOf sheet touched s × (s.tally.limit ≡ limit) × (counts_of s.tally ≡ counts)

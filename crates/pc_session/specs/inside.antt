@@ -4,6 +4,6 @@ pub mod Done
 pub mod Edits
 pub mod Stale
 pub mod Staleness
-pub mod Old
+pub mod Taken
 pub mod Refusals
 pub mod Loaded

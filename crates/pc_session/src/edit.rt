@@ -1,7 +1,7 @@
-//! An edit of a cell's entry, made aside, and how it is put in place.
-ghost use Rattle.std.specs.Prelude.{◌≡◌, ◌+◌, ◌≤◌, ℕ, List, OnErr, OnOk};
+//! An edit of a cell's entries, made aside, and how it is put in place.
+ghost use Rattle.std.specs.Prelude.{◌≡◌, ◌+◌, ◌≤◌, ℕ, Bool, List, OnErr, OnOk};
 ghost use Rattle.pc_cache.specs.Rows.{bytes_of_rows};
-ghost use Rattle.pc_edits.specs.Edits.{edited, IsAdded};
+ghost use Rattle.pc_edits.specs.Edits.{IsEditOf};
 ghost use Rattle.pc_sheet.specs.WellFormed.{IsWellFormed};
 ghost use Rattle.pc_sheet.specs.declared.ids.CellId.{CellId};
 ghost use Rattle.pc_sheet.specs.declared.ids.Entry.{Entry};
@@ -11,12 +11,12 @@ ghost use Rattle.pc_session.specs.inside.States.{IsEdited, IsState};
 use crate::state::State;
 use pc_cache::Patch;
 use pc_edits::edited_reasons_are_right;
-use pc_logic::Book;
+use pc_logic::{Book, well_formed};
 use pc_theory::Spending;
 use pc_world_list::Worlds;
 use std::alloc::AllocError;
 
-/// An edit of a cell's entry: the number of the part that has the cell, the new book, the worlds of the part, what changes
+/// An edit of a cell's entries: the number of the part that has the cell, the new book, the worlds of the part, what changes
 /// among the reasons, and what was spent.
 #[derive(Drop)]
 pub(crate) struct Edit {
@@ -31,13 +31,14 @@ pub(crate) struct Edit {
 pub(crate) fn put_in_place(state: &mut State, edit: Edit) -> Result<(), AllocError>
     requires state { IsState state.old }
     requires formed { IsWellFormed state.old.book }
-    requires made { (c : CellId) × (added : List Entry) × (limit : ℕ) × IsAdded c added × IsMade state.old.book state.old.cache.rows c added limit edit }
-    ensures done { OnOk result ((c : CellId) (added : List Entry) (limit : ℕ) → IsAdded c added → IsWellFormed (edited state.old.book c added) → IsMade state.old.book state.old.cache.rows c added limit edit → IsEdited state.old c added limit state.new) }
+    requires made { (c : CellId) × (gone : Entry → Bool) × (added : List Entry) × (limit : ℕ) × IsEditOf c gone added × IsMade state.old.book state.old.cache.rows c gone added limit edit }
+    ensures done { OnOk result ((c : CellId) (gone : Entry → Bool) (added : List Entry) (limit : ℕ) → IsEditOf c gone added → IsMade state.old.book state.old.cache.rows c gone added limit edit → IsEdited state.old c gone added limit state.new) }
     ensures theory { state.new.theory ≡ state.old.theory }
     ensures bytes { OnOk result (state.new.cache.bytes ≤ state.old.cache.bytes + bytes_of_rows state.new.cache.rows) }
     ensures kept { OnErr result (state.new ≡ state.old) }
 {
     edited_reasons_are_right();
+    well_formed(&edit.book);
     let Edit {
         part,
         book,

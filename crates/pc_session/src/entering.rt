@@ -1,96 +1,87 @@
-//! Entering another value than stands.
-ghost use Rattle.std.specs.Prelude.{◌≡◌, ◌∷◌, [], ◌+◌, ◌≤◌, Contains, IfErr, IfOk, OnErr, OnOk};
-ghost use Rattle.pc_cache.specs.Rows.{bytes_of_rows};
-ghost use Rattle.pc_logic.specs.Edits.{entered};
-ghost use Rattle.pc_sheet.specs.WellFormed.{IsEntryOf, IsWellFormed};
-ghost use Rattle.pc_session.specs.Arena.{compacted};
+//! Entering a value, in the place of the cell's others or beside them.
+ghost use Rattle.std.specs.Prelude.{◌≡◌, Contains, IfErr, IfOk, Ok, OnErr, OnOk, Some};
+ghost use Rattle.pc_edits.specs.Edits.{takes_none};
+ghost use Rattle.pc_logic.specs.Edits.{also_entered, entered, is_rival};
+ghost use Rattle.pc_sheet.specs.WellFormed.{IsEntryOf};
+ghost use Rattle.pc_session.specs.Answers.{HasPlaceFor, StandsAlone};
 ghost use Rattle.pc_session.specs.Causes.{IsEntryCause};
-ghost use Rattle.pc_session.specs.inside.Edits.{IsMade};
-ghost use Rattle.pc_session.specs.inside.Old.{IsOldOf};
-ghost use Rattle.pc_session.specs.inside.States.{IsEdited, IsSame, IsState};
+ghost use Rattle.pc_session.specs.Views.{counts_of, IsTallyOf};
+ghost use Rattle.pc_session.specs.inside.States.{IsLeftBy, IsSame, IsSameBut, IsState};
 
-use crate::compaction::compact_if_due;
-use crate::edit::{Edit, put_in_place};
-use crate::refused::{EditRefused, refused_by};
-use crate::stale::stale_targets;
+use crate::adding::add;
+use crate::refused::EditRefused;
+use crate::removing::remove_searched;
 use crate::state::State;
-use crate::tallies::blank_place;
-use pc_cache::Patch;
-use pc_edits::entering_edits;
+use crate::taken::{Taken, stands, takes_some};
+use crate::tallies::blank_tally;
+use pc_edits::{adding_edits, entering_edits};
+use pc_logic::Book;
 use pc_sheet::Entry;
-use pc_theory::{PartTargets, alone};
-use std::alloc::Global;
+use std::alloc::{AllocError, Global};
 
-// Makes the edit: the cell's old entry goes, and the new one is the newest. Each target that the old entry's removal or the
-// new entry can change is searched once, on the new book alone.
-fn make_edit(
-    alloc: Global,
-    state: &State,
-    budget: u64,
-    entry: Entry,
-    old: Option<Entry>,
-) -> Result<Edit, EditRefused>
-    requires state { IsState state.now }
-    requires formed { IsWellFormed state.now.book }
-    requires entry { IsEntryOf state.now.book.universe entry }
-    requires another { ¬ Contains state.now.book.entries entry }
-    requires old { IsOldOf state.now.book.entries entry.cell old }
-    ensures edit { IfOk result (IsMade state.now.book state.now.cache.rows entry.cell (entry ∷ []) budget) }
-    ensures refused { IfErr result (IsEntryCause (entered state.now.book entry) entry.cell budget) }
+// The book with the entry in the place of its cell's others.
+fn entered_book(alloc: Global, book: &Book, entry: Entry) -> Result<Book, AllocError>
+    requires { IsEntryOf book.now.universe entry }
+    ensures { IfOk result (λ b. b ≡ entered book.now entry) }
 {
-    entering_edits();
-    let book = &state.book;
-    let theory = &state.theory;
-    let edited = book.with_entry(alloc, entry)?;
-    let part = theory.part_of(book, entry.cell);
-    let cells = theory.cells(book, part);
-    let targets = stale_targets(alloc, state, cells, old, true)?;
-    let mut place = blank_place(alloc, part, budget);
-    let mut patch = Patch::new(alloc);
-    let asked = PartTargets {
-        alloc,
-        book: &edited,
-        theory,
-        part,
-        targets: &targets,
-    };
-    let outcome = asked.search_part(&mut place, &mut patch);
-    let spending = alone(alloc, place)?;
-    match outcome {
-        Ok(worlds) => Ok(Edit {
-            part,
-            book: edited,
-            worlds,
-            patch,
-            spending,
-        }),
-        Err(stop) => Err(refused_by(stop, spending)),
-    }
+    let mut made = book.copy(alloc)?;
+    made.set_entry(entry)?;
+    Ok(made)
 }
 
-/// Enters another value than stands, where the cell has this old entry or none.
-pub(crate) fn enter_another(
+/// Enters a value: the cell's others go. Where it stands nothing is added, and where it stands alone nothing changes.
+pub(crate) fn enter(
     alloc: Global,
     state: &mut State,
     budget: u64,
     entry: Entry,
-    old: Option<Entry>,
 ) -> Result<(), EditRefused>
     requires state { IsState state.old }
-    requires formed { IsWellFormed state.old.book }
     requires entry { IsEntryOf state.old.book.universe entry }
-    requires another { ¬ Contains state.old.book.entries entry }
-    requires old { IsOldOf state.old.book.entries entry.cell old }
-    ensures done { OnOk result (IsEdited state.old entry.cell (entry ∷ []) budget state.new) }
     ensures book { OnOk result (state.new.book ≡ entered state.old.book entry) }
     ensures theory { state.new.theory ≡ state.old.theory }
-    ensures bytes { OnOk result (state.new.cache.bytes ≤ compacted state.old.cache.rows state.old.cache.bytes + bytes_of_rows state.new.cache.rows) }
+    ensures left { OnOk result (IsLeftBy entry.cell (is_rival entry) state.old state.new) }
     ensures refused { IfErr result (IsEntryCause (entered state.old.book entry) entry.cell budget) }
     ensures kept { OnErr result (IsSame state.old state.new) }
+    ensures standing { StandsAlone state.old.book.entries entry → (result ≡ Ok tt) × IsSameBut state.old.book budget state.old state.new }
+    ensures spends { OnOk result (¬ StandsAlone state.old.book.entries entry → IsTallyOf state.new.book (Some entry.cell) budget (counts_of state.new.tally)) }
 {
     entering_edits();
-    compact_if_due(&mut state.cache)?;
-    let edit = make_edit(alloc, state, budget, entry, old)?;
-    put_in_place(state, edit)?;
+    let rivals = Taken::Rivals(entry);
+    if !stands(state.book.entries(), entry) {
+        let made = entered_book(alloc, &state.book, entry)?;
+        return add(alloc, state, budget, entry, rivals, made);
+    }
+    if takes_some(rivals, state.book.entries()) {
+        return remove_searched(alloc, state, budget, entry.cell, rivals);
+    }
+    state.tally = blank_tally(budget);
     Ok(())
+}
+
+/// Enters a value beside the cell's others. Where it stands nothing changes.
+pub(crate) fn also(
+    alloc: Global,
+    state: &mut State,
+    budget: u64,
+    entry: Entry,
+) -> Result<(), EditRefused>
+    requires state { IsState state.old }
+    requires entry { IsEntryOf state.old.book.universe entry }
+    requires place { HasPlaceFor state.old.book.entries entry }
+    ensures book { OnOk result (state.new.book ≡ also_entered state.old.book entry) }
+    ensures theory { state.new.theory ≡ state.old.theory }
+    ensures left { OnOk result (IsLeftBy entry.cell takes_none state.old state.new) }
+    ensures refused { IfErr result (IsEntryCause (also_entered state.old.book entry) entry.cell budget) }
+    ensures kept { OnErr result (IsSame state.old state.new) }
+    ensures standing { Contains state.old.book.entries entry → (result ≡ Ok tt) × IsSameBut state.old.book budget state.old state.new }
+    ensures spends { OnOk result (¬ Contains state.old.book.entries entry → IsTallyOf state.new.book (Some entry.cell) budget (counts_of state.new.tally)) }
+{
+    adding_edits();
+    if stands(state.book.entries(), entry) {
+        state.tally = blank_tally(budget);
+        return Ok(());
+    }
+    let made = state.book.with_entry(alloc, entry)?;
+    add(alloc, state, budget, entry, Taken::Nothing, made)
 }

@@ -23,7 +23,7 @@ pub enum LoadRefused {
 /// Why an edit isn't made.
 #[derive(Drop)]
 pub enum EditRefused {
-    /// The cell has no entry.
+    /// The cell has no entry, or not that one.
     NoEntry,
     /// A rule of that name stands.
     DuplicateRule,

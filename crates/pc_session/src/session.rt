@@ -1,9 +1,9 @@
 //! Sessions.
-ghost use Rattle.std.specs.Prelude.{◌≡◌, ◌↔◌, ◌≤◌, ◌<◌, [], Contains, Err, IfErr, IfOk, IsTrue, None, Ok, OnErr, OnOk, Some, length, option_map};
+ghost use Rattle.std.specs.Prelude.{◌≡◌, ◌≤◌, ◌<◌, [], Contains, Err, IfErr, IfOk, None, Ok, OnErr, OnOk, Some, length, option_map};
 ghost use Rattle.pc_components.specs.View.{AreComponentsOf};
 ghost use Rattle.pc_cache.specs.Rows.{row_of};
-ghost use Rattle.pc_edits.specs.Edits.{HasNoEntryOf};
-ghost use Rattle.pc_logic.specs.Edits.{entered, without_entry};
+ghost use Rattle.pc_edits.specs.Edits.{HasNone, takes_none};
+ghost use Rattle.pc_logic.specs.Edits.{also_entered, entered, is_rival, is_same_entry, without_cell, without_entry};
 ghost use Rattle.pc_reason.specs.Reasons.{IsReasonFor, IsTargetOf, justification_of};
 ghost use Rattle.pc_search.specs.Parts.{IsBase};
 ghost use Rattle.pc_sheet.specs.Limits.{most_rules, most_weight};
@@ -11,26 +11,24 @@ ghost use Rattle.pc_sheet.specs.MaximalSets.{AreRulesConsistent};
 ghost use Rattle.pc_sheet.specs.Sheet.{with_rule};
 ghost use Rattle.pc_sheet.specs.Views.{rule_of};
 ghost use Rattle.pc_sheet.specs.Weight.{weight};
-ghost use Rattle.pc_sheet.specs.WellFormed.{IsEntryOf, IsWellFormedRule};
+ghost use Rattle.pc_sheet.specs.WellFormed.{is_of_cell, IsEntryOf, IsWellFormedRule};
 ghost use Rattle.pc_sheet.specs.declared.ids.Entry.{Entry};
-ghost use Rattle.pc_session.specs.Answers.{IsSpare, IsUnchanged, IsUnused, OthersStay, Stay, Steps};
+ghost use Rattle.pc_session.specs.Answers.{AreSpare, AreUnused, HasPlaceFor, IsUnchanged, OthersStay, StandsAlone, Stay, Steps};
 ghost use Rattle.pc_session.specs.Arena.{IsBounded};
-ghost use Rattle.pc_session.specs.Causes.{IsClearCause, IsEntryCause, IsLoadCause};
+ghost use Rattle.pc_session.specs.Causes.{IsEntryCause, IsLoadCause, IsRemovalCause};
 ghost use Rattle.pc_session.specs.Rules.{IsAddCause, IsDropCause, IsDropped, IsNewName};
 ghost use Rattle.pc_session.specs.Views.{counts_of, none_spent, IsTallyOf};
 ghost use Rattle.pc_session.specs.declared.refused.EditRefused.TheVariants.{DuplicateRule, NoEntry, NoRule};
 ghost use Rattle.pc_theory.specs.Theories.{rules_alone};
 
-use crate::clearing::{clear_unused, clear_used, rests_on};
-use crate::entering::enter_another;
-use crate::entries::entry_of;
 use crate::loading::load_book;
 use crate::refused::{EditRefused, LoadRefused};
-use crate::rules;
+use crate::removing::remove;
 use crate::state::State;
-use crate::tallies::blank_tally;
+use crate::taken::Taken;
+use crate::{entering, rules};
 use pc_components::Components;
-use pc_edits::standing_stays;
+use pc_edits::{clearing_edits, removing_edits};
 use pc_lits::Tally;
 use pc_logic::{Assignment, Book};
 use pc_reason::{Reason, Reasons};
@@ -122,8 +120,8 @@ impl Session {
         self.state.cache.arena_bytes()
     }
 
-    /// Enters a value: the cell's old entry goes, and the new one is the newest. On the value that stands it changes nothing,
-    /// takes no memory and is always Ok.
+    /// Enters a value: the cell's other entries go. Where it stands it keeps its place, else it becomes the newest. Where it
+    /// stands alone nothing changes, no memory is taken, and the answer is always Ok.
     pub fn enter(&mut self, cell: CellId, value: ValueId) -> Result<(), EditRefused>
         requires { IsEntryOf self.old.sheet.universe (record { cell = cell; value = value }) }
         ensures sheet { OnOk result (self.new.sheet ≡ entered self.old.sheet (record { cell = cell; value = value })) }
@@ -131,48 +129,99 @@ impl Session {
         ensures parts { self.new.components ≡ self.old.components }
         ensures refused { IfErr result (IsEntryCause (entered self.old.sheet (record { cell = cell; value = value })) cell self.old.budget) }
         ensures unchanged { OnErr result (IsUnchanged self.old self.new) }
-        ensures standing { Contains self.old.sheet.entries (record { cell = cell; value = value }) → (result ≡ Ok tt) × (self.new ≡ record self.old { tally = none_spent self.old.budget }) }
-        ensures spends { OnOk result (IsTallyOf self.new.sheet (Some cell) self.old.budget self.new.tally) }
-        ensures stays { OnOk result (Stay cell self.old.rows self.new.rows) }
+        ensures standing { StandsAlone self.old.sheet.entries (record { cell = cell; value = value }) → (result ≡ Ok tt) × (self.new ≡ record self.old { tally = none_spent self.old.budget }) }
+        ensures spends { OnOk result (¬ StandsAlone self.old.sheet.entries (record { cell = cell; value = value }) → IsTallyOf self.new.sheet (Some cell) self.old.budget self.new.tally) }
+        ensures stays { OnOk result (Stay (is_rival (record { cell = cell; value = value })) self.old.rows self.new.rows) }
         ensures others { OnOk result (OthersStay cell self.old.components self.old.rows self.new.rows) }
         ensures arena { OnOk result (IsBounded self.old.rows self.old.bytes self.new.rows self.new.bytes) }
         ensures steps { OnOk result (Steps self.old.rows self.new.rows self.new.tally) }
     {
-        standing_stays();
-        let entry = Entry { cell, value };
-        let old = entry_of(self.state.book.entries(), cell);
-        if stands(old, entry) {
-            self.state.tally = blank_tally(self.budget);
-            return Ok(());
-        }
-        enter_another(self.alloc, &mut self.state, self.budget, entry, old)
+        entering::enter(
+            self.alloc,
+            &mut self.state,
+            self.budget,
+            Entry { cell, value },
+        )
     }
 
-    /// Clears the cell's entry. Where no reason rests on the entry it takes no memory, searches nothing and is always Ok.
-    pub fn clear(&mut self, cell: CellId) -> Result<(), EditRefused>
-        ensures no_entry { HasNoEntryOf self.old.sheet.entries cell → result ≡ Err NoEntry }
-        ensures sheet { OnOk result (self.new.sheet ≡ without_entry self.old.sheet cell) }
+    /// Enters a value beside the cell's others, as the newest. Where it stands nothing changes, no memory is taken, and the
+    /// answer is always Ok.
+    pub fn also(&mut self, cell: CellId, value: ValueId) -> Result<(), EditRefused>
+        requires entry { IsEntryOf self.old.sheet.universe (record { cell = cell; value = value }) }
+        requires place { HasPlaceFor self.old.sheet.entries (record { cell = cell; value = value }) }
+        ensures sheet { OnOk result (self.new.sheet ≡ also_entered self.old.sheet (record { cell = cell; value = value })) }
         ensures budget { self.new.budget ≡ self.old.budget }
         ensures parts { self.new.components ≡ self.old.components }
-        ensures refused { IfErr result (IsClearCause self.old.sheet cell self.old.budget) }
+        ensures refused { IfErr result (IsEntryCause (also_entered self.old.sheet (record { cell = cell; value = value })) cell self.old.budget) }
         ensures unchanged { OnErr result (IsUnchanged self.old self.new) }
-        ensures unused { (e : Entry) → Contains self.old.sheet.entries e → e.cell ≡ cell → IsUnused e self.old.rows → (result ≡ Ok tt) × (self.new ≡ record self.old { sheet = without_entry self.old.sheet cell; tally = none_spent self.old.budget }) }
-        ensures spare { (e : Entry) → Contains self.old.sheet.entries e → e.cell ≡ cell → IsSpare self.old.sheet cell → result ≡ Ok tt }
-        ensures spends { OnOk result (IsTallyOf self.new.sheet (Some cell) self.old.budget self.new.tally) }
-        ensures stays { OnOk result (Stay cell self.old.rows self.new.rows) }
+        ensures standing { Contains self.old.sheet.entries (record { cell = cell; value = value }) → (result ≡ Ok tt) × (self.new ≡ record self.old { tally = none_spent self.old.budget }) }
+        ensures spends { OnOk result (¬ Contains self.old.sheet.entries (record { cell = cell; value = value }) → IsTallyOf self.new.sheet (Some cell) self.old.budget self.new.tally) }
+        ensures stays { OnOk result (Stay takes_none self.old.rows self.new.rows) }
         ensures others { OnOk result (OthersStay cell self.old.components self.old.rows self.new.rows) }
         ensures arena { OnOk result (IsBounded self.old.rows self.old.bytes self.new.rows self.new.bytes) }
         ensures steps { OnOk result (Steps self.old.rows self.new.rows self.new.tally) }
     {
-        let Some(entry) = entry_of(self.state.book.entries(), cell) else {
-            return Err(EditRefused::NoEntry);
-        };
-        if !rests_on(&self.state, entry) {
-            clear_unused(&mut self.state, entry);
-            self.state.tally = blank_tally(self.budget);
-            return Ok(());
-        }
-        clear_used(self.alloc, &mut self.state, self.budget, entry)
+        entering::also(
+            self.alloc,
+            &mut self.state,
+            self.budget,
+            Entry { cell, value },
+        )
+    }
+
+    /// Clears the cell: all its entries go. Where no reason rests on one of them it takes no memory, searches nothing and is
+    /// always Ok.
+    pub fn clear(&mut self, cell: CellId) -> Result<(), EditRefused>
+        ensures no_entry { HasNone (is_of_cell cell) self.old.sheet.entries → result ≡ Err NoEntry }
+        ensures sheet { OnOk result (self.new.sheet ≡ without_cell self.old.sheet cell) }
+        ensures budget { self.new.budget ≡ self.old.budget }
+        ensures parts { self.new.components ≡ self.old.components }
+        ensures refused { IfErr result (IsRemovalCause (is_of_cell cell) self.old.sheet.entries (without_cell self.old.sheet cell) cell self.old.budget) }
+        ensures unchanged { OnErr result (IsUnchanged self.old self.new) }
+        ensures unused { (f : Entry) → Contains self.old.sheet.entries f → f.cell ≡ cell → AreUnused (is_of_cell cell) self.old.rows → (result ≡ Ok tt) × (self.new ≡ record self.old { sheet = without_cell self.old.sheet cell; tally = none_spent self.old.budget }) }
+        ensures spare { (f : Entry) → Contains self.old.sheet.entries f → f.cell ≡ cell → AreSpare self.old.sheet (is_of_cell cell) → result ≡ Ok tt }
+        ensures spends { OnOk result (¬ AreUnused (is_of_cell cell) self.old.rows → IsTallyOf self.new.sheet (Some cell) self.old.budget self.new.tally) }
+        ensures stays { OnOk result (Stay (is_of_cell cell) self.old.rows self.new.rows) }
+        ensures others { OnOk result (OthersStay cell self.old.components self.old.rows self.new.rows) }
+        ensures arena { OnOk result (IsBounded self.old.rows self.old.bytes self.new.rows self.new.bytes) }
+        ensures steps { OnOk result (Steps self.old.rows self.new.rows self.new.tally) }
+    {
+        clearing_edits();
+        remove(
+            self.alloc,
+            &mut self.state,
+            self.budget,
+            cell,
+            Taken::Cell(cell),
+        )
+    }
+
+    /// Clears one entry of the cell: its others stay. Where no reason rests on it it takes no memory, searches nothing and is
+    /// always Ok.
+    pub fn clear_one(&mut self, cell: CellId, value: ValueId) -> Result<(), EditRefused>
+        ensures no_entry { ¬ Contains self.old.sheet.entries (record { cell = cell; value = value }) → result ≡ Err NoEntry }
+        ensures sheet { OnOk result (self.new.sheet ≡ without_entry self.old.sheet (record { cell = cell; value = value })) }
+        ensures budget { self.new.budget ≡ self.old.budget }
+        ensures parts { self.new.components ≡ self.old.components }
+        ensures refused { IfErr result (IsRemovalCause (is_same_entry (record { cell = cell; value = value })) self.old.sheet.entries (without_entry self.old.sheet (record { cell = cell; value = value })) cell self.old.budget) }
+        ensures unchanged { OnErr result (IsUnchanged self.old self.new) }
+        ensures unused { Contains self.old.sheet.entries (record { cell = cell; value = value }) → AreUnused (is_same_entry (record { cell = cell; value = value })) self.old.rows → (result ≡ Ok tt) × (self.new ≡ record self.old { sheet = without_entry self.old.sheet (record { cell = cell; value = value }); tally = none_spent self.old.budget }) }
+        ensures spare { Contains self.old.sheet.entries (record { cell = cell; value = value }) → AreSpare self.old.sheet (is_same_entry (record { cell = cell; value = value })) → result ≡ Ok tt }
+        ensures spends { OnOk result (¬ AreUnused (is_same_entry (record { cell = cell; value = value })) self.old.rows → IsTallyOf self.new.sheet (Some cell) self.old.budget self.new.tally) }
+        ensures stays { OnOk result (Stay (is_same_entry (record { cell = cell; value = value })) self.old.rows self.new.rows) }
+        ensures others { OnOk result (OthersStay cell self.old.components self.old.rows self.new.rows) }
+        ensures arena { OnOk result (IsBounded self.old.rows self.old.bytes self.new.rows self.new.bytes) }
+        ensures steps { OnOk result (Steps self.old.rows self.new.rows self.new.tally) }
+    {
+        removing_edits();
+        let entry = Entry { cell, value };
+        remove(
+            self.alloc,
+            &mut self.state,
+            self.budget,
+            cell,
+            Taken::One(entry),
+        )
     }
 
     /// Adds a rule as the last one. Everything is made anew, as by a load.
@@ -222,15 +271,5 @@ impl Reasons for Session {
         self.state
             .cache
             .reason(self.state.theory.ground().names(), target)
-    }
-}
-
-// Whether the entry is the cell's.
-fn stands(old: Option<Entry>, entry: Entry) -> bool
-    ensures { IsTrue result ↔ (old ≡ Some entry) }
-{
-    match old {
-        Some(found) => found.cell.0 == entry.cell.0 && found.value.0 == entry.value.0,
-        None => false,
     }
 }

@@ -11,7 +11,7 @@ use pc_lits::Tally;
 use pc_load::load_book;
 use pc_logic::Book;
 use pc_session::{EditRefused, LoadRefused, Reasons, Session};
-use pc_sortcheck::{check_rule, find_cell, find_value};
+use pc_sortcheck::{check_rule, find_cell, find_entry, find_further_entry};
 use pc_syntax::{CellTree, Command, RuleTree, ValueTree, parse_command};
 use std::alloc::{AllocError, Global};
 
@@ -72,14 +72,24 @@ fn refusal_text(alloc: Global, refused: &EditRefused) -> Result<String, AllocErr
 }
 
 fn enter(session: &mut Session, cell: &CellTree, value: &ValueTree) -> Option<EditRefused> {
-    let book = session.book();
-    let Ok(cell) = find_cell(book, cell) else {
-        return Some(EditRefused::Memory);
-    };
-    let Ok(value) = find_value(book, cell, value) else {
-        return Some(EditRefused::Memory);
-    };
-    session.enter(cell, value).err()
+    match find_entry(session.book(), cell, value) {
+        Ok(entry) => session.enter(entry.cell, entry.value).err(),
+        Err(_) => Some(EditRefused::Memory),
+    }
+}
+
+fn also(session: &mut Session, cell: &CellTree, value: &ValueTree) -> Option<EditRefused> {
+    match find_further_entry(session.book(), cell, value) {
+        Ok(entry) => session.also(entry.cell, entry.value).err(),
+        Err(_) => Some(EditRefused::Memory),
+    }
+}
+
+fn clear_one(session: &mut Session, cell: &CellTree, value: &ValueTree) -> Option<EditRefused> {
+    match find_entry(session.book(), cell, value) {
+        Ok(entry) => session.clear_one(entry.cell, entry.value).err(),
+        Err(_) => Some(EditRefused::Memory),
+    }
 }
 
 fn clear(session: &mut Session, cell: &CellTree) -> Option<EditRefused> {
@@ -121,7 +131,9 @@ fn obey(alloc: Global, session: &mut Session, command: &Command) -> Option<EditR
 {
     match command {
         Command::Enter(cell, value) => enter(session, cell, value),
+        Command::Also(cell, value) => also(session, cell, value),
         Command::Clear(cell) => clear(session, cell),
+        Command::ClearOne(cell, value) => clear_one(session, cell, value),
         Command::AddRule(rule) => add_rule(alloc, session, rule),
         Command::DropRule(name) => session.drop_rule(name.as_str()).err(),
         Command::Budget(budget) => set_budget(session, *budget),

@@ -6,7 +6,8 @@ use std::test::Fail;
 
 // Sheets, and behind dashes edits. Before an edit stand the cells whose reasons it leaves as they are, line for line, `-` for none,
 // or `*` where it leaves all of the session. Behind it stands how it ends, and the part of each cell. The sheets are: three equal
-// cells, with entries that contradict each other; two parts, which a rule joins; and one whose budget runs out.
+// cells, with entries that contradict each other; two parts, which a rule joins; two parts, with several entries of a cell; and one
+// whose budget runs out.
 const EDITS: &str = "\
 sheet 1
 sort color = red green
@@ -64,6 +65,45 @@ begin
 - drop ab => searched 0122
 - drop cd => searched 0123
 013 enter c = green => searched 0123
+===
+sheet 1
+sort color = red green blue
+cell a : color
+cell b : color
+cell c : color
+cell d : color
+rule ab : a = b
+rule cd : c = d
+begin
+---
+- also a = red => searched 0011
+- also a = green => searched 0011
+01 also c = blue => searched 0011
+0123 also a = red => still 0011
+* also a = green => still 0011
+* enter c = blue => still 0011
+* clear b => no entry 0011
+* clear a = blue => no entry 0011
+0123 also b = red => searched 0011
+0123 also b = green => searched 0011
+0123 clear b => still 0011
+* clear b => no entry 0011
+23 also b = blue => searched 0011
+0123 also b = red => searched 0011
+23 clear b => still 0011
+23 enter a = red => still 0011
+23 also a = green => searched 0011
+23 also a = blue => searched 0011
+23 enter a = blue => searched 0011
+23 also a = red => searched 0011
+23 enter a = green => searched 0011
+23 also a = blue => searched 0011
+23 clear a = green => searched 0011
+0123 also b = blue => searched 0011
+0123 clear b = blue => still 0011
+0123 budget 1 => still 0011
+* also a = red => spent 1 0 1 0011
+* enter a = red => spent 1 0 1 0011
 ===
 sheet 1
 sort pigeon = 1 .. 7
@@ -159,7 +199,8 @@ fn next(state: u64) -> u64 {
         .wrapping_add(1_442_695_040_888_963_407)
 }
 
-// An edit of one of four cells; every fourth is a clear.
+// An edit of one of four cells: of eight, four enter in the place of the cell's others, two beside them, one clears the cell, and one
+// clears an entry.
 fn some_edit(alloc: Global, state: u64) -> Result<String, AllocError> {
     let cell = match (state >> 40) % 4 {
         0 => "a",
@@ -167,10 +208,12 @@ fn some_edit(alloc: Global, state: u64) -> Result<String, AllocError> {
         2 => "c",
         _ => "d",
     };
-    if (state >> 60) % 4 == 0 {
-        format!(in alloc; "clear {cell}")
-    } else {
-        format!(in alloc; "enter {cell} = {}", (state >> 50) % 3)
+    let value = (state >> 50) % 3;
+    match (state >> 60) % 8 {
+        0 => format!(in alloc; "clear {cell}"),
+        1 => format!(in alloc; "clear {cell} = {value}"),
+        2 | 3 => format!(in alloc; "also {cell} = {value}"),
+        _ => format!(in alloc; "enter {cell} = {value}"),
     }
 }
 

@@ -1,5 +1,5 @@
--- What holds when an edit of a cell's entry has been put in place.
-use Rattle.std.specs.Prelude.{◌≡◌, ℕ, List, Some}
+-- What holds when an edit of a cell's entries has been put in place.
+use Rattle.std.specs.Prelude.{◌≡◌, ℕ, Bool, List, Some}
 use Rattle.pc_lits.specs.declared.tally.Tally.{Tally}
 use Rattle.pc_sheet.specs.Sheet.{Sheet}
 use Rattle.pc_sheet.specs.declared.ids.CellId.{CellId}
@@ -14,10 +14,10 @@ use Rattle.pc_session.specs.Views.{counts_of, IsTallyOf}
 
 -- The sheet is the edited one and has these worlds and reasons; so much was spent within the limit on the part of the cell, and what must
 -- stay of the old reasons has stayed.
-pub record IsDone (sheet : Sheet) (theory : TheoryView) (rows : List TargetRow) (c : CellId) (added : List Entry) (limit : ℕ) (new_sheet : Sheet) (worlds : List (List WorldView)) (new_rows : List TargetRow) (tally : Tally) : Type 0 where
-  pub sheet_is : new_sheet ≡ edited sheet c added
+pub record IsDone (sheet : Sheet) (theory : TheoryView) (rows : List TargetRow) (c : CellId) (gone : Entry → Bool) (added : List Entry) (limit : ℕ) (new_sheet : Sheet) (worlds : List (List WorldView)) (new_rows : List TargetRow) (tally : Tally) : Type 0 where
+  pub sheet_is : new_sheet ≡ edited sheet gone added
   pub session : IsSession new_sheet theory worlds new_rows
   pub spends : IsTallyOf new_sheet (Some c) limit (counts_of tally)
-  pub stays : Stay c rows new_rows
+  pub stays : Stay gone rows new_rows
   pub others : OthersStay c theory.components rows new_rows
   pub steps : Steps rows new_rows (counts_of tally)

@@ -1,5 +1,5 @@
--- What an edit of a cell's entry is made of, before it is put in place.
-use Rattle.std.specs.Prelude.{◌≡◌, ◌⊎◌, ℕ, ◌+◌, ◌≤◌, List, Option, Some, Contains}
+-- What an edit of a cell's entries is made of, before it is put in place.
+use Rattle.std.specs.Prelude.{◌≡◌, ◌⊎◌, ℕ, ◌+◌, ◌≤◌, Bool, List, Option, Some, Contains}
 use Rattle.pc_sheet.specs.Sheet.{Sheet}
 use Rattle.pc_sheet.specs.declared.ids.CellId.{CellId}
 use Rattle.pc_sheet.specs.declared.ids.Entry.{Entry}
@@ -7,7 +7,7 @@ use Rattle.pc_sheet.specs.declared.ids.Target.{Target}
 use Rattle.pc_parts.specs.Parts.{Part}
 use Rattle.pc_reason.specs.Reasons.{IsTargetOf, Justification}
 use Rattle.pc_edits.specs.Reasons.{IsRowFor}
-use Rattle.pc_edits.specs.Edits.{HasNoEntryOf, edited, MayStay}
+use Rattle.pc_edits.specs.Edits.{HasNone, edited, MayStay}
 use Rattle.pc_cache.specs.Rows.{TargetRow, bytes_of_rows, row_of, row_after}
 use Rattle.pc_world_list.specs.Worlds.{WorldView}
 use Rattle.pc_search.specs.Found.{steps_in}
@@ -21,12 +21,12 @@ abbrev pub after : List TargetRow → List TargetRow → Target → Option Justi
 after rows changes t = row_after changes t (row_of rows t)
 
 -- what the changes are, where the part has these cells
-pub record AreChanges (sheet : Sheet) (rows : List TargetRow) (c : CellId) (added : List Entry) (cells : List ℕ) (changes : List TargetRow) (most : ℕ) : Type 0 where
+pub record AreChanges (sheet : Sheet) (rows : List TargetRow) (gone : Entry → Bool) (added : List Entry) (cells : List ℕ) (changes : List TargetRow) (most : ℕ) : Type 0 where
   -- a target was searched again, or keeps what it had, which may stay
   pub each : (t : Target) → IsTargetOf sheet.universe t
-      → IsRowFor (edited sheet c added) t (after rows changes t) ⊎ ((after rows changes t ≡ row_of rows t) × MayStay cells c added t (row_of rows t))
-  -- a reason whose support lacks the cell's entry stays as it was
-  pub stays : (t : Target) (j : Justification) → row_of rows t ≡ Some j → HasNoEntryOf j.support c → after rows changes t ≡ Some j
+      → IsRowFor (edited sheet gone added) t (after rows changes t) ⊎ ((after rows changes t ≡ row_of rows t) × MayStay cells gone added t (row_of rows t))
+  -- a reason whose support has none of the entries that are gone stays as it was
+  pub stays : (t : Target) (j : Justification) → row_of rows t ≡ Some j → HasNone gone j.support → after rows changes t ≡ Some j
   -- and so does all that is kept of the other parts' targets
   pub others : (t : Target) → ¬ Contains cells t.cell.0 → after rows changes t ≡ row_of rows t
   -- a new reason has at most so many steps
@@ -36,16 +36,16 @@ pub record AreChanges (sheet : Sheet) (rows : List TargetRow) (c : CellId) (adde
   pub bytes : (all : List TargetRow) → ((t : Target) → row_of all t ≡ after rows changes t) → bytes_of_rows changes ≤ bytes_of_rows all
 
 -- The part of that number has the cell, these are its worlds after the edit, and these the changes.
-pub record IsEdit (sheet : Sheet) (rows : List TargetRow) (c : CellId) (added : List Entry) (number : ℕ) (worlds : List WorldView) (changes : List TargetRow) (most : ℕ) : Type 0 where
+pub record IsEdit (sheet : Sheet) (rows : List TargetRow) (c : CellId) (gone : Entry → Bool) (added : List Entry) (number : ℕ) (worlds : List WorldView) (changes : List TargetRow) (most : ℕ) : Type 0 where
   pub part : Part
   pub numbered : IsPartNumbered (rules_alone sheet) number part
   pub has : Contains part.cells c.0
-  pub worlds_of : AreWorldsOf (edited sheet c added) part worlds
-  pub changes_are : AreChanges sheet rows c added part.cells changes most
+  pub worlds_of : AreWorldsOf (edited sheet gone added) part worlds
+  pub changes_are : AreChanges sheet rows gone added part.cells changes most
 
 -- the new book is that of the edit, and so much was spent within the limit on the part that has the cell
-pub record IsMade (sheet : Sheet) (rows : List TargetRow) (c : CellId) (added : List Entry) (limit : ℕ) (edit : Edit) : Type 0 where
-  pub book : edit.book ≡ edited sheet c added
-  pub is : IsEdit sheet rows c added edit.part edit.worlds edit.patch (edit.spending.tally.learned + edit.spending.tally.calls)
-  pub spends : IsSpendingOf (edited sheet c added) (Some c) edit.spending
+pub record IsMade (sheet : Sheet) (rows : List TargetRow) (c : CellId) (gone : Entry → Bool) (added : List Entry) (limit : ℕ) (edit : Edit) : Type 0 where
+  pub book : edit.book ≡ edited sheet gone added
+  pub is : IsEdit sheet rows c gone added edit.part edit.worlds edit.patch (edit.spending.tally.learned + edit.spending.tally.calls)
+  pub spends : IsSpendingOf (edited sheet gone added) (Some c) edit.spending
   pub limited : edit.spending.tally.limit ≡ limit

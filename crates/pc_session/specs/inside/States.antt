@@ -1,20 +1,30 @@
 -- States of sessions.
-use Rattle.std.specs.Prelude.{◌≡◌, ℕ, List}
+use Rattle.std.specs.Prelude.{◌≡◌, ℕ, Bool, List}
+use Rattle.pc_sheet.specs.Sheet.{Sheet}
 use Rattle.pc_sheet.specs.declared.ids.CellId.{CellId}
 use Rattle.pc_sheet.specs.declared.ids.Entry.{Entry}
-use Rattle.pc_session.specs.Arena.{IsLeft}
+use Rattle.pc_session.specs.Answers.{OthersStay, Stay, Steps}
+use Rattle.pc_session.specs.Arena.{IsBounded, IsLeft}
 use Rattle.pc_session.specs.inside.Done.{IsDone}
 use Rattle.pc_session.specs.inside.Sessions.{IsSession}
-use Rattle.pc_session.specs.Views.{counts_of, SessionView}
+use Rattle.pc_session.specs.Views.{counts_of, none_spent, SessionView}
 use Rattle.pc_session.specs.declared.state.State.{State}
 
 -- all that is kept is right
 abbrev pub IsState : State → Type 0
 IsState s = IsSession s.book s.theory s.worlds.items s.cache.rows
 
--- the edit of the cell's entry has been put in place
-abbrev pub IsEdited : State → CellId → List Entry → ℕ → State → Type 0
-IsEdited old c added limit new = IsDone old.book old.theory old.cache.rows c added limit new.book new.worlds.items new.cache.rows new.tally
+-- the edit of the cell's entries has been put in place
+abbrev pub IsEdited : State → CellId → (Entry → Bool) → List Entry → ℕ → State → Type 0
+IsEdited old c gone added limit new = IsDone old.book old.theory old.cache.rows c gone added limit new.book new.worlds.items new.cache.rows new.tally
+
+-- what an accepted edit of the cell's entries leaves, where some are gone
+pub record IsLeftBy (c : CellId) (gone : Entry → Bool) (old new : State) : Type 0 where
+  pub state : IsState new
+  pub stays : Stay gone old.cache.rows new.cache.rows
+  pub others : OthersStay c old.theory.components old.cache.rows new.cache.rows
+  pub steps : Steps old.cache.rows new.cache.rows (counts_of new.tally)
+  pub bytes : IsBounded old.cache.rows old.cache.bytes new.cache.rows new.cache.bytes
 
 -- all is as it was, but that the derivations may have been compacted
 pub record IsSame (old new : State) : Type 0 where
@@ -24,6 +34,13 @@ pub record IsSame (old new : State) : Type 0 where
   pub rows : new.cache.rows ≡ old.cache.rows
   pub bytes : IsLeft old.cache.rows old.cache.bytes new.cache.bytes
   pub tally : new.tally ≡ old.tally
+
+-- the sheet is this one, nothing was spent, and all else is as it was
+pub record IsSameBut (sheet : Sheet) (limit : ℕ) (old new : State) : Type 0 where
+  pub book : new.book ≡ sheet
+  pub theory : new.theory ≡ old.theory
+  pub cache : new.cache ≡ old.cache
+  pub tally : counts_of new.tally ≡ none_spent limit
 
 -- as a session with that budget is seen
 abbrev pub viewed : ℕ → State → SessionView

@@ -1,8 +1,9 @@
-use Rattle.std.proofs.Common.{◌≡◌, true, false, Bool, Some}
+use Rattle.std.proofs.Common.{◌≡◌, true, false, Bool}
 use Rattle.pc_sheet.specs.Entailment.{cell_sizes}
 use Rattle.pc_sheet.specs.declared.ids.Target.{Target}
 use Rattle.pc_cache.specs.Rows.{row_of}
 use Rattle.pc_session.specs.inside.Stale.{is_stale}
+use Rattle.pc_session.specs.inside.Taken.{takes}
 use Rattle.pc_session.proofs.UsedTargets.{none_on, there_on}
 use Rattle.pc_session.proofs.stale.is_used.Goals as goal
 
@@ -14,7 +15,7 @@ returns-then-is_used_on-clause-some c =
 
 pub loop-cell-preserved : goal.loop-cell-preserved
 loop-cell-preserved c =
-    let test : Target → Bool = λ t. is_stale (Some c.args.entry) false (row_of c.args.state.now.cache.rows t) in
+    let test : Target → Bool = λ t. is_stale (takes c.args.taken) false (row_of c.args.state.now.cache.rows t) in
     none_on (cell_sizes c.args.state.now.book.universe) c.args.cells.now c.loop-cell.cell-index c.values_of.result (record { 0 = 0 }) test c.loop-cell-test.true c.values_of.ensures.exact c.loop-cell.invariant
     (λ t there uses. not_used c.is_used_on.result (c.is_used_on.ensures.none t there uses) c.if-is_used_on.false)
   where

@@ -1,4 +1,5 @@
 use Rattle.std.proofs.Common.{true, false, sym, ◌∙◌}
+use Rattle.pc_session.specs.inside.Taken.{takes}
 use Rattle.pc_session.proofs.UsedTargets.{none_more, there_of_cell}
 use Rattle.pc_session.proofs.stale.is_used_on.Goals as goal
 
@@ -12,5 +13,5 @@ returns-then-is_stale-2-clause-some c =
 
 pub loop-value-preserved : goal.loop-value-preserved
 loop-value-preserved c =
-    none_more c.args.cache.now.rows c.args.entry c.args.cell c.loop-value.value c.target.result c.target-in-loop-value.result c.is_stale.result c.is_stale-in-loop-value.result c.target.ensures c.target-in-loop-value.ensures c.is_stale.ensures c.is_stale-in-loop-value.ensures c.if-is_stale.false c.if-is_stale-2.false
+    none_more c.args.cache.now.rows (takes c.args.taken) c.args.cell c.loop-value.value c.target.result c.target-in-loop-value.result c.is_stale.result c.is_stale-in-loop-value.result c.target.ensures c.target-in-loop-value.ensures c.is_stale.ensures c.is_stale-in-loop-value.ensures c.if-is_stale.false c.if-is_stale-2.false
     c.loop-value.invariant

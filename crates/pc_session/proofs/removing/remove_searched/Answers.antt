@@ -1,0 +1,41 @@
+use Rattle.std.proofs.Common.{List, [], inl, arith, refl, sym, ◌∙◌, subst}
+use Rattle.pc_cache.specs.Rows.{TargetRow}
+use Rattle.pc_session.specs.inside.Done.{IsDone}
+use Rattle.pc_session.specs.inside.Sessions.{IsSession}
+use Rattle.pc_session.specs.inside.States.{IsSame}
+use Rattle.pc_session.specs.inside.Taken.{takes}
+use Rattle.pc_session.proofs.Viewing.{on_err, same_compacted, same_failed}
+use Rattle.pc_session.proofs.removing.remove_searched.Goals as goal
+
+pub make_edit-requires-clause-state : goal.make_edit-requires-clause-state
+make_edit-requires-clause-state c =
+    let s = c.args.state.now in
+    subst (IsSession s.book s.theory s.worlds.items) (sym c.in_ok-compact_if_due.ensures.rows) c.requires.state
+
+pub put_in_place-requires-clause-state : goal.put_in_place-requires-clause-state
+put_in_place-requires-clause-state c =
+    let s = c.args.state.now in
+    subst (IsSession s.book s.theory s.worlds.items) (sym c.in_ok-compact_if_due.ensures.rows) c.requires.state
+
+pub put_in_place-requires-clause-made : goal.put_in_place-requires-clause-made
+put_in_place-requires-clause-made c = (c.args.cell, takes c.args.taken, [], c.args.budget, record { takes = c.requires.taken; adds = inl refl }, c.in_ok-edit.ensures.edit)
+
+pub returns-clause-done : goal.returns-clause-done
+returns-clause-done c =
+    let s = c.args.state.now in
+    let n = c.put_in_place.new.state in
+    subst (λ (rows : List TargetRow). IsDone s.book s.theory rows c.args.cell (takes c.args.taken) [] c.args.budget n.book n.worlds.items n.cache.rows n.tally) c.in_ok-compact_if_due.ensures.rows
+    (c.in_ok-put_in_place.ensures.done c.args.cell (takes c.args.taken) [] c.args.budget (record { takes = c.requires.taken; adds = inl refl }) c.in_ok-edit.ensures.edit)
+
+pub returns-clause-bytes : goal.returns-clause-bytes
+returns-clause-bytes c = omega (arith, c.in_ok-put_in_place.ensures.bytes, c.in_ok-compact_if_due.ensures.ok)
+
+pub returns-in_err-compact_if_due-clause-kept : goal.returns-in_err-compact_if_due-clause-kept
+returns-in_err-compact_if_due-clause-kept c = on_err c.from_residual.result (same_failed c.args.state.now c.compact_if_due.new.cache c.in_err-compact_if_due.ensures.err)
+
+pub returns-in_err-edit-clause-kept : goal.returns-in_err-edit-clause-kept
+returns-in_err-edit-clause-kept c = on_err c.from_residual-in_err-edit.result (same_compacted c.args.state.now c.compact_if_due.new.cache c.in_ok-compact_if_due.ensures.rows c.in_ok-compact_if_due.ensures.ok)
+
+pub returns-in_err-put_in_place-clause-kept : goal.returns-in_err-put_in_place-clause-kept
+returns-in_err-put_in_place-clause-kept c =
+    on_err c.from_residual-in_err-put_in_place.result (subst (IsSame c.args.state.now) (sym c.in_err-put_in_place.ensures.kept) (same_compacted c.args.state.now c.compact_if_due.new.cache c.in_ok-compact_if_due.ensures.rows c.in_ok-compact_if_due.ensures.ok))

@@ -1,0 +1,96 @@
+use Rattle.std.proofs.Common.{◌≡◌, Contains, Ok, Some, IfErr, OnOk, refl, ap, sym, subst}
+use Rattle.std.proofs.lemmas.Result.{on_ok_weaker, on_err_weaker}
+use Rattle.pc_sheet.specs.WellFormed.{IsEntryOf}
+use Rattle.pc_sheet.specs.declared.ids.Entry.{Entry}
+use Rattle.pc_logic.specs.Edits.{also_entered}
+use Rattle.pc_components.specs.View.{Kept}
+use Rattle.pc_edits.specs.Edits.{takes_none}
+use Rattle.pc_theory.specs.Theories.{TheoryView}
+use Rattle.pc_session.specs.Answers.{HasPlaceFor, OthersStay, Stay, Steps}
+use Rattle.pc_session.specs.Arena.{IsBounded}
+use Rattle.pc_session.specs.Causes.{IsEntryCause}
+use Rattle.pc_session.specs.inside.States.{viewed}
+use Rattle.pc_session.specs.Views.{IsTallyOf, SessionView, counts_of, none_spent}
+use Rattle.pc_session.proofs.Viewing.{but_seen, either, still_right, still_seen}
+use Rattle.pc_session.proofs.session.Session.also.Goals as goal
+
+pub also-requires-clause-entry : goal.also-requires-clause-entry
+also-requires-clause-entry c =
+    let e : Entry = record { cell = c.args.cell; value = c.args.value } in
+    let P : SessionView → Type 0 = λ v. IsEntryOf v.sheet.universe e in
+    subst P (sym c.self.view_is) c.requires.entry
+
+pub also-requires-clause-place : goal.also-requires-clause-place
+also-requires-clause-place c =
+    let e : Entry = record { cell = c.args.cell; value = c.args.value } in
+    let P : SessionView → Type 0 = λ v. HasPlaceFor v.sheet.entries e in
+    subst P (sym c.self.view_is) c.requires.place
+
+pub invariant_of-self : goal.invariant_of-self
+invariant_of-self c = either c.also.result c.also.ensures.left c.also.ensures.kept (λ left. left.state) (λ kept. still_right c.self.inside.state c.also.new.state kept c.self.invariant)
+
+pub returns-clause-unchanged : goal.returns-clause-unchanged
+returns-clause-unchanged c = on_err_weaker c.also.result (still_seen c.self.inside.budget c.self.inside.state c.also.new.state _ c.self.view_is) c.also.ensures.kept
+
+pub returns-clause-parts : goal.returns-clause-parts
+returns-clause-parts c =
+    let of : TheoryView → Kept = λ t. t.components in
+    let P : SessionView → Type 0 = λ v. c.also.new.state.theory.components ≡ v.components in
+    subst P c.self.view_is (ap of c.also.ensures.theory)
+
+pub returns-clause-budget : goal.returns-clause-budget
+returns-clause-budget c =
+    let P : SessionView → Type 0 = λ v. c.self.inside.budget ≡ v.budget in
+    subst P c.self.view_is refl
+
+pub returns-clause-refused : goal.returns-clause-refused
+returns-clause-refused c =
+    let e : Entry = record { cell = c.args.cell; value = c.args.value } in
+    let o = c.self.inside.state in
+    let P : SessionView → Type 0 = λ v. IfErr c.also.result (IsEntryCause (also_entered v.sheet e) c.args.cell v.budget) in
+    subst P c.self.view_is c.also.ensures.refused
+
+pub returns-clause-sheet : goal.returns-clause-sheet
+returns-clause-sheet c =
+    let e : Entry = record { cell = c.args.cell; value = c.args.value } in
+    let o = c.self.inside.state in
+    let P : SessionView → Type 0 = λ v. OnOk c.also.result (c.also.new.state.book ≡ also_entered v.sheet e) in
+    subst P c.self.view_is c.also.ensures.book
+
+pub returns-clause-spends : goal.returns-clause-spends
+returns-clause-spends c =
+    let e : Entry = record { cell = c.args.cell; value = c.args.value } in
+    let o = c.self.inside.state in
+    let P : SessionView → Type 0 = λ v. OnOk c.also.result ((¬ Contains v.sheet.entries e) → IsTallyOf c.also.new.state.book (Some c.args.cell) v.budget (counts_of c.also.new.state.tally)) in
+    subst P c.self.view_is c.also.ensures.spends
+
+pub returns-clause-standing : goal.returns-clause-standing
+returns-clause-standing c =
+    let e : Entry = record { cell = c.args.cell; value = c.args.value } in
+    let o = c.self.inside.state in
+    let P : SessionView → Type 0 = λ v. Contains v.sheet.entries e → (c.also.result ≡ Ok tt) × (viewed c.self.inside.budget c.also.new.state ≡ record v { tally = none_spent v.budget }) in
+    subst P c.self.view_is (λ standing. let told = c.also.ensures.standing standing in (told.0, but_seen c.self.inside.budget o.book o c.also.new.state told.1))
+
+pub returns-clause-stays : goal.returns-clause-stays
+returns-clause-stays c =
+    let o = c.self.inside.state in
+    let P : SessionView → Type 0 = λ v. OnOk c.also.result (Stay takes_none v.rows c.also.new.state.cache.rows) in
+    subst P c.self.view_is (on_ok_weaker c.also.result (λ left. left.stays) c.also.ensures.left)
+
+pub returns-clause-others : goal.returns-clause-others
+returns-clause-others c =
+    let o = c.self.inside.state in
+    let P : SessionView → Type 0 = λ v. OnOk c.also.result (OthersStay c.args.cell v.components v.rows c.also.new.state.cache.rows) in
+    subst P c.self.view_is (on_ok_weaker c.also.result (λ left. left.others) c.also.ensures.left)
+
+pub returns-clause-steps : goal.returns-clause-steps
+returns-clause-steps c =
+    let o = c.self.inside.state in
+    let P : SessionView → Type 0 = λ v. OnOk c.also.result (Steps v.rows c.also.new.state.cache.rows (counts_of c.also.new.state.tally)) in
+    subst P c.self.view_is (on_ok_weaker c.also.result (λ left. left.steps) c.also.ensures.left)
+
+pub returns-clause-arena : goal.returns-clause-arena
+returns-clause-arena c =
+    let o = c.self.inside.state in
+    let P : SessionView → Type 0 = λ v. OnOk c.also.result (IsBounded v.rows v.bytes c.also.new.state.cache.rows c.also.new.state.cache.bytes) in
+    subst P c.self.view_is (on_ok_weaker c.also.result (λ left. left.bytes) c.also.ensures.left)
