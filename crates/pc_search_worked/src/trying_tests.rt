@@ -110,7 +110,7 @@ fn is_left_as_tried(
     if !are_same(&changed, &left) {
         return Ok(false);
     }
-    let fewer = book.without_entry(alloc, entry.cell)?;
+    let fewer = book.without_entry(alloc, entry)?;
     are_as_tried(alloc, &fewer, &left)
 }
 

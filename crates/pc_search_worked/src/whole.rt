@@ -83,13 +83,13 @@ pub(crate) fn has_target(whole: &Whole, target: Target) -> bool
 
 /// The book where an entry is entered; the same book where the entry isn't one of the book's.
 pub fn enter(alloc: Global, book: &Book, entry: Entry) -> Result<Book, AllocError> {
-    if usize::from(entry.cell.0) < book.cells()
-        && usize::from(entry.value.0) < book.values_of(entry.cell)
+    let mut made = book.copy(alloc)?;
+    if usize::from(entry.cell.0) < made.cells()
+        && usize::from(entry.value.0) < made.values_of(entry.cell)
     {
-        book.with_entry(alloc, entry)
-    } else {
-        book.copy(alloc)
+        made.set_entry(entry)?;
     }
+    Ok(made)
 }
 
 /// All targets of a book, cell by cell: first that it has each of its values, and then that it hasn't.
