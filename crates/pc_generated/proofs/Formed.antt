@@ -1,7 +1,8 @@
 -- The generated sheet is well formed.
-use Rattle.std.proofs.Common.{◌≡◌, ◌≢◌, ℕ, zero, suc, ◌<◌, ◌≤◌, ◌+◌, ◌*◌, ◌%◌, Bool, true, false, not, ◌&&◌, List, [], ◌∷◌, ◌++◌, Some, pos, codes, replicate, slice_get, get_or, arith, refl, sym, ap, subst, inr, append_assoc}
+use Rattle.std.proofs.Common.{◌≡◌, ◌≢◌, ℕ, zero, suc, ◌<◌, ◌≤◌, ◌+◌, ◌*◌, ◌%◌, Bool, true, false, cond, not, eqb, ◌&&◌, List, [], ◌∷◌, ◌++◌, length, Some, pos, codes, replicate, slice_get, get_or, arith, refl, sym, ap, subst, inr, append_assoc, ◌∙◌}
 use Rattle.std.proofs.lemmas.Int.{ints}
-use Rattle.std.proofs.lemmas.List.Elements.{All-nil, All-cons, All-append, All-push, All-weaker, All-from_recursion}
+use Rattle.std.proofs.lemmas.Bool.{eqb-true, ne_eqb}
+use Rattle.std.proofs.lemmas.List.Elements.{All-nil, All-cons, All-head, All-tail, All-append, All-push, All-weaker, All-from_recursion}
 use Rattle.std.proofs.lemmas.List.Kept.{AllPairs-cons}
 use Rattle.std.proofs.lemmas.List.Quantifiers.{all_pairs_push}
 use Rattle.std.proofs.lemmas.Slice.Eq.{bytes_eq-Decides}
@@ -14,9 +15,10 @@ use Rattle.pc_sheet.specs.Sheet.{listed, range, Sort, compare}
 use Rattle.pc_sheet.specs.Sizes.{size_of}
 use Rattle.pc_sheet.specs.Entailment.{cell_sizes, HaveDistinctCells}
 use Rattle.pc_sheet.specs.WellSorted.{Variables, IsNewVariable, IsValueOf, IsWellSorted, IsSmallNumber, IsEquality}
-use Rattle.pc_sheet.specs.WellFormed.{AreDifferent, AreWellFormedValues, IsDeclaredSort, IsWellFormedTable, IsWellFormedFamily, IsWellFormedUniverse, IsWellFormedRule, AreWellFormedRules, IsEntryOf, IsWellFormed}
+use Rattle.pc_sheet.specs.WellFormed.{AreDifferent, AreWellFormedValues, IsDeclaredSort, IsWellFormedTable, IsWellFormedFamily, IsWellFormedUniverse, IsWellFormedRule, AreWellFormedRules, is_of_cell, entries_of, IsEntryOf, IsWellFormed}
 use Rattle.pc_sheet.specs.declared.ids.CellId.{CellId}
 use Rattle.pc_sheet.specs.declared.ids.Entry.{Entry}
+use Rattle.pc_logic.proofs.EntryLemmas.{pairs_head, pairs_tail}
 use Rattle.pc_generated.specs.Sheet.{sort, generated_universe, in_slot, chain, other, entry, block_entries, generated_entries, generated_sheet}
 use Rattle.pc_generated.proofs.Names.{both, small_name}
 
@@ -174,21 +176,52 @@ Unlike e f = e.cell ≢ f.cell
 other_cell : (e : Entry) (c v : ℕ) → e.cell.0 < c → Unlike e (entry c v)
 other_cell e c v less is = let same : e.cell.0 ≡ c = ap (λ (id : CellId). id.0) is in absurd (omega (arith, less, same))
 
-distinct : (k : ℕ) → HaveDistinctCells (generated_entries k)
-distinct zero = λ i j d below within. absurd (omega (arith, within))
-distinct (suc k) =
+distinct_cells : (k : ℕ) → HaveDistinctCells (generated_entries k)
+distinct_cells zero = λ i j d below within. absurd (omega (arith, within))
+distinct_cells (suc k) =
     let es = generated_entries k in
     let first = entry (4 * k) (suc k % 3) in
     let third = entry (4 * k + 2) (suc k * suc k % 3) in
-    let one : AllPairs Unlike (es ++ first ∷ []) = all_pairs_push Unlike es first (distinct k) (λ i d inside. other_cell (get_or es i d) (4 * k) (suc k % 3) (before k i d inside)) in
+    let one : AllPairs Unlike (es ++ first ∷ []) = all_pairs_push Unlike es first (distinct_cells k) (λ i d inside. other_cell (get_or es i d) (4 * k) (suc k % 3) (before k i d inside)) in
     let P : Entry → Type 0 = λ e. e.cell.0 < 4 * k + 2 in
     let earlier : All P (es ++ first ∷ []) = All-push P es first (All-weaker (IsBefore k) P (λ e h. omega (arith, h)) es (before k)) (omega arith) in
     let two : AllPairs Unlike ((es ++ first ∷ []) ++ third ∷ []) = all_pairs_push Unlike (es ++ first ∷ []) third one (λ i d inside. other_cell (get_or (es ++ first ∷ []) i d) (4 * k + 2) (suc k * suc k % 3) (earlier i d inside)) in
     subst (AllPairs Unlike) (append_assoc es (first ∷ []) (third ∷ [])) two
 
+-- ---- one entry of each cell
+
+-- none of the cell is among the others
+none_of : (c : CellId) (es : List Entry) → All (λ f. c ≢ f.cell) es → length (entries_of c es) ≡ 0
+none_of c [] others = refl
+none_of c (f ∷ es) others =
+    let other = All-head (λ f. c ≢ f.cell) f es others in
+    let differ : eqb f.cell.0 c.0 ≡ false = ne_eqb f.cell.0 c.0 (λ same. other (ap (λ (n : ℕ). let x : CellId = record { 0 = n } in x) (sym same))) in
+    ap (λ b. length (cond b (f ∷ entries_of c es) (entries_of c es))) differ ∙ none_of c es (All-tail (λ f. c ≢ f.cell) f es others)
+
+one_each : (es : List Entry) → HaveDistinctCells es → (c : CellId) → length (entries_of c es) ≤ 1
+one_each [] distinct c = omega arith
+one_each (e ∷ es) distinct c = by (is_of_cell c e) refl (one_each es (pairs_tail (λ e f. e.cell ≢ f.cell) e es distinct) c)
+  where
+    by : (b : Bool) → eqb e.cell.0 c.0 ≡ b → length (entries_of c es) ≤ 1 → length (cond b (e ∷ entries_of c es) (entries_of c es)) ≤ 1
+    by true is rest =
+        let own : e.cell ≡ c = ap (λ (n : ℕ). let x : CellId = record { 0 = n } in x) (eqb-true e.cell.0 c.0 is) in
+        let none = none_of c es (subst (λ d. All (λ f. d ≢ f.cell) es) own (pairs_head (λ e f. e.cell ≢ f.cell) e es distinct)) in
+        omega (arith, none)
+    by false is rest = rest
+
+pub single : (k : ℕ) (c : CellId) → length (entries_of c (generated_entries k)) ≤ 1
+single k = one_each (generated_entries k) (distinct_cells k)
+
+distinct : (k : ℕ) → AreDifferent (generated_entries k)
+distinct k = λ i j d order within same. distinct_cells k i j d order within (ap (λ (e : Entry). e.cell) same)
+
 pub formed : (n : ℕ) → 1 ≤ n → n ≤ 256 → IsWellFormed (generated_sheet n)
 formed n some few = record {
   universe = universe n some few;
   rules = rules n;
-  entries = record { each = each_entry n some n (omega arith); distinct = distinct n };
+  entries = record {
+    each = each_entry n some n (omega arith);
+    distinct = distinct n;
+    few = λ c. let one = single n c in omega (arith, one);
+  };
 }

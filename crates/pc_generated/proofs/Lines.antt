@@ -1,5 +1,5 @@
 -- The generated text is the canonical one.
-use Rattle.std.proofs.Common.{◌≡◌, false, ℕ, zero, suc, ◌<◌, ◌≤◌, ◌+◌, ◌*◌, ◌%◌, List, [], ◌∷◌, ◌++◌, Some, pos, ◌+ℤ◌, codes, map, slice_get, arith, refl, sym, ap, ap₂, ◌∙◌, subst, append_assoc, append-nil, add-zero, one-add, decimal}
+use Rattle.std.proofs.Common.{◌≡◌, Bool, false, cond, ℕ, zero, suc, ◌<◌, ◌≤◌, ◌+◌, ◌*◌, ◌%◌, List, [], ◌∷◌, ◌++◌, Some, pos, ◌+ℤ◌, codes, map, slice_get, arith, refl, sym, ap, ap₂, ◌∙◌, subst, append_assoc, append-nil, add-zero, one-add, decimal}
 use Rattle.std.proofs.lemmas.List.{map-append}
 use Rattle.std.proofs.lemmas.List.Concat.{flat_map-append}
 use Rattle.std.specs.Fmt.{digits, signed_decimal}
@@ -10,7 +10,8 @@ use Rattle.pc_sheet.specs.Cells.{Application, cells, CellsAreNumberedInOrder}
 use Rattle.pc_gen.specs.Text.{up_to, color_name, head_lines, enter_line, block_lines, generated_text, ended}
 use Rattle.pc_writer.specs.SheetText as writer
 use Rattle.pc_generated.specs.Sheet.{generated_universe, chain, other, entry, block_entries, generated_entries, generated_sheet}
-use Rattle.pc_generated.proofs.Formed.{block_size}
+use Rattle.pc_writer.proofs.LaterEntries.{several_none, single_first}
+use Rattle.pc_generated.proofs.Formed.{block_size, single}
 
 -- ---- small numbers
 
@@ -74,18 +75,25 @@ module _ (numbered : CellsAreNumberedInOrder) (n : ℕ) (some : 1 ≤ n) where
   third_line : (k v : ℕ) → k < n → v < 3 → writer.enter_line (generated_universe n) (entry (4 * k + 2) v) ≡ enter_line (suc k) (codes "3") v
   third_line k v inside below = line k 2 v inside (omega arith) below ∙ ap (λ s. enter_line (suc k) s v) three
 
-  entry_lines : (k : ℕ) → k ≤ n → map (writer.enter_line (generated_universe n)) (generated_entries k) ≡ flat_map block_lines (up_to k)
-  entry_lines zero within = refl
-  entry_lines (suc k) within =
+  block_lines_are : (k : ℕ) → k ≤ n → map (writer.enter_line (generated_universe n)) (generated_entries k) ≡ flat_map block_lines (up_to k)
+  block_lines_are zero within = refl
+  block_lines_are (suc k) within =
       let f = writer.enter_line (generated_universe n) in
       let first = first_line k (suc k % 3) (omega (arith, within)) (omega arith) in
       let third = third_line k (suc k * suc k % 3) (omega (arith, within)) (omega arith) in
       let block : map f (block_entries k) ≡ block_lines (suc k) = ap₂ (λ (x y : List ℕ). x ∷ y ∷ []) first third in
       map-append f (generated_entries k) (block_entries k)
-      ∙ ap₂ (λ (x y : List (List ℕ)). x ++ y) (entry_lines k (omega (arith, within))) (block ∙ sym (append-nil (block_lines (suc k))))
+      ∙ ap₂ (λ (x y : List (List ℕ)). x ++ y) (block_lines_are k (omega (arith, within))) (block ∙ sym (append-nil (block_lines (suc k))))
       ∙ sym (flat_map-append block_lines (up_to k) (suc k ∷ []))
+
+  -- no cell has two entries
+  none_later : writer.has_several (generated_entries n) ≡ false
+  none_later = several_none (generated_entries n) (single n)
+
+  entry_lines_are : writer.entry_lines (generated_universe n) (generated_entries n) ≡ flat_map block_lines (up_to n)
+  entry_lines_are = single_first (generated_universe n) (generated_entries n) none_later ∙ block_lines_are n (omega arith)
 
   pub canonical : generated_text n ≡ writer.sheet_text (generated_sheet n)
   canonical = ap (flat_map ended) (sym (
-      ap (λ es. codes "sheet 1" ∷ (writer.universe_lines (generated_universe n) ++ (map (writer.rule_line (generated_universe n)) (chain ∷ other ∷ []) ++ (es ++ codes "begin" ∷ [])))) (entry_lines n (omega arith))
+      ap₂ (λ (several : Bool) (es : List (List ℕ)). cond several (codes "sheet 2") (codes "sheet 1") ∷ (writer.universe_lines (generated_universe n) ++ (map (writer.rule_line (generated_universe n)) (chain ∷ other ∷ []) ++ (es ++ codes "begin" ∷ [])))) none_later entry_lines_are
       ∙ ap (λ (hs : List (List ℕ)). hs ++ (flat_map block_lines (up_to n) ++ codes "begin" ∷ [])) (head n)))
