@@ -8,7 +8,6 @@ use Rattle.std.proofs.lemmas.List.Kept.{AllPairs-cons}
 use Rattle.pc_sheet.specs.Sheet.{Sheet}
 use Rattle.pc_sheet.specs.Entailment.{cell_sizes, AreWithin, HasTarget, IsConsistent, IsSublist, IsSupport, IsLess, IsLeastSupport}
 use Rattle.pc_sheet.specs.MaximalSets.{ListsExactly, IsContained, IsMaximalSet}
-use Rattle.pc_sheet.specs.declared.ids.CellId.{CellId}
 use Rattle.pc_sheet.specs.declared.ids.ValueId.{ValueId}
 use Rattle.pc_sheet.specs.declared.ids.Entry.{Entry}
 use Rattle.pc_sheet.specs.declared.ids.Target.{Target}

@@ -1,12 +1,12 @@
 -- What short clauses are, by computing: whether they are settled, and whether they are good steps.
-use Rattle.std.proofs.Common.{◌≡◌, ◌≢◌, ℕ, ◌*◌, ◌+◌, ◌⊎◌, inl, inr, Bool, true, false, not, ◌&&◌, ◌||◌, ◌==◌, cond, arith, List, [], ◌∷◌, ◌++◌, Contains, All, ap, refl, sym, ◌∙◌, subst}
+use Rattle.std.proofs.Common.{◌≡◌, ◌≢◌, ℕ, ◌*◌, ◌+◌, ◌⊎◌, inl, inr, Bool, true, false, not, ◌&&◌, ◌||◌, ◌==◌, arith, List, [], ◌∷◌, ◌++◌, Contains, ap, refl, sym, ◌∙◌, subst}
 use Rattle.std.specs.Bool.{Decides}
 use Rattle.std.proofs.lemmas.Bool.{false≢true}
 use Rattle.std.proofs.lemmas.Bool.Decides.{Decides-eqb, Decides-like, Decides-not, Decides-and, Decides-or, Decides-by_and}
 use Rattle.std.proofs.lemmas.List.Elements.{All-contains}
 use Rattle.pc_lits.specs.declared.literal.Lit.{Lit}
 use Rattle.pc_lits.specs.Literals.{negated}
-use Rattle.pc_lits.specs.Steps.{IsTautology, AreFalse, IsLastOpen, Refutes, IsGoodStep}
+use Rattle.pc_lits.specs.Steps.{IsTautology, IsLastOpen, Refutes, IsGoodStep}
 use Rattle.pc_propagate.specs.declared.trail.TrailEntry.{TrailEntry}
 use Rattle.pc_propagate.specs.Entries.{falses}
 use Rattle.pc_propagate.specs.Propagation.{IsSettled}

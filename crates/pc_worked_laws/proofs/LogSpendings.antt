@@ -1,5 +1,5 @@
 -- Spendings with a log, of the sheet in which a and b are equal and of two pairs.
-use Rattle.std.proofs.Common.{◌≡◌, ◌≢◌, ℕ, zero, suc, ◌+◌, ◌*◌, ◌<◌, ◌≤◌, ◌↔◌, inl, inr, Bool, true, ◌&&◌, ltb, List, [], ◌∷◌, Option, None, Some, All, AllPairs, Contains, length, map, sum_by, slice_get, get_or, arith, ap, refl, sym, ◌∙◌, subst}
+use Rattle.std.proofs.Common.{◌≡◌, ◌≢◌, ℕ, zero, suc, ◌+◌, ◌<◌, ◌≤◌, ◌↔◌, inl, inr, Bool, true, ◌&&◌, ltb, List, [], ◌∷◌, Option, None, Some, All, AllPairs, Contains, length, map, sum_by, slice_get, get_or, arith, ap, refl, sym, ◌∙◌, subst}
 use Rattle.std.specs.List.{AllZip, range_with_len}
 use Rattle.std.proofs.lemmas.Bool.Decides.{Decides-ltb, Decides-by_and}
 use Rattle.std.proofs.lemmas.Option.{slice_get_within, slice_get-get_or, get_or_from_slice_get}
@@ -10,7 +10,6 @@ use Rattle.pc_lits.specs.declared.literal.Lit.{Lit}
 use Rattle.pc_log.specs.Lines.{LogLine, AxiomLine}
 use Rattle.pc_sheet.specs.Sheet.{Sheet}
 use Rattle.pc_sheet.specs.declared.ids.CellId.{CellId}
-use Rattle.pc_sheet.specs.declared.ids.Entry.{Entry}
 use Rattle.pc_laws.specs.Examples.{red, green, entry, equal_cells, two_pairs, equals}
 use Rattle.pc_lemmas.proofs.Elements.{contains_first, contains_cases, contains_none, contains_map}
 use Rattle.pc_accept.specs.Axioms.{Axiom, axiom_rule}
@@ -24,7 +23,7 @@ use Rattle.pc_solver.specs.Solver.{clauses_used}
 use Rattle.pc_solver.specs.Spending.{marked}
 use Rattle.pc_searched.specs.Laws.{problem_of}
 use Rattle.pc_theory.specs.Theories.{rules_alone}
-use Rattle.pc_theory.specs.Spendings.{AreFewCalls, IsSetOf, IsGoodLog, IsPartSpending, IsTouched, IsSpentOn, IsSpendingOf, IsLawful, placed_of, learned_of, calls_of}
+use Rattle.pc_theory.specs.Spendings.{IsSetOf, IsGoodLog, IsPartSpending, IsTouched, IsSpentOn, IsLawful, placed_of, learned_of, calls_of}
 use Rattle.pc_theory.specs.declared.spending.PartSpending.{PartSpending}
 use Rattle.pc_theory.specs.declared.spending.Spending.{Spending}
 use Rattle.pc_worked_laws.specs.Logs.{equal_clauses, all_axioms, all_variables, good_log, with_hint_missing, with_tautology, with_axiom_learned, with_clause_twice, with_large_block}

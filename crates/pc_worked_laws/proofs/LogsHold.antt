@@ -1,23 +1,23 @@
 -- Logs of the sheet in which a and b are equal.
-use Rattle.std.proofs.Common.{◌≡◌, ◌≢◌, ℕ, zero, suc, ◌+◌, ◌<◌, ◌↔◌, inl, inr, Bool, true, false, not, ◌&&◌, List, [], ◌∷◌, ◌++◌, Option, None, Some, All, Contains, map, slice_get, length, get_or, arith, ap, refl, sym, ◌∙◌, subst}
+use Rattle.std.proofs.Common.{◌≡◌, ℕ, zero, suc, ◌<◌, inl, inr, Bool, true, false, not, ◌&&◌, List, [], ◌∷◌, Option, None, Some, All, Contains, slice_get, arith, ap, refl, sym, ◌∙◌, subst}
 use Rattle.std.specs.List.{range_with_len}
 use Rattle.std.proofs.lemmas.Bool.{false≢true}
 use Rattle.std.proofs.lemmas.Bool.Decides.{Decides-not, Decides-by_and}
 use Rattle.std.proofs.lemmas.Option.{slice_get_within, get_or_from_slice_get}
 use Rattle.std.proofs.lemmas.List.FromFn.{length-range_with_len, get_or-range_with_len}
-use Rattle.std.proofs.lemmas.List.Elements.{All-from_recursion, All-nil, All-cons, All-head, All-contains}
+use Rattle.std.proofs.lemmas.List.Elements.{All-from_recursion, All-nil, All-head, All-contains}
 use Rattle.pc_lits.specs.declared.literal.Lit.{Lit}
 use Rattle.pc_lits.specs.Literals.{negated}
 use Rattle.pc_lits.specs.Steps.{IsGoodStep, IsTautology}
 use Rattle.pc_log.specs.declared.log.StepId.{StepId}
 use Rattle.pc_log.specs.Lines.{LogLine, AxiomLine, BlockLine, StepLine, hints_of}
-use Rattle.pc_log.specs.Derivations.{hinted_clauses, IsGoodLine, IsDerivation}
+use Rattle.pc_log.specs.Derivations.{hinted_clauses, IsGoodLine}
 use Rattle.pc_sheet.specs.MaximalSets.{IsMaximalSet}
 use Rattle.pc_sheet.specs.declared.ids.Entry.{Entry}
 use Rattle.pc_laws.specs.Examples.{red, green, entry, equal_cells}
 use Rattle.pc_components.specs.Pairs.{entry_literal}
 use Rattle.pc_analyze.specs.Learning.{IsSubclause}
-use Rattle.pc_solver.specs.Clauses.{IsOverOwn, used_clauses}
+use Rattle.pc_solver.specs.Clauses.{IsOverOwn}
 use Rattle.pc_solver.specs.InLog.{AreStepsOver}
 use Rattle.pc_solver.specs.New.{IsLearnedAt, AreNewClauses}
 use Rattle.pc_solver.specs.Solver.{Problem, IsLawfulLog, clauses_used}
@@ -25,9 +25,9 @@ use Rattle.pc_worlds.specs.Parts.{IsListingLog}
 use Rattle.pc_worlds.specs.Sheets.{IsBlockOf}
 use Rattle.pc_lemmas.proofs.Elements.{contains_first, contains_cases, contains_none, contains_map}
 use Rattle.pc_worked_laws.specs.Trails.{plus, minus}
-use Rattle.pc_worked_laws.specs.Logs.{equal_clauses, all_axioms, all_variables, equal_problem, learned_by, green_block, three_lines, good_log, with_hint_missing, with_later_hint, with_tautology, with_axiom_learned, with_clause_twice, with_block_learned, with_large_block, with_foreign_variable, WorkedNewClauses, WorkedLawfulLogs, WorkedListingLogs}
-use Rattle.pc_worked_laws.proofs.Computing.{has, lacks, not_maximal, lists}
-use Rattle.pc_worked_laws.proofs.Deciding.{isnt, has_lit, has_decides, is_within, within_decides, is_tautology, tautology_decides, is_good_step, good_step_decides}
+use Rattle.pc_worked_laws.specs.Logs.{equal_clauses, all_variables, equal_problem, learned_by, green_block, good_log, with_hint_missing, with_later_hint, with_tautology, with_axiom_learned, with_clause_twice, with_block_learned, with_large_block, with_foreign_variable, WorkedNewClauses, WorkedLawfulLogs, WorkedListingLogs}
+use Rattle.pc_worked_laws.proofs.Computing.{has, lacks, lists}
+use Rattle.pc_worked_laws.proofs.Deciding.{isnt, has_decides, is_within, within_decides, is_tautology, tautology_decides, is_good_step, good_step_decides}
 
 -- ---- lines of a log
 

@@ -5,13 +5,13 @@ use Rattle.std.proofs.lemmas.List.Sums.{length-filter, count_by-le-length}
 use Rattle.pc_sheet.specs.Sheet.{Sheet}
 use Rattle.pc_sheet.specs.Entailment.{IsConsistent, IsConflict, IsSublist, opposite_of}
 use Rattle.pc_sheet.specs.MaximalSets.{IsMinimalInconsistent}
-use Rattle.pc_sheet.specs.WellFormed.{AreWellFormedEntries, IsEntryOf, is_of_cell}
+use Rattle.pc_sheet.specs.WellFormed.{IsEntryOf, is_of_cell}
 use Rattle.pc_sheet.specs.declared.ids.Entry.{Entry}
 use Rattle.pc_laws.specs.Examples.{IsShownFor, red, green, entry, colored, cells_and_rules}
 use Rattle.pc_laws.proofs.Finding.{computed}
 use Rattle.pc_worked_laws.specs.LargestSets.{pair}
 use Rattle.pc_worked_laws.specs.Several.{both_views, with_views, numbers, first_views, cell_of, WorkedViews, WorkedEdits, WorkedLimit}
-use Rattle.pc_worked_laws.proofs.Computing.{is_consistent, not_consistent, lists, sublist, is_sublist, not_least}
+use Rattle.pc_worked_laws.proofs.Computing.{is_consistent, not_consistent, lists, sublist, not_least}
 
 -- ---- two views of a cell
 

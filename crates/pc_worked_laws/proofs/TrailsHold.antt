@@ -1,5 +1,5 @@
 -- Small trails, computed.
-use Rattle.std.proofs.Common.{◌≡◌, ℕ, zero, suc, ◌+◌, ◌<◌, ◌≤◌, ◌↔◌, ◌⊎◌, inl, inr, Bool, true, false, List, [], ◌∷◌, Option, None, Some, Contains, slice_get, arith, ap, refl, sym, ◌∙◌, subst}
+use Rattle.std.proofs.Common.{◌≡◌, ℕ, zero, suc, ◌+◌, ◌<◌, ◌≤◌, ◌↔◌, ◌⊎◌, inl, inr, true, false, List, [], ◌∷◌, Option, None, Some, Contains, slice_get, arith, ap, refl, sym, ◌∙◌, subst}
 use Rattle.std.proofs.lemmas.Bool.{false≢true}
 use Rattle.pc_lits.specs.declared.literal.Lit.{Lit}
 use Rattle.pc_propagate.specs.declared.clauses.ClauseRef.{ClauseRef}
@@ -9,7 +9,7 @@ use Rattle.pc_propagate.specs.Levels.{level_at}
 use Rattle.pc_propagate.specs.Propagation.{IsSettled}
 use Rattle.pc_propagate.specs.Refs.{clause_at}
 use Rattle.pc_propagate.specs.Watched.{IsFalseAt}
-use Rattle.pc_analyze.specs.FirstPoint.{StandsIn, StandsInReason, IsWay, Leads, IsFirstPoint, IsOfFirstPoint}
+use Rattle.pc_analyze.specs.FirstPoint.{StandsIn, StandsInReason, Leads, IsFirstPoint, IsOfFirstPoint}
 use Rattle.pc_lemmas.proofs.Elements.{contains_cases, contains_none}
 use Rattle.pc_worked_laws.specs.Trails.{minus, plus, decided, implied, not_both, reasons, two_levels, conflict, WorkedSettled, WorkedFirstPoint}
 use Rattle.pc_worked_laws.proofs.Deciding.{isnt, has_lit, has_decides, is_settled, settled_decides}
