@@ -295,7 +295,14 @@ c = red => CertRefused/refused wrong-end/
 // Whether the certificate that uses what a row says is judged as the row says.
 fn is_judged(alloc: Global, row: &str) -> Result<bool, AllocError> {
     let (used, want) = row.split_once(" => ").unwrap_or((row, ""));
-    is_verdict(alloc, TWICE, used, "red", "4 step ~a=red b=red : 3 1 2/", want)
+    is_verdict(
+        alloc,
+        TWICE,
+        used,
+        "red",
+        "4 step ~a=red b=red : 3 1 2/",
+        want,
+    )
 }
 
 #[test]
