@@ -20,10 +20,38 @@ use Rattle.pc_lemmas.proofs.Elements.{contains_first}
 use Rattle.pc_accept.specs.Literals.{Literal, node, positive, opposite}
 use Rattle.pc_accept.specs.Axioms.{axiom_rule, IsAtomClause}
 use Rattle.pc_accept.specs.Accepts.{Line, taken, IsLineClause, Accepts}
-use Rattle.pc_accept.specs.Worked.{WorkedPaths, WorkedReads, WorkedLimits, WorkedRanges, WorkedRefutation, more_x, ranges, z_of_lowest, w, never, refuting, refutation}
+use Rattle.pc_accept.specs.Worked.{WorkedPaths, WorkedCounters, WorkedReads, WorkedLimits, WorkedRanges, WorkedRefutation, more_x, ranges, z_of_lowest, w, never, refuting, refutation}
 
 pub worked_paths : WorkedPaths
 worked_paths = record { instance = refl; past_the_last = refl; below_an_atom = refl }
+
+pub worked_counters : WorkedCounters
+worked_counters = record {
+  body = refl;
+  second_of_first = refl;
+  past_the_last = refl;
+  below_a_counter = refl;
+  node_true = refl;
+  node_false = refl;
+  no_third = λ clause h. h;
+  one_of_first = refl;
+  no_second = λ clause h. absurd (cc);
+  no_third_of_first = λ clause h. absurd (cc);
+  one_of_first_back = refl;
+  two_by_first = refl;
+  never_two = refl;
+  no_third_of_two = λ clause h. absurd (cc);
+  no_fourth_of_two = λ clause h. absurd (cc);
+  one_of_both = refl;
+  no_second_of_both = λ clause h. absurd (cc);
+  one_of_both_by_first = refl;
+  one_of_both_by_last = refl;
+  two_with_last = refl;
+  two_with_first = refl;
+  two_back = refl;
+  two_back_by_last = refl;
+  no_fifth = λ clause h. h;
+}
 
 -- ---- reads
 
