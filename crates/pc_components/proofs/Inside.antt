@@ -1,23 +1,25 @@
 -- The axioms of a node that a path leads to are the sheet's, are named by paths on from it, and their pairs are of cells that it reads.
-use Rattle.std.proofs.Common.{◌≡◌, ℕ, zero, suc, ◌+◌, Bool, true, false, cond, nat_lt, List, [], ◌∷◌, ◌++◌, append-nil, append_assoc, All, Contains, Option, None, Some, slice_get, arith, ap, refl, sym, ◌∙◌, subst, zero-add}
-use Rattle.std.specs.List.{flat_map}
+use Rattle.std.proofs.Common.{◌≡◌, ℕ, zero, suc, ◌+◌, ◌-◌, ◌*◌, ◌/◌, ◌%◌, ◌<◌, Bool, true, false, cond, nat_lt, List, [], ◌∷◌, ◌++◌, append-nil, append_assoc, All, Contains, Option, None, Some, slice_get, arith, ap, refl, sym, ◌∙◌, subst, zero-add}
+use Rattle.std.specs.List.{flat_map, range_with_len}
 use Rattle.std.proofs.lemmas.Bool.Decides.{Decides-ltb}
 use Rattle.std.proofs.lemmas.List.Elements.{All-nil, All-cons, All-append, All-map, All-weaker, Contains-append_left, Contains-append_right}
-use Rattle.pc_sheet.specs.Sheet.{Universe, Sheet, NamedStatement, Statement, Statements, no_statements, statement, compare, in_table, negation, all_of, some_of, implies, iff, for_all, exists}
-use Rattle.pc_sheet.specs.Truth.{Scope}
+use Rattle.pc_sheet.specs.Sheet.{Universe, Sheet, NamedStatement, Counting, no_more_than, no_fewer_than, of_first, Statement, Statements, no_statements, statement, compare, in_table, negation, all_of, some_of, implies, iff, for_all, exists, counts}
+use Rattle.pc_sheet.specs.Truth.{Scope, asked_of}
 use Rattle.pc_sheet.specs.Sizes.{size_of}
 use Rattle.pc_sheet.specs.Cells.{values_below}
-use Rattle.pc_sheet.specs.Nodes.{Node, part_at, one_of_two, child, node_from, root_of, node_at}
+use Rattle.pc_sheet.specs.Nodes.{Node, part_at, one_of_two, bodies_of, threshold_of, counter_child, counted_child, child, node_from, root_of, node_at, kind_of, counter_number}
 use Rattle.pc_sheet.specs.Reads.{number_of_cell}
 use Rattle.pc_sheet.specs.Readings.{leaves_of}
 use Rattle.pc_sheet.specs.declared.ids.SortId.{SortId}
 use Rattle.pc_sheet.specs.declared.ids.ValueId.{ValueId}
 use Rattle.pc_accept.specs.Literals.{Literal, node}
-use Rattle.pc_accept.specs.Axioms.{Axiom, axiom_some, axiom_one, axiom_rule, axiom_node, axiom_atom, clauses_of_node, child_of}
+use Rattle.pc_accept.specs.Axioms.{Axiom, axiom_some, axiom_one, axiom_rule, axiom_node, axiom_atom, clauses_of_node, child_of, signed_node, signed_child}
+use Rattle.pc_accept.specs.Rows.{Part, clause_of, rows_of_kind, counter_rows}
 use Rattle.pc_parts.specs.Leaves.{cells_of_leaf, cells_of_atom, cells_under, cells_under_parts}
-use Rattle.pc_lemmas.proofs.Elements.{contains_later, contains_map, all_from, flat_there}
+use Rattle.pc_lemmas.proofs.Elements.{contains_later, contains_map, contains_none, all_from, flat_there}
 use Rattle.pc_laws.proofs.ValueLists.{values_each, value_there}
-use Rattle.pc_ground.specs.Ground.{GroundAxiom, leaf_axiom, atom_axioms, numbered_axioms, own_axioms, node_axioms, parts_axioms, rule_axioms, rules_axioms, root_axiom, cells_axioms, axioms}
+use Rattle.pc_ground.specs.Ground.{GroundAxiom, leaf_axiom, atom_axioms, numbered_axioms, own_axioms, row_axiom, row_axioms, count_axioms, counter_axioms, counters_axioms, node_axioms, parts_axioms, rule_axioms, rules_axioms, root_axiom, cells_axioms, axioms}
+use Rattle.pc_ground.proofs.Lists.{range_flat_each}
 use Rattle.pc_sheet.specs.Entailment.{cell_sizes}
 
 within_of : {X : Type 0} (b : Bool) (x y : X) → cond b (Some x) None ≡ Some y → (b ≡ true) × (x ≡ y)
@@ -62,6 +64,25 @@ module _ (u : Universe) (r : ℕ) where
       value_there (λ w. node_axioms u r (path ++ w.0 ∷ []) (scope ++ (s, w) ∷ []) body) (size_of u s) v g ((Decides-ltb k (size_of u s)).0 found.0)
       (subst (λ m. Contains (Of (path ++ k ∷ []) m) g) (sym found.1) h)
 
+  -- of the children of a counting quantifier the bodies alone have axioms; those of a counter are its quantifier's
+  in_counted : (path : List ℕ) (scope : Scope) (c : Counting) (name : List ℕ) (s : SortId) (body : Statement) (k : ℕ) (n : Node) (g : GroundAxiom)
+      → counted_child scope (bodies_of c (size_of u s)) (threshold_of c) name s body k ≡ Some n → Contains (Of (path ++ k ∷ []) n) g
+      → Contains (flat_map (λ v. node_axioms u r (path ++ v.0 ∷ []) (scope ++ (s, v) ∷ []) body) (values_below (bodies_of c (size_of u s)))) g
+  in_counted path scope c name s body k n g is h = by (nat_lt k (bodies_of c (size_of u s))) refl is
+    where
+      by : (b : Bool) → nat_lt k (bodies_of c (size_of u s)) ≡ b
+          → cond b (Some (scope ++ (s, record { 0 = k }) ∷ [], body)) (counter_child scope (bodies_of c (size_of u s)) (threshold_of c) name s body (k - bodies_of c (size_of u s))) ≡ Some n
+          → Contains (flat_map (λ v. node_axioms u r (path ++ v.0 ∷ []) (scope ++ (s, v) ∷ []) body) (values_below (bodies_of c (size_of u s)))) g
+      by true below is_body =
+          let v : ValueId = record { 0 = k } in
+          value_there (λ w. node_axioms u r (path ++ w.0 ∷ []) (scope ++ (s, w) ∷ []) body) (bodies_of c (size_of u s)) v g ((Decides-ltb k (bodies_of c (size_of u s))).0 below)
+          (subst (λ m. Contains (Of (path ++ k ∷ []) m) g) (sym (same_node is_body)) h)
+      by false below is_counter =
+          let m = threshold_of c in
+          let q = k - bodies_of c (size_of u s) in
+          let found = within_of (nat_lt q (bodies_of c (size_of u s) * m)) (scope, counts (of_first m (suc (q / m)) (suc (q % m))) name s body) n is_counter in
+          absurd (contains_none g (subst (λ x. Contains (Of (path ++ k ∷ []) x) g) (sym found.1) h))
+
   in_child : (path : List ℕ) (scope : Scope) (s : Statement) (k : ℕ) (n : Node) (g : GroundAxiom) → child u (scope, s) k ≡ Some n → Contains (Of (path ++ k ∷ []) n) g → Contains (node_axioms u r path scope s) g
   in_child path scope (compare left op right) k n g is h = absurd (cc)
   in_child path scope (in_table t xs) k n g is h = absurd (cc)
@@ -80,6 +101,10 @@ module _ (u : Universe) (r : ℕ) where
       Contains-append_right (own_axioms u r path (for_all name s body)) (flat_map (λ v. node_axioms u r (path ++ v.0 ∷ []) (scope ++ (s, v) ∷ []) body) (values_below (size_of u s))) g (in_body path scope s body k n g is h)
   in_child path scope (exists name s body) k n g is h =
       Contains-append_right (own_axioms u r path (exists name s body)) (flat_map (λ v. node_axioms u r (path ++ v.0 ∷ []) (scope ++ (s, v) ∷ []) body) (values_below (size_of u s))) g (in_body path scope s body k n g is h)
+  in_child path scope (counts c name s body) k n g is h =
+      let bodies = flat_map (λ v. node_axioms u r (path ++ v.0 ∷ []) (scope ++ (s, v) ∷ []) body) (values_below (bodies_of c (size_of u s))) in
+      let counters = counters_axioms r path (bodies_of c (size_of u s)) (threshold_of c) in
+      Contains-append_right (count_axioms u r path (counts c name s body)) (bodies ++ counters) g (Contains-append_left bodies counters g (in_counted path scope c name s body k n g is h))
 
   -- and so are those of what a path leads to
   in_below : (steps path : List ℕ) (from n : Node) (g : GroundAxiom) → node_from u (Some from) steps ≡ Some n → Contains (Of (path ++ steps) n) g → Contains (Of path from) g
@@ -161,6 +186,32 @@ module _ (u : Universe) (r : ℕ) where
   own_inside : (path cells : List ℕ) (s : Statement) → AreInside path cells (own_axioms u r path s)
   own_inside path cells s = numbered_inside path cells 1 (clauses_of_node (node r path) (child_of r path) u s)
 
+  rows_inside : (path cells : List ℕ) (i : ℕ) (rows : List (List (Part Literal))) → AreInside path cells (row_axioms r path i rows)
+  rows_inside path cells i [] = All-nil (λ g. IsInside r path cells g.name)
+  rows_inside path cells i (row ∷ rows) =
+      All-append (λ g. IsInside r path cells g.name) (row_axiom r path i (clause_of row)) (row_axioms r path (i + 1) rows) (by (clause_of row)) (rows_inside path cells (i + 1) rows)
+    where
+      by : (o : Option (List Literal)) → AreInside path cells (row_axiom r path i o)
+      by None = All-nil (λ g. IsInside r path cells g.name)
+      by (Some c) = All-cons (λ g. IsInside r path cells g.name) (record { name = axiom_node r path i; clause = c }) [] (refl, [], sym (append-nil path)) (All-nil (λ g. IsInside r path cells g.name))
+
+  counters_inside : (path cells : List ℕ) (n m : ℕ) → AreInside path cells (counters_axioms r path n m)
+  counters_inside path cells n m =
+      let P : GroundAxiom → Type 0 = λ g. IsInside r path cells g.name in
+      range_flat_each P (λ i. flat_map (counter_axioms r path n m i) (range_with_len 0 m)) 0 n
+      (λ i _ _. range_flat_each P (counter_axioms r path n m i) 0 m (λ j _ _. one i j))
+    where
+      one : (i j : ℕ) → AreInside path cells (counter_axioms r path n m i j)
+      one i j =
+          let q = counter_number n m (suc i) (suc j) in
+          from_child path q cells cells (counter_axioms r path n m i j) (λ c h. h) (rows_inside (path ++ q ∷ []) cells 1 (counter_rows (signed_node r path) (signed_child r path) n m i j))
+
+  -- the values that stand for the body are among those of which truth asks
+  asked : (c : Counting) (n k : ℕ) → k < bodies_of c n → k < asked_of c n
+  asked (no_more_than b) n k l = l
+  asked (no_fewer_than b) n k l = l
+  asked (of_first m i j) n k l = absurd (omega (arith, l))
+
   atom_inside : (path : List ℕ) (scope : Scope) (s : Statement) → AreInside path (cells_of_atom u scope s) (atom_axioms u r path scope s)
   atom_inside path scope s =
       let P : GroundAxiom → Type 0 = λ g. IsInside r path (cells_of_atom u scope s) g.name in
@@ -211,6 +262,18 @@ module _ (u : Universe) (r : ℕ) where
         let gs : ValueId → List GroundAxiom = λ v. node_axioms u r (path ++ v.0 ∷ []) (scope ++ (s, v) ∷ []) body in
         All-append P (own_axioms u r path (exists name s body)) (flat_map gs (values_below (size_of u s))) (own_inside path cells (exists name s body))
         (values_each P gs (size_of u s) (λ v l. from_child path v.0 (f v) cells (gs v) (λ c h. value_there f (size_of u s) v c l h) (inside (path ++ v.0 ∷ []) (scope ++ (s, v) ∷ []) body)))
+    inside path scope (counts c name s body) =
+        let n = bodies_of c (size_of u s) in
+        let f : ValueId → List ℕ = λ v. cells_under u (scope ++ (s, v) ∷ []) body in
+        let cells = flat_map f (values_below (asked_of c (size_of u s))) in
+        let P : GroundAxiom → Type 0 = λ g. IsInside r path cells g.name in
+        let gs : ValueId → List GroundAxiom = λ v. node_axioms u r (path ++ v.0 ∷ []) (scope ++ (s, v) ∷ []) body in
+        let counters = counters_axioms r path n (threshold_of c) in
+        All-append P (count_axioms u r path (counts c name s body)) (flat_map gs (values_below n) ++ counters)
+        (rows_inside path cells 1 (rows_of_kind (signed_node r path) (signed_child r path) (kind_of u (counts c name s body))))
+        (All-append P (flat_map gs (values_below n)) counters
+        (values_each P gs n (λ v l. from_child path v.0 (f v) cells (gs v) (λ d h. value_there f (asked_of c (size_of u s)) v d (asked c (size_of u s) v.0 l) h) (inside (path ++ v.0 ∷ []) (scope ++ (s, v) ∷ []) body)))
+        (counters_inside path cells n (threshold_of c)))
 
     parts_inside : (path : List ℕ) (scope : Scope) (k : ℕ) (ss : Statements) → AreInside path (cells_under_parts u scope ss) (parts_axioms u r path scope k ss)
     parts_inside path scope k no_statements = All-nil (λ g. IsInside r path [] g.name)

@@ -1,7 +1,8 @@
 -- The rows turned round are the cells, the axioms and the variables of the parts.
-use Rattle.std.proofs.Common.{◌≡◌, ℕ, zero, suc, ◌+◌, ◌<◌, ◌≤◌, ◌^◌, ◌⊎◌, ◌↔◌, inl, inr, List, [], ◌∷◌, map, length, AllPairs, Contains, Some, slice_get, refl, ap, sym, ◌∙◌, subst, arith}
+use Rattle.std.proofs.Common.{◌≡◌, ℕ, zero, suc, ◌+◌, ◌<◌, ◌≤◌, ◌^◌, ◌⊎◌, ◌↔◌, inl, inr, List, [], ◌∷◌, map, length, All, AllPairs, Contains, Some, slice_get, refl, ap, sym, ◌∙◌, subst, arith}
 use Rattle.std.specs.List.{filter, range_with_len, AllZip}
 use Rattle.std.proofs.lemmas.List.{length-map}
+use Rattle.std.proofs.lemmas.List.Elements.{All-contains}
 use Rattle.std.proofs.lemmas.List.FromFn.{length-range_with_len, length-map-range_with_len}
 use Rattle.std.proofs.lemmas.List.Kept.{AllPairs-filter}
 use Rattle.pc_lits.specs.declared.literal.Lit.{Lit}
@@ -204,6 +205,20 @@ variables_right sheet axs bound i used bound_is at =
       order = in_order 0 (turned bound raw) i;
     }
 
+-- of any rows of axioms
+pub variables_named : (sheet : Sheet) (bound : ℕ) (axs vars : List (List ℕ)) (store : List (List Lit)) (kept_axioms : List (List ℕ)) (kept_variables : List (List Var)) → bound ≡ variable_count sheet → store ≡ clauses sheet
+    → vars ≡ turned (length axs) (turned bound (map (variables_in store) axs)) → kept_axioms ≡ axs → map (map variable_number) kept_variables ≡ vars
+    → AllZip (λ used own. AreVariablesOf (clauses sheet) used (map variable_number own)) kept_axioms kept_variables
+variables_named sheet bound axs vars store kept_axioms kept_variables bound_is store_is vars_is axs_is kept_is =
+    let rows = turned bound (map (variables_in (clauses sheet)) axs) in
+    let here : vars ≡ turned (length axs) rows = vars_is ∙ ap (λ cs. turned (length axs) (turned bound (map (variables_in cs) axs))) store_is in
+    let named : AllZip (AreVariablesOf (clauses sheet)) axs vars =
+    subst (AllZip (AreVariablesOf (clauses sheet)) axs) (sym here)
+    (zip_places (AreVariablesOf (clauses sheet)) (places_from 0 rows) axs 0
+    (λ i used at. let e : i ≡ 0 + i = omega arith in subst (λ k. AreVariablesOf (clauses sheet) used (places_from 0 rows k)) e (variables_right sheet axs bound i used bound_is at))) in
+    zip_unmapped (AreVariablesOf (clauses sheet)) (map variable_number) kept_axioms kept_variables
+    (subst (λ xs. AllZip (AreVariablesOf (clauses sheet)) xs (map (map variable_number) kept_variables)) (sym axs_is) (subst (AllZip (AreVariablesOf (clauses sheet)) axs) (sym kept_is) named))
+
 -- ---- parts
 
 module _ (sheet : Sheet) (formed : IsWellFormed sheet) where
@@ -378,3 +393,11 @@ axioms_fit sheet formed count own axs own_is is few =
 pub variables_fit : (count bound : ℕ) (raw vars : List (List ℕ)) → vars ≡ turned count (turned bound raw) → bound < 2 ^ 32 → AreAllBelow (2 ^ 32) vars
 variables_fit count bound raw vars is few =
     subst (AreAllBelow (2 ^ 32)) (sym is) (turned_fit (2 ^ 32) count (turned bound raw) (let l = length-map-range_with_len (places_from 0 raw) 0 bound in omega (arith, l, few)))
+
+-- of any rows
+pub rows_fit : (n : ℕ) (rows : List (List ℕ)) → All (All (λ k. k < n)) rows → AreAllBelow n rows
+rows_fit n rows h = all_rows n rows (λ row there k has. All-contains (λ j. j < n) row k (All-contains (All (λ j. j < n)) rows row h there) has)
+
+pub many_named : (axs vars : List (List ℕ)) (rows : List (List ℕ)) (kept_variables : List (List Var)) → vars ≡ turned (length axs) rows → map (map variable_number) kept_variables ≡ vars → length axs ≡ length kept_variables
+many_named axs vars rows kept_variables is kept_is =
+    sym (length-map-range_with_len (places_from 0 rows) 0 (length axs)) ∙ sym (ap length is) ∙ sym (ap length kept_is) ∙ length-map kept_variables (map variable_number)

@@ -2,6 +2,7 @@ pub mod Assigned
 pub mod Inside
 pub mod Way
 pub mod Symbols
+pub mod Under
 pub mod PartMet
 pub mod PartMade
 pub mod PartFor

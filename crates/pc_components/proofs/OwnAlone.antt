@@ -4,18 +4,18 @@ use Rattle.std.specs.List.{flat_map}
 use Rattle.std.proofs.lemmas.List.Elements.{All-nil, All-cons, All-append, All-contains, Contains-append_left, Contains-append_right, Contains-append_cases}
 use Rattle.std.proofs.lemmas.Option.{slice_get-get_or}
 use Rattle.pc_lits.specs.declared.literal.Lit.{Lit}
-use Rattle.pc_sheet.specs.Sheet.{Universe, Sheet, NamedStatement, Statement, Statements, no_statements, statement, compare, in_table, negation, all_of, some_of, implies, iff, for_all, exists}
+use Rattle.pc_sheet.specs.Sheet.{Universe, Sheet, NamedStatement, Statement, Statements, no_statements, statement, compare, in_table, negation, all_of, some_of, implies, iff, for_all, exists, counts}
 use Rattle.pc_sheet.specs.Truth.{Scope}
 use Rattle.pc_sheet.specs.Sizes.{size_of}
 use Rattle.pc_sheet.specs.Cells.{values_below}
 use Rattle.pc_sheet.specs.Entailment.{cell_sizes, IsAssignment}
-use Rattle.pc_sheet.specs.Nodes.{Node, node_at}
+use Rattle.pc_sheet.specs.Nodes.{Node, node_at, kind_of}
 use Rattle.pc_sheet.specs.Reads.{number_of_cell}
 use Rattle.pc_sheet.specs.WellFormed.{IsWellFormed}
 use Rattle.pc_sheet.specs.declared.ids.CellId.{CellId}
 use Rattle.pc_sheet.specs.declared.ids.ValueId.{ValueId}
 use Rattle.pc_accept.specs.Literals.{Symbol, pair, node, Literal, positive, negative}
-use Rattle.pc_accept.specs.Axioms.{Axiom, axiom_some, axiom_one, axiom_rule, axiom_node, axiom_atom, each_below, clauses_of_node, child_of, negated_entry, IsAtNumber, IsClauseOf}
+use Rattle.pc_accept.specs.Axioms.{Axiom, axiom_some, axiom_one, axiom_rule, axiom_node, axiom_atom, each_below, clauses_of_node, child_of, negated_entry, IsAtNumber, IsClauseOfKind, IsClauseOf}
 use Rattle.pc_lemmas.proofs.Options.{some_and, same_some}
 use Rattle.pc_parts.specs.Pieces.{Piece, piece, pieces_below, pieces_of_parts, pieces_from, pieces, looked_up_under, ReadsCell}
 use Rattle.pc_parts.specs.Leaves.{cells_of, cells_under}
@@ -34,15 +34,15 @@ use Rattle.pc_ground.proofs.OfAxioms.{all_right}
 use Rattle.pc_ground.proofs.Symbols.{symbols_are_variables}
 use Rattle.pc_components.specs.PartAxioms.{IsAxiomOfPart, AreAxiomsOf, AreVariablesOf}
 use Rattle.pc_components.specs.Laws.{PartsHaveTheirOwnVariables}
-use Rattle.pc_accept.proofs.AxiomsTrue.{numbered}
 use Rattle.pc_components.proofs.Inside.{IsInside, inside, rule_there}
 use Rattle.pc_components.proofs.PartFor.{contains_slice, slice_map, slice_contains, same_clause, its_place, pair_in}
-use Rattle.pc_components.proofs.Symbols.{node_symbols, IsOfCell, cell_named, cell_there}
-use Rattle.pc_components.proofs.Way.{piece_at, piece_rule, above_piece, joint_clause, way_clause, way_axiom, way_there}
+use Rattle.pc_components.proofs.Symbols.{last_step, rule_symbols, IsOfCell, cell_named, cell_there}
+use Rattle.pc_components.proofs.Under.{under_symbols}
+use Rattle.pc_components.proofs.Way.{piece_at, piece_rule, above_piece, joint_clause, joint_number, way_clause, way_axiom, way_there}
 
 -- ---- each leaf's axiom is inside a piece
 
-abbrev InPiece : Universe → List Piece → Axiom → Type 0
+abbrev pub InPiece : Universe → List Piece → Axiom → Type 0
 InPiece u ps (axiom_some c) = Unit {0}
 InPiece u ps (axiom_one c v w) = Unit {0}
 InPiece u ps (axiom_rule r) = Unit {0}
@@ -98,6 +98,7 @@ module _ (u : Universe) (r : ℕ) where
         All-append (λ g. InPiece u big g.name) (own_axioms u r path (for_all name s body)) (flat_map gs (values_below (size_of u s))) (numbers_in path big 1 (clauses_of_node (node r path) (child_of r path) u (for_all name s body)))
         (values_each (λ g. InPiece u big g.name) gs (size_of u s) (λ v l. all_more (ps v) big (gs v) (λ p c. value_there ps (size_of u s) v p l c) (nodes_in (path ++ v.0 ∷ []) (scope ++ (s, v) ∷ []) body)))
     nodes_in path scope (exists name s body) = alone path scope (exists name s body)
+    nodes_in path scope (counts c name s body) = alone path scope (counts c name s body)
 
     parts_in : (path : List ℕ) (scope : Scope) (k : ℕ) (ss : Statements) → AreIn (pieces_of_parts u r path scope k ss) (parts_axioms u r path scope k ss)
     parts_in path scope k no_statements = All-nil (λ g. InPiece u [] g.name)
@@ -130,7 +131,7 @@ cells_in u ps c (n ∷ ns) =
     All-append (λ g. InPiece u ps g.name) (cell_axioms c n) (cells_axioms (c + 1) ns)
     (all_from (λ g. InPiece u ps g.name) (cell_axioms c n) (λ g h. cell_in_piece u ps c g.name (All-contains (λ q. IsOfCell c q.name) (cell_axioms c n) g (cell_named c n) h))) (cells_in u ps (c + 1) ns)
 
-all_in : (sheet : Sheet) → All (λ g. InPiece sheet.universe (pieces sheet) g.name) (axioms sheet)
+pub all_in : (sheet : Sheet) → All (λ g. InPiece sheet.universe (pieces sheet) g.name) (axioms sheet)
 all_in sheet =
     let u = sheet.universe in
     All-append (λ g. InPiece u (pieces sheet) g.name) (cells_axioms 0 (cell_sizes u)) (rules_axioms u 0 sheet.rules) (cells_in u (pieces sheet) 0 (cell_sizes u)) (rules_in u 0 sheet.rules)
@@ -174,11 +175,11 @@ steps_of_symbol : Symbol → List ℕ
 steps_of_symbol (pair c v) = []
 steps_of_symbol (node r path) = path
 
-same_cell : (d : CellId) (w v : ValueId) (c : ℕ) → pair d w ≡ pair (record { 0 = c }) v → d.0 ≡ c
+pub same_cell : (d : CellId) (w v : ValueId) (c : ℕ) → pair d w ≡ pair (record { 0 = c }) v → d.0 ≡ c
 unfolding cell_of_pair
 same_cell d w v c e = ap cell_of_pair e
 
-no_pair : {r : ℕ} {path : List ℕ} {c : CellId} {v : ValueId} → node r path ≡ pair c v → ⊥
+pub no_pair : {r : ℕ} {path : List ℕ} {c : CellId} {v : ValueId} → node r path ≡ pair c v → ⊥
 unfolding is_pair
 no_pair e = absurd (let n : 0 ≡ 1 = ap is_pair e in omega arith)
 
@@ -198,7 +199,7 @@ module _ (sheet : Sheet) where
   abbrev u : Universe
   u = sheet.universe
 
-  one_path : (p q : Piece) → Contains (pieces sheet) p → Contains (pieces sheet) q → p.path.rule ≡ q.path.rule → (xs ys : List ℕ) → p.path.steps ++ xs ≡ q.path.steps ++ ys → p.path.steps ≡ q.path.steps
+  pub one_path : (p q : Piece) → Contains (pieces sheet) p → Contains (pieces sheet) q → p.path.rule ≡ q.path.rule → (xs ys : List ℕ) → p.path.steps ++ xs ≡ q.path.steps ++ ys → p.path.steps ≡ q.path.steps
   unfolding Longer
   one_path p q h l same xs ys e = elim (compared p.path.steps q.path.steps xs ys e) [
     | inl is ↦ is
@@ -208,7 +209,7 @@ module _ (sheet : Sheet) where
     ]
   ]
 
-  one_node : (p q : Piece) → Contains (pieces sheet) p → Contains (pieces sheet) q → p.path.rule ≡ q.path.rule → p.path.steps ≡ q.path.steps → p.node ≡ q.node
+  pub one_node : (p q : Piece) → Contains (pieces sheet) p → Contains (pieces sheet) q → p.path.rule ≡ q.path.rule → p.path.steps ≡ q.path.steps → p.node ≡ q.node
   one_node p q h l same is = same_some (sym (piece_at sheet p h) ∙ ap (λ r. node_at sheet r p.path.steps) same ∙ ap (node_at sheet q.path.rule) is ∙ piece_at sheet q l)
 
   module _ (formed : IsWellFormed sheet) (all : List Part) (are : AreParts sheet all) where
@@ -244,9 +245,7 @@ module _ (sheet : Sheet) where
             | inr none ↦ absurd (contains_none l none)
           ]
       pair_in_axiom (axiom_node r path k) clause is h i l has c v e =
-          let n = some_and (node_at sheet r path) (λ n. IsAtNumber (clauses_of_node (node r path) (child_of r path) u n.1) k clause) is in
-          absurd (node_symbols (λ x. x ≡ pair (record { 0 = c }) v → ⊥) (node r path) (child_of r path) (λ f. no_pair f) (λ j f. no_pair f) u n.0.1 clause
-          (numbered (clauses_of_node (node r path) (child_of r path) u n.0.1) k clause n.2) l has e)
+          absurd (rule_symbols (λ x. x ≡ pair (record { 0 = c }) v → ⊥) sheet r path (λ steps f. no_pair f) k clause is l has e)
       pair_in_axiom (axiom_atom r path reads) clause is (p, p_in, (same, rest, at)) (q, q_in, (from, within)) l has c v e =
           let end : Literal = record { what = node r path; sign = is.truth } in
           elim (Contains-append_cases (map negated_entry reads) (end ∷ []) l (subst (λ d'. Contains d' l) is.is has)) [
@@ -295,17 +294,14 @@ module _ (sheet : Sheet) where
               | inr none ↦ absurd (contains_none l none)
             ]
         node_in_axiom (axiom_node r path k) clause is (inl (q, q_in, (same, rest, at))) l has e =
-            let n = some_and (node_at sheet r path) (λ n. IsAtNumber (clauses_of_node (node r path) (child_of r path) u n.1) k clause) is in
-            node_symbols (λ x. x ≡ node p.path.rule p.path.steps → Same) (node r path) (child_of r path)
-            (λ f. same_from q q_in r same (same_rule r p.path.rule path p.path.steps f) rest [] (sym at ∙ same_steps r p.path.rule path p.path.steps f ∙ sym (append-nil p.path.steps)))
-            (λ j f. same_from q q_in r same (same_rule r p.path.rule (path ++ j ∷ []) p.path.steps f) (rest ++ j ∷ []) []
-            (sym (append_assoc q.path.steps rest (j ∷ [])) ∙ ap (λ xs. xs ++ j ∷ []) (sym at) ∙ same_steps r p.path.rule (path ++ j ∷ []) p.path.steps f ∙ sym (append-nil p.path.steps)))
-            u n.0.1 clause (numbered (clauses_of_node (node r path) (child_of r path) u n.0.1) k clause n.2) l has e
+            let under = under_symbols sheet q (listed q q_in) r same path rest at k clause is l has in
+            let f = sym under.1 ∙ e in
+            same_from q q_in r same (same_rule r p.path.rule (q.path.steps ++ under.0) p.path.steps f) under.0 [] (same_steps r p.path.rule (q.path.steps ++ under.0) p.path.steps f ∙ sym (append-nil p.path.steps))
         node_in_axiom (axiom_node r path k) clause is (inr (j, number', (q, q_in, (same, rest, at)))) l has e =
-            let n = some_and (node_at sheet r path) (λ n. IsAtNumber (clauses_of_node (node r path) (child_of r path) u n.1) k clause) is in
+            let n = some_and (node_at sheet r path) (λ n. IsClauseOfKind sheet r path (kind_of u n.1) k clause) is in
             let above = above_piece sheet q (listed q q_in) path j rest at in
             let node_same : n.0 ≡ above.joint = same_some (sym n.1 ∙ ap (λ i. node_at sheet i path) (sym same) ∙ above.at) in
-            let joint = subst (λ (m : Node). IsAtNumber (clauses_of_node (node r path) (child_of r path) u m.1) k clause) node_same n.2 in
+            let joint = joint_number sheet r path above.joint.1 above.is k clause (subst (λ (m : Node). IsClauseOfKind sheet r path (kind_of u m.1) k clause) node_same n.2) in
             let place : k ≡ suc j = omega arith in
             let at_j : slice_get (clauses_of_node (node r path) (child_of r path) u above.joint.1) j ≡ Some clause = subst (λ i. IsAtNumber (clauses_of_node (node r path) (child_of r path) u above.joint.1) i clause) place joint in
             let way = joint_clause u (node r path) (child_of r path) above.joint.0 above.joint.1 above.is j above.next above.child_at in
@@ -369,14 +365,6 @@ one_last (p ∷ ps) x y h l =
 some_piece : (ps : List Piece) (part : Part) → Contains (part_without_cells ps) part → (p : Piece) × Contains ps p
 some_piece [] part h = absurd (contains_none part h)
 some_piece (p ∷ ps) part h = (p, contains_first p ps)
-
--- a path's last step
-abbrev EndsWith : List ℕ → Type 0
-EndsWith steps = (path : List ℕ) × (k : ℕ) × (steps ≡ path ++ k ∷ [])
-
-last_step : (k : ℕ) (ks : List ℕ) → EndsWith (k ∷ ks)
-last_step k [] = ([], k, refl)
-last_step k (j ∷ js) = let rest = last_step j js in (k ∷ rest.0, rest.1, ap (λ xs. k ∷ xs) rest.2)
 
 module _ (sheet : Sheet) (formed : IsWellFormed sheet) (all : List Part) (are : AreParts sheet all) (part : Part) (there : Contains all part) (used own : List ℕ) (of : AreAxiomsOf sheet part used) (vars : AreVariablesOf (clauses sheet) used own) where
   abbrev OwnVariable : Type 0

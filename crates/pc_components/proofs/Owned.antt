@@ -7,7 +7,7 @@ use Rattle.std.proofs.lemmas.List.{length-append, length-map}
 use Rattle.std.proofs.lemmas.List.Elements.{All-nil, All-cons, All-append, All-contains, Contains-append_cases}
 use Rattle.std.proofs.lemmas.List.FromFn.{length-map-range_with_len}
 use Rattle.pc_sheet.specs.WellSorted.{parts_in}
-use Rattle.pc_sheet.specs.Sheet.{Universe, NamedStatement, Statement, Statements, no_statements, statement, compare, in_table, negation, all_of, some_of, implies, iff, for_all, exists}
+use Rattle.pc_sheet.specs.Sheet.{Universe, NamedStatement, Statement, Statements, no_statements, statement, compare, in_table, negation, all_of, some_of, implies, iff, for_all, exists, counts}
 use Rattle.pc_sheet.specs.Truth.{Scope}
 use Rattle.pc_sheet.specs.Sizes.{size_of}
 use Rattle.pc_sheet.specs.Cells.{values_below}
@@ -131,6 +131,7 @@ module _ (u : Universe) (r : ℕ) where
         values_each (Extends r path) (λ v. pieces_below u r (path ++ v.0 ∷ []) (scope ++ (s, v) ∷ []) body) (size_of u s)
         (λ v l. up path v.0 (pieces_below u r (path ++ v.0 ∷ []) (scope ++ (s, v) ∷ []) body) (extend (path ++ v.0 ∷ []) (scope ++ (s, v) ∷ []) body))
     extend path scope (exists name s body) = one_extends path scope (exists name s body)
+    extend path scope (counts c name s body) = one_extends path scope (counts c name s body)
 
     extend_parts : (path : List ℕ) (scope : Scope) (k : ℕ) (ss : Statements) → All (Extends r path) (pieces_of_parts u r path scope k ss)
     extend_parts path scope k no_statements = All-nil (Extends r path)
@@ -367,6 +368,7 @@ module _ (u : Universe) (number : List ℕ → ℕ) where
           subst (λ j. Contains (ps (record { 0 = j })) p) (sym same) found.2) h)
           (owned (path ++ v.0 ∷ []) (scope ++ (s, v) ∷ []) body)))
       owned path scope (exists name s body) = alone path scope (exists name s body)
+      owned path scope (counts c name s body) = alone path scope (counts c name s body)
 
       owned_parts : (path : List ℕ) (scope : Scope) (k : ℕ) (ss : Statements) (big : List Piece)
           → ((j : ℕ) (n : Node) → part_at scope ss j ≡ Some n → (p : Piece) → Contains (pieces_below u r (path ++ (k + j) ∷ []) n.0 n.1) p → Contains big p)

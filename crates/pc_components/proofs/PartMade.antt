@@ -4,12 +4,12 @@ use Rattle.std.proofs.lemmas.Bool.{cases_eq, or_cases, or_left, or_right, false�
 use Rattle.std.proofs.lemmas.List.Elements.{All-contains, Contains-append_cases}
 use Rattle.pc_sheet.specs.Sheet.{Universe, Sheet}
 use Rattle.pc_sheet.specs.Entailment.{cell_sizes, IsAssignment, Fits}
-use Rattle.pc_sheet.specs.Nodes.{Node, node_at}
+use Rattle.pc_sheet.specs.Nodes.{Node, node_at, kind_of}
 use Rattle.pc_sheet.specs.declared.ids.CellId.{CellId}
 use Rattle.pc_sheet.specs.declared.ids.ValueId.{ValueId}
 use Rattle.pc_laws.specs.Laws.{IsDecided}
 use Rattle.pc_accept.specs.Literals.{Symbol, pair, node, Literal, positive, negative, SymbolHolds, ClauseHolds}
-use Rattle.pc_accept.specs.Axioms.{Axiom, axiom_some, axiom_one, axiom_rule, axiom_node, axiom_atom, each_below, clauses_of_node, child_of, negated_entry, IsAtNumber, IsClauseOf}
+use Rattle.pc_accept.specs.Axioms.{Axiom, axiom_some, axiom_one, axiom_rule, axiom_node, axiom_atom, each_below, clauses_of_node, child_of, negated_entry, IsAtNumber, IsClauseOfKind, IsClauseOf}
 use Rattle.pc_lemmas.proofs.Options.{some_and}
 use Rattle.pc_accept.proofs.Children.{node_is}
 use Rattle.pc_accept.proofs.Decided.{decide_symbol}
@@ -24,9 +24,9 @@ use Rattle.pc_ground.proofs.Lists.{there_each}
 use Rattle.pc_ground.proofs.Made.{Makes}
 use Rattle.pc_ground.proofs.OfAxioms.{all_right}
 use Rattle.pc_components.specs.PartAxioms.{IsOnTheWay, OfSomePiece, IsAxiomOfPart}
-use Rattle.pc_accept.proofs.AxiomsTrue.{numbered, other_axioms_true}
-use Rattle.pc_components.proofs.Way.{piece_at, above_piece, joint_clause, way_clause}
-use Rattle.pc_components.proofs.Symbols.{node_symbols}
+use Rattle.pc_accept.proofs.AxiomsTrue.{other_axioms_true}
+use Rattle.pc_components.proofs.Way.{piece_at, above_piece, joint_clause, joint_number, way_clause}
+use Rattle.pc_components.proofs.Under.{under_symbols}
 
 -- ---- whether a path leads to what is above a piece
 
@@ -150,10 +150,10 @@ module _ (sheet : Sheet) (all : List Part) (division : IsDivision sheet all) (pa
   -- the clause of the child on the way
   way_made : (r : ℕ) (path : List ℕ) (i k : ℕ) (clause : List Literal) → i ≡ k + 1 → OfSomePiece part (IsOnTheWay r path k) → IsClauseOf sheet (axiom_node r path i) clause → Makes truth clause
   way_made r path i k clause number (p, c, (same, rest, is)) h =
-      let n = some_and (node_at sheet r path) (λ n. IsAtNumber (clauses_of_node (node r path) (child_of r path) u n.1) i clause) h in
+      let n = some_and (node_at sheet r path) (λ n. IsClauseOfKind sheet r path (kind_of u n.1) i clause) h in
       let above = above_piece sheet p (division.pieces part there p c) path k rest is in
       let node_same : n.0 ≡ above.joint = some_node (sym n.1 ∙ ap (λ q. node_at sheet q path) (sym same) ∙ above.at) in
-      let joint = subst (λ (m : Node). IsAtNumber (clauses_of_node (node r path) (child_of r path) u m.1) i clause) node_same n.2 in
+      let joint = joint_number sheet r path above.joint.1 above.is i clause (subst (λ (m : Node). IsClauseOfKind sheet r path (kind_of u m.1) i clause) node_same n.2) in
       let at_k : slice_get (clauses_of_node (node r path) (child_of r path) u above.joint.1) k ≡ Some clause = subst (λ j. IsAtNumber (clauses_of_node (node r path) (child_of r path) u above.joint.1) j clause) number' joint in
       let way = joint_clause u (node r path) (child_of r path) above.joint.0 above.joint.1 above.is k above.next above.child_at in
       let clause_is : way_clause u (node r path) (child_of r path) k ≡ clause = some_clause (sym way ∙ at_k) in
@@ -185,11 +185,9 @@ module _ (sheet : Sheet) (all : List Part) (division : IsDivision sheet all) (pa
       let named = some_and (slice_get sheet.rules r) (λ named. clause ≡ positive (node r []) ∷ []) h in
       subst (Makes truth) (sym named.2) (one_true (positive (node r [])) [] (subst (λ q. truth (node q []) ≡ true) same (path_true p c [] p.path.steps refl)))
   of_axiom (axiom_node r path i) clause h (inl (p, c, (same, rest, is))) =
-      let n = some_and (node_at sheet r path) (λ n. IsAtNumber (clauses_of_node (node r path) (child_of r path) u n.1) i clause) h in
-      let in_clauses = numbered (clauses_of_node (node r path) (child_of r path) u n.0.1) i clause n.2 in
-      from_holds clause
-      (node_symbols IsRight (node r path) (child_of r path) (under_right p c r same path rest is)
-      (λ k. under_right p c r same (path ++ k ∷ []) (rest ++ k ∷ []) (ap (λ xs. xs ++ k ∷ []) is ∙ append_assoc p.path.steps rest (k ∷ []))) u n.0.1 clause in_clauses)
+      from_holds clause (λ l has.
+      let under = under_symbols sheet p (division.pieces part there p c) r same path rest is i clause h l has in
+      subst IsRight (sym under.1) (under_right p c r same (p.path.steps ++ under.0) under.0 refl))
       (other_axioms_true sheet a assigned (axiom_node r path i) clause tt h)
   of_axiom (axiom_node r path i) clause h (inr (k, number, some)) = way_made r path i k clause number some h
   of_axiom (axiom_atom r path reads) clause h (p, c, (same, rest, is)) =

@@ -4,7 +4,6 @@ use Rattle.std.proofs.lemmas.Bool.{cases_Bool, false≢true}
 use Rattle.std.proofs.lemmas.List.Elements.{All-contains, Contains-append_cases}
 use Rattle.pc_sheet.specs.Sheet.{Universe, Sheet}
 use Rattle.pc_sheet.specs.Entailment.{cell_sizes, AreWithin, IsAssignment, Fits, HasEntry}
-use Rattle.pc_sheet.specs.Nodes.{node_at}
 use Rattle.pc_sheet.specs.Reads.{number_of_cell}
 use Rattle.pc_sheet.specs.WellFormed.{IsWellFormed, IsEntryOf}
 use Rattle.pc_sheet.specs.declared.ids.ValueId.{ValueId}
@@ -12,7 +11,7 @@ use Rattle.pc_sheet.specs.declared.ids.Entry.{Entry}
 use Rattle.pc_laws.specs.Laws.{IsDecided}
 use Rattle.pc_laws.proofs.Decide.{same_option}
 use Rattle.pc_accept.specs.Literals.{Symbol, pair, node, Literal, positive, negative, SymbolHolds}
-use Rattle.pc_accept.specs.Axioms.{Axiom, axiom_some, axiom_one, axiom_rule, axiom_node, axiom_atom, clauses_of_node, child_of, negated_entry, pair_of, IsAtNumber, IsClauseOf}
+use Rattle.pc_accept.specs.Axioms.{Axiom, axiom_some, axiom_one, axiom_rule, axiom_node, axiom_atom, child_of, negated_entry, pair_of, IsClauseOf}
 use Rattle.pc_lemmas.proofs.Options.{some_and}
 use Rattle.pc_accept.proofs.Children.{node_is}
 use Rattle.pc_parts.specs.Pieces.{Piece, pieces, PieceHolds}
@@ -32,10 +31,10 @@ use Rattle.pc_ground.proofs.NodesRight.{nodes_right}
 use Rattle.pc_ground.proofs.OfAxioms.{all_right}
 use Rattle.pc_ground.proofs.Symbols.{root_there}
 use Rattle.pc_components.specs.PartAxioms.{IsAxiomOfPart}
-use Rattle.pc_accept.proofs.AxiomsTrue.{numbered, value_within}
+use Rattle.pc_accept.proofs.AxiomsTrue.{value_within}
 use Rattle.pc_components.proofs.Inside.{rule_there, node_there, IsInside, inside}
 use Rattle.pc_components.proofs.Way.{piece_at, piece_rule, above_piece, way_axiom, way_there}
-use Rattle.pc_components.proofs.Symbols.{node_symbols, IsOfCell, cell_named, cell_there}
+use Rattle.pc_components.proofs.Symbols.{rule_symbols, IsOfCell, cell_named, cell_there}
 
 -- ---- one value for each cell
 
@@ -178,9 +177,7 @@ module _ (sheet : Sheet) (formed : IsWellFormed sheet) (all : List Part) (divisi
   unmixed r steps cells f (axiom_one c v w) i clause is l has = absurd i
   unmixed r steps cells f (axiom_rule q) i clause is l has = absurd i
   unmixed r steps cells f (axiom_node q path k) i clause is l has =
-      let n = some_and (node_at sheet q path) (λ n. IsAtNumber (clauses_of_node (node q path) (child_of q path) u n.1) k clause) is in
-      node_symbols IsUnmixed (node q path) (child_of q path) (mixed_node part.cells value own q path) (λ j. mixed_node part.cells value own q (path ++ j ∷ [])) u n.0.1 clause
-      (numbered (clauses_of_node (node q path) (child_of q path) u n.0.1) k clause n.2) l has
+      rule_symbols IsUnmixed sheet q path (λ steps. mixed_node part.cells value own q steps) k clause is l has
   unmixed r steps cells f (axiom_atom q path reads) i clause is l has =
       let end : Literal = record { what = node q path; sign = is.truth } in
       elim (Contains-append_cases (map negated_entry reads) (end ∷ []) l (subst (λ c. Contains c l) is.is has)) [

@@ -13,7 +13,7 @@ row_made f rows i row y before now end at is so added =
     ap (λ ys. ys ++ map f (drop (i + 1) rows)) added ∙ append_assoc before (y ∷ []) (map f (drop (i + 1) rows)) ∙ ap (λ z. before ++ z ∷ map f (drop (i + 1) rows)) is
     ∙ ap (λ rs. before ++ map f rs) (sym (item_first rows i row at)) ∙ so
 
-pub row_copied : (rows : List (List ℕ)) (i : ℕ) (row r : List ℕ) (before now : List (List ℕ)) → slice_get rows i ≡ Some row → r ≡ row → before ++ drop i rows ≡ rows → now ≡ before ++ r ∷ [] → now ++ drop (i + 1) rows ≡ rows
+pub row_copied : {X : Type 0} (rows : List (List X)) (i : ℕ) (row r : List X) (before now : List (List X)) → slice_get rows i ≡ Some row → r ≡ row → before ++ drop i rows ≡ rows → now ≡ before ++ r ∷ [] → now ++ drop (i + 1) rows ≡ rows
 row_copied rows i row r before now at is so added =
     ap (λ ys. ys ++ drop (i + 1) rows) added ∙ append_assoc before (r ∷ []) (drop (i + 1) rows) ∙ ap (λ z. before ++ z ∷ drop (i + 1) rows) is
     ∙ ap (λ rs. before ++ rs) (sym (item_first rows i row at)) ∙ so

@@ -1,10 +1,10 @@
 -- The spans of the ground, read in the numbers of the parts of cells and pieces, are the axioms' owners.
-use Rattle.std.proofs.Common.{◌≡◌, ℕ, zero, suc, ◌+◌, ◌*◌, ◌<◌, ◌≤◌, inl, inr, List, [], ◌∷◌, ◌++◌, map, take, drop, length, append_assoc, append-nil, refl, ap, sym, ◌∙◌, subst, arith}
+use Rattle.std.proofs.Common.{◌≡◌, ℕ, zero, suc, ◌+◌, ◌*◌, ◌<◌, ◌≤◌, inl, inr, List, [], ◌∷◌, ◌++◌, map, take, drop, length, append_assoc, refl, ap, sym, ◌∙◌, subst, arith}
 use Rattle.std.specs.List.{flat_map, range_with_len}
 use Rattle.std.proofs.Math.Nat.{mul-le-mul_right}
 use Rattle.std.proofs.lemmas.Bool.{cases_eq}
 use Rattle.std.proofs.lemmas.List.{map-append, length-append, length-map, drop-drop}
-use Rattle.pc_sheet.specs.Sheet.{Universe, NamedStatement, Statement, Statements, no_statements, statement, compare, in_table, negation, all_of, some_of, implies, iff, for_all, exists}
+use Rattle.pc_sheet.specs.Sheet.{Universe, NamedStatement, Statement, Statements, no_statements, statement, compare, in_table, negation, all_of, some_of, implies, iff, for_all, exists, counts}
 use Rattle.pc_sheet.specs.Truth.{Scope}
 use Rattle.pc_sheet.specs.Sizes.{size_of}
 use Rattle.pc_sheet.specs.Cells.{values_below}
@@ -16,7 +16,7 @@ use Rattle.pc_ground.specs.Owners as ground
 use Rattle.pc_ground.specs.Owners.{span, no_groups, cells_spans, piece_count, piece_count_of_parts, piece_count_of_rules, spans_of_children, instance_at, span_at, spans, spans_of_parts, spans_of_values, spans_of_rules}
 use Rattle.pc_ground.specs.PieceCells.{piece_cells, piece_cells_of_parts, piece_cells_of_rules}
 use Rattle.pc_ground.proofs.Lists.{flat_push}
-use Rattle.pc_components.specs.inside.Owners.{of_one, parts_under, parts_of_children, owners, owners_of_parts, owners_of_rules, owners_of_cells}
+use Rattle.pc_components.specs.inside.Owners.{of_one, parts_of_children, owners, owners_of_parts, owners_of_rules, owners_of_cells}
 use Rattle.pc_components.specs.inside.Spans.{row_of, AreWithin}
 
 -- ---- lists
@@ -68,6 +68,7 @@ module _ (u : Universe) where
     pieces_counted scope (iff s t) = refl
     pieces_counted scope (for_all name s body) = flat_length (λ v. piece_cells u (scope ++ (s, v) ∷ []) body) (piece_count u body) (λ v. pieces_counted (scope ++ (s, v) ∷ []) body) (size_of u s)
     pieces_counted scope (exists name s body) = refl
+    pieces_counted scope (counts c name s body) = refl
 
     parts_counted : (scope : Scope) (ss : Statements) → length (piece_cells_of_parts u scope ss) ≡ piece_count_of_parts u ss
     parts_counted scope no_statements = refl
@@ -159,6 +160,7 @@ module _ (u : Universe) where
             (flat_mapped (row_of ns) (λ v. spans u (instance_at j c v) r (path ++ v.0 ∷ []) (scope ++ (s, v) ∷ []) body) own n
             (λ v l. let h = there v l in read (path ++ v.0 ∷ []) (scope ++ (s, v) ∷ []) body (instance_at j c v) h.0 h.1))
         read path scope (exists name s body) j after so = piece_read path scope (exists name s body) j after so
+        read path scope (counts c name s body) j after so = piece_read path scope (counts c name s body) j after so
 
         parts_read : (path : List ℕ) (scope : Scope) (k : ℕ) (ss : Statements) (j : ℕ) (after : List (List ℕ)) → drop j ns ≡ map number (piece_cells_of_parts u scope ss ++ after)
             → map (row_of ns) (spans_of_parts u j r path scope k ss) ≡ owners_of_parts u number r path scope k ss
@@ -249,6 +251,7 @@ module _ (N : ℕ) where
             (within_flat (λ v. spans u (instance_at j c v) r (path ++ v.0 ∷ []) (scope ++ (s, v) ∷ []) body) n
             (λ v below. within (path ++ v.0 ∷ []) (scope ++ (s, v) ∷ []) body (instance_at j c v) (instance_within j c n v.0 l below)))
         within path scope (exists name s body) j l = within_one j l (node_axioms u r path scope (exists name s body))
+        within path scope (counts c name s body) j l = within_one j l (node_axioms u r path scope (counts c name s body))
 
         parts_within : (path : List ℕ) (scope : Scope) (k : ℕ) (ss : Statements) (j : ℕ) → j + piece_count_of_parts u ss ≤ N → AreWithin N (spans_of_parts u j r path scope k ss)
         parts_within path scope k no_statements j l = tt

@@ -4,13 +4,13 @@ use Rattle.std.specs.List.{flat_map, range_with_len}
 use Rattle.std.proofs.lemmas.Bool.Decides.{Decides-ltb}
 use Rattle.std.proofs.lemmas.List.Elements.{All-contains, Contains-append_left}
 use Rattle.pc_sheet.specs.WellSorted.{parts_in}
-use Rattle.pc_sheet.specs.Sheet.{Universe, Sheet, NamedStatement, Statement, Statements, no_statements, statement, compare, in_table, negation, all_of, some_of, implies, iff, for_all, exists}
+use Rattle.pc_sheet.specs.Sheet.{Universe, Sheet, NamedStatement, Statement, Statements, no_statements, statement, compare, in_table, negation, all_of, some_of, implies, iff, for_all, exists, counts}
 use Rattle.pc_sheet.specs.Truth.{Scope}
 use Rattle.pc_sheet.specs.Sizes.{size_of}
 use Rattle.pc_sheet.specs.Cells.{values_below}
-use Rattle.pc_sheet.specs.Nodes.{Node, part_at, child, node_from, root_of, node_at}
+use Rattle.pc_sheet.specs.Nodes.{Node, part_at, child, node_from, root_of, node_at, kind_of}
 use Rattle.pc_accept.specs.Literals.{Symbol, Literal, node, positive, negative}
-use Rattle.pc_accept.specs.Axioms.{axiom_node, each_below, clauses_of_all, clauses_of_node, child_of}
+use Rattle.pc_accept.specs.Axioms.{axiom_node, each_below, clauses_of_all, clauses_of_node, child_of, IsAtNumber, IsClauseOfKind}
 use Rattle.pc_parts.specs.Pieces.{Piece, pieces, IsJoint, LeadsTo, IsPiece}
 use Rattle.pc_lemmas.proofs.Elements.{contains_first, contains_later}
 use Rattle.pc_parts.proofs.Listed.{all_reached, root_is}
@@ -110,6 +110,21 @@ module _ (u : Universe) (p : Symbol) (c : ℕ → Symbol) where
   joint_clause scope (for_all name s body) j k n h =
       all_slice (size_of u s) k ((Decides-ltb k (size_of u s)).0 (body_below (nat_lt k (size_of u s)) (scope ++ (s, record { 0 = k }) ∷ [], body) n h))
   joint_clause scope (exists name s body) j k n h = absurd j
+  joint_clause scope (counts c name s body) j k n h = absurd j
+
+-- a joint node's clauses are by their numbers
+pub joint_number : (sheet : Sheet) (r : ℕ) (path : List ℕ) (s : Statement) → IsJoint s → (i : ℕ) (clause : List Literal) → IsClauseOfKind sheet r path (kind_of sheet.universe s) i clause
+    → IsAtNumber (clauses_of_node (node r path) (child_of r path) sheet.universe s) i clause
+joint_number sheet r path (compare left op right) j i clause h = absurd j
+joint_number sheet r path (in_table t xs) j i clause h = absurd j
+joint_number sheet r path (negation s) j i clause h = absurd j
+joint_number sheet r path (all_of ss) j i clause h = h
+joint_number sheet r path (some_of ss) j i clause h = absurd j
+joint_number sheet r path (implies s t) j i clause h = absurd j
+joint_number sheet r path (iff s t) j i clause h = absurd j
+joint_number sheet r path (for_all name s body) j i clause h = h
+joint_number sheet r path (exists name s body) j i clause h = absurd j
+joint_number sheet r path (counts c name s body) j i clause h = absurd j
 
 module _ (u : Universe) (r : ℕ) (path : List ℕ) where
   numbered_has : (i : ℕ) (cs : List (List Literal)) (k : ℕ) (clause : List Literal) → slice_get cs k ≡ Some clause → Contains (numbered_axioms r path i cs) (record { name = axiom_node r path (i + k); clause = clause })
@@ -136,6 +151,7 @@ module _ (u : Universe) (r : ℕ) (path : List ℕ) where
   own_there scope (for_all name s body) j g h =
       Contains-append_left (own_axioms u r path (for_all name s body)) (flat_map (λ v. node_axioms u r (path ++ v.0 ∷ []) (scope ++ (s, v) ∷ []) body) (values_below (size_of u s))) g h
   own_there scope (exists name s body) j g h = absurd j
+  own_there scope (counts c name s body) j g h = absurd j
 
 abbrev pub way_axiom : ℕ → List ℕ → ℕ → GroundAxiom
 way_axiom r path k = record { name = axiom_node r path (1 + k); clause = negative (node r path) ∷ positive (child_of r path k) ∷ [] }

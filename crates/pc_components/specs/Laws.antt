@@ -1,5 +1,5 @@
 -- What the axioms of a part say.
-use Rattle.std.specs.Prelude.{◌≡◌, ℕ, ◌<◌, List, [], length, map, slice_index_or, All, Contains}
+use Rattle.std.specs.Prelude.{◌≡◌, ◌≢◌, ℕ, ◌<◌, List, [], length, map, slice_index_or, All, AllPairs, Contains}
 use Rattle.std.specs.List.{range_with_len}
 use Rattle.pc_lits.specs.declared.literal.Lit.{Lit}
 use Rattle.pc_lits.specs.declared.literal.Var.{Var}
@@ -38,10 +38,11 @@ abbrev pub PartsAreInTheirGround : Type 0
 PartsAreInTheirGround = (sheet : Sheet) (part : Part) (used own : List ℕ) → AreAxiomsOf sheet part used → AreVariablesOf (clauses sheet) used own
     → ((k : ℕ) → Contains used k → k < length (clauses sheet)) × ((x : ℕ) → Contains own x → x < variable_count sheet)
 
--- What a solver asks of a problem: the used numbers are places among the clauses, own variables are the ground's, and the used clauses are over own variables alone.
+-- What a solver asks of a problem: the used numbers are places among the clauses, own variables differ and are the ground's, and the used clauses are over own variables alone.
 pub record AreSolvable (sheet : Sheet) (used : List ℕ) (own : List Var) : Type 0 where
   pub used_in : All (λ n. n < length (clauses sheet)) used
   pub own_in : All (λ v. v.0 < variable_count sheet) own
+  pub own_differ : AllPairs (λ v w. v ≢ w) own
   pub over_own : All (λ n. All (λ l. Contains own l.variable) (slice_index_or (clauses sheet) n [])) used
 
 -- a part's axioms and variables are such a problem

@@ -1,9 +1,14 @@
 //! The parts of a book: cells that pieces of the rules tie together, with the axioms and variables of each.
-ghost use Rattle.std.specs.Prelude.{◌≡◌, ◌<◌, ◌^◌, IfOk, length, slice_get, Some};
-ghost use Rattle.pc_components.specs.View.{AreComponentsOf};
+ghost use Rattle.std.specs.Prelude.{◌≡◌, ◌<◌, ◌^◌, All, IfOk, length, map, slice_get, Some};
+ghost use Rattle.std.specs.List.{AllZip};
+ghost use Rattle.pc_components.specs.PartAxioms.{AreVariablesOf};
+ghost use Rattle.pc_components.specs.View.{AreComponentsOf, variable_number};
+ghost use Rattle.pc_ground.specs.Ground.{clauses};
 ghost use Rattle.pc_ground.specs.Grounded.{grounded};
 
-use crate::narrow::{rows_of_axioms, rows_of_cells, rows_of_variables};
+use crate::narrow::{
+    numbers_copied, rows_copied, rows_of_axioms, rows_of_cells, rows_of_variables,
+};
 use crate::numbers::rows_of_each;
 use crate::part_numbers::PartNumbers;
 use crate::turned::turn;
@@ -75,6 +80,39 @@ impl Components {
     {
         self.numbers[usize::from(cell.0)]
     }
+
+    /// The same parts, each with these axioms in the place of its own, and with the variables that they name. An error is want
+    /// of memory.
+    pub fn with_axioms(
+        &self,
+        alloc: Global,
+        book: &Book,
+        ground: &Ground,
+        axioms: &Rows<usize>,
+    ) -> Result<Components, AllocError>
+        requires ground { ground.now ≡ grounded book.now }
+        requires many { length axioms.now ≡ length self.now.cells }
+        requires within { All (All (λ k. k < 2 ^ 32)) axioms.now }
+        ensures cells { IfOk result (λ c. c.cells ≡ self.now.cells) }
+        ensures numbers { IfOk result (λ c. c.numbers ≡ self.now.numbers) }
+        ensures axioms { IfOk result (λ c. c.axioms ≡ axioms.now) }
+        ensures variables { IfOk result (λ c. AllZip (λ used own. AreVariablesOf (clauses book.now) used (map variable_number own)) c.axioms c.variables) }
+    {
+        let _book = book;
+        let variables = variables_of_parts(
+            alloc,
+            ground.store(),
+            axioms,
+            ground.variables() as usize,
+            axioms.len(),
+        )?;
+        Ok(Components {
+            cells: rows_copied(alloc, &self.cells)?,
+            axioms: rows_of_axioms(alloc, axioms)?,
+            variables: rows_of_variables(alloc, &variables)?,
+            numbers: numbers_copied(alloc, &self.numbers)?,
+        })
+    }
 }
 
 /// The parts of a book, by its ground, in time linear in what the ground says of them: the cells that each piece reads are
@@ -84,12 +122,12 @@ pub fn find_components(
     book: &Book,
     ground: &Ground,
 ) -> Result<Components, AllocError>
-    requires ground { ground.now ≡ grounded book.now }
-    requires few { length ground.now.clauses < 2 ^ 32 }
+    requires { ground.now ≡ grounded book.now }
     ensures { IfOk result (AreComponentsOf book.now) }
 {
     well_formed(book);
     few_cells(book);
+    ground.few_axioms();
     let numbers = PartNumbers::new(alloc, book, ground)?;
     let owners = numbers.owners(alloc, book, ground)?;
     let axioms = turn(alloc, &owners, numbers.parts)?;

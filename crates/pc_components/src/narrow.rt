@@ -14,6 +14,24 @@ fn cell_of(number: usize) -> CellId
     CellId(number as u16)
 }
 
+pub(crate) fn rows_copied(alloc: Global, rows: &Rows<CellId>) -> Result<Rows<CellId>, AllocError>
+    ensures { IfOk result (λ copy. copy ≡ rows.now) }
+{
+    let mut copy = Rows::new(alloc);
+    for i in 0..rows.len() {
+        copy.push(rows.get(i))?;
+    }
+    Ok(copy)
+}
+
+pub(crate) fn numbers_copied(alloc: Global, numbers: &[usize]) -> Result<Vec<usize>, AllocError>
+    ensures { IfOk result (λ copy. copy.items ≡ numbers.now) }
+{
+    let mut copy = Vec::new(alloc);
+    copy.extend_from_slice(numbers)?;
+    Ok(copy)
+}
+
 fn axiom_of(number: usize) -> u32
     requires { number < 2 ^ 32 }
     ensures { result ≡ number }

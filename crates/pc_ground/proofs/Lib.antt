@@ -20,3 +20,7 @@ pub mod PieceCellsListed
 pub mod Owned
 pub mod CellsAdded
 pub mod Drafted
+pub mod Rows
+pub mod CountersRight
+pub mod CountersAdded
+pub mod Counts

@@ -1,5 +1,5 @@
 -- There are fewer clauses than the sheet weighs and has cells together, and their literals are of the sheet's variables.
-use Rattle.std.proofs.Common.{◌≡◌, ℕ, zero, suc, ◌+◌, ◌*◌, ◌<◌, ◌≤◌, List, [], ◌∷◌, ◌++◌, map, length, sum_by, All, Contains, sym, subst, refl, arith, length-append}
+use Rattle.std.proofs.Common.{◌≡◌, ℕ, zero, suc, ◌+◌, ◌*◌, ◌<◌, ◌≤◌, Option, None, Some, Bool, true, false, List, [], ◌∷◌, ◌++◌, map, length, sum_by, All, Contains, sym, subst, refl, arith, length-append}
 use Rattle.std.specs.List.{flat_map, range_with_len}
 use Rattle.std.proofs.lemmas.List.{length-map}
 use Rattle.std.proofs.lemmas.List.Elements.{All-map, All-contains, All-contains_itself, All-weaker}
@@ -8,7 +8,7 @@ use Rattle.pc_lemmas.proofs.Elements.{contains_map}
 use Rattle.std.proofs.lemmas.List.FromFn.{length-map-range_with_len}
 use Rattle.std.proofs.lemmas.List.Sums.{sum_by-cons, sum_by-append}
 use Rattle.pc_lits.specs.declared.literal.Lit.{Lit}
-use Rattle.pc_sheet.specs.Sheet.{Universe, Sheet, NamedStatement, Statement, Statements, no_statements, statement, compare, in_table, negation, all_of, some_of, implies, iff, for_all, exists}
+use Rattle.pc_sheet.specs.Sheet.{Universe, Sheet, NamedStatement, Counting, no_more_than, no_fewer_than, of_first, Statement, Statements, no_statements, statement, compare, in_table, negation, all_of, some_of, implies, iff, for_all, exists, counts}
 use Rattle.pc_sheet.specs.Truth.{Scope}
 use Rattle.pc_sheet.specs.Sizes.{size_of}
 use Rattle.pc_sheet.specs.Cells.{values_below}
@@ -17,9 +17,13 @@ use Rattle.pc_sheet.specs.Readings.{Leaf, leaves_of}
 use Rattle.pc_sheet.specs.Weight.{weight}
 use Rattle.pc_sheet.specs.declared.ids.ValueId.{ValueId}
 use Rattle.pc_accept.specs.Literals.{Symbol, Literal, node}
-use Rattle.pc_accept.specs.Axioms.{each_below, clauses_of_node, child_of}
+use Rattle.pc_accept.specs.Axioms.{each_below, clauses_of_node, child_of, signed_node, signed_child}
+use Rattle.std.specs.Option.{option_map}
+use Rattle.pc_accept.specs.Rows.{Part, fixed, literal, clause_of, count_rows, counter_rows}
+use Rattle.pc_sheet.specs.Nodes.{bodies_of, threshold_of, counter_number}
+use Rattle.pc_sheet.specs.declared.ids.SortId.{SortId}
 use Rattle.pc_ground.specs.Variables.{variables, variable_count, number}
-use Rattle.pc_ground.specs.Ground.{GroundAxiom, some_axiom, one_axiom, one_axioms, cell_axioms, cells_axioms, leaf_axiom, numbered_axioms, own_axioms, node_axioms, parts_axioms, root_axiom, rule_axioms, rules_axioms, axioms, lit_of, clause_of_axiom, clauses}
+use Rattle.pc_ground.specs.Ground.{GroundAxiom, some_axiom, one_axiom, one_axioms, cell_axioms, cells_axioms, leaf_axiom, numbered_axioms, own_axioms, row_axiom, row_axioms, count_axioms, counter_axioms, counters_axioms, node_axioms, parts_axioms, root_axiom, rule_axioms, rules_axioms, axioms, lit_of, clause_of_axiom, clauses}
 use Rattle.pc_ground.proofs.Lists.{flat_push, range_each}
 use Rattle.pc_ground.proofs.Numbers.{numbered_up}
 use Rattle.pc_ground.proofs.Symbols.{symbols_are_variables}
@@ -87,6 +91,48 @@ module _ (u : Universe) (r : ℕ) where
   leaves : (path : List ℕ) (xs : List Leaf) → Few (map (leaf_axiom r path) xs)
   leaves path xs = each (leaf_axiom r path) xs (λ x. let one = leaf u r path x in omega (arith, one))
 
+  -- a row that begins with a literal
+  row_few : (path : List ℕ) (i : ℕ) (l : Literal) (ps : List (Part Literal)) → Few (row_axiom r path i (clause_of (literal l ∷ ps)))
+  row_few path i l ps = by (clause_of ps)
+    where
+      by : (o : Option (List Literal)) → Few (row_axiom r path i (option_map (λ ls. l ∷ ls) o))
+      by None = omega arith
+      by (Some ls) = omega arith
+
+  -- each row begins with a literal
+  abbrev Begins : List (Part Literal) → Type 0
+  Begins [] = ⊥
+  Begins (fixed b ∷ ps) = ⊥
+  Begins (literal l ∷ ps) = Unit {0}
+
+  abbrev Begin : List (List (Part Literal)) → Type 0
+  Begin [] = Unit {0}
+  Begin (row ∷ rows) = Begins row × Begin rows
+
+  begins_few : (path : List ℕ) (i : ℕ) (row : List (Part Literal)) → Begins row → Few (row_axiom r path i (clause_of row))
+  begins_few path i [] h = absurd h
+  begins_few path i (fixed b ∷ ps) h = absurd h
+  begins_few path i (literal l ∷ ps) h = row_few path i l ps
+
+  rows_few : (path : List ℕ) (i : ℕ) (rows : List (List (Part Literal))) → Begin rows → Few (row_axioms r path i rows)
+  rows_few path i [] h = omega arith
+  rows_few path i (row ∷ rows) h = two (row_axiom r path i (clause_of row)) (row_axioms r path (i + 1) rows) (begins_few path i row h.0) (rows_few path (i + 1) rows h.1)
+
+  count_few : (path : List ℕ) (c : Counting) (name : List ℕ) (s : SortId) (body : Statement) → Few (count_axioms u r path (counts c name s body))
+  count_few path (no_more_than k) name s body = rows_few path 1 (count_rows (signed_node r path) (signed_child r path) (size_of u s) (suc k) true) (tt, (tt, tt))
+  count_few path (no_fewer_than k) name s body = rows_few path 1 (count_rows (signed_node r path) (signed_child r path) (size_of u s) k false) (tt, (tt, tt))
+  count_few path (of_first m i j) name s body = omega arith
+
+  range_few : (f : ℕ → List GroundAxiom) (i n : ℕ) → ((k : ℕ) → Few (f k)) → Few (flat_map f (range_with_len i n))
+  range_few f i zero h = omega arith
+  range_few f i (suc n) h = two (f i) (flat_map f (range_with_len (i + 1) n)) (h i) (range_few f (i + 1) n h)
+
+  counter_few : (path : List ℕ) (n m i j : ℕ) → Few (counter_axioms r path n m i j)
+  counter_few path n m i j = rows_few (path ++ counter_number n m (suc i) (suc j) ∷ []) 1 (counter_rows (signed_node r path) (signed_child r path) n m i j) (tt, (tt, (tt, (tt, tt))))
+
+  counters_few : (path : List ℕ) (n m : ℕ) → Few (counters_axioms r path n m)
+  counters_few path n m = range_few (λ i. flat_map (counter_axioms r path n m i) (range_with_len 0 m)) 0 n (λ i. range_few (counter_axioms r path n m i) 0 m (λ j. counter_few path n m i j))
+
   mutual
     nodes : (path : List ℕ) (scope : Scope) (s : Statement) → Few (node_axioms u r path scope s)
     nodes path scope (compare left op right) = leaves path (leaves_of u scope (compare left op right))
@@ -114,6 +160,11 @@ module _ (u : Universe) (r : ℕ) where
         two (own_axioms u r path (exists name s body)) _
         (own_few path (exists name s body) (size_of u s + 1) (3 * size_of u s + 1) (joined _ _ (size_of u s)) (some_own u r (node r path) (child_of r path) (size_of u s)) (omega arith))
         (values (λ v. node_axioms u r (path ++ v.0 ∷ []) (scope ++ (s, v) ∷ []) body) (size_of u s) (λ v. nodes (path ++ v.0 ∷ []) (scope ++ (s, v) ∷ []) body))
+    nodes path scope (counts c name s body) =
+        two (count_axioms u r path (counts c name s body)) _ (count_few path c name s body)
+        (two (flat_map (λ v. node_axioms u r (path ++ v.0 ∷ []) (scope ++ (s, v) ∷ []) body) (values_below (bodies_of c (size_of u s)))) _
+        (values (λ v. node_axioms u r (path ++ v.0 ∷ []) (scope ++ (s, v) ∷ []) body) (bodies_of c (size_of u s)) (λ v. nodes (path ++ v.0 ∷ []) (scope ++ (s, v) ∷ []) body))
+        (counters_few path (bodies_of c (size_of u s)) (threshold_of c)))
 
     parts_few : (path : List ℕ) (scope : Scope) (k : ℕ) (ss : Statements) → Few (parts_axioms u r path scope k ss)
     parts_few path scope k no_statements = omega arith

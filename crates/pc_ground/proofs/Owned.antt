@@ -4,18 +4,21 @@ use Rattle.std.specs.List.{flat_map, range_with_len}
 use Rattle.std.proofs.lemmas.List.{map-append, length-append, length-map}
 use Rattle.std.proofs.lemmas.List.FromFn.{length-map-range_with_len}
 use Rattle.pc_sheet.specs.WellSorted.{parts_in}
-use Rattle.pc_sheet.specs.Sheet.{Universe, Statement, Statements, no_statements, statement, compare, in_table, negation, all_of, some_of, implies, iff, for_all, exists}
+use Rattle.pc_sheet.specs.Sheet.{Universe, Counting, no_more_than, no_fewer_than, of_first, Statement, Statements, no_statements, statement, compare, in_table, negation, all_of, some_of, implies, iff, for_all, exists, counts}
 use Rattle.pc_sheet.specs.Truth.{Scope}
 use Rattle.pc_sheet.specs.Sizes.{size_of}
 use Rattle.pc_sheet.specs.Cells.{values_below}
 use Rattle.pc_sheet.specs.Readings.{Leaf, leaves_of}
+use Rattle.pc_sheet.specs.Nodes.{bodies_of, threshold_of, kind_of}
+use Rattle.pc_sheet.specs.declared.ids.SortId.{SortId}
 use Rattle.pc_sheet.specs.declared.ids.ValueId.{ValueId}
 use Rattle.pc_accept.specs.Literals.{Literal}
-use Rattle.pc_accept.specs.Axioms.{each_below}
+use Rattle.pc_accept.specs.Axioms.{each_below, signed_node, signed_child}
+use Rattle.pc_accept.specs.Rows.{count_rows, counter_rows}
 use Rattle.pc_ground.specs.declared.owners.Span.{Span}
-use Rattle.pc_ground.specs.Ground.{GroundAxiom, one_axiom, one_axioms, cell_axioms, leaf_axiom, numbered_axioms, own_axioms, node_axioms, parts_axioms}
+use Rattle.pc_ground.specs.Ground.{GroundAxiom, one_axiom, one_axioms, cell_axioms, leaf_axiom, numbered_axioms, own_axioms, row_axioms, count_axioms, counter_axioms, counters_axioms, node_axioms, parts_axioms}
 use Rattle.pc_ground.specs.Variables.{count_nodes, count_all}
-use Rattle.pc_ground.specs.ByNumber.{Clause, leaf_by_number, joined_clauses, pairs_with, literals_of, lit, roots, root_at, roots_of_values, node_clauses, parts_clauses}
+use Rattle.pc_ground.specs.ByNumber.{Clause, counted_literal, row_clauses, count_clauses, counter_clauses, counters_clauses, leaf_by_number, joined_clauses, pairs_with, literals_of, lit, roots, root_at, roots_of_values, node_clauses, parts_clauses}
 use Rattle.pc_ground.specs.Owners.{span, of_one, times, ones, piece_count, piece_count_of_parts, cells_spans, cells_times}
 
 -- ---- how many
@@ -34,13 +37,43 @@ own_many r path n f x =
 append_many : {X Y : Type 0} (a b : List X) (x y : List Y) → length a ≡ length x → length b ≡ length y → length (a ++ b) ≡ length (x ++ y)
 append_many a b x y e f = let h = length-append a b in let g = length-append x y in omega (arith, e, f, h, g)
 
-flat_many : {X Y : Type 0} (f : ValueId → List X) (g : ValueId → List Y) → ((v : ValueId) → length (f v) ≡ length (g v)) → (vs : List ValueId) → length (flat_map f vs) ≡ length (flat_map g vs)
+flat_many : {A X Y : Type 0} (f : A → List X) (g : A → List Y) → ((v : A) → length (f v) ≡ length (g v)) → (vs : List A) → length (flat_map f vs) ≡ length (flat_map g vs)
 flat_many f g e [] = refl
 flat_many f g e (v ∷ vs) = append_many (f v) (flat_map f vs) (g v) (flat_map g vs) (e v) (flat_many f g e vs)
 
 many_values : (n : ℕ) → length (values_below n) ≡ n
 many_values zero = refl
 many_values (suc n) = let last : ValueId = record { 0 = n } in let rest = many_values n in let a = length-append (values_below n) (last ∷ []) in omega (arith, a, rest)
+
+-- ---- rows: which of them are clauses doesn't depend on their literals
+
+module _ (r : ℕ) (path : List ℕ) (p n c : ℕ) where
+  rows_many : (k m : ℕ) (at_most : Bool) → length (row_axioms r path 1 (count_rows (signed_node r path) (signed_child r path) k m at_most)) ≡ length (row_clauses (count_rows (lit p) (counted_literal p n c) k m at_most))
+  rows_many zero zero true = refl
+  rows_many zero zero false = refl
+  rows_many zero (suc m) true = refl
+  rows_many zero (suc m) false = refl
+  rows_many (suc k) zero true = refl
+  rows_many (suc k) zero false = refl
+  rows_many (suc k) (suc m) true = refl
+  rows_many (suc k) (suc m) false = refl
+
+  counter_many : (m i j : ℕ) → length (counter_axioms r path n m i j) ≡ length (counter_clauses p n c m i j)
+  counter_many m zero zero = refl
+  counter_many m zero (suc j) = refl
+  counter_many m (suc i) zero = refl
+  counter_many m (suc i) (suc j) = refl
+
+  counters_many : (m : ℕ) → length (counters_axioms r path n m) ≡ length (counters_clauses p n c m)
+  counters_many m =
+      flat_many (λ i. flat_map (counter_axioms r path n m i) (range_with_len 0 m)) (λ i. flat_map (counter_clauses p n c m i) (range_with_len 0 m))
+      (λ i. flat_many (counter_axioms r path n m i) (counter_clauses p n c m i) (counter_many m i) (range_with_len 0 m)) (range_with_len 0 n)
+
+  count_many : (u : Universe) (k : Counting) (name : List ℕ) (s : SortId) (body : Statement)
+      → length (count_axioms u r path (counts k name s body)) ≡ length (count_clauses p n c (kind_of u (counts k name s body)))
+  count_many u (no_more_than k) name s body = rows_many (size_of u s) (suc k) true
+  count_many u (no_fewer_than k) name s body = rows_many (size_of u s) k false
+  count_many u (of_first m i j) name s body = refl
 
 module _ (u : Universe) where
   many_roots : (p : ℕ) (ss : Statements) → length (roots u p ss) ≡ parts_in ss
@@ -89,6 +122,17 @@ module _ (u : Universe) where
           append_many (own_axioms u r path (exists name s body)) (flat_map f (values_below (size_of u s))) (joined_clauses p false (roots_of_values (p + 1) (count_nodes u body) (size_of u s))) (flat_map g (values_below (size_of u s)))
           (own_many r path (size_of u s) _ _ ∙ sym (joined_many p (size_of u s) false (roots_of_values (p + 1) (count_nodes u body) (size_of u s)) (length-map (values_below (size_of u s)) (root_at (p + 1) (count_nodes u body)) ∙ many_values (size_of u s))))
           (flat_many f g (λ v. as_many (path ++ v.0 ∷ []) (scope ++ (s, v) ∷ []) body (root_at (p + 1) (count_nodes u body) v)) (values_below (size_of u s)))
+      as_many path scope (counts k name s body) p =
+          let n = bodies_of k (size_of u s) in
+          let c = count_nodes u body in
+          let f : ValueId → List GroundAxiom = λ v. node_axioms u r (path ++ v.0 ∷ []) (scope ++ (s, v) ∷ []) body in
+          let g : ValueId → List Clause = λ v. node_clauses u sizes (root_at (p + 1) c v) (scope ++ (s, v) ∷ []) body in
+          let counters = counters_axioms r path n (threshold_of k) in
+          let clauses = counters_clauses p n c (threshold_of k) in
+          append_many (count_axioms u r path (counts k name s body)) (flat_map f (values_below n) ++ counters) (count_clauses p n c (kind_of u (counts k name s body))) (flat_map g (values_below n) ++ clauses)
+          (count_many r path p n c u k name s body)
+          (append_many (flat_map f (values_below n)) counters (flat_map g (values_below n)) clauses
+          (flat_many f g (λ v. as_many (path ++ v.0 ∷ []) (scope ++ (s, v) ∷ []) body (root_at (p + 1) c v)) (values_below n)) (counters_many r path p n c (threshold_of k)))
 
       as_many_parts : (path : List ℕ) (scope : Scope) (k : ℕ) (ss : Statements) (p : ℕ) → length (parts_axioms u r path scope k ss) ≡ length (parts_clauses u sizes p scope ss)
       as_many_parts path scope k no_statements p = refl

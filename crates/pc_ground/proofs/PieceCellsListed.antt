@@ -2,7 +2,7 @@
 use Rattle.std.proofs.Common.{◌≡◌, ℕ, ◌+◌, List, [], ◌∷◌, ◌++◌, map, refl, ap, sym, ◌∙◌}
 use Rattle.std.specs.List.{flat_map}
 use Rattle.std.proofs.lemmas.List.{map-append}
-use Rattle.pc_sheet.specs.Sheet.{Universe, Sheet, NamedStatement, Statement, Statements, no_statements, statement, compare, in_table, negation, all_of, some_of, implies, iff, for_all, exists}
+use Rattle.pc_sheet.specs.Sheet.{Universe, Sheet, NamedStatement, Statement, Statements, no_statements, statement, compare, in_table, negation, all_of, some_of, implies, iff, for_all, exists, counts}
 use Rattle.pc_sheet.specs.Truth.{Scope}
 use Rattle.pc_sheet.specs.Sizes.{size_of}
 use Rattle.pc_sheet.specs.Cells.{values_below}
@@ -29,6 +29,7 @@ module _ (u : Universe) (r : ℕ) where
     below path scope (for_all name s body) =
         map_flat (cells_of u) (λ v. pieces_below u r (path ++ v.0 ∷ []) (scope ++ (s, v) ∷ []) body) (λ v. piece_cells u (scope ++ (s, v) ∷ []) body) (λ v. below (path ++ v.0 ∷ []) (scope ++ (s, v) ∷ []) body) (values_below (size_of u s))
     below path scope (exists name s body) = refl
+    below path scope (counts c name s body) = refl
 
     of_parts : (path : List ℕ) (scope : Scope) (k : ℕ) (ss : Statements) → map (cells_of u) (pieces_of_parts u r path scope k ss) ≡ piece_cells_of_parts u scope ss
     of_parts path scope k no_statements = refl

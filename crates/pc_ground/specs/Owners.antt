@@ -1,7 +1,7 @@
 -- The groups that each axiom is of. The groups of a sheet are its cells, and then its pieces, in their order; an axiom is of groups that come one after another.
 use Rattle.std.specs.Prelude.{ℕ, zero, suc, ◌+◌, ◌*◌, List, [], ◌∷◌, ◌++◌, length, map}
 use Rattle.std.specs.List.{flat_map}
-use Rattle.pc_sheet.specs.Sheet.{Universe, Sheet, NamedStatement, Statement, Statements, no_statements, statement, compare, in_table, negation, all_of, some_of, implies, iff, for_all, exists}
+use Rattle.pc_sheet.specs.Sheet.{Universe, Sheet, NamedStatement, Statement, Statements, no_statements, statement, compare, in_table, negation, all_of, some_of, implies, iff, for_all, exists, counts}
 use Rattle.pc_sheet.specs.Truth.{Scope}
 use Rattle.pc_sheet.specs.Sizes.{size_of}
 use Rattle.pc_sheet.specs.Cells.{values_below}
@@ -56,6 +56,7 @@ abbrev mutual
   piece_count u (iff s t) = 1
   piece_count u (for_all name s body) = size_of u s * piece_count u body
   piece_count u (exists name s body) = 1
+  piece_count u (counts c name s body) = 1
 
   pub piece_count_of_parts : Universe → Statements → ℕ
   piece_count_of_parts u no_statements = 0
@@ -91,6 +92,7 @@ abbrev mutual
       (map (span_at j (piece_count u body)) (values_below (size_of u s)) ++ no_groups j ∷ [])
       ++ flat_map (λ v. spans u (instance_at j (piece_count u body) v) r (path ++ v.0 ∷ []) (scope ++ (s, v) ∷ []) body) (values_below (size_of u s))
   spans u j r path scope (exists name s body) = of_one j (node_axioms u r path scope (exists name s body))
+  spans u j r path scope (counts c name s body) = of_one j (node_axioms u r path scope (counts c name s body))
 
   -- of the parts from the one of that number on
   pub spans_of_parts : Universe → ℕ → ℕ → List ℕ → Scope → ℕ → Statements → List Span

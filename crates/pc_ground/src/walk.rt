@@ -141,6 +141,7 @@ impl Grounding<'_> {
                 self.walk_universal(draft, path, binder, body, p, piece)
             }
             Formula::Exists { .. } => self.walk_piece(draft, path, scope, formula, p, piece),
+            Formula::Count { .. } => self.walk_piece(draft, path, scope, formula, p, piece),
         }
     }
 

@@ -10,18 +10,18 @@ pub invariant_of-result : goal.invariant_of-result
 invariant_of-result c = (
   as_many_axioms c.args.book.now c.well_formed-2.ensures c.in_ok-numbers.numbers.parts c.variables.result c.in_ok-numbers.numbers.cells.items c.in_ok-numbers.numbers.pieces.items c.in_ok-owners.owners c.in_ok-axioms.axioms c.in_ok-variables.variables c.in_ok-cells.cells
       c.in_ok-numbers.ensures
-      (c.variables.ensures ∙ ap (λ (g : Grounded). g.variables) c.requires.ground)
+      (c.variables.ensures ∙ ap (λ (g : Grounded). g.variables) c.requires)
       c.in_ok-owners.ensures
       c.in_ok-axioms.ensures
-      (c.in_ok-variables.ensures ∙ ap (λ cs. turned c.in_ok-numbers.numbers.parts (turned c.variables.result (map (variables_in cs) c.in_ok-axioms.axioms))) (c.store.ensures ∙ ap (λ (g : Grounded). g.clauses) c.requires.ground))
+      (c.in_ok-variables.ensures ∙ ap (λ cs. turned c.in_ok-numbers.numbers.parts (turned c.variables.result (map (variables_in cs) c.in_ok-axioms.axioms))) (c.store.ensures ∙ ap (λ (g : Grounded). g.clauses) c.requires))
       (c.in_ok-cells.ensures ∙ ap (turned c.in_ok-numbers.numbers.parts) (c.in_ok-rows_of_each.ensures ∙ ap (map alone) c.deref.ensures.value))
       c.in_ok-rows_of_cells.field-0 c.in_ok-rows_of_axioms.field-0 c.in_ok-rows_of_variables.field-0 c.in_ok-rows_of_cells.ensures c.in_ok-rows_of_axioms.ensures c.in_ok-rows_of_variables.ensures,
   as_many_variables c.args.book.now c.well_formed-2.ensures c.in_ok-numbers.numbers.parts c.variables.result c.in_ok-numbers.numbers.cells.items c.in_ok-numbers.numbers.pieces.items c.in_ok-owners.owners c.in_ok-axioms.axioms c.in_ok-variables.variables c.in_ok-cells.cells
       c.in_ok-numbers.ensures
-      (c.variables.ensures ∙ ap (λ (g : Grounded). g.variables) c.requires.ground)
+      (c.variables.ensures ∙ ap (λ (g : Grounded). g.variables) c.requires)
       c.in_ok-owners.ensures
       c.in_ok-axioms.ensures
-      (c.in_ok-variables.ensures ∙ ap (λ cs. turned c.in_ok-numbers.numbers.parts (turned c.variables.result (map (variables_in cs) c.in_ok-axioms.axioms))) (c.store.ensures ∙ ap (λ (g : Grounded). g.clauses) c.requires.ground))
+      (c.in_ok-variables.ensures ∙ ap (λ cs. turned c.in_ok-numbers.numbers.parts (turned c.variables.result (map (variables_in cs) c.in_ok-axioms.axioms))) (c.store.ensures ∙ ap (λ (g : Grounded). g.clauses) c.requires))
       (c.in_ok-cells.ensures ∙ ap (turned c.in_ok-numbers.numbers.parts) (c.in_ok-rows_of_each.ensures ∙ ap (map alone) c.deref.ensures.value))
       c.in_ok-rows_of_cells.field-0 c.in_ok-rows_of_axioms.field-0 c.in_ok-rows_of_variables.field-0 c.in_ok-rows_of_cells.ensures c.in_ok-rows_of_axioms.ensures c.in_ok-rows_of_variables.ensures,
 )
@@ -30,10 +30,10 @@ pub returns : goal.returns
 returns c =
     all_right c.args.book.now c.well_formed-2.ensures c.in_ok-numbers.numbers.parts c.variables.result c.in_ok-numbers.numbers.cells.items c.in_ok-numbers.numbers.pieces.items c.in_ok-owners.owners c.in_ok-axioms.axioms c.in_ok-variables.variables c.in_ok-cells.cells
     c.in_ok-numbers.ensures
-    (c.variables.ensures ∙ ap (λ (g : Grounded). g.variables) c.requires.ground)
+    (c.variables.ensures ∙ ap (λ (g : Grounded). g.variables) c.requires)
     c.in_ok-owners.ensures
     c.in_ok-axioms.ensures
-    (c.in_ok-variables.ensures ∙ ap (λ cs. turned c.in_ok-numbers.numbers.parts (turned c.variables.result (map (variables_in cs) c.in_ok-axioms.axioms))) (c.store.ensures ∙ ap (λ (g : Grounded). g.clauses) c.requires.ground))
+    (c.in_ok-variables.ensures ∙ ap (λ cs. turned c.in_ok-numbers.numbers.parts (turned c.variables.result (map (variables_in cs) c.in_ok-axioms.axioms))) (c.store.ensures ∙ ap (λ (g : Grounded). g.clauses) c.requires))
     (c.in_ok-cells.ensures ∙ ap (turned c.in_ok-numbers.numbers.parts) (c.in_ok-rows_of_each.ensures ∙ ap (map alone) c.deref.ensures.value))
     c.in_ok-rows_of_cells.field-0 c.in_ok-rows_of_axioms.field-0 c.in_ok-rows_of_variables.field-0 c.in_ok-rows_of_cells.ensures c.in_ok-rows_of_axioms.ensures c.in_ok-rows_of_variables.ensures
 
@@ -45,7 +45,7 @@ rows_of_cells-requires c =
 pub rows_of_axioms-requires : goal.rows_of_axioms-requires
 rows_of_axioms-requires c =
     axioms_fit c.args.book.now c.well_formed-2.ensures c.in_ok-numbers.numbers.parts c.in_ok-owners.owners c.in_ok-axioms.axioms c.in_ok-owners.ensures c.in_ok-axioms.ensures
-    (subst (λ (g : Grounded). length g.clauses < 2 ^ 32) c.requires.ground c.requires.few)
+    (subst (λ (g : Grounded). length g.clauses < 2 ^ 32) c.requires c.few_axioms.ensures)
 
 pub rows_of_variables-requires : goal.rows_of_variables-requires
 rows_of_variables-requires c =

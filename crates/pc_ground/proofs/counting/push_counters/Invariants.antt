@@ -1,0 +1,8 @@
+use Rattle.std.proofs.Common.{◌≡◌, ◌++◌}
+use Rattle.std.specs.List.{flat_map, range_with_len}
+use Rattle.pc_ground.specs.ByNumber.{counter_clauses}
+use Rattle.pc_ground.proofs.counting.push_counters.Given as goal
+
+abbrev pub invariant-loop-i : goal.invariant-loop-i
+invariant-loop-i l =
+    l.store ≡ l.fn.store ++ flat_map (λ i. flat_map (counter_clauses l.counted.node l.counted.values l.counted.size l.counted.threshold i) (range_with_len 0 l.counted.threshold)) (range_with_len 0 l.i)
