@@ -7,12 +7,13 @@ ghost use Rattle.pc_cert.specs.Trees.{path_of, place_of};
 
 use crate::lookup::named_rule;
 use crate::tree::PathTree;
-use pc_logic::{Book, NodeKind, node_at};
+use pc_logic::{Book, NodeKind, few_children, node_at};
 use pc_sheet::NodePath;
 use std::alloc::{AllocError, Global};
 
 /// How many children a node of the kind has.
 fn children(kind: NodeKind) -> u32
+    requires few { children_of kind < 2 ^ 32 }
     ensures exact { result ≡ children_of kind }
     ensures few { result < 2 ^ 32 }
 {
@@ -25,6 +26,12 @@ fn children(kind: NodeKind) -> u32
         NodeKind::Iff => 2,
         NodeKind::ForAll(count) => count,
         NodeKind::Exists(count) => count,
+        NodeKind::Count {
+            values,
+            threshold,
+            ..
+        } => values + values * threshold,
+        NodeKind::Counter { .. } => 0,
     }
 }
 
@@ -35,6 +42,7 @@ fn has_few_children(book: &Book, rule: u32, steps: &[u32])
     let Some(kind) = node_at(book, rule, steps) else {
         return;
     };
+    few_children(book);
     let _ = children(kind);
 }
 

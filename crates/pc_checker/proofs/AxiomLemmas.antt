@@ -11,10 +11,10 @@ use Rattle.pc_sheet.specs.WellFormed.{IsEntryOf}
 use Rattle.pc_sheet.specs.declared.ids.Entry.{Entry}
 use Rattle.pc_sheet.specs.declared.nodes.NodeKind.{NodeKind}
 use Rattle.pc_accept.specs.Literals.{Symbol, node, Literal, positive}
-use Rattle.pc_accept.specs.Axioms.{axiom_rule, axiom_node, axiom_atom, each_below, clauses_of_kind, clauses_of_node, child_of, IsAtNumber, negated_entry}
+use Rattle.pc_accept.specs.Axioms.{axiom_rule, axiom_node, axiom_atom, each_below, IsAtNumber, IsClauseOfKind, negated_entry}
 use Rattle.pc_checker.specs.Drafts.{Draft, IsLiteralWritten, AreWritten}
 use Rattle.pc_cert.specs.Numbered.{StartsWith}
-use Rattle.pc_checker.specs.inside.Written.{IsAxiomWritten, IsNumberWritten, clauses_of_many}
+use Rattle.pc_checker.specs.inside.Written.{IsWritten, IsAxiomWritten, IsNumberWritten, clauses_of_many}
 use Rattle.pc_lemmas.proofs.Options.{some_and}
 use Rattle.pc_checker.proofs.DraftLemmas.{nothing_written, one_more_written, more_written}
 
@@ -85,27 +85,25 @@ module _ (p : Symbol) (child : ℕ → Symbol) (sign : Bool) (n : ℕ) where
 -- ---- nodes by their kind
 
 module _ (sheet : Sheet) (r : ℕ) (path : List ℕ) where
-  abbrev kinds : NodeKind → List (List Literal)
-  kinds k = clauses_of_kind (node r path) (child_of r path) k
-
   abbrev u : Universe
   u = sheet.universe
 
   -- the clause of a node by its kind is the axiom's, and back
   axiom_by : (o : Option Node) (kind : NodeKind) (i : ℕ) (c : List Literal) → option_map (λ (n : Node). kind_of u n.1) o ≡ Some kind
-      → IsAtNumber (kinds kind) i c ↔ IsSomeAnd o (λ n. IsAtNumber (clauses_of_node (node r path) (child_of r path) u n.1) i c)
+      → IsClauseOfKind sheet r path kind i c ↔ IsSomeAnd o (λ n. IsClauseOfKind sheet r path (kind_of u n.1) i c)
   axiom_by None kind i c at = absurd (none-some kind at)
   axiom_by (Some n) kind i c at =
-      let same : clauses_of_node (node r path) (child_of r path) u n.1 ≡ kinds kind = ap kinds (same_Some (kind_of u n.1) kind at) in
-      (λ h. subst (λ cs. IsAtNumber cs i c) (sym same) h, λ h. subst (λ cs. IsAtNumber cs i c) same h)
+      let same : kind_of u n.1 ≡ kind = same_Some (kind_of u n.1) kind at in
+      (λ h. subst (λ k. IsClauseOfKind sheet r path k i c) (sym same) h, λ h. subst (λ k. IsClauseOfKind sheet r path k i c) same h)
 
-  pub node_written : (kind : NodeKind) (i : ℕ) (old new : Draft) (good : Bool) → kind_at sheet r path ≡ Some kind → IsNumberWritten (kinds kind) i old new good → IsAxiomWritten sheet (axiom_node r path i) old new good
+  pub node_written : (kind : NodeKind) (i : ℕ) (old new : Draft) (good : Bool) → kind_at sheet r path ≡ Some kind → IsWritten (IsClauseOfKind sheet r path kind i) old new good
+      → IsAxiomWritten sheet (axiom_node r path i) old new good
   node_written kind i old new good at w = record {
     grows = w.grows;
     clause = match_along good _ _ _ _ (axiom_by (node_at sheet r path) kind i new.clause at).0 (λ none c is. none c ((axiom_by (node_at sheet r path) kind i c at).1 is)) w.clause;
   }
 
-  no_clause : (o : Option Node) (i : ℕ) (c : List Literal) → option_map (λ (n : Node). kind_of u n.1) o ≡ None → ¬ IsSomeAnd o (λ n. IsAtNumber (clauses_of_node (node r path) (child_of r path) u n.1) i c)
+  no_clause : (o : Option Node) (i : ℕ) (c : List Literal) → option_map (λ (n : Node). kind_of u n.1) o ≡ None → ¬ IsSomeAnd o (λ n. IsClauseOfKind sheet r path (kind_of u n.1) i c)
   no_clause None i c at h = h
   no_clause (Some n) i c at h = none-some (kind_of u n.1) (sym at)
 

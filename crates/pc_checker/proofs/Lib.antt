@@ -8,6 +8,7 @@ pub mod ClaimVerdict
 pub mod DraftLemmas
 pub mod Derivations
 pub mod AxiomLemmas
+pub mod CounterLemmas
 pub mod ReadLemmas
 pub mod RoomLemmas
 pub mod LineClauseLemmas

@@ -4,6 +4,7 @@
 mod axiom;
 mod checking;
 mod claim;
+mod counting;
 mod derivation;
 mod draft;
 mod entered;

@@ -1,26 +1,31 @@
 //! The clauses of nodes that are no atoms.
 
-ghost use Rattle.std.specs.Prelude.{◌≡◌, [], IfOk};
-ghost use Rattle.pc_accept.specs.Axioms.{child_of, clauses_of_kind};
+ghost use Rattle.std.specs.Prelude.{◌≡◌, [], IfOk, Some};
+ghost use Rattle.pc_accept.specs.Axioms.{child_of, clauses_of_kind, IsClauseOfKind};
 ghost use Rattle.pc_accept.specs.Literals.{node};
+ghost use Rattle.pc_sheet.specs.Nodes.{kind_at};
 ghost use Rattle.pc_sheet.specs.declared.nodes.NodeKind.{NodeKind};
-ghost use Rattle.pc_checker.specs.inside.Written.{IsNumberWritten, clauses_of_many};
+ghost use Rattle.pc_checker.specs.inside.Written.{IsWritten, IsNumberWritten, clauses_of_many};
 
 use crate::axiom::{write_children, write_parts};
+use crate::counting::{Counted, write_count, write_counter_at};
 use crate::draft::ClauseDraft;
+use pc_logic::{Book, few_children};
 use pc_sheet::{NodeKind, NodePath};
 use std::alloc::{AllocError, Global};
 
-/// Writes the clause of that number, from 1, of a node of this kind, and answers whether there is one.
+/// Writes the clause of that number, from 1, of the node to which the path leads, and answers whether there is one.
 pub(crate) fn write_node(
     alloc: Global,
+    book: &Book,
     path: &NodePath,
     kind: NodeKind,
     number: u32,
     draft: &mut ClauseDraft,
 ) -> Result<bool, AllocError>
-    requires { draft.old.clause ≡ [] }
-    ensures { IfOk result (IsNumberWritten (clauses_of_kind (node path.now.rule path.now.steps.items) (child_of path.now.rule path.now.steps.items) kind) number draft.old draft.new) }
+    requires blank { draft.old.clause ≡ [] }
+    requires at { kind_at book.now path.now.rule path.now.steps.items ≡ Some kind }
+    ensures { IfOk result (IsWritten (IsClauseOfKind book.now path.now.rule path.now.steps.items kind number) draft.old draft.new) }
 {
     match kind {
         NodeKind::Atom => Ok(false),
@@ -31,6 +36,16 @@ pub(crate) fn write_node(
         NodeKind::Or(count) => write_many(alloc, path, count, false, number, draft),
         NodeKind::ForAll(count) => write_many(alloc, path, count, true, number, draft),
         NodeKind::Exists(count) => write_many(alloc, path, count, false, number, draft),
+        NodeKind::Count {
+            at_most,
+            values,
+            threshold,
+        } => {
+            few_children(book);
+            let counted = Counted { values, threshold };
+            write_count(alloc, path, counted, at_most, number, draft)
+        }
+        NodeKind::Counter { .. } => write_counter_at(alloc, book, path, number, draft),
     }
 }
 

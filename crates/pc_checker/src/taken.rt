@@ -56,7 +56,7 @@ pub(crate) fn write_axiom(
         }
         AxiomName::Node(path, number) => match node_at(book, path.rule, &path.steps) {
             None => Ok(false),
-            Some(kind) => write_node(alloc, path, kind, *number, draft),
+            Some(kind) => write_node(alloc, book, path, kind, *number, draft),
         },
         AxiomName::Atom(path, reads) => match node_at(book, path.rule, &path.steps) {
             Some(NodeKind::Atom) => write_atom(alloc, book, path, reads, draft, marks),

@@ -1,20 +1,32 @@
 -- When an axiom's clause was written.
-use Rattle.std.specs.Prelude.{ℕ, Bool, not, MatchBool, List, [], ◌∷◌, ◌++◌}
+use Rattle.std.specs.Prelude.{◌≡◌, ℕ, Bool, not, MatchBool, List, [], ◌∷◌, ◌++◌, Some}
 use Rattle.pc_sheet.specs.Sheet.{Sheet}
 use Rattle.pc_accept.specs.Literals.{Symbol, Literal}
 use Rattle.pc_accept.specs.Axioms.{Axiom, IsClauseOf, IsAtNumber, each_below}
+use Rattle.pc_accept.specs.Rows.{Part, clause_of, IsAtRow}
 use Rattle.pc_checker.specs.Drafts.{Draft}
 use Rattle.pc_cert.specs.Numbered.{StartsWith}
 
--- more symbols are numbered, and the clause is the axiom's; or there is no such clause
-pub record IsAxiomWritten (sheet : Sheet) (a : Axiom) (old new : Draft) (good : Bool) : Type 0 where
+-- more symbols are numbered, and the clause is such a one; or there is no such clause
+pub record IsWritten (IsSuch : List Literal → Type 0) (old new : Draft) (good : Bool) : Type 0 where
   pub grows : StartsWith old.symbols new.symbols
-  pub clause : MatchBool good (IsClauseOf sheet a new.clause) ((c : List Literal) → ¬ IsClauseOf sheet a c)
+  pub clause : MatchBool good (IsSuch new.clause) ((c : List Literal) → ¬ IsSuch c)
 
--- more symbols are numbered, and the clause is the one of that number, from 1; or there is none
-pub record IsNumberWritten (clauses : List (List Literal)) (i : ℕ) (old new : Draft) (good : Bool) : Type 0 where
-  pub grows : StartsWith old.symbols new.symbols
-  pub clause : MatchBool good (IsAtNumber clauses i new.clause) ((c : List Literal) → ¬ IsAtNumber clauses i c)
+-- the axiom's clause
+abbrev pub IsAxiomWritten : Sheet → Axiom → Draft → Draft → Bool → Type 0
+IsAxiomWritten sheet a = IsWritten (IsClauseOf sheet a)
+
+-- the clause of that number, from 1
+abbrev pub IsNumberWritten : List (List Literal) → ℕ → Draft → Draft → Bool → Type 0
+IsNumberWritten clauses i = IsWritten (IsAtNumber clauses i)
+
+-- the clause of a row
+abbrev pub IsRowWritten : List (Part Literal) → Draft → Draft → Bool → Type 0
+IsRowWritten row = IsWritten (λ c. clause_of row ≡ Some c)
+
+-- the clause of the row of that number, from 1
+abbrev pub IsRowNumberWritten : List (List (Part Literal)) → ℕ → Draft → Draft → Bool → Type 0
+IsRowNumberWritten rows i = IsWritten (IsAtRow rows i)
 
 -- each child's clause, in which the child has this sign and the node the other, and then one of all children, in which the
 -- node has this sign and each child the other
