@@ -1,10 +1,11 @@
 -- What a formula stands for is unique where it is well sorted, and is beside no fault; a formula has one fault at most.
-use Rattle.std.proofs.Common.{◌≡◌, ◌⊎◌, ℕ, zero, suc, ◌<◌, List, [], ◌∷◌, ◌++◌, Option, None, Some, slice_get, IsSomeAnd, length, arith, ap, ap₂, ◌∙◌, sym, subst, refl, inl, inr}
+use Rattle.std.proofs.Common.{◌≡◌, ◌⊎◌, ℕ, zero, suc, pos, ◌<◌, List, [], ◌∷◌, ◌++◌, Option, None, Some, slice_get, IsSomeAnd, length, arith, ap, ap₂, ◌∙◌, sym, subst, refl, inl, inr}
 use Rattle.std.proofs.lemmas.List.{length-append}
 use Rattle.pc_formula.specs.Tree as tree
-use Rattle.pc_formula.specs.Tree.{for_all, exists, iff, implies, or, and, not, compare, in_table, no_part, items_of}
+use Rattle.pc_formula.specs.Tree.{for_all, exists, counting, iff, implies, or, and, not, compare, in_table, no_part, items_of}
 use Rattle.pc_sheet.specs.Sheet as plain
 use Rattle.pc_sheet.specs.Sheet.{Universe, Table, Sort}
+use Rattle.pc_sheet.specs.Views.{counting_of}
 use Rattle.pc_sheet.specs.WellSorted.{Variables, AreOfSorts, IsNewVariable, IsWellSorted, AreWellSorted}
 use Rattle.pc_sheet.specs.declared.ids.SortId.{SortId}
 use Rattle.pc_sheet.specs.declared.ids.TableId.{TableId}
@@ -12,12 +13,12 @@ use Rattle.pc_logic.specs.declared.names.Named.TheVariants as names
 use Rattle.pc_logic.proofs.NamesLemmas.{name_is_declared}
 use Rattle.pc_elaborate.specs.declared.fault.SortFault.{SortFault}
 use Rattle.pc_elaborate.specs.declared.fault.SortFault.TheVariants.{DuplicateName, Limit}
-use Rattle.pc_sheet.specs.declared.limits.Limited.TheVariants.{Depth}
+use Rattle.pc_sheet.specs.declared.limits.Limited.TheVariants.{Count, Depth}
 use Rattle.pc_elaborate.specs.Outcome.{HasUniqueNames, HasOneOutcome}
 use Rattle.pc_elaborate.specs.inside.Scope.{IsScope}
 use Rattle.pc_elaborate.specs.Elaboration.{IsSortNamed, IsStatement, AreStatements, AreArguments}
-use Rattle.pc_elaborate.specs.FormulaFaults.{IsDeclared, IsBound, IsSomeSort, IsSortNameFault, HasSort, IsSortedFormula, IsQuantifierFault, IsFormulaFault, AreFormulasFault}
-use Rattle.pc_elaborate.proofs.Testing.{IsOne, IsNever, none_one, none_never, test_one_if, test_never, part_one, part_never}
+use Rattle.pc_elaborate.specs.FormulaFaults.{IsDeclared, IsBound, IsSomeSort, IsSortNameFault, HasSort, IsSortedFormula, IsCount, IsQuantifierFault, IsFormulaFault, AreFormulasFault}
+use Rattle.pc_elaborate.proofs.Testing.{IsOne, IsNever, none_one, none_never, test_one, test_one_if, test_never, part_one, part_never}
 use Rattle.pc_elaborate.proofs.Values.{some_at, both_at, get_below, sort_one, table_one, name_fault_one, name_fault_never}
 use Rattle.pc_elaborate.proofs.Shapes.{shape, parts_shape}
 use Rattle.pc_elaborate.proofs.ItemLaws.{arguments_one, bound_at}
@@ -64,6 +65,9 @@ module _ (u : Universe) (unique : HasUniqueNames u) where
 
   -- ---- uniqueness
 
+  same_number : (j k : ℕ) → pos j ≡ pos k → j ≡ k
+  same_number j k e = cc
+
   mutual
     pub statement_one : (f : tree.Formula) (vs : Variables) → IsScope u vs → (s t : plain.Statement) → IsStatement u vs f s → IsWellSorted u vs s → IsStatement u vs f t → s ≡ t
     statement_one (for_all n sort f) vs scope s t h sorted k =
@@ -80,6 +84,14 @@ module _ (u : Universe) (unique : HasUniqueNames u) where
         let inside : IsWellSorted u vs (plain.exists n p.0 p.1) = subst (IsWellSorted u vs) p.2 sorted in
         let body = statement_one f (vs ++ (n, p.0) ∷ []) (new_scope vs scope n p.0 inside.0) p.1 q.1 p.4 inside.1 (subst (λ r. IsStatement u (vs ++ (n, r) ∷ []) f q.1) same q.4) in
         p.2 ∙ ap₂ (plain.exists n) (sym same) body ∙ sym q.2
+    statement_one (counting m z n sort f) vs scope s t h sorted k =
+        let p = shape u vs (counting m z n sort f) s h in
+        let q = shape u vs (counting m z n sort f) t k in
+        let bound : p.0 ≡ q.0 = same_number p.0 q.0 (sym p.3 ∙ q.3) in
+        let same = sort_one u unique sort q.1 p.1 q.5 p.5 in
+        let inside : IsWellSorted u vs (plain.counts (counting_of m p.0) n p.1 p.2) = subst (IsWellSorted u vs) p.4 sorted in
+        let body = statement_one f (vs ++ (n, p.1) ∷ []) (new_scope vs scope n p.1 inside.1) p.2 q.2 p.6 inside.2 (subst (λ r. IsStatement u (vs ++ (n, r) ∷ []) f q.2) same q.6) in
+        p.4 ∙ ap (λ j. plain.counts (counting_of m j) n p.1 p.2) bound ∙ ap₂ (plain.counts (counting_of m q.0) n) (sym same) body ∙ sym q.4
     statement_one (iff f g) vs scope s t h sorted k =
         let p = shape u vs (iff f g) s h in
         let q = shape u vs (iff f g) t k in
@@ -145,6 +157,11 @@ module _ (u : Universe) (unique : HasUniqueNames u) where
         let p = shape u vs (exists n sort f) s h in
         let inside : IsWellSorted u vs (plain.exists n p.0 p.1) = subst (IsWellSorted u vs) p.2 sorted in
         quantifier_never vs n sort p.0 (λ r. IsFormulaFault u (vs ++ (n, r) ∷ []) f) p.3 inside.0 (formula_never f (vs ++ (n, p.0) ∷ []) (new_scope vs scope n p.0 inside.0) p.1 p.4 inside.1)
+    formula_never (counting m z n sort f) vs scope s h sorted =
+        let p = shape u vs (counting m z n sort f) s h in
+        let inside : IsWellSorted u vs (plain.counts (counting_of m p.0) n p.1 p.2) = subst (IsWellSorted u vs) p.4 sorted in
+        test_never (IsCount m z) (Limit Count) (IsQuantifierFault u vs n sort (λ r. IsFormulaFault u (vs ++ (n, r) ∷ []) f)) (p.0, p.3, inside.0)
+        (quantifier_never vs n sort p.1 (λ r. IsFormulaFault u (vs ++ (n, r) ∷ []) f) p.5 inside.1 (formula_never f (vs ++ (n, p.1) ∷ []) (new_scope vs scope n p.1 inside.1) p.2 p.6 inside.2))
     formula_never (iff f g) vs scope s h sorted =
         let p = shape u vs (iff f g) s h in
         let inside : IsWellSorted u vs (plain.iff p.0 p.1) = subst (IsWellSorted u vs) p.2 sorted in
@@ -197,6 +214,9 @@ module _ (u : Universe) (unique : HasUniqueNames u) where
     pub formula_fault_one : (f : tree.Formula) (vs : Variables) → IsScope u vs → IsOne (IsFormulaFault u vs f)
     formula_fault_one (for_all n sort f) vs scope = quantifier_one vs scope n sort (λ r. IsFormulaFault u (vs ++ (n, r) ∷ []) f) (λ s inner. formula_fault_one f (vs ++ (n, s) ∷ []) inner)
     formula_fault_one (exists n sort f) vs scope = quantifier_one vs scope n sort (λ r. IsFormulaFault u (vs ++ (n, r) ∷ []) f) (λ s inner. formula_fault_one f (vs ++ (n, s) ∷ []) inner)
+    formula_fault_one (counting m z n sort f) vs scope =
+        test_one (IsCount m z) (Limit Count) (IsQuantifierFault u vs n sort (λ r. IsFormulaFault u (vs ++ (n, r) ∷ []) f))
+        (quantifier_one vs scope n sort (λ r. IsFormulaFault u (vs ++ (n, r) ∷ []) f) (λ s inner. formula_fault_one f (vs ++ (n, s) ∷ []) inner))
     formula_fault_one (iff f g) vs scope = part_one (IsSortedFormula u vs f) (IsFormulaFault u vs f) (IsFormulaFault u vs g) (λ h. formula_never f vs scope h.0 h.1 h.2) (formula_fault_one f vs scope) (formula_fault_one g vs scope)
     formula_fault_one (implies f g) vs scope = part_one (IsSortedFormula u vs f) (IsFormulaFault u vs f) (IsFormulaFault u vs g) (λ h. formula_never f vs scope h.0 h.1 h.2) (formula_fault_one f vs scope) (formula_fault_one g vs scope)
     formula_fault_one (or fs) vs scope = formulas_fault_one fs vs scope

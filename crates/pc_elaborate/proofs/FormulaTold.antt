@@ -1,5 +1,5 @@
 -- What is told of formulas.
-use Rattle.std.proofs.Common.{◌≡◌, ◌⊎◌, ℕ, zero, suc, ◌+◌, ◌<◌, ◌≤◌, List, [], ◌∷◌, ◌++◌, Result, Ok, Err, IfOk, length, map, drop, get_or, arith, rules, ap, ◌∙◌, sym, subst, refl, inl, inr, Vec, Box, Global}
+use Rattle.std.proofs.Common.{◌≡◌, ◌⊎◌, ℕ, ℤ, zero, suc, Bool, ◌+◌, ◌<◌, ◌≤◌, List, [], ◌∷◌, ◌++◌, Result, Ok, Err, IfOk, length, map, drop, get_or, arith, rules, ap, ◌∙◌, sym, subst, refl, inl, inr, Vec, Box, Global}
 use Rattle.std.proofs.Math.Seq.{drop-cons}
 use Rattle.std.proofs.lemmas.List.{drop_all, map-append}
 use Rattle.pc_name.specs.Names.{IsName}
@@ -11,7 +11,7 @@ use Rattle.pc_formula.specs.declared.tree.FormulaTree.{FormulaTree}
 use Rattle.pc_sheet.specs.Sheet as plain
 use Rattle.pc_sheet.specs.Sheet.{Universe}
 use Rattle.pc_sheet.specs.Nesting as built
-use Rattle.pc_sheet.specs.Views.{statement_of, statements_of}
+use Rattle.pc_sheet.specs.Views.{counting_of, statement_of, statements_of}
 use Rattle.pc_sheet.specs.WellSorted.{Variables, IsWellSorted, AreWellSorted, AreTwoOrMore, parts_in}
 use Rattle.pc_sheet.specs.declared.formula.Formula.{Formula, the_lemmas}
 use Rattle.pc_sheet.specs.declared.formula.Formula.TheVariants as formulas
@@ -23,9 +23,9 @@ use Rattle.pc_sheet.specs.declared.limits.Limited.TheVariants.{Depth}
 use Rattle.pc_elaborate.specs.Tests.{no_test}
 use Rattle.pc_elaborate.specs.Outcome.{HasUniqueNames, IsFoundOrFault}
 use Rattle.pc_elaborate.specs.inside.Scope.{IsScope}
-use Rattle.pc_elaborate.specs.Elaboration.{IsSortNamed, IsStatement, is_negation, is_conjunction, is_disjunction, is_implication, is_equivalence, is_universal, is_existential, AreStatements, no_statements_left, one_statement}
+use Rattle.pc_elaborate.specs.Elaboration.{IsSortNamed, IsStatement, is_negation, is_conjunction, is_disjunction, is_implication, is_equivalence, is_universal, is_existential, is_counting, AreStatements, no_statements_left, one_statement}
 use Rattle.pc_elaborate.specs.FormulaFaults.{IsDeclared, IsBound, IsSortNameFault, IsQuantifierFault, IsFormulaFault, AreFormulasFault}
-use Rattle.pc_elaborate.specs.Told.{IsFaultOf, IsFormulaTold, IsBoxedTold, IsVariableTold, IsQuantifiedTold, AreFormulasTold, TellsStatement, TellsFault}
+use Rattle.pc_elaborate.specs.Told.{IsFaultOf, IsFormulaTold, IsBoxedTold, IsCountTold, IsVariableTold, IsQuantifiedTold, AreFormulasTold, TellsStatement, TellsFault}
 use Rattle.pc_elaborate.proofs.Shapes.{parts_shape}
 use Rattle.pc_elaborate.proofs.FormulaLaws.{formula_outcome, sort_below, inner_scope, no_scope}
 use Rattle.pc_elaborate.proofs.NestingLaws.{nests}
@@ -53,6 +53,9 @@ statement_of-ForAll n s b = search (rules, the_lemmas)
 
 pub statement_of-Exists : (n : List ℕ) (s : SortId) (b : Box Formula Global) → statement_of (formulas.Exists n s b) ≡ plain.exists n s (statement_of b.value)
 statement_of-Exists n s b = search (rules, the_lemmas)
+
+pub statement_of-Count : (m : Bool) (k : ℕ) (n : List ℕ) (s : SortId) (b : Box Formula Global) → statement_of (formulas.Count m k n s b) ≡ plain.counts (counting_of m k) n s (statement_of b.value)
+statement_of-Count m k n s b = search (rules, the_lemmas)
 
 -- ---- the public clauses, from what is told
 
@@ -165,6 +168,18 @@ module _ (u : Universe) (vs : Variables) where
 
     pub exists_fails : whole ≡ tree.exists n sort f → (e : SortFault) → IsQuantifiedTold u vs n sort f (Err e) → IsFormulaTold u vs whole (Err e)
     exists_fails is e h = subst (λ w. IsFaultOf (IsFormulaFault u vs w) e) (sym is) h
+
+    module _ (m : Bool) (z : ℤ) (is : whole ≡ tree.counting m z n sort f) where
+      pub count_told : (k : ℕ) → IsCountTold m z (Ok k) → (l : List ℕ) (s : SortId) (b : Box Formula Global) → IsQuantifiedTold u vs n sort f (Ok (l, s, b)) → IsFormulaTold u vs whole (Ok (formulas.Count m k l s b))
+      count_told k bound l s b h =
+          let P : plain.Statement → Type 0 = IsSorted (tree.counting m z n sort f) in
+          let stands = subst (λ y. IsStatement u vs (tree.counting m y n sort f) (plain.counts (counting_of m k) n s (statement_of b.value))) (sym bound.0) (is_counting vs m k n sort f s (statement_of b.value) h.1 h.3) in
+          subst (λ w. IsSorted w (statement_of (formulas.Count m k l s b))) (sym is) (subst P (sym (statement_of-Count m k l s b)) (subst (λ j. P (plain.counts (counting_of m k) j s (statement_of b.value))) (sym h.0)
+          (stands, (bound.1, h.2, h.4))))
+
+      pub count_fails : (k : ℕ) → IsCountTold m z (Ok k) → (e : SortFault) → IsQuantifiedTold u vs n sort f (Err e) → IsFormulaTold u vs whole (Err e)
+      count_fails k bound e h =
+          subst (λ w. IsFaultOf (IsFormulaFault u vs w) e) (sym is) (fault_from (IsQuantifierFault u vs n sort (λ s. IsFormulaFault u (vs ++ (n, s) ∷ []) f)) (IsFormulaFault u vs (tree.counting m z n sort f)) (λ c q. inr ((k, bound.0, bound.1), q)) e h)
 
   module _ (n sort : List ℕ) where
     pub deep_fails : length vs ≡ 16 → IsVariableTold u vs n sort (Err (Limit Depth))

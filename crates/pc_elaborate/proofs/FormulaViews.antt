@@ -1,6 +1,6 @@
 -- What trees of formulas stand for, by their forms.
-use Rattle.std.proofs.Common.{◌≡◌, ℕ, List, map, rules, Vec, Box, Global}
-use Rattle.pc_formula.specs.Tree.{for_all, exists, iff, implies, or, and, not, parts_of, formula_of}
+use Rattle.std.proofs.Common.{◌≡◌, ℕ, ℤ, Bool, List, map, rules, Vec, Box, Global}
+use Rattle.pc_formula.specs.Tree.{for_all, exists, counting, iff, implies, or, and, not, parts_of, formula_of}
 use Rattle.pc_formula.specs.declared.tree.FormulaTree.{FormulaTree, the_lemmas}
 use Rattle.pc_formula.specs.declared.tree.FormulaTree.TheVariants as trees
 
@@ -24,3 +24,6 @@ formula_of-ForAll n s b = search (rules, the_lemmas)
 
 pub formula_of-Exists : (n s : List ℕ) (b : Box FormulaTree Global) → formula_of (trees.Exists n s b) ≡ exists n s (formula_of b.value)
 formula_of-Exists n s b = search (rules, the_lemmas)
+
+pub formula_of-Count : (m : Bool) (z : ℤ) (n s : List ℕ) (b : Box FormulaTree Global) → formula_of (trees.Count m z n s b) ≡ counting m z n s (formula_of b.value)
+formula_of-Count m z n s b = search (rules, the_lemmas)

@@ -3,7 +3,7 @@ use Rattle.std.proofs.Common.{◌≡◌, ℕ, ◌+◌, List, [], ◌∷◌, ◌+
 use Rattle.std.proofs.lemmas.List.Sums.{sum_by-cons}
 use Rattle.pc_name.specs.declared.sign.Sign.{Sign}
 use Rattle.pc_formula.specs.Tree as tree
-use Rattle.pc_formula.specs.Tree.{for_all, exists, iff, implies, or, and, not, compare, in_table, no_part, integer, named, no_item, one_item, items_of}
+use Rattle.pc_formula.specs.Tree.{for_all, exists, counting, iff, implies, or, and, not, compare, in_table, no_part, integer, named, no_item, one_item, items_of}
 use Rattle.pc_formula.specs.Nesting as written
 use Rattle.pc_sheet.specs.Sheet as plain
 use Rattle.pc_sheet.specs.Sheet.{Universe}
@@ -70,6 +70,7 @@ module _ (u : Universe) where
   as_tight : (vs : Variables) (f : tree.Formula) (s : plain.Statement) → IsStatement u vs f s → built.tightness s ≡ written.tightness f
   as_tight vs (for_all n sort f) s h = ap built.tightness (shape u vs (for_all n sort f) s h).2
   as_tight vs (exists n sort f) s h = ap built.tightness (shape u vs (exists n sort f) s h).2
+  as_tight vs (counting m z n sort f) s h = ap built.tightness (shape u vs (counting m z n sort f) s h).4
   as_tight vs (iff f g) s h = ap built.tightness (shape u vs (iff f g) s h).2
   as_tight vs (implies f g) s h = ap built.tightness (shape u vs (implies f g) s h).2
   as_tight vs (or fs) s h = ap built.tightness (shape u vs (or fs) s h).1
@@ -89,6 +90,9 @@ module _ (u : Universe) where
     nests (exists n sort f) vs s h =
         let p = shape u vs (exists n sort f) s h in
         ap built.nesting_of p.2 ∙ ap (λ k. 1 + k) (nests f (vs ++ (n, p.0) ∷ []) p.1 p.4)
+    nests (counting m z n sort f) vs s h =
+        let p = shape u vs (counting m z n sort f) s h in
+        ap built.nesting_of p.4 ∙ ap (λ k. 1 + k) (nests f (vs ++ (n, p.1) ∷ []) p.2 p.6)
     nests (iff f g) vs s h =
         let p = shape u vs (iff f g) s h in
         ap built.nesting_of p.2 ∙ ap₂ (λ a b. a + b) (ap₂ (λ a b. a + b) (as_many_parentheses 2 vs f p.0 p.3) (nests f vs p.0 p.3)) (ap₂ (λ a b. a + b) (as_many_parentheses 2 vs g p.1 p.4) (nests g vs p.1 p.4))

@@ -1,16 +1,17 @@
 -- What stands for an item or a formula, by its form.
-use Rattle.std.proofs.Common.{◌≡◌, ◌⊎◌, ℕ, List, [], ◌∷◌, ◌++◌, Some, slice_get, IsSomeAnd, refl, inl, inr}
+use Rattle.std.proofs.Common.{◌≡◌, ◌⊎◌, ℕ, pos, List, [], ◌∷◌, ◌++◌, Some, slice_get, IsSomeAnd, refl, inl, inr}
 use Rattle.pc_formula.specs.Tree as tree
-use Rattle.pc_formula.specs.Tree.{for_all, exists, iff, implies, or, and, not, compare, in_table, no_part, part, integer, named, no_item, one_item, items_of, name_value, integer_value}
+use Rattle.pc_formula.specs.Tree.{for_all, exists, counting, iff, implies, or, and, not, compare, in_table, no_part, part, integer, named, no_item, one_item, items_of, name_value, integer_value}
 use Rattle.pc_sheet.specs.Sheet as plain
 use Rattle.pc_sheet.specs.Sheet.{Universe}
 use Rattle.pc_sheet.specs.Sizes.{values_at}
+use Rattle.pc_sheet.specs.Views.{counting_of}
 use Rattle.pc_sheet.specs.WellSorted.{Variables, IsListed}
 use Rattle.pc_sheet.specs.declared.ids.SortId.{SortId}
 use Rattle.pc_sheet.specs.declared.ids.TableId.{TableId}
 use Rattle.pc_sheet.specs.declared.ids.FamilyId.{FamilyId}
 use Rattle.pc_sheet.specs.declared.ids.ValueId.{ValueId}
-use Rattle.pc_elaborate.specs.Elaboration.{IsSortNamed, IsTableNamed, IsFamilyNamed, TakesArguments, StandsForValue, IsItem, is_number, is_variable, is_value, is_application, IsArgument, is_integer, is_item, AreArguments, no_arguments, one_argument, IsSum, IsStatement, is_comparison, is_table_atom, is_negation, is_conjunction, is_disjunction, is_implication, is_equivalence, is_universal, is_existential, AreStatements, no_statements_left, one_statement}
+use Rattle.pc_elaborate.specs.Elaboration.{IsSortNamed, IsTableNamed, IsFamilyNamed, TakesArguments, StandsForValue, IsItem, is_number, is_variable, is_value, is_application, IsArgument, is_integer, is_item, AreArguments, no_arguments, one_argument, IsSum, IsStatement, is_comparison, is_table_atom, is_negation, is_conjunction, is_disjunction, is_implication, is_equivalence, is_universal, is_existential, is_counting, AreStatements, no_statements_left, one_statement}
 
 module _ (u : Universe) (vs : Variables) where
   abbrev pub ArgumentsShape : List SortId → tree.Items → plain.Items → Type 0
@@ -59,6 +60,7 @@ module _ (u : Universe) where
   abbrev pub Shape : Variables → tree.Formula → plain.Statement → Type 0
   Shape vs (for_all n sort f) s = (t : SortId) × (a : plain.Statement) × (s ≡ plain.for_all n t a) × IsSortNamed u sort t × IsStatement u (vs ++ (n, t) ∷ []) f a
   Shape vs (exists n sort f) s = (t : SortId) × (a : plain.Statement) × (s ≡ plain.exists n t a) × IsSortNamed u sort t × IsStatement u (vs ++ (n, t) ∷ []) f a
+  Shape vs (counting m z n sort f) s = (k : ℕ) × (t : SortId) × (a : plain.Statement) × (z ≡ pos k) × (s ≡ plain.counts (counting_of m k) n t a) × IsSortNamed u sort t × IsStatement u (vs ++ (n, t) ∷ []) f a
   Shape vs (iff f g) s = (a : plain.Statement) × (b : plain.Statement) × (s ≡ plain.iff a b) × IsStatement u vs f a × IsStatement u vs g b
   Shape vs (implies f g) s = (a : plain.Statement) × (b : plain.Statement) × (s ≡ plain.implies a b) × IsStatement u vs f a × IsStatement u vs g b
   Shape vs (or fs) s = (ss : plain.Statements) × (s ≡ plain.some_of ss) × AreStatements u vs fs ss
@@ -78,6 +80,7 @@ module _ (u : Universe) where
   shape vs f s (is_equivalence ws g h a b k m) = (a, b, refl, k, m)
   shape vs f s (is_universal ws n sort g t b h k) = (t, b, refl, h, k)
   shape vs f s (is_existential ws n sort g t b h k) = (t, b, refl, h, k)
+  shape vs f s (is_counting ws m k n sort g t b h l) = (k, t, b, refl, refl, h, l)
 
   abbrev pub PartsShape : Variables → tree.Formulas → plain.Statements → Type 0
   PartsShape vs no_part ss = ss ≡ plain.no_statements

@@ -1,7 +1,7 @@
 -- Worked faults of small formulas.
-use Rattle.std.proofs.Common.{◌≡◌, ℕ, zero, suc, pos, ◌≤ℤ◌, List, [], ◌∷◌, get_or, ap, arith, refl, inl, inr}
+use Rattle.std.proofs.Common.{◌≡◌, ℕ, zero, suc, true, false, pos, ◌≤ℤ◌, List, [], ◌∷◌, get_or, ap, arith, refl, inl, inr}
 use Rattle.std.proofs.lemmas.Int.{ints}
-use Rattle.pc_elaborate.specs.FormulaFaults.{IsDeclared, IsBound}
+use Rattle.pc_elaborate.specs.FormulaFaults.{IsDeclared, IsBound, IsCount}
 use Rattle.pc_elaborate.specs.Examples.{c, p, z, colours, AreWorkedFaults}
 
 -- two names of one byte are different
@@ -27,11 +27,20 @@ declares_p = (3, omega arith, refl)
 too_large : pos 1000001 ≤ℤ pos 1000000 → ⊥
 too_large h = omega (arith, ints, h)
 
+no_more_than_255 : ¬ IsCount true (pos 256)
+no_more_than_255 h = omega (arith, ints, h.1, h.2)
+
+no_fewer_than_1 : ¬ IsCount false (pos 0)
+no_fewer_than_1 h = omega (arith, ints, h.1, h.2.0)
+
 pub worked_faults : AreWorkedFaults
 worked_faults = record {
   left_first = inl (inl (inl (inl ((λ h. elim h [ inl a ↦ not_bound z a | inr b ↦ no_z b ]), refl))));
   left_first_again = inl (inl (inl (inr (inr declares_c, inl ((λ h. h (inl (record { 0 = 0 }, refl))), refl)))));
   hiding = inr (omega arith, inl ((λ free. free (inl declares_p)), refl));
   unknown_sort = inr (omega arith, inr ((λ h. elim h [ inl a ↦ no_z a | inr b ↦ not_bound z b ]), inl (inl (no_z, refl))));
+  many = inl (no_more_than_255, refl);
+  none = inl (no_fewer_than_1, refl);
+  most = inr ((256, refl, (omega arith, omega arith)), inr (omega arith, inr ((λ h. elim h [ inl a ↦ no_z a | inr b ↦ not_bound z b ]), inl (inl (no_z, refl)))));
   large = inl (inl (inl ((λ small. too_large small.1), refl)));
 }

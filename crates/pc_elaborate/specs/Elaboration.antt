@@ -1,12 +1,13 @@
 -- What the names in a tree stand for: cells, values, variables and tables of a universe.
-use Rattle.std.specs.Prelude.{◌≡◌, ℕ, ℤ, ◌<◌, pos, ◌+ℤ◌, List, [], ◌∷◌, ◌++◌, Some, slice_get, IsSomeAnd}
+use Rattle.std.specs.Prelude.{◌≡◌, ℕ, ℤ, Bool, ◌<◌, pos, ◌+ℤ◌, List, [], ◌∷◌, ◌++◌, Some, slice_get, IsSomeAnd}
 use Rattle.pc_name.specs.declared.sign.Op.{Op}
 use Rattle.pc_name.specs.declared.sign.Sign.{Sign}
 use Rattle.pc_formula.specs.Tree as tree
-use Rattle.pc_formula.specs.Tree.{for_all, exists, iff, implies, or, and, not, compare, in_table, no_part, part, integer, named, no_item, one_item, name_value, integer_value}
+use Rattle.pc_formula.specs.Tree.{for_all, exists, counting, iff, implies, or, and, not, compare, in_table, no_part, part, integer, named, no_item, one_item, name_value, integer_value}
 use Rattle.pc_sheet.specs.Sheet as plain
 use Rattle.pc_sheet.specs.Sheet.{Values, listed, range, Universe}
 use Rattle.pc_sheet.specs.Sizes.{values_at, count_of, cell_number}
+use Rattle.pc_sheet.specs.Views.{counting_of}
 use Rattle.pc_sheet.specs.WellSorted.{Variables, IsListed}
 use Rattle.pc_sheet.specs.declared.ids.SortId.{SortId}
 use Rattle.pc_sheet.specs.declared.ids.TableId.{TableId}
@@ -120,6 +121,7 @@ mutual
     is_equivalence : (vs : Variables) (f g : tree.Formula) (s t : plain.Statement) → IsStatement u vs f s → IsStatement u vs g t → IsStatement u vs (iff f g) (plain.iff s t)
     is_universal : (vs : Variables) (n sort : List ℕ) (f : tree.Formula) (s : SortId) (t : plain.Statement) → IsSortNamed u sort s → IsStatement u (vs ++ (n, s) ∷ []) f t → IsStatement u vs (for_all n sort f) (plain.for_all n s t)
     is_existential : (vs : Variables) (n sort : List ℕ) (f : tree.Formula) (s : SortId) (t : plain.Statement) → IsSortNamed u sort s → IsStatement u (vs ++ (n, s) ∷ []) f t → IsStatement u vs (exists n sort f) (plain.exists n s t)
+    is_counting : (vs : Variables) (m : Bool) (k : ℕ) (n sort : List ℕ) (f : tree.Formula) (s : SortId) (t : plain.Statement) → IsSortNamed u sort s → IsStatement u (vs ++ (n, s) ∷ []) f t → IsStatement u vs (counting m (pos k) n sort f) (plain.counts (counting_of m k) n s t)
 
   pub data AreStatements (u : Universe) : Variables → tree.Formulas → plain.Statements → Type 0 where
     no_statements_left : (vs : Variables) → AreStatements u vs no_part plain.no_statements

@@ -1,11 +1,11 @@
 -- Worked faults of small formulas, over a sort `c` of the values `r` and `g`, and a family `p` of one cell with such a value.
-use Rattle.std.specs.Prelude.{ℕ, pos, List, [], ◌∷◌}
+use Rattle.std.specs.Prelude.{ℕ, true, false, pos, List, [], ◌∷◌}
 use Rattle.pc_name.specs.declared.sign.Op.TheVariants.{Eq, Lt}
 use Rattle.pc_formula.specs.Tree as tree
-use Rattle.pc_formula.specs.Tree.{for_all, compare, named, integer, no_item}
+use Rattle.pc_formula.specs.Tree.{for_all, counting, compare, named, integer, no_item}
 use Rattle.pc_sheet.specs.Sheet.{Universe, listed}
 use Rattle.pc_elaborate.specs.declared.fault.SortFault.TheVariants.{UnknownName, DuplicateName, WrongSort, Limit}
-use Rattle.pc_sheet.specs.declared.limits.Limited.TheVariants.{Number}
+use Rattle.pc_sheet.specs.declared.limits.Limited.TheVariants.{Number, Count}
 use Rattle.pc_elaborate.specs.FormulaFaults.{IsFormulaFault}
 
 -- `c`, `g`, `p`, `r` and `z`
@@ -47,5 +47,10 @@ pub record AreWorkedFaults : Type 0 where
   pub hiding : IsFormulaFault colours [] (for_all p c (compare (bare z) Eq (bare z))) DuplicateName
   -- `forall z: z. z = z`: the sort is unknown
   pub unknown_sort : IsFormulaFault colours [] (for_all z z (compare (bare z) Eq (bare z))) UnknownName
+  -- `atmost 256 z: z. z = z` and `atleast 0 z: z. z = z`: the number comes before the sort, which is unknown
+  pub many : IsFormulaFault colours [] (counting true (pos 256) z z (compare (bare z) Eq (bare z))) (Limit Count)
+  pub none : IsFormulaFault colours [] (counting false (pos 0) z z (compare (bare z) Eq (bare z))) (Limit Count)
+  -- `atleast 256 z: z. z = z`: the number may stand
+  pub most : IsFormulaFault colours [] (counting false (pos 256) z z (compare (bare z) Eq (bare z))) UnknownName
   -- `1000001 < 0`: the number is too large
   pub large : IsFormulaFault colours [] (compare (whole 1000001) Lt (whole 0)) (Limit Number)

@@ -1,13 +1,15 @@
 -- Why cells, values and formulas aren't well sorted: their tests, in order.
-use Rattle.std.specs.Prelude.{◌≡◌, ◌⊎◌, ℕ, ◌+◌, ◌<◌, Bool, true, false, List, [], ◌∷◌, ◌++◌, map, length, Contains, slice_get, IsSomeAnd}
+use Rattle.std.specs.Prelude.{◌≡◌, ◌⊎◌, ℕ, ℤ, pos, ◌+◌, ◌<◌, Bool, true, false, List, [], ◌∷◌, ◌++◌, map, length, Contains, slice_get, IsSomeAnd}
 use Rattle.pc_name.specs.declared.sign.Op.{Op}
 use Rattle.pc_name.specs.declared.sign.Sign.{Sign}
 use Rattle.pc_formula.specs.Tree as tree
-use Rattle.pc_formula.specs.Tree.{for_all, exists, iff, implies, or, and, not, compare, in_table, no_part, integer, named, no_item, one_item, items_of, name_value, integer_value}
+use Rattle.pc_formula.specs.Tree.{for_all, exists, counting, iff, implies, or, and, not, compare, in_table, no_part, integer, named, no_item, one_item, items_of, name_value, integer_value}
 use Rattle.pc_sheet.specs.Limits.{most_depth}
 use Rattle.pc_sheet.specs.Sheet as plain
 use Rattle.pc_sheet.specs.Sheet.{Universe}
 use Rattle.pc_sheet.specs.Sizes.{values_at}
+use Rattle.pc_sheet.specs.Views.{counting_of}
+use Rattle.pc_sheet.specs.WellSorted as sorted
 use Rattle.pc_sheet.specs.WellSorted.{Variables, variable_name, declared_names, IsRange, IsOfSort, IsInteger, IsSmallNumber, AreComparable, IsWellSorted, ReadsFew, reads_in_sum, reads_in_items}
 use Rattle.pc_sheet.specs.declared.ids.SortId.{SortId}
 use Rattle.pc_sheet.specs.declared.ids.TableId.{TableId}
@@ -15,7 +17,7 @@ use Rattle.pc_sheet.specs.declared.ids.FamilyId.{FamilyId}
 use Rattle.pc_sheet.specs.declared.ids.ValueId.{ValueId}
 use Rattle.pc_elaborate.specs.declared.fault.SortFault.{SortFault}
 use Rattle.pc_elaborate.specs.declared.fault.SortFault.TheVariants.{UnknownName, DuplicateName, WrongArity, WrongSort, NotAValue, Limit}
-use Rattle.pc_sheet.specs.declared.limits.Limited.TheVariants.{Number, Depth, Reads}
+use Rattle.pc_sheet.specs.declared.limits.Limited.TheVariants.{Number, Count, Depth, Reads}
 use Rattle.pc_elaborate.specs.Elaboration.{IsSortNamed, IsTableNamed, IsFamilyNamed, TakesArguments, StandsForValue, IsItem, IsArgument, AreArguments, IsSum, IsStatement}
 use Rattle.pc_elaborate.specs.Tests.{no_test, test, part}
 
@@ -192,6 +194,10 @@ IsSortedFormula u vs f = (s : plain.Statement) × IsStatement u vs f s × IsWell
 abbrev pub HasSort : Universe → List ℕ → (SortId → SortFault → Type 0) → SortFault → Type 0
 HasSort u n Fails e = (s : SortId) × IsSortNamed u n s × Fails s e
 
+-- the number is one that a counting quantifier may have: neither none nor out of reach
+abbrev pub IsCount : Bool → ℤ → Type 0
+IsCount at_most z = (k : ℕ) × (z ≡ pos k) × sorted.IsBound (counting_of at_most k)
+
 -- the tests of a quantifier before its body
 abbrev pub IsQuantifierFault : Universe → Variables → List ℕ → List ℕ → (SortId → SortFault → Type 0) → SortFault → Type 0
 IsQuantifierFault u vs n sort Body =
@@ -210,6 +216,7 @@ abbrev mutual
   IsFormulaFault u vs (iff f g) = part (IsSortedFormula u vs f) (IsFormulaFault u vs f) (IsFormulaFault u vs g)
   IsFormulaFault u vs (for_all n sort f) = IsQuantifierFault u vs n sort (λ s. IsFormulaFault u (vs ++ (n, s) ∷ []) f)
   IsFormulaFault u vs (exists n sort f) = IsQuantifierFault u vs n sort (λ s. IsFormulaFault u (vs ++ (n, s) ∷ []) f)
+  IsFormulaFault u vs (counting m z n sort f) = test (IsCount m z) (Limit Count) (IsQuantifierFault u vs n sort (λ s. IsFormulaFault u (vs ++ (n, s) ∷ []) f))
 
   pub AreFormulasFault : Universe → Variables → tree.Formulas → SortFault → Type 0
   AreFormulasFault u vs no_part = no_test

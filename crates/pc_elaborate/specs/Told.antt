@@ -1,5 +1,5 @@
 -- What the checks of trees tell.
-use Rattle.std.specs.Prelude.{◌≡◌, ◌⊎◌, ℕ, ◌<◌, Bool, true, false, List, [], ◌∷◌, ◌++◌, All, length, map, Result, Ok, Err, Vec, Box}
+use Rattle.std.specs.Prelude.{◌≡◌, ◌⊎◌, ℕ, ℤ, pos, ◌<◌, Bool, true, false, List, [], ◌∷◌, ◌++◌, All, length, map, Result, Ok, Err, Vec, Box}
 use Rattle.std.specs.declared.alloc.Global.{Global}
 use Rattle.pc_name.specs.declared.sign.Op.{Op}
 use Rattle.pc_name.specs.declared.sign.Sign.{Sign}
@@ -9,21 +9,23 @@ use Rattle.pc_sheet.specs.Sheet as plain
 use Rattle.pc_sheet.specs.Sheet.{Universe, Statement, Values}
 use Rattle.pc_sheet.specs.Sizes.{values_at}
 use Rattle.pc_sheet.specs.Views as views
-use Rattle.pc_sheet.specs.Views.{item_of, added_of, sum_of, statement_of}
+use Rattle.pc_sheet.specs.Views.{item_of, added_of, sum_of, counting_of, statement_of}
 use Rattle.pc_sheet.specs.declared.ids.FamilyId.{FamilyId}
 use Rattle.pc_sheet.specs.declared.formula.Term.{Term}
 use Rattle.pc_sheet.specs.declared.formula.Side.{Side}
 use Rattle.pc_sheet.specs.declared.ids.SortId.{SortId}
+use Rattle.pc_sheet.specs.WellSorted as sorted
 use Rattle.pc_sheet.specs.WellSorted.{Variables, IsListed, IsRange, IsOfSort, AreOfSorts, IsInteger, IsIntegerSum, IsValueOf, IsEquality, IsNewVariable, IsWellSorted, AreWellSorted}
 use Rattle.pc_sheet.specs.declared.formula.Formula as built
 use Rattle.pc_elaborate.specs.declared.fault.SortFault.{SortFault}
 use Rattle.pc_elaborate.specs.declared.scope.Variable.{Variable}
 use Rattle.pc_elaborate.specs.declared.fault.SortFault.TheVariants.{UnknownName, DuplicateName, WrongArity, WrongSort, NotAValue, EmptySort, Limit, Memory}
+use Rattle.pc_sheet.specs.declared.limits.Limited.TheVariants.{Count}
 use Rattle.pc_elaborate.specs.declared.sides.Kind.{Kind}
 use Rattle.pc_elaborate.specs.declared.sides.Kind.TheVariants.{Integer, Listed}
 use Rattle.pc_elaborate.specs.Tests.{no_test, test}
 use Rattle.pc_elaborate.specs.Elaboration.{IsSortNamed, IsFamilyNamed, IsItem, IsArgument, AreArguments, AreAdded, IsSum, IsStatement, AreStatements}
-use Rattle.pc_elaborate.specs.FormulaFaults.{IsDeclared, IsBound, IsSomeFamily, IsItemFault, IsArgumentFault, AreArgumentsFault, IsSideItem, IsSideItemFault, AreAddedFault, AreAddedItems, IsSide, IsSideFault, IsQuantifierFault, IsFormulaFault, AreFormulasFault}
+use Rattle.pc_elaborate.specs.FormulaFaults.{IsDeclared, IsBound, IsSomeFamily, IsItemFault, IsArgumentFault, AreArgumentsFault, IsSideItem, IsSideItemFault, AreAddedFault, AreAddedItems, IsSide, IsSideFault, IsCount, IsQuantifierFault, IsFormulaFault, AreFormulasFault}
 
 -- it is one of these faults, unless memory ran out
 abbrev pub IsFaultOf : (SortFault → Type 0) → SortFault → Type 0
@@ -128,6 +130,11 @@ MayCompare (Listed s) op Integer = ⊥
 MayCompare (Listed s) op (Listed t) = IsEquality op × (s ≡ t)
 
 -- ---- quantifiers and parts
+
+-- the number of a counting quantifier is one that it may have, or that is at fault
+abbrev pub IsCountTold : Bool → ℤ → Result ℕ SortFault → Type 0
+IsCountTold m z (Ok k) = (z ≡ pos k) × sorted.IsBound (counting_of m k)
+IsCountTold m z (Err e) = test (IsCount m z) (Limit Count) no_test e
 
 -- the variable of a quantifier is new and of a declared sort, or a fault comes before the body
 abbrev pub IsVariableTold : Universe → Variables → List ℕ → List ℕ → Result SortId SortFault → Type 0

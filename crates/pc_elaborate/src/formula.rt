@@ -10,7 +10,7 @@ ghost use Rattle.pc_sheet.specs.WellSorted.{IsWellSorted};
 ghost use Rattle.pc_elaborate.specs.Elaboration.{IsStatement};
 ghost use Rattle.pc_elaborate.specs.FormulaFaults.{IsFormulaFault};
 ghost use Rattle.pc_elaborate.specs.inside.Scope.{IsScope};
-ghost use Rattle.pc_elaborate.specs.Told.{AreFormulasTold, IsBoxedTold, IsFormulaTold, IsQuantifiedTold, IsVariableTold, TellsFault, TellsStatement, variables_of};
+ghost use Rattle.pc_elaborate.specs.Told.{AreFormulasTold, IsBoxedTold, IsCountTold, IsFormulaTold, IsQuantifiedTold, IsVariableTold, TellsFault, TellsStatement, variables_of};
 ghost use Rattle.pc_elaborate.specs.declared.fault.SortFault.{SortFault};
 
 use crate::atoms::{comparison, table_atom};
@@ -19,8 +19,24 @@ use crate::names::find_sort;
 use crate::scope::{Variable, variable_named, with_variable};
 use pc_formula::FormulaTree;
 use pc_logic::{Book, Formula, Name, SortId, well_formed};
-use pc_sheet::{Limited, MOST_DEPTH};
+use pc_sheet::{Limited, MOST_COUNTED, MOST_DEPTH};
 use std::alloc::Global;
+
+/// How many values a counting quantifier asks for, where it may.
+fn count_of(at_most: bool, bound: i64) -> Result<u16, SortFault>
+    ensures { IsCountTold at_most bound result }
+{
+    let most = i64::from(MOST_COUNTED);
+    let within = if at_most {
+        0 <= bound && bound < most
+    } else {
+        1 <= bound && bound <= most
+    };
+    if !within {
+        return Err(SortFault::Limit(Limited::Count));
+    }
+    Ok(bound as u16)
+}
 
 /// The sort of a quantifier's variable, which is a new one.
 fn variable_sort(
@@ -111,6 +127,23 @@ fn formula_among<'a>(
         FormulaTree::Exists { name, sort, body } => {
             let (name, sort, body) = quantified(alloc, book, variables, name, sort, body)?;
             Ok(Formula::Exists { name, sort, body })
+        }
+        FormulaTree::Count {
+            at_most,
+            bound,
+            name,
+            sort,
+            body,
+        } => {
+            let bound = count_of(*at_most, *bound)?;
+            let (name, sort, body) = quantified(alloc, book, variables, name, sort, body)?;
+            Ok(Formula::Count {
+                at_most: *at_most,
+                bound,
+                name,
+                sort,
+                body,
+            })
         }
     }
 }

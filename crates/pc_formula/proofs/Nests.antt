@@ -1,15 +1,17 @@
 -- A formula nests no deeper than the words that it is read from.
 use Rattle.std.proofs.Common.{◌≡◌, ℕ, ◌+◌, ◌≤◌, Bool, true, false, List, [], ◌∷◌, nat_lt, cond, arith, refl, ap}
+use Rattle.std.specs.Prelude.{codes}
 use Rattle.std.proofs.lemmas.Bool.Decides.{nat_tests}
 use Rattle.std.specs.List.{sum_by}
 use Rattle.std.proofs.lemmas.List.Sums.{sum_by-cons}
 use Rattle.pc_token.specs.declared.token.Kind.TheVariants.{Not, Open, Close, Comma, Colon, Dot, Arrow, DoubleArrow, Minus}
 use Rattle.pc_name.specs.declared.sign.Sign.{Sign}
-use Rattle.pc_formula.specs.declared.words.Quantifier.{Quantifier}
-use Rattle.pc_formula.specs.declared.words.Quantifier.TheVariants.{ForAll, Exists}
+use Rattle.pc_formula.specs.declared.quantifier.Quantifier.{Quantifier}
+use Rattle.pc_formula.specs.declared.quantifier.Quantifier.TheVariants.{ForAll, Exists, Count}
 use Rattle.pc_formula.specs.Word.{Word, name, reserved, number, sign, nests, nesting}
 use Rattle.pc_formula.specs.Tree.{Item, named, items_of, Side, Formula, parts_of}
-use Rattle.pc_formula.specs.Sign.{added_sign, op_sign, quantifier_word}
+use Rattle.pc_formula.specs.Sign.{added_sign, op_sign}
+use Rattle.pc_formula.specs.Quantifier.{count_word, DerivesQuantifier, for_every, for_some, for_so_many}
 use Rattle.pc_formula.specs.Side.{DerivesItem, integer_item, bare_item, applied_item, DerivesItems, last_item, next_item, Adds, nothing_added, added, DerivesSide, a_side}
 use Rattle.pc_formula.specs.Value.{DerivesNumber, a_number, natural, negative}
 use Rattle.pc_formula.specs.Grammar.{Joint, by_or, by_and, Form, whole, iffs, imps, joined, unary, part_form, joint_sign, of_parts, quantified, IsFormula, Derives, quantifier, no_quantifier, iff_one, iff_two, imp_one, imp_two, join, negation, group, comparison, table_atom, Goes_on, no_more, one_more}
@@ -25,10 +27,6 @@ fewer w ws = omega (arith, word_nests w ws)
 
 opens : (w : Word) (ws : List Word) → nests w ≡ true → 1 + nesting ws ≤ nesting (w ∷ ws)
 opens w ws is = omega (arith, word_nests w ws, ap {B = ℕ} (λ b. cond b 1 0) is)
-
-quantifier_opens : (q : Quantifier) → nests (reserved (quantifier_word q)) ≡ true
-quantifier_opens ForAll = refl
-quantifier_opens Exists = refl
 
 -- ---- items and sides
 
@@ -92,16 +90,22 @@ of_parts_nests by_and f (g ∷ gs) = omega arith
 quantified_nests : (q : Quantifier) (variable sort : List ℕ) (f : Formula) → nesting_of (quantified q variable sort f) ≡ 1 + nesting_of f
 quantified_nests ForAll variable sort f = refl
 quantified_nests Exists variable sort f = refl
+quantified_nests (Count at_most bound) variable sort f = refl
+
+quantifier_nests : (ws : List Word) (q : Quantifier) (rest : List Word) → DerivesQuantifier ws q rest → 1 + nesting rest ≤ nesting ws
+quantifier_nests ws q rest for_every = opens (reserved (codes "forall")) rest refl
+quantifier_nests ws q rest for_some = opens (reserved (codes "exists")) rest refl
+quantifier_nests ws q rest (for_so_many {ws = there} {n = n} m d) = omega (arith, opens (reserved (count_word m)) there refl, number_nests there n rest d)
 
 mutual
   form_nests : (form : Form) (ws : List Word) (f : Formula) (rest : List Word) → Derives form ws f rest → parentheses (asked form) f + nesting_of f + nesting rest ≤ nesting ws
-  form_nests form ws h rest (quantifier {ws = there} {f = f} q variable sort d) =
+  form_nests form ws h rest (quantifier {next = there} {q = q} {f = f} variable sort e d) =
       omega (
         arith,
         none_at_zero (quantified q variable sort f),
         quantified_nests q variable sort f,
         form_nests whole there f rest d,
-        opens (reserved (quantifier_word q)) (name variable ∷ sign Colon ∷ name sort ∷ sign Dot ∷ there) (quantifier_opens q),
+        quantifier_nests ws q (name variable ∷ sign Colon ∷ name sort ∷ sign Dot ∷ there) e,
         fewer (name variable) (sign Colon ∷ name sort ∷ sign Dot ∷ there),
         fewer (sign Colon) (name sort ∷ sign Dot ∷ there),
         fewer (name sort) (sign Dot ∷ there),

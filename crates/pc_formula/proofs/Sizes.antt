@@ -4,11 +4,12 @@ use Rattle.std.proofs.lemmas.List.{length-map}
 use Rattle.pc_name.specs.declared.sign.Sign.{Sign}
 use Rattle.pc_token.specs.declared.token.Token.{Token}
 use Rattle.pc_token.specs.Token.{ReadsTokens}
-use Rattle.pc_formula.specs.declared.words.Quantifier.{Quantifier}
-use Rattle.pc_formula.specs.declared.words.Quantifier.TheVariants.{ForAll, Exists}
+use Rattle.pc_formula.specs.declared.quantifier.Quantifier.{Quantifier}
+use Rattle.pc_formula.specs.declared.quantifier.Quantifier.TheVariants.{ForAll, Exists, Count}
 use Rattle.pc_formula.specs.Word.{Word, word_of, HasWords}
 use Rattle.pc_formula.specs.Tree.{Item, Side, Formula, parts_of}
 use Rattle.pc_formula.specs.Value.{DerivesNumber, a_number, natural, negative}
+use Rattle.pc_formula.specs.Quantifier.{DerivesQuantifier, for_every, for_some, for_so_many}
 use Rattle.pc_formula.specs.Side.{DerivesItem, integer_item, bare_item, applied_item, DerivesItems, last_item, next_item, Adds, nothing_added, added, DerivesSide, a_side}
 use Rattle.pc_formula.specs.Grammar.{Joint, by_or, by_and, Form, of_parts, quantified, Derives, quantifier, no_quantifier, iff_one, iff_two, imp_one, imp_two, join, negation, group, comparison, table_atom, Goes_on, no_more, one_more}
 use Rattle.pc_formula.specs.Sized.{count_parts, too_many, IsSized, AreSized}
@@ -37,9 +38,14 @@ adds_take ws more rest (added {ws = there} {mid = mid} {i = i} {more = others} s
 side_takes : (ws : List Word) (s : Side) (rest : List Word) → DerivesSide ws s rest → length s.rest + length rest < length ws
 side_takes ws s rest (a_side {mid = mid} {i = i} {more = more} d e) = omega (arith, item_takes ws i mid d, adds_take mid more rest e)
 
+quantifier_takes : (ws : List Word) (q : Quantifier) (rest : List Word) → DerivesQuantifier ws q rest → length rest < length ws
+quantifier_takes ws q rest for_every = omega arith
+quantifier_takes ws q rest for_some = omega arith
+quantifier_takes ws q rest (for_so_many {ws = there} {n = n} m d) = omega (arith, number_takes there n rest d)
+
 mutual
   shorter : (form : Form) (ws : List Word) (f : Formula) (rest : List Word) → Derives form ws f rest → length rest < length ws
-  shorter form ws h rest (quantifier {ws = there} {f = f} q variable sort d) = omega (arith, shorter _ there f rest d)
+  shorter form ws h rest (quantifier {next = there} {q = q} {f = f} variable sort e d) = omega (arith, quantifier_takes ws q _ e, shorter _ there f rest d)
   shorter form ws f rest (no_quantifier d) = shorter _ ws f rest d
   shorter form ws f rest (iff_one d) = shorter _ ws f rest d
   shorter form ws h rest (iff_two {mid = mid} {f = f} {g = g} d e) = omega (arith, shorter _ ws f _ d, shorter _ mid g rest e)
@@ -68,10 +74,11 @@ sized_parts by_and f (g ∷ gs) one others few = (omega (arith, count_is gs), om
 sized_body : (q : Quantifier) (variable sort : List ℕ) (f : Formula) → IsSized f → IsSized (quantified q variable sort f)
 sized_body ForAll variable sort f is = is
 sized_body Exists variable sort f is = is
+sized_body (Count at_most bound) variable sort f is = is
 
 mutual
   pub sized : (form : Form) (ws : List Word) (f : Formula) (rest : List Word) → Derives form ws f rest → length ws < too_many → IsSized f
-  sized form ws h rest (quantifier {ws = there} {f = f} q variable sort d) few = sized_body q variable sort f (sized _ there f rest d (omega (arith, few)))
+  sized form ws h rest (quantifier {next = there} {q = q} {f = f} variable sort e d) few = sized_body q variable sort f (sized _ there f rest d (omega (arith, few, quantifier_takes ws q _ e)))
   sized form ws f rest (no_quantifier d) few = sized _ ws f rest d few
   sized form ws f rest (iff_one d) few = sized _ ws f rest d few
   sized form ws h rest (iff_two {mid = mid} {f = f} {g = g} d e) few = (sized _ ws f _ d few, sized _ mid g rest e (omega (arith, few, shorter _ ws f _ d)))

@@ -1,5 +1,5 @@
 -- The word of a token.
-use Rattle.std.proofs.Common.{◌≡◌, ℕ, ◌+◌, ◌-◌, ◌<◌, ◌≤◌, Bool, true, false, ◌||◌, List, [], ◌∷◌, length, get_or, drop, Option, Some, None, is_some, MatchOption, arith, refl, sym, ◌∙◌, ap, ap₂, subst, if◌then◌else◌}
+use Rattle.std.proofs.Common.{◌≡◌, ℕ, ◌+◌, ◌-◌, ◌<◌, ◌≤◌, Bool, true, false, ◌||◌, List, [], ◌∷◌, length, get_or, drop, arith, refl, sym, ◌∙◌, ap, subst, if◌then◌else◌}
 use Rattle.std.proofs.lemmas.Bool.Decides.{nat_tests}
 use Rattle.std.proofs.lemmas.List.{get_or-take, get_or-drop, length-take, length-take-le, length-drop}
 use Rattle.std.proofs.lemmas.Slice.Eq.{bytes_eq-Decides}
@@ -16,9 +16,7 @@ use Rattle.pc_name.specs.declared.sign.Op.{Op}
 use Rattle.pc_name.specs.declared.sign.Op.TheVariants as ops
 use Rattle.pc_name.specs.declared.sign.Sign.{Sign}
 use Rattle.pc_name.specs.declared.sign.Sign.TheVariants as signs
-use Rattle.pc_formula.specs.declared.words.Quantifier.{Quantifier}
-use Rattle.pc_formula.specs.declared.words.Quantifier.TheVariants.{ForAll, Exists}
-use Rattle.pc_formula.specs.Sign.{op_sign, added_sign, quantifier_word}
+use Rattle.pc_formula.specs.Sign.{op_sign, added_sign}
 
 -- ---- signs
 
@@ -172,7 +170,7 @@ short_tokens line (t ∷ ts) few =
 pub short_line : (line : List ℕ) (ws : List Word) → HasWords line ws → length line ≤ most_name_bytes → HasShortNames ws
 short_line line ws has few = subst HasShortNames (sym has.words) (short_tokens line has.tokens few)
 
--- ---- the words of quantifiers
+-- ---- reserved words
 
 reserved_choice : (a : Bool) (text other : List ℕ) → (if a then reserved text else name text) ≡ reserved other → text ≡ other
 reserved_choice true text other e = cc
@@ -183,46 +181,18 @@ from_reserved_word Name text other e = (refl, reserved_choice (is_reserved text)
 from_reserved_word Number text other e = cc
 from_reserved_word k text other e = cc
 
-reserves : (q : Quantifier) → is_reserved (quantifier_word q) ≡ true
-reserves ForAll = refl
-reserves Exists = refl
-
-pub other_no_quantifier : (line : List ℕ) (t : Token) → (t.kind ≡ Name → ⊥) → (q : Quantifier) → word_of line t ≡ reserved (quantifier_word q) → ⊥
-other_no_quantifier line t other q is = other (from_reserved_word t.kind (slice_range line t.start t.end) (quantifier_word q) is).0
-
-pub quantifier_is : (line : List ℕ) (t : Token) (text : List ℕ) (q : Quantifier) → text ≡ slice_range line t.start t.end → t.kind ≡ Name → text ≡ quantifier_word q → word_of line t ≡ reserved (quantifier_word q)
-quantifier_is line t text q slice kind is =
-    ap (λ k. word k (slice_range line t.start t.end)) kind ∙ ap name_word (sym slice ∙ is) ∙ chosen (is_reserved (quantifier_word q)) true (quantifier_word q) (reserves q)
-
-pub no_quantifier_is : (line : List ℕ) (t : Token) (text : List ℕ) → text ≡ slice_range line t.start t.end → ((q : Quantifier) → text ≡ quantifier_word q → ⊥) → (q : Quantifier) → word_of line t ≡ reserved (quantifier_word q) → ⊥
-no_quantifier_is line t text slice none q is = none q (slice ∙ (from_reserved_word t.kind (slice_range line t.start t.end) (quantifier_word q) is).1)
+pub no_reserved : (line : List ℕ) (t : Token) → (t.kind ≡ Name → ⊥) → (text : List ℕ) → word_of line t ≡ reserved text → ⊥
+no_reserved line t other text is = other (from_reserved_word t.kind (slice_range line t.start t.end) text is).0
 
 -- ---- the words at which a formula goes a level down
 
-quantifier_nests : (q : Quantifier) → nests (reserved (quantifier_word q)) ≡ true
-quantifier_nests ForAll = refl
-quantifier_nests Exists = refl
+choice_nests : (a : Bool) (text : List ℕ) → nests (if a then reserved text else name text) ≡ a
+choice_nests true text = refl
+choice_nests false text = refl
 
-no_true : (b : Bool) → (b ≡ true → ⊥) → b ≡ false
-no_true true absent = absurd (absent refl)
-no_true false absent = refl
-
-name_nests_not : (a : Bool) (text : List ℕ) → ((q : Quantifier) → (if a then reserved text else name text) ≡ reserved (quantifier_word q) → ⊥) → nests (if a then reserved text else name text) ≡ false
-name_nests_not false text none = refl
-name_nests_not true text none =
-    let first = no_true (bytes_eq text (codes "forall")) (λ yes. none ForAll (ap reserved ((bytes_eq-Decides text (codes "forall")).0 yes))) in
-    let second = no_true (bytes_eq text (codes "exists")) (λ yes. none Exists (ap reserved ((bytes_eq-Decides text (codes "exists")).0 yes))) in
-    ap₂ (λ p q. p || q) first second
-
-pub name_nests : (line : List ℕ) (t : Token) (r : Option Quantifier) → t.kind ≡ Name → MatchOption r ((q : Quantifier) → word_of line t ≡ reserved (quantifier_word q) → ⊥) (λ q. word_of line t ≡ reserved (quantifier_word q)) → is_some r ≡ nests (word_of line t)
-name_nests line t (Some q) kind is = sym (ap nests is ∙ quantifier_nests q)
-name_nests line t None kind none =
-    let named : word_of line t ≡ name_word (slice_range line t.start t.end) = ap (λ k. word k (slice_range line t.start t.end)) kind in
-    sym (ap nests named ∙ name_nests_not (is_reserved (slice_range line t.start t.end)) (slice_range line t.start t.end) (λ q is. none q (named ∙ is)))
-
-pub quantifier_match : (line : List ℕ) (t : Token) (text : List ℕ) (r : Option Quantifier) → text ≡ slice_range line t.start t.end → t.kind ≡ Name → MatchOption r ((q : Quantifier) → text ≡ quantifier_word q → ⊥) (λ q. text ≡ quantifier_word q) → MatchOption r ((q : Quantifier) → word_of line t ≡ reserved (quantifier_word q) → ⊥) (λ q. word_of line t ≡ reserved (quantifier_word q))
-quantifier_match line t text (Some q) slice kind is = quantifier_is line t text q slice kind is
-quantifier_match line t text None slice kind none = no_quantifier_is line t text slice none
+pub name_nests : (line : List ℕ) (t : Token) (text : List ℕ) → text ≡ slice_range line t.start t.end → t.kind ≡ Name → nests (word_of line t) ≡ is_reserved text
+name_nests line t text slice kind =
+    ap (λ k. nests (word k (slice_range line t.start t.end))) kind ∙ choice_nests (is_reserved (slice_range line t.start t.end)) (slice_range line t.start t.end) ∙ ap is_reserved (sym slice)
 
 pub sign_nests : (line : List ℕ) (t : Token) (k : Kind) → IsSign k → t.kind ≡ k → nests (word_of line t) ≡ nests (sign k)
 sign_nests line t k is same = ap nests (is_the_sign line t k is same)

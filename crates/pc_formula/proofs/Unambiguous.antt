@@ -49,9 +49,9 @@ reads_side ws s rest (a_side {mid = mid} {i = i} {more = more} d e) stops =
 
 mutual
   pub reads : (form : Form) (ws : List Word) (f : Formula) (rest : List Word) → Derives form ws f rest → StopsLevel (level form) rest → Reads (Derives form) (level form) ws f rest
-  reads form ws h rest (quantifier {ws = there} {f = f} q variable sort d) stops =
-      quantified_reads ws (name variable ∷ sign Colon ∷ name sort ∷ sign Dot ∷ there) q refl variable sort there refl f rest (reads whole there f rest d stops)
-  reads form ws f rest (no_quantifier d) stops = plain_reads ws (λ q more is. unreserved iffs ws f rest d (λ e. cc) _ more is) f rest (reads iffs ws f rest d stops)
+  reads form ws h rest (quantifier {next = there} {q = q} {f = f} variable sort e d) stops =
+      quantified_reads ws (name variable ∷ sign Colon ∷ name sort ∷ sign Dot ∷ there) q e variable sort there refl f rest (reads whole there f rest d stops)
+  reads form ws f rest (no_quantifier d) stops = plain_reads ws (unreserved iffs ws f rest d (λ e. cc)) f rest (reads iffs ws f rest d stops)
   reads form ws f rest (iff_one d) stops = iff_reads_one ws f rest (reads imps ws f rest d (weaken 6 7 rest (omega arith) stops)) (not_first 7 _ rest stops (omega arith))
   reads form ws h rest (iff_two {mid = mid} {f = f} {g = g} d e) stops =
       iff_reads_two ws f g mid rest (reads imps ws f (sign _ ∷ mid) d (imp_stops mid)) (reads imps mid g rest e (weaken 6 7 rest (omega arith) stops)) (not_first 7 _ rest stops (omega arith))

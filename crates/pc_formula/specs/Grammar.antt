@@ -3,11 +3,12 @@ use Rattle.std.specs.Prelude.{◌≡◌, ℕ, List, [], ◌∷◌}
 use Rattle.pc_name.specs.declared.sign.Op.{Op}
 use Rattle.pc_token.specs.declared.token.Kind.{Kind}
 use Rattle.pc_token.specs.declared.token.Kind.TheVariants.{Not, And, Or, Arrow, DoubleArrow, Open, Close, Colon, Dot}
-use Rattle.pc_formula.specs.declared.words.Quantifier.{Quantifier}
-use Rattle.pc_formula.specs.declared.words.Quantifier.TheVariants.{ForAll, Exists}
-use Rattle.pc_formula.specs.Word.{Word, name, reserved, sign}
-use Rattle.pc_formula.specs.Tree.{Item, Side, Formula, for_all, exists, iff, implies, or, and, not, compare, in_table, named, items_of, parts_of}
-use Rattle.pc_formula.specs.Sign.{op_sign, quantifier_word}
+use Rattle.pc_formula.specs.declared.quantifier.Quantifier.{Quantifier}
+use Rattle.pc_formula.specs.declared.quantifier.Quantifier.TheVariants.{ForAll, Exists, Count}
+use Rattle.pc_formula.specs.Word.{Word, name, sign}
+use Rattle.pc_formula.specs.Tree.{Item, Side, Formula, for_all, exists, counting, iff, implies, or, and, not, compare, in_table, named, items_of, parts_of}
+use Rattle.pc_formula.specs.Sign.{op_sign}
+use Rattle.pc_formula.specs.Quantifier.{DerivesQuantifier}
 use Rattle.pc_formula.specs.Side.{DerivesItems, DerivesSide}
 
 -- the two forms that join parts by a sign
@@ -56,12 +57,13 @@ of_parts j fs = joint j fs
 abbrev pub quantified : Quantifier → List ℕ → List ℕ → Formula → Formula
 quantified ForAll variable sort f = for_all variable sort f
 quantified Exists variable sort f = exists variable sort f
+quantified (Count at_most bound) variable sort f = counting at_most bound variable sort f
 
 mutual
   -- the form derives the front of the words as the formula, and leaves the rest
   pub data Derives : Form → List Word → Formula → List Word → Type 0 where
-    -- FORMULA = forall NAME : NAME . FORMULA | exists NAME : NAME . FORMULA | IFF
-    quantifier : {ws rest : List Word} {f : Formula} (q : Quantifier) (variable sort : List ℕ) → Derives whole ws f rest → Derives whole (reserved (quantifier_word q) ∷ name variable ∷ sign Colon ∷ name sort ∷ sign Dot ∷ ws) (quantified q variable sort f) rest
+    -- FORMULA = QUANTIFIER NAME : NAME . FORMULA | IFF
+    quantifier : {ws next rest : List Word} {q : Quantifier} {f : Formula} (variable sort : List ℕ) → DerivesQuantifier ws q (name variable ∷ sign Colon ∷ name sort ∷ sign Dot ∷ next) → Derives whole next f rest → Derives whole ws (quantified q variable sort f) rest
     no_quantifier : {ws rest : List Word} {f : Formula} → Derives iffs ws f rest → Derives whole ws f rest
     -- IFF = IMP [ <-> IMP ]
     iff_one : {ws rest : List Word} {f : Formula} → Derives imps ws f rest → Derives iffs ws f rest

@@ -1,7 +1,9 @@
+pub mod Counted
 pub mod Equation
 pub mod Front
 pub mod Grammar
 pub mod Nesting
+pub mod Quantifier
 pub mod Side
 pub mod Sign
 pub mod Sized

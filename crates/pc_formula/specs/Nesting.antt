@@ -1,7 +1,7 @@
 -- How many words of a formula's shortest text let it nest: opening parentheses, `!`, `->` and the words of quantifiers.
 use Rattle.std.specs.Prelude.{ℕ, ◌+◌, nat_lt, sum_by, cond}
 use Rattle.pc_name.specs.declared.sign.Sign.{Sign}
-use Rattle.pc_formula.specs.Tree.{Item, integer, named, Items, no_item, one_item, items_of, Side, Formula, for_all, exists, iff, implies, or, and, not, compare, in_table, Formulas, no_part, part}
+use Rattle.pc_formula.specs.Tree.{Item, integer, named, Items, no_item, one_item, items_of, Side, Formula, for_all, exists, counting, iff, implies, or, and, not, compare, in_table, Formulas, no_part, part}
 
 -- arguments open one parenthesis
 abbrev mutual
@@ -31,6 +31,7 @@ tightness (implies f g) = 2
 tightness (iff f g) = 1
 tightness (for_all n s f) = 0
 tightness (exists n s f) = 0
+tightness (counting m k n s f) = 0
 
 -- one parenthesis where a formula binds less tightly than its place asks
 abbrev pub parentheses : ℕ → Formula → ℕ
@@ -47,6 +48,7 @@ abbrev mutual
   nesting_of (iff f g) = parentheses 2 f + nesting_of f + (parentheses 2 g + nesting_of g)
   nesting_of (for_all n s f) = 1 + nesting_of f
   nesting_of (exists n s f) = 1 + nesting_of f
+  nesting_of (counting m k n s f) = 1 + nesting_of f
 
   pub nesting_of_parts : ℕ → Formulas → ℕ
   nesting_of_parts asked no_part = 0

@@ -1,6 +1,6 @@
 -- How many parts formulas have.
 use Rattle.std.specs.Prelude.{ℕ, ◌+◌, ◌<◌, ◌≤◌, length}
-use Rattle.pc_formula.specs.Tree.{Side, Formula, for_all, exists, iff, implies, or, and, not, compare, in_table, Formulas, no_part, part}
+use Rattle.pc_formula.specs.Tree.{Side, Formula, for_all, exists, counting, iff, implies, or, and, not, compare, in_table, Formulas, no_part, part}
 
 -- how many formulas these are
 abbrev pub count_parts : Formulas → ℕ
@@ -20,6 +20,7 @@ abbrev mutual
   pub IsSized : Formula → Type 0
   IsSized (for_all n s f) = IsSized f
   IsSized (exists n s f) = IsSized f
+  IsSized (counting m k n s f) = IsSized f
   IsSized (iff f g) = IsSized f × IsSized g
   IsSized (implies f g) = IsSized f × IsSized g
   IsSized (or fs) = (2 ≤ count_parts fs) × (count_parts fs < too_many) × AreSized fs

@@ -1,5 +1,5 @@
 -- Formulas, cells and values, as plain data, and what a tree stands for.
-use Rattle.std.specs.Prelude.{ℕ, ℤ, List, [], ◌∷◌, map}
+use Rattle.std.specs.Prelude.{ℕ, ℤ, Bool, List, [], ◌∷◌, map}
 use Rattle.pc_name.specs.declared.sign.Op.{Op}
 use Rattle.pc_name.specs.declared.sign.Sign.{Sign}
 use Rattle.pc_formula.specs.declared.tree.ValueTree.{ValueTree}
@@ -38,6 +38,8 @@ mutual
   pub data Formula : Type 0 where
     for_all : List ℕ → List ℕ → Formula → Formula
     exists : List ℕ → List ℕ → Formula → Formula
+    -- at most, or else at least, so many values
+    counting : Bool → ℤ → List ℕ → List ℕ → Formula → Formula
     iff : Formula → Formula → Formula
     implies : Formula → Formula → Formula
     or : Formulas → Formula
@@ -87,6 +89,7 @@ side_of t = record { first = item_of t.first; rest = map added_of t.rest.items }
 abbrev pub formula_step : FormulaTree-F Formula → Formula
 formula_step (FormulaTree-F.ForAll name sort body) = for_all name sort body.value
 formula_step (FormulaTree-F.Exists name sort body) = exists name sort body.value
+formula_step (FormulaTree-F.Count at_most bound name sort body) = counting at_most bound name sort body.value
 formula_step (FormulaTree-F.Iff a b) = iff a.value b.value
 formula_step (FormulaTree-F.Implies a b) = implies a.value b.value
 formula_step (FormulaTree-F.Or v) = or (parts_of v.items)

@@ -1,5 +1,5 @@
 -- The words of a line, as the grammar sees them.
-use Rattle.std.specs.Prelude.{◌≡◌, ℕ, ◌≤◌, Bool, true, false, ◌||◌, List, ◌∷◌, length, map, slice_range, count_by, codes, bytes_eq, if◌then◌else◌}
+use Rattle.std.specs.Prelude.{◌≡◌, ℕ, ◌≤◌, Bool, true, false, List, ◌∷◌, length, map, slice_range, count_by, if◌then◌else◌}
 use Rattle.std.specs.List.{AllByRecursion}
 use Rattle.pc_name.specs.Names.{is_reserved, most_name_bytes}
 use Rattle.pc_token.specs.declared.token.Kind.{Kind}
@@ -47,12 +47,12 @@ IsShort w = Unit {0}
 abbrev pub HasShortNames : List Word → Type 0
 HasShortNames ws = AllByRecursion IsShort ws
 
--- at these words a formula goes a level down
+-- at these words a formula goes a level down; each reserved word starts a quantifier
 abbrev pub nests : Word → Bool
 nests (sign Open) = true
 nests (sign Not) = true
 nests (sign Arrow) = true
-nests (reserved text) = bytes_eq text (codes "forall") || bytes_eq text (codes "exists")
+nests (reserved text) = true
 nests w = false
 
 -- at how many of the words a formula goes a level down
@@ -77,6 +77,10 @@ NotFirst k ws = (more : List Word) → ws ≡ sign k ∷ more → ⊥
 abbrev pub NoName : List Word → Type 0
 NoName ws = (text : List ℕ) (more : List Word) → ws ≡ name text ∷ more → ⊥
 
+-- the first word is no reserved one
+abbrev pub NotReserved : List Word → Type 0
+NotReserved ws = (text : List ℕ) (more : List Word) → ws ≡ reserved text ∷ more → ⊥
+
 -- the first word is no number
 abbrev pub NoNumber : List Word → Type 0
 NoNumber ws = (digits : List ℕ) (more : List Word) → ws ≡ number digits ∷ more → ⊥
@@ -89,6 +93,10 @@ TakesSign k old false new = (new ≡ old) × NotFirst k old
 -- the first word is no name, and nothing is taken
 abbrev pub HasNoName : List Word → List Word → Type 0
 HasNoName old new = (new ≡ old) × NoName old
+
+-- the first word is no reserved one, and nothing is taken
+abbrev pub HasNotReserved : List Word → List Word → Type 0
+HasNotReserved old new = (new ≡ old) × NotReserved old
 
 -- the first word is no number, and nothing is taken
 abbrev pub HasNoNumber : List Word → List Word → Type 0

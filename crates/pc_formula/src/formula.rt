@@ -9,22 +9,22 @@ ghost use Rattle.pc_formula.specs.Front.{Reads, ReadsNone};
 ghost use Rattle.pc_formula.specs.Grammar.{whole, iffs, imps, joined, by_or, by_and, unary, quantified, IsTableAtom, Derives};
 
 use crate::items::side;
+use crate::quantifier::{Quantifier, read_quantifier};
 use crate::refusal::Refusal;
 use crate::tree::{FormulaTree, ItemTree, SideTree};
-use crate::words::{Quantifier, Words};
+use crate::words::Words;
 use pc_name::Name;
 use pc_token::Kind;
 use std::alloc::Global;
 
-/// Reads FORMULA = forall NAME : NAME . FORMULA | exists NAME : NAME . FORMULA | IFF: the longest front of the words
-/// that is one.
+/// Reads FORMULA = QUANTIFIER NAME : NAME . FORMULA | IFF: the longest front of the words that is one.
 #[cycle(formula)]
 pub fn read_formula(alloc: Global, words: &mut Words<'_>) -> Result<FormulaTree, Refusal>
     ensures ok { IfOk result (λ t. Reads (Derives whole) 7 words.old (formula_of t) words.new) }
     ensures shorter { OnOk result (length words.new < length words.old) }
     ensures err { result ≡ Err Refusal.Syntax → ReadsNone (Derives whole) 7 words.old }
 {
-    let Some(quantifier) = words.take_quantifier() else {
+    let Some(quantifier) = read_quantifier(words)? else {
         return iff(alloc, words);
     };
     let (variable, sort) = binder(alloc, words)?;
@@ -170,7 +170,7 @@ fn table_atom(side: SideTree) -> Result<FormulaTree, Refusal>
     Ok(FormulaTree::InTable { table, args })
 }
 
-// Reads NAME : NAME `.`, behind a quantifier's word: its variable and its sort.
+// Reads NAME : NAME `.`, behind QUANTIFIER: its variable and its sort.
 fn binder(alloc: Global, words: &mut Words<'_>) -> Result<(Name, Name), Refusal>
     ensures ok { IfOk result (λ p. words.old ≡ name p.0 ∷ sign Kind.Colon ∷ name p.1 ∷ sign Kind.Dot ∷ words.new) }
     ensures err { result ≡ Err Refusal.Syntax → (variable sort : List ℕ) (more : List Word) → words.old ≡ name variable ∷ sign Kind.Colon ∷ name sort ∷ sign Kind.Dot ∷ more → ⊥ }
@@ -199,5 +199,12 @@ fn quantified(quantifier: Quantifier, name: Name, sort: Name, body: Box<FormulaT
     match quantifier {
         Quantifier::ForAll => FormulaTree::ForAll { name, sort, body },
         Quantifier::Exists => FormulaTree::Exists { name, sort, body },
+        Quantifier::Count { at_most, bound } => FormulaTree::Count {
+            at_most,
+            bound,
+            name,
+            sort,
+            body,
+        },
     }
 }

@@ -14,6 +14,14 @@ pub enum FormulaTree {
         sort: Name,
         body: Box<FormulaTree>,
     },
+    /// At most, or else at least, `bound` values of the sort make the body true.
+    Count {
+        at_most: bool,
+        bound: i64,
+        name: Name,
+        sort: Name,
+        body: Box<FormulaTree>,
+    },
     Iff(Box<FormulaTree>, Box<FormulaTree>),
     Implies(Box<FormulaTree>, Box<FormulaTree>),
     Or(Vec<FormulaTree>),

@@ -1,12 +1,12 @@
 // The words of a line, read from the left.
-ghost use Rattle.std.specs.Prelude.{◌≡◌, ◌↔◌, ◌<◌, ◌≤◌, ℕ, List, [], ◌∷◌, length, IsTrue, MatchOption};
+ghost use Rattle.std.specs.Prelude.{◌≡◌, ◌↔◌, ◌<◌, ◌≤◌, ℕ, true, List, [], ◌∷◌, length, IsTrue, MatchOption};
 ghost use Rattle.std.specs.List.{AllByRecursion};
 ghost use Rattle.std.specs.Str.Parse.{IsNumeral};
-ghost use Rattle.pc_name.specs.Names.{IsName};
+ghost use Rattle.pc_name.specs.Names.{is_reserved, IsName};
 ghost use Rattle.pc_token.specs.Token.{IsTokenOf};
-ghost use Rattle.pc_formula.specs.Word.{name, reserved, number, sign, word_of, words_of, IsShort, HasShortNames, nests, nesting, IsSign, TakesSign, NotFirst, HasNoName, HasNoNumber};
+ghost use Rattle.pc_formula.specs.Word.{name, reserved, number, sign, word_of, words_of, IsShort, HasShortNames, nests, nesting, IsSign, TakesSign, NotFirst, HasNoName, HasNotReserved, HasNoNumber};
 ghost use Rattle.pc_formula.specs.Front.{reach, StopsLevel};
-ghost use Rattle.pc_formula.specs.Sign.{op_sign, added_sign, quantifier_word, NotQuantified};
+ghost use Rattle.pc_formula.specs.Sign.{op_sign, added_sign};
 
 use pc_name::{Op, Sign, is_reserved};
 use pc_token::{Kind, Token};
@@ -77,6 +77,16 @@ impl<'a> Words<'a> {
         Some(text)
     }
 
+    /// Takes the first word, where it is a reserved one.
+    pub fn take_reserved(&mut self) -> Option<&'a str>
+        ensures { MatchOption result (HasNotReserved self.old self.new) (λ text. (self.old ≡ reserved text.now ∷ self.new) × (is_reserved text.now ≡ true)) }
+    {
+        let (first, rest) = self.tokens.split_first()?;
+        let text = reserved_of(self.line, *first)?;
+        self.tokens = rest;
+        Some(text)
+    }
+
     /// Takes the first word, where it is a number, of at most 18 digits.
     pub fn take_number(&mut self) -> Option<&'a str>
         ensures { MatchOption result (HasNoNumber self.old self.new) (λ digits. (self.old ≡ number digits.now ∷ self.new) × IsNumeral 10 digits.now × (length digits.now ≤ 18)) }
@@ -85,16 +95,6 @@ impl<'a> Words<'a> {
         let digits = number_of(self.line, *first)?;
         self.tokens = rest;
         Some(digits)
-    }
-
-    /// Takes the first word, where it starts a quantifier.
-    pub fn take_quantifier(&mut self) -> Option<Quantifier>
-        ensures { MatchOption result ((self.new ≡ self.old) × NotQuantified self.old) (λ q. self.old ≡ reserved (quantifier_word q) ∷ self.new) }
-    {
-        let (first, rest) = self.tokens.split_first()?;
-        let quantifier = quantifier_of(self.line, *first)?;
-        self.tokens = rest;
-        Some(quantifier)
     }
 
     /// Takes the first word, where it is the sign of a comparison.
@@ -128,19 +128,12 @@ impl<'a> Words<'a> {
         }
     }
 
-    /// At how many of the words a formula goes a level down: `(`, `!`, `->`, `forall` and `exists`.
+    /// At how many of the words a formula goes a level down: `(`, `!`, `->` and the words that start quantifiers.
     pub fn nesting(&self) -> usize
         ensures { result ≡ nesting self.now }
     {
         nesting(self.line, self.tokens)
     }
-}
-
-/// The words that start a quantifier.
-#[derive(Clone, Copy, Debug, PartialEq, Eq)]
-pub enum Quantifier {
-    ForAll,
-    Exists,
 }
 
 /// Whether each name among the words of the tokens is no longer than a name may be.
@@ -199,6 +192,21 @@ fn name_of<'a>(line: &'a str, token: Token) -> Option<&'a str>
     Some(text)
 }
 
+// The reserved word that the token is.
+fn reserved_of<'a>(line: &'a str, token: Token) -> Option<&'a str>
+    requires { IsTokenOf line.now token }
+    ensures { MatchOption result ((text : List ℕ) → word_of line.now token ≡ reserved text → ⊥) (λ text. (word_of line.now token ≡ reserved text.now) × (is_reserved text.now ≡ true)) }
+{
+    if token.kind != Kind::Name {
+        return None;
+    }
+    let text = &line[token.start..token.end];
+    if !is_reserved(text) {
+        return None;
+    }
+    Some(text)
+}
+
 // The digits of the number that the token is.
 fn number_of<'a>(line: &'a str, token: Token) -> Option<&'a str>
     requires { IsTokenOf line.now token }
@@ -208,29 +216,6 @@ fn number_of<'a>(line: &'a str, token: Token) -> Option<&'a str>
         return None;
     }
     Some(&line[token.start..token.end])
-}
-
-// The quantifier that the token starts.
-fn quantifier_of(line: &str, token: Token) -> Option<Quantifier>
-    requires { IsTokenOf line.now token }
-    ensures { MatchOption result ((q : Quantifier) → word_of line.now token ≡ reserved (quantifier_word q) → ⊥) (λ q. word_of line.now token ≡ reserved (quantifier_word q)) }
-{
-    if token.kind != Kind::Name {
-        return None;
-    }
-    quantifier_named(&line[token.start..token.end])
-}
-
-fn quantifier_named(text: &str) -> Option<Quantifier>
-    ensures { MatchOption result ((q : Quantifier) → text.now ≡ quantifier_word q → ⊥) (λ q. text.now ≡ quantifier_word q) }
-{
-    if text == "forall" {
-        return Some(Quantifier::ForAll);
-    }
-    if text == "exists" {
-        return Some(Quantifier::Exists);
-    }
-    None
 }
 
 // At how many of the tokens a formula goes a level down.
@@ -256,7 +241,7 @@ fn nests(line: &str, token: Token) -> bool
 {
     match token.kind {
         Kind::Open | Kind::Not | Kind::Arrow => true,
-        Kind::Name => quantifier_of(line, token).is_some(),
+        Kind::Name => is_reserved(&line[token.start..token.end]),
         _ => false,
     }
 }

@@ -5,7 +5,7 @@ use Rattle.std.specs.List.{list_any}
 use Rattle.std.specs.Str.Lines.{lines}
 use Rattle.pc_syntax.specs.Tree.{Declared}
 use Rattle.pc_syntax.specs.Line.{LineForm, nothing, heading, declares, begins}
-use Rattle.pc_syntax.specs.Sheet.{is_rule, is_rule_line, is_of_universe, is_also, is_second, is_open, AreStanding, declared_from, sheet, IsSheetReading, whole, HasNoUniverse, HasUniverseFirst}
+use Rattle.pc_syntax.specs.Sheet.{is_rule, is_rule_line, is_of_universe, is_of_second, is_second, is_open, AreStanding, declared_from, sheet, IsSheetReading, whole, HasNoUniverse, HasUniverseFirst}
 use Rattle.pc_syntax.proofs.Parts.{grown}
 
 or_true : (a : Bool) → (a || true) ≡ true
@@ -24,7 +24,7 @@ behind_rule n before [] [] rules standing = tt
 behind_rule n before [] (f ∷ fs) rules standing = absurd standing
 behind_rule n before (l ∷ ls) [] rules standing = absurd standing
 behind_rule n before (l ∷ ls) (declares d ∷ fs) rules standing =
-    (ruled_out (is_open before) (is_of_universe d) (list_any is_rule_line before) (not (is_also d) || list_any is_second before) standing.1 rules, behind_rule (n + 1) (before ++ declares d ∷ []) ls fs (grown is_rule_line before (declares d) true (is_rule d) rules refl) standing.2)
+    (ruled_out (is_open before) (is_of_universe d) (list_any is_rule_line before) (not (is_of_second d) || list_any is_second before) standing.1 rules, behind_rule (n + 1) (before ++ declares d ∷ []) ls fs (grown is_rule_line before (declares d) true (is_rule d) rules refl) standing.2)
 behind_rule n before (l ∷ ls) (nothing ∷ fs) rules standing = behind_rule (n + 1) (before ++ nothing ∷ []) ls fs (grown is_rule_line before nothing true false rules refl) standing.2
 behind_rule n before (l ∷ ls) (heading v ∷ fs) rules standing = behind_rule (n + 1) (before ++ heading v ∷ []) ls fs (grown is_rule_line before (heading v) true false rules refl) standing.2
 behind_rule n before (l ∷ ls) (begins ∷ fs) rules standing = behind_rule (n + 1) (before ++ begins ∷ []) ls fs (grown is_rule_line before begins true false rules refl) standing.2

@@ -11,8 +11,8 @@ use Rattle.pc_syntax.specs.declared.sheet.Version.TheVariants.{First, Second}
 use Rattle.pc_syntax.specs.Tree.{Declared}
 use Rattle.pc_syntax.specs.Fault.{syntax, wrong_version}
 use Rattle.pc_syntax.specs.Line.{LineForm, nothing, heading, declares, begins}
-use Rattle.pc_syntax.specs.Sheet.{is_heading, is_begin, is_rule, is_rule_line, is_of_universe, is_also, is_version, is_second, is_open, may_stand, misplacement}
-use Rattle.pc_syntax.specs.Part.{has_also, IsPartBehind, is_too_new, next_part, misplaced}
+use Rattle.pc_syntax.specs.Sheet.{is_heading, is_begin, is_rule, is_rule_line, is_of_universe, is_of_second, is_version, is_second, is_open, may_stand, misplacement}
+use Rattle.pc_syntax.specs.Part.{is_second_version, IsPartBehind, is_too_new, next_part, misplaced}
 
 -- ---- one line more
 
@@ -30,8 +30,8 @@ version_stays before f s one other = grown is_second before f s false one other 
 -- a line that tells no part from another
 kept : (p : Part) (before : List LineForm) (f : LineForm) → is_heading f ≡ false → is_begin f ≡ false → is_rule_line f ≡ false → is_second f ≡ false → IsPartBehind p before → IsPartBehind p (before ++ f ∷ [])
 kept Heading before f h b r s is = (grown is_heading before f false false is.0 h, grown is_begin before f false false is.1 b, grown is_rule_line before f false false is.2 r, grown is_second before f false false is.3 s)
-kept (Universe v) before f h b r s is = (grown is_heading before f true false is.0 h, grown is_begin before f false false is.1 b, grown is_rule_line before f false false is.2 r, version_stays before f (has_also v) is.3 s)
-kept (Rules v) before f h b r s is = (grown is_heading before f true false is.0 h, grown is_begin before f false false is.1 b, grown is_rule_line before f true false is.2 r, version_stays before f (has_also v) is.3 s)
+kept (Universe v) before f h b r s is = (grown is_heading before f true false is.0 h, grown is_begin before f false false is.1 b, grown is_rule_line before f false false is.2 r, version_stays before f (is_second_version v) is.3 s)
+kept (Rules v) before f h b r s is = (grown is_heading before f true false is.0 h, grown is_begin before f false false is.1 b, grown is_rule_line before f true false is.2 r, version_stays before f (is_second_version v) is.3 s)
 kept End before f h b r s is = (grown is_heading before f true false is.0 h, grown is_begin before f true false is.1 b)
 
 -- ---- where a line may stand
@@ -51,9 +51,9 @@ opens before h b one other = ap₂ (λ x y. x && not y) one other
 heads : (before : List LineForm) (n : ℕ) (h t : Bool) → list_any is_heading before ≡ h → is_version n ≡ t → may_stand before (heading n) ≡ (not h && t)
 heads before n h t one other = ap₂ (λ x y. not x && y) one other
 
-declared_there : (before : List LineForm) (d : Declared) (o u r s : Bool) → is_open before ≡ o → is_of_universe d ≡ u → list_any is_rule_line before ≡ r → list_any is_second before ≡ s → may_stand before (declares d) ≡ (o && ((not u || not r) && (not (is_also d) || s)))
+declared_there : (before : List LineForm) (d : Declared) (o u r s : Bool) → is_open before ≡ o → is_of_universe d ≡ u → list_any is_rule_line before ≡ r → list_any is_second before ≡ s → may_stand before (declares d) ≡ (o && ((not u || not r) && (not (is_of_second d) || s)))
 declared_there before d o u r s open_is universe rules second =
-    ap₂ (λ x y. x && y) open_is (ap₂ (λ x y. x && y) (ap₂ (λ x y. not x || not y) universe rules) (ap (λ y. not (is_also d) || y) second))
+    ap₂ (λ x y. x && y) open_is (ap₂ (λ x y. x && y) (ap₂ (λ x y. not x || not y) universe rules) (ap (λ y. not (is_of_second d) || y) second))
 
 -- no number is two versions
 one_version : (n : ℕ) → (n == 1) ≡ true → (n == 2) ≡ true → ⊥
@@ -104,8 +104,8 @@ too_new false s is = cc
 
 universe_may : (before : List LineForm) (d : Declared) (v : Version) → IsPartBehind (Universe v) before → is_too_new v d ≡ false → may_stand before (declares d) ≡ true
 universe_may before d v is fits =
-    declared_there before d true (is_of_universe d) false (has_also v) (opens before true false is.0 is.1) refl is.2 is.3
-    ∙ both (not (is_of_universe d) || true) (not (is_also d) || has_also v) (either (is_of_universe d)) (new_enough (is_also d) (has_also v) fits)
+    declared_there before d true (is_of_universe d) false (is_second_version v) (opens before true false is.0 is.1) refl is.2 is.3
+    ∙ both (not (is_of_universe d) || true) (not (is_of_second d) || is_second_version v) (either (is_of_universe d)) (new_enough (is_of_second d) (is_second_version v) fits)
 
 universe_stands : (before : List LineForm) (d : Declared) (v : Version) (q : Part) (w t : Bool) → IsPartBehind (Universe v) before → is_too_new v d ≡ w → is_rule d ≡ t → (if w then None else (if t then Some (Rules v) else Some (Universe v))) ≡ Some q → Stands q before (declares d)
 universe_stands before d v q true t is fits rules goes = cc
@@ -113,13 +113,13 @@ universe_stands before d v q false true is fits rules goes =
     let same : Rules v ≡ q = cc in
     subst (λ p. Stands p before (declares d)) same (record {
       may = universe_may before d v is fits;
-      part = (grown is_heading before (declares d) true false is.0 refl, grown is_begin before (declares d) false false is.1 refl, grown is_rule_line before (declares d) false true is.2 rules, version_stays before (declares d) (has_also v) is.3 refl);
+      part = (grown is_heading before (declares d) true false is.0 refl, grown is_begin before (declares d) false false is.1 refl, grown is_rule_line before (declares d) false true is.2 rules, version_stays before (declares d) (is_second_version v) is.3 refl);
     })
 universe_stands before d v q false false is fits rules goes =
     let same : Universe v ≡ q = cc in
     subst (λ p. Stands p before (declares d)) same (record {
       may = universe_may before d v is fits;
-      part = (grown is_heading before (declares d) true false is.0 refl, grown is_begin before (declares d) false false is.1 refl, grown is_rule_line before (declares d) false false is.2 rules, version_stays before (declares d) (has_also v) is.3 refl);
+      part = (grown is_heading before (declares d) true false is.0 refl, grown is_begin before (declares d) false false is.1 refl, grown is_rule_line before (declares d) false false is.2 rules, version_stays before (declares d) (is_second_version v) is.3 refl);
     })
 
 rule_stands : (before : List LineForm) (d : Declared) (v : Version) (q : Part) (w t : Bool) → IsPartBehind (Rules v) before → is_too_new v d ≡ w → is_of_universe d ≡ t → (if w then None else (if t then None else Some (Rules v))) ≡ Some q → Stands q before (declares d)
@@ -128,8 +128,8 @@ rule_stands before d v q false true is fits universe goes = cc
 rule_stands before d v q false false is fits universe goes =
     let same : Rules v ≡ q = cc in
     subst (λ p. Stands p before (declares d)) same (record {
-      may = declared_there before d true false true (has_also v) (opens before true false is.0 is.1) universe is.2 is.3 ∙ new_enough (is_also d) (has_also v) fits;
-      part = (grown is_heading before (declares d) true false is.0 refl, grown is_begin before (declares d) false false is.1 refl, grown is_rule_line before (declares d) true (is_rule d) is.2 refl, version_stays before (declares d) (has_also v) is.3 refl);
+      may = declared_there before d true false true (is_second_version v) (opens before true false is.0 is.1) universe is.2 is.3 ∙ new_enough (is_of_second d) (is_second_version v) fits;
+      part = (grown is_heading before (declares d) true false is.0 refl, grown is_begin before (declares d) false false is.1 refl, grown is_rule_line before (declares d) true (is_rule d) is.2 refl, version_stays before (declares d) (is_second_version v) is.3 refl);
     })
 
 pub stands : (p q : Part) (before : List LineForm) (f : LineForm) → IsPartBehind p before → next_part p f ≡ Some q → Stands q before f
@@ -159,8 +159,8 @@ heading_stays before n false false is one two goes = record { may_not = heads be
 
 universe_stays : (before : List LineForm) (d : Declared) (v : Version) (w t : Bool) → IsPartBehind (Universe v) before → is_too_new v d ≡ w → (if w then None else (if t then Some (Rules v) else Some (Universe v))) ≡ None → Stays (Universe v) before (declares d)
 universe_stays before d v true t is fits goes = record {
-  may_not = declared_there before d true (is_of_universe d) false (has_also v) (opens before true false is.0 is.1) refl is.2 is.3
-      ∙ neither (not (is_of_universe d) || true) (not (is_also d) || has_also v) (too_new (is_also d) (has_also v) fits);
+  may_not = declared_there before d true (is_of_universe d) false (is_second_version v) (opens before true false is.0 is.1) refl is.2 is.3
+      ∙ neither (not (is_of_universe d) || true) (not (is_of_second d) || is_second_version v) (too_new (is_of_second d) (is_second_version v) fits);
   fault = refl;
 }
 universe_stays before d v false true is fits goes = cc
@@ -168,11 +168,11 @@ universe_stays before d v false false is fits goes = cc
 
 rule_stays : (before : List LineForm) (d : Declared) (v : Version) (w t : Bool) → IsPartBehind (Rules v) before → is_too_new v d ≡ w → is_of_universe d ≡ t → (if w then None else (if t then None else Some (Rules v))) ≡ None → Stays (Rules v) before (declares d)
 rule_stays before d v true t is fits universe goes = record {
-  may_not = declared_there before d true (is_of_universe d) true (has_also v) (opens before true false is.0 is.1) refl is.2 is.3
-      ∙ neither (not (is_of_universe d) || false) (not (is_also d) || has_also v) (too_new (is_also d) (has_also v) fits);
+  may_not = declared_there before d true (is_of_universe d) true (is_second_version v) (opens before true false is.0 is.1) refl is.2 is.3
+      ∙ neither (not (is_of_universe d) || false) (not (is_of_second d) || is_second_version v) (too_new (is_of_second d) (is_second_version v) fits);
   fault = refl;
 }
-rule_stays before d v false true is fits universe goes = record { may_not = declared_there before d true true true (has_also v) (opens before true false is.0 is.1) universe is.2 is.3; fault = refl }
+rule_stays before d v false true is fits universe goes = record { may_not = declared_there before d true true true (is_second_version v) (opens before true false is.0 is.1) universe is.2 is.3; fault = refl }
 rule_stays before d v false false is fits universe goes = cc
 
 pub stays : (p : Part) (before : List LineForm) (f : LineForm) → IsPartBehind p before → next_part p f ≡ None → Stays p before f

@@ -9,23 +9,22 @@ use Rattle.pc_syntax.specs.declared.tree.Declaration.{Declaration}
 use Rattle.pc_syntax.specs.Tree.{Declared, declared_of}
 use Rattle.pc_syntax.specs.Fault.{Fault, syntax, wrong_version, IsAtFault}
 use Rattle.pc_syntax.specs.Line.{LineForm, nothing, heading, declares, begins, IsLine, HasForm}
-use Rattle.pc_syntax.specs.Sheet.{is_heading, is_begin, is_rule, is_rule_line, is_of_universe, is_also, is_second, declared_from}
+use Rattle.pc_syntax.specs.Sheet.{is_heading, is_begin, is_rule, is_rule_line, is_of_universe, is_of_second, is_second, declared_from}
 
--- `also` lines are lines of the version
-abbrev pub has_also : Version → Bool
-has_also First = false
-has_also Second = true
+abbrev pub is_second_version : Version → Bool
+is_second_version First = false
+is_second_version Second = true
 
 -- the part behind lines of these forms
 abbrev pub IsPartBehind : Part → List LineForm → Type 0
 IsPartBehind Heading fs = (list_any is_heading fs ≡ false) × (list_any is_begin fs ≡ false) × (list_any is_rule_line fs ≡ false) × (list_any is_second fs ≡ false)
-IsPartBehind (Universe v) fs = (list_any is_heading fs ≡ true) × (list_any is_begin fs ≡ false) × (list_any is_rule_line fs ≡ false) × (list_any is_second fs ≡ has_also v)
-IsPartBehind (Rules v) fs = (list_any is_heading fs ≡ true) × (list_any is_begin fs ≡ false) × (list_any is_rule_line fs ≡ true) × (list_any is_second fs ≡ has_also v)
+IsPartBehind (Universe v) fs = (list_any is_heading fs ≡ true) × (list_any is_begin fs ≡ false) × (list_any is_rule_line fs ≡ false) × (list_any is_second fs ≡ is_second_version v)
+IsPartBehind (Rules v) fs = (list_any is_heading fs ≡ true) × (list_any is_begin fs ≡ false) × (list_any is_rule_line fs ≡ true) × (list_any is_second fs ≡ is_second_version v)
 IsPartBehind End fs = (list_any is_heading fs ≡ true) × (list_any is_begin fs ≡ true)
 
--- an `also` line in a sheet of the version without it
+-- a line of `sheet 2` alone in a `sheet 1`
 abbrev pub is_too_new : Version → Declared → Bool
-is_too_new v d = is_also d && not (has_also v)
+is_too_new v d = is_of_second d && not (is_second_version v)
 
 -- the part behind a declaration: once a rule stood, no more of the universe follows
 abbrev pub part_after : Part → Declared → Option Part

@@ -3,6 +3,7 @@
 use Rattle.std.specs.Prelude.{◌≡◌, ℕ, ◌+◌, Bool, true, false, ◌==◌, ◌&&◌, ◌||◌, not, List, [], ◌∷◌, ◌++◌, length, if◌then◌else◌}
 use Rattle.std.specs.List.{list_any}
 use Rattle.std.specs.Str.Lines.{lines}
+use Rattle.pc_formula.specs.Counted.{has_count}
 use Rattle.pc_syntax.specs.Fault.{Fault, syntax, wrong_version, IsAtFault}
 use Rattle.pc_syntax.specs.Tree.{Declared, rule, enter, also}
 use Rattle.pc_syntax.specs.Line.{LineForm, nothing, heading, declares, begins, IsLine, HasForm}
@@ -33,16 +34,17 @@ is_of_universe (enter c v) = false
 is_of_universe (also c v) = false
 is_of_universe d = true
 
--- an `also` line
-abbrev pub is_also : Declared → Bool
-is_also (also c v) = true
-is_also d = false
+-- a line of `sheet 2` alone: an `also` line, or a rule with a counting quantifier
+abbrev pub is_of_second : Declared → Bool
+is_of_second (also c v) = true
+is_of_second (rule n f) = has_count f
+is_of_second d = false
 
 -- the versions of sheets
 abbrev pub is_version : ℕ → Bool
 is_version n = (n == 1) || (n == 2)
 
--- the line `sheet 2`, behind which `also` lines may stand
+-- the line `sheet 2`
 abbrev pub is_second : LineForm → Bool
 is_second (heading n) = n == 2
 is_second f = false
@@ -52,11 +54,11 @@ abbrev pub is_open : List LineForm → Bool
 is_open before = list_any is_heading before && not (list_any is_begin before)
 
 -- A line of the form may stand behind lines of these forms: first `sheet 1` or `sheet 2`, then declarations, the universe
--- before the first rule and `also` lines in a `sheet 2` alone, then `begin`; and blank lines and comments anywhere.
+-- before the first rule and the lines of a `sheet 2` there alone, then `begin`; and blank lines and comments anywhere.
 abbrev pub may_stand : List LineForm → LineForm → Bool
 may_stand before nothing = true
 may_stand before (heading n) = not (list_any is_heading before) && is_version n
-may_stand before (declares d) = is_open before && ((not (is_of_universe d) || not (list_any is_rule_line before)) && (not (is_also d) || list_any is_second before))
+may_stand before (declares d) = is_open before && ((not (is_of_universe d) || not (list_any is_rule_line before)) && (not (is_of_second d) || list_any is_second before))
 may_stand before begins = is_open before
 
 -- what is at fault where a line of the form may not stand: its version, where its place is that of the heading

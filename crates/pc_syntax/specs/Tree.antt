@@ -5,7 +5,7 @@ use Rattle.pc_syntax.specs.declared.tree.Declaration.TheVariants as declares
 use Rattle.pc_syntax.specs.declared.tree.Command.{Command}
 use Rattle.pc_syntax.specs.declared.tree.Command.TheVariants as asks
 use Rattle.pc_syntax.specs.declared.tree.SheetTree.{SheetTree}
-pub use Rattle.pc_formula.specs.Tree.{Item, integer, named, Items, no_item, one_item, items_of, Side, Formula, for_all, exists, iff, implies, or, and, not, compare, in_table, Formulas, no_part, part, parts_of}
+pub use Rattle.pc_formula.specs.Tree.{Item, integer, named, Items, no_item, one_item, items_of, Side, Formula, for_all, exists, counting, iff, implies, or, and, not, compare, in_table, Formulas, no_part, part, parts_of}
 pub use Rattle.pc_formula.specs.Tree.{Value, name_value, integer_value, Cell, item_of, side_of, formula_of, value_of, cell_of}
 
 -- what a line of a sheet declares

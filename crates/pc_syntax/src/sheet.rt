@@ -2,20 +2,21 @@
 ghost use Rattle.std.specs.Prelude.{◌≡◌, ◌↔◌, ◌≤◌, ◌++◌, ◌∷◌, [], length, IfOk, IsTrue};
 ghost use Rattle.pc_name.specs.Names.{most_name_bytes};
 ghost use Rattle.pc_syntax.specs.Tree.{declared_of, sheet_of};
-ghost use Rattle.pc_syntax.specs.Sheet.{declared_from, SheetReading, IsSheetReading, HasUniverseFirst};
+ghost use Rattle.pc_syntax.specs.Sheet.{is_of_second, declared_from, SheetReading, IsSheetReading, HasUniverseFirst};
 ghost use Rattle.pc_syntax.specs.Sized.{HasSizedRules, HasNestedRules};
 ghost use Rattle.pc_syntax.specs.Line.{heading, begins};
-ghost use Rattle.pc_syntax.specs.Part.{next_part, part_after, declared};
+ghost use Rattle.pc_syntax.specs.Part.{is_too_new, next_part, part_after, declared};
 ghost use Rattle.pc_syntax.specs.Told.{form_of, sheet_fault_of, misplaced_as, IsLineTaken, IsSheetTold, TellsSheet};
 
 use crate::fault::LineFault;
 use crate::line::LineTree;
 use crate::read::read_line;
 use crate::tree::{Declaration, SheetFault, SheetTree};
+use pc_formula::has_count;
 use pc_lines::next_line;
 use std::alloc::{AllocError, Global};
 
-/// The version of a sheet: `sheet 1`, or `sheet 2` with its `also` lines.
+/// The version of a sheet: `sheet 1`, or `sheet 2` with its `also` lines and counting quantifiers.
 #[derive(Clone, Copy, Debug, PartialEq, Eq)]
 pub enum Version {
     First,
@@ -68,16 +69,59 @@ fn part_after_begin(part: Part) -> Option<Part>
 fn part_after(part: Part, declared: &Declaration) -> Option<Part>
     ensures { result ≡ part_after part (declared_of declared.now) }
 {
-    match (part, declared) {
-        (Part::Universe(Version::First) | Part::Rules(Version::First), Declaration::Also(..)) =>
-            None,
-        (Part::Universe(version), Declaration::Rule(_)) => Some(Part::Rules(version)),
-        (Part::Universe(version), _) => Some(Part::Universe(version)),
-        (
-            Part::Rules(version),
-            Declaration::Rule(_) | Declaration::Enter(..) | Declaration::Also(..),
-        ) => Some(Part::Rules(version)),
+    match part {
+        Part::Universe(version) => part_after_universe(version, declared),
+        Part::Rules(version) => part_after_rules(version, declared),
         _ => None,
+    }
+}
+
+// The same where no rule stood before.
+fn part_after_universe(version: Version, declared: &Declaration) -> Option<Part>
+    ensures { result ≡ part_after (Part.Universe version) (declared_of declared.now) }
+{
+    if is_too_new(version, declared) {
+        return None;
+    }
+    match declared {
+        Declaration::Rule(_) => Some(Part::Rules(version)),
+        _ => Some(Part::Universe(version)),
+    }
+}
+
+// The same behind a rule.
+fn part_after_rules(version: Version, declared: &Declaration) -> Option<Part>
+    ensures { result ≡ part_after (Part.Rules version) (declared_of declared.now) }
+{
+    if is_too_new(version, declared) {
+        return None;
+    }
+    match declared {
+        Declaration::Rule(_) | Declaration::Enter(..) | Declaration::Also(..) => {
+            Some(Part::Rules(version))
+        }
+        _ => None,
+    }
+}
+
+// Whether the declaration is a line of `sheet 2` alone, in a `sheet 1`.
+fn is_too_new(version: Version, declared: &Declaration) -> bool
+    ensures { result ≡ is_too_new version (declared_of declared.now) }
+{
+    match version {
+        Version::First => is_of_second(declared),
+        Version::Second => false,
+    }
+}
+
+// Whether the declaration is a line of `sheet 2` alone.
+fn is_of_second(declared: &Declaration) -> bool
+    ensures { result ≡ is_of_second (declared_of declared.now) }
+{
+    match declared {
+        Declaration::Also(..) => true,
+        Declaration::Rule(rule) => has_count(&rule.formula),
+        _ => false,
     }
 }
 
@@ -151,7 +195,7 @@ fn take_line(
 ///
 /// The text is split into lines at LF, and one CR before it is dropped. The first line that is neither blank nor a
 /// comment is `sheet 1` or `sheet 2`, and the sheet ends with its `begin` line, behind which blank lines and comments
-/// alone stand. An `also` line may stand in a `sheet 2` alone.
+/// alone stand. An `also` line and a rule with a counting quantifier may stand in a `sheet 2` alone.
 /// On one line the order of faults is `NotUtf8`, `TooDeep`, `Syntax`, `WrongVersion`. A text whose lines are all right
 /// and that has no `begin` line is `NoBegin`.
 pub fn parse_sheet(alloc: Global, bytes: &[u8]) -> Result<SheetTree, SheetFault>

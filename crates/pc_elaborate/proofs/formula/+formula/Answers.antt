@@ -1,11 +1,14 @@
-use Rattle.std.proofs.Common.{◌≡◌, ◌≤◌, map, length, arith, rules, ap, ap₂, ◌∙◌, sym}
+use Rattle.std.proofs.Common.{◌≡◌, ◌≤◌, map, length, Ok, arith, rules, ap, ap₂, ◌∙◌, sym, subst}
+use Rattle.std.proofs.lemmas.Int.{to_z-of_z}
+use mir.Syntax.{w64}
+use mir.Val.{SFits}
 use Rattle.std.proofs.lemmas.Result.{err_from_is_err_and}
 use denote.Param.Weighed.{at_most}
 use Rattle.pc_formula.specs.Tree as tree
 use Rattle.pc_formula.specs.Tree.{parts_of, formula_of}
-use Rattle.pc_elaborate.specs.Told.{variables_of}
-use Rattle.pc_elaborate.proofs.FormulaViews.{formula_of-Not, formula_of-And, formula_of-Or, formula_of-Implies, formula_of-Iff, formula_of-ForAll, formula_of-Exists}
-use Rattle.pc_elaborate.proofs.FormulaTold.{not_told, and_told, or_told, implies_told, iff_told, for_all_told, exists_told, for_all_fails, exists_fails, scope_inside, body_fails, one_part_more, every_part, sized_at}
+use Rattle.pc_elaborate.specs.Told.{IsCountTold, variables_of}
+use Rattle.pc_elaborate.proofs.FormulaViews.{formula_of-Not, formula_of-And, formula_of-Or, formula_of-Implies, formula_of-Iff, formula_of-ForAll, formula_of-Exists, formula_of-Count}
+use Rattle.pc_elaborate.proofs.FormulaTold.{not_told, and_told, or_told, implies_told, iff_told, for_all_told, exists_told, count_told, for_all_fails, exists_fails, count_fails, scope_inside, body_fails, one_part_more, every_part, sized_at}
 use Rattle.pc_elaborate.proofs.formula.+formula.Goals as goal
 
 pub formula_among-returns-in_err-name-in-ForAll : goal.formula_among-returns-in_err-name-in-ForAll
@@ -35,6 +38,24 @@ formula_among-returns-in_ok-name-in-Exists t c =
     let is : formula_of c.args.formula.now ≡ tree.exists c.in-Exists.name c.in-Exists.sort (formula_of c.deref-in-Exists.result.now) =
     ap formula_of c.in-Exists.is ∙ formula_of-Exists c.in-Exists.name c.in-Exists.sort c.in-Exists.body ∙ ap (λ f. tree.exists c.in-Exists.name c.in-Exists.sort (formula_of f)) (sym c.deref-in-Exists.ensures) in
     exists_told c.args.book.now.universe (variables_of c.args.variables.now) (formula_of c.args.formula.now) c.in-Exists.name c.in-Exists.sort (formula_of c.deref-in-Exists.result.now) is c.in_ok-name-in-Exists.name c.in_ok-name-in-Exists.sort c.in_ok-name-in-Exists.body c.in_ok-name-in-Exists.ensures
+
+pub formula_among-returns-in_err-name-in-Count : goal.formula_among-returns-in_err-name-in-Count
+formula_among-returns-in_err-name-in-Count t c =
+    let is : formula_of c.args.formula.now ≡ tree.counting c.in-Count.at_most c.in-Count.bound c.in-Count.name c.in-Count.sort (formula_of c.deref-in-Count.result.now) =
+    ap formula_of c.in-Count.is ∙ formula_of-Count c.in-Count.at_most c.in-Count.bound c.in-Count.name c.in-Count.sort c.in-Count.body ∙ ap (λ f. tree.counting c.in-Count.at_most c.in-Count.bound c.in-Count.name c.in-Count.sort (formula_of f)) (sym c.deref-in-Count.ensures) in
+    let fits : SFits w64 c.in-Count.bound = search rules in
+    let bound = subst (λ z. IsCountTold c.in-Count.at_most z (Ok c.in_ok-bound-in-Count.bound)) (to_z-of_z w64 c.in-Count.bound fits) c.in_ok-bound-in-Count.ensures in
+    let e = count_fails c.args.book.now.universe (variables_of c.args.variables.now) (formula_of c.args.formula.now) c.in-Count.name c.in-Count.sort (formula_of c.deref-in-Count.result.now) c.in-Count.at_most c.in-Count.bound is c.in_ok-bound-in-Count.bound bound c.in_err-name-in-Count.field-0.0 c.in_err-name-in-Count.ensures in
+    let p = err_from_is_err_and c.from_residual-in_err-name-in-Count.result c.from_residual-in_err-name-in-Count.ensures.1 in
+    rw (p.1, p.2) e
+
+pub formula_among-returns-in_ok-name-in-Count : goal.formula_among-returns-in_ok-name-in-Count
+formula_among-returns-in_ok-name-in-Count t c =
+    let is : formula_of c.args.formula.now ≡ tree.counting c.in-Count.at_most c.in-Count.bound c.in-Count.name c.in-Count.sort (formula_of c.deref-in-Count.result.now) =
+    ap formula_of c.in-Count.is ∙ formula_of-Count c.in-Count.at_most c.in-Count.bound c.in-Count.name c.in-Count.sort c.in-Count.body ∙ ap (λ f. tree.counting c.in-Count.at_most c.in-Count.bound c.in-Count.name c.in-Count.sort (formula_of f)) (sym c.deref-in-Count.ensures) in
+    let fits : SFits w64 c.in-Count.bound = search rules in
+    let bound = subst (λ z. IsCountTold c.in-Count.at_most z (Ok c.in_ok-bound-in-Count.bound)) (to_z-of_z w64 c.in-Count.bound fits) c.in_ok-bound-in-Count.ensures in
+    count_told c.args.book.now.universe (variables_of c.args.variables.now) (formula_of c.args.formula.now) c.in-Count.name c.in-Count.sort (formula_of c.deref-in-Count.result.now) c.in-Count.at_most c.in-Count.bound is c.in_ok-bound-in-Count.bound bound c.in_ok-name-in-Count.name c.in_ok-name-in-Count.sort c.in_ok-name-in-Count.body c.in_ok-name-in-Count.ensures
 
 pub formula_among-returns-in_ok-part-in-Not : goal.formula_among-returns-in_ok-part-in-Not
 formula_among-returns-in_ok-part-in-Not t c =

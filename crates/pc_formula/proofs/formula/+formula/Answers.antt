@@ -10,7 +10,7 @@ use Rattle.pc_formula.specs.Front.{Reads, ReadsNone}
 use Rattle.pc_formula.proofs.Joining.{Joins, joins_next, joins_end, joins_none, join_one, joins_two, join_none, join_none_right, of_many}
 use Rattle.pc_formula.proofs.Readings.{imp_reads_one, imp_reads_two, imp_none_right, iff_reads_one, iff_reads_two, iff_none_right, iff_none_third}
 use Rattle.pc_formula.proofs.Unaries.{not_reads, not_none, group_reads, group_none, group_unclosed, group_goes_on}
-use Rattle.pc_formula.proofs.Quantifiers.{plain_reads, plain_none, unbound_none, quantified_none, quantified_reads_as}
+use Rattle.pc_formula.proofs.Quantifiers.{none_read, one_read, plain_reads, plain_none, unbound_none, quantified_none, quantified_reads_as}
 use Rattle.pc_formula.proofs.Numerals.{false_not}
 use Rattle.pc_formula.proofs.Views.{formula_of-Iff, formula_of-Implies, formula_of-Or, formula_of-And, formula_of-Not}
 use Rattle.pc_formula.proofs.formula.+formula.Goals as goal
@@ -194,26 +194,34 @@ unary-returns-then-not-take_sign-clause-err t c = λ refused.
 
 pub read_formula-returns-in_default-clause-ok : goal.read_formula-returns-in_default-clause-ok
 read_formula-returns-in_default-clause-ok t c =
-    let kept = c.in_default.ensures in
-    IfOk-weaker c.iff.result (λ (f : FormulaTree). Reads (Derives iffs) 7 c.take_quantifier.new.self (formula_of f) c.iff.new.words) (λ (f : FormulaTree). Reads (Derives whole) 7 c.args.words.now (formula_of f) c.iff.new.words)
+    let kept = none_read _ _ _ c.in_ok-quantifier.ensures.ok c.in_default.is in
+    IfOk-weaker c.iff.result (λ (f : FormulaTree). Reads (Derives iffs) 7 c.read_quantifier.new.words (formula_of f) c.iff.new.words) (λ (f : FormulaTree). Reads (Derives whole) 7 c.args.words.now (formula_of f) c.iff.new.words)
     (λ f r. plain_reads _ kept.1 _ _ (subst (λ ws. Reads (Derives iffs) 7 ws (formula_of f) c.iff.new.words) kept.0 r)) c.iff.ensures.ok
 
 pub read_formula-returns-in_default-clause-err : goal.read_formula-returns-in_default-clause-err
 read_formula-returns-in_default-clause-err t c = λ refused.
-    let kept = c.in_default.ensures in
+    let kept = none_read _ _ _ c.in_ok-quantifier.ensures.ok c.in_default.is in
     plain_none _ kept.1 (subst (ReadsNone (Derives iffs) 7) kept.0 (c.iff.ensures.err refused))
+
+pub read_formula-returns-in_err-quantifier-clause-err : goal.read_formula-returns-in_err-quantifier-clause-err
+read_formula-returns-in_err-quantifier-clause-err t c = λ refused.
+    let p = err_from_is_err_and c.from_residual.result c.from_residual.ensures.1 in
+    c.in_err-quantifier.ensures.err (cc)
 
 pub read_formula-returns-in_err-variable-clause-err : goal.read_formula-returns-in_err-variable-clause-err
 read_formula-returns-in_err-variable-clause-err t c = λ refused.
-    let p = err_from_is_err_and c.from_residual.result c.from_residual.ensures.1 in
-    unbound_none _ _ _ c.in-Some.ensures (c.in_err-variable.ensures.err (cc))
+    let p = err_from_is_err_and c.from_residual-in_err-variable.result c.from_residual-in_err-variable.ensures.1 in
+    let read = one_read _ _ _ c.in-Some.quantifier c.in_ok-quantifier.ensures.ok c.in-Some.is in
+    unbound_none _ _ _ read (c.in_err-variable.ensures.err (cc))
 
 pub read_formula-returns-in_err-body-clause-err : goal.read_formula-returns-in_err-body-clause-err
 read_formula-returns-in_err-body-clause-err t c = λ refused.
     let p = err_from_is_err_and c.from_residual-in_err-body.result c.from_residual-in_err-body.ensures.1 in
-    quantified_none _ _ _ c.in-Some.ensures _ _ _ c.in_ok-variable.ensures.ok (c.in_err-body.ensures.err (cc))
+    let read = one_read _ _ _ c.in-Some.quantifier c.in_ok-quantifier.ensures.ok c.in-Some.is in
+    quantified_none _ _ _ read _ _ _ c.in_ok-variable.ensures.ok (c.in_err-body.ensures.err (cc))
 
 pub read_formula-returns-clause-ok : goal.read_formula-returns-clause-ok
 read_formula-returns-clause-ok t c =
+    let read = one_read _ _ _ c.in-Some.quantifier c.in_ok-quantifier.ensures.ok c.in-Some.is in
     let seen = c.quantified.ensures ∙ ap (λ f. quantified c.in-Some.quantifier c.in_ok-variable.variable c.in_ok-variable.sort (formula_of f)) c.in_ok-body-2.ensures.ok in
-    quantified_reads_as _ _ _ c.in-Some.ensures _ _ _ c.in_ok-variable.ensures.ok _ _ _ c.in_ok-body.ensures.ok seen
+    quantified_reads_as _ _ _ read _ _ _ c.in_ok-variable.ensures.ok _ _ _ c.in_ok-body.ensures.ok seen
