@@ -7,7 +7,7 @@ use Rattle.pc_name.specs.declared.sign.Op.{Op}
 use Rattle.pc_name.specs.declared.sign.Op.TheVariants.{Eq, Ne, Lt, Le, Gt, Ge}
 use Rattle.pc_name.specs.declared.sign.Sign.{Sign}
 use Rattle.pc_name.specs.declared.sign.Sign.TheVariants as signs
-use Rattle.pc_sheet.specs.Sheet.{Universe, Values, listed, range, Item, Items, no_items, item, variable, constant, number, cell, Sum, Statement, Statements, no_statements, statement, compare, in_table, negation, all_of, some_of, implies, iff, for_all, exists}
+use Rattle.pc_sheet.specs.Sheet.{Universe, Values, listed, range, Item, Items, no_items, item, variable, constant, number, cell, Sum, Statement, Statements, no_statements, statement, compare, in_table, negation, all_of, some_of, implies, iff, for_all, exists, counts}
 use Rattle.pc_sheet.specs.Nesting.{nesting_of_item, nesting_of_items, nesting_of_added, nesting_of_sum, tightness, parentheses, nesting_of, nesting_of_parts}
 use Rattle.pc_sheet.specs.Sizes.{values_at}
 use Rattle.pc_sheet.specs.WellSorted.{Variables}
@@ -94,6 +94,7 @@ module _ (u : Universe) where
         omega (arith, enclosed_levels 2 s (nesting_of s) (statement_words u vs s) (sign DoubleArrow ∷ enclosed_words 2 t (statement_words u vs t) rest) (statement_levels vs s spelled.0), enclosed_levels 2 t (nesting_of t) (statement_words u vs t) rest (statement_levels vs t spelled.1))
     statement_levels vs (for_all n s body) spelled rest = omega (arith, statement_levels (vs ++ (n, s) ∷ []) body spelled.2 rest)
     statement_levels vs (exists n s body) spelled rest = omega (arith, statement_levels (vs ++ (n, s) ∷ []) body spelled.2 rest)
+    statement_levels vs (counts c n s body) spelled rest = omega (arith, statement_levels (vs ++ (n, s) ∷ []) body spelled.3 rest)
 
     part_levels : (vs : Variables) (ss : Statements) → AreSpelledStatements u vs ss → (j : Joint) (asked : ℕ) (rest : List Word) → levels (part_words u vs j asked ss rest) ≡ nesting_of_parts asked ss + levels rest
     part_levels vs no_statements spelled j asked rest = omega arith

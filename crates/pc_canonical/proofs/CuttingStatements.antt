@@ -6,11 +6,12 @@ use Rattle.std.proofs.lemmas.Bool.Decides.{nat_tests}
 use Rattle.std.specs.Prelude.{encode_utf8, nat_lt, ◌==◌}
 use Rattle.std.specs.List.{flat_map, list_all, AllByRecursion}
 use Rattle.std.specs.Char.{is_ascii_lowercase}
+use Rattle.std.specs.Fmt.{decimal}
 use Rattle.std.specs.Int.{is_in_range}
 use Rattle.std.specs.Str.{encode_utf8_all}
 use Rattle.unicode_ident.proofs.IdentLemmas.{is_xid_start-ascii, is_xid_continue-ascii}
 use Rattle.pc_name.specs.Names.{starts_name, continues_name, HasNameCharacters, IsName}
-use Rattle.pc_sheet.specs.Sheet.{Universe, Statement, Statements, no_statements, statement, compare, in_table, negation, all_of, some_of, implies, iff, for_all, exists}
+use Rattle.pc_sheet.specs.Sheet.{Universe, Counting, Statement, Statements, no_statements, statement, compare, in_table, negation, all_of, some_of, implies, iff, for_all, exists, counts}
 use Rattle.pc_sheet.specs.Nesting.{tightness}
 use Rattle.pc_sheet.specs.WellSorted.{Variables}
 use Rattle.pc_sheet.specs.declared.ids.SortId.{SortId}
@@ -19,11 +20,12 @@ use Rattle.pc_name.specs.declared.sign.Op.TheVariants.{Eq, Ne, Lt, Le, Gt, Ge}
 use Rattle.pc_token.specs.declared.token.Kind.TheVariants.{Name, Open, Close, Colon, Dot}
 use Rattle.pc_formula.specs.Word as word
 use Rattle.pc_formula.specs.Word.{Word}
+use Rattle.pc_formula.specs.Quantifier as quantifier
 use Rattle.pc_formula.specs.Grammar.{Joint, by_or, by_and, joint_sign}
 use Rattle.pc_writer.specs.Spelling.{joined}
-use Rattle.pc_writer.specs.FormulaText.{table_at, sort_name, in_parentheses, item_texts, op_text, sum_text, enclosed, quantifier_text, statement_text, part_text, part_texts}
+use Rattle.pc_writer.specs.FormulaText.{bound_of, count_text, count_word, is_at_most, table_at, sort_name, in_parentheses, item_texts, op_text, sum_text, enclosed, quantifier_text, statement_text, part_text, part_texts}
 use Rattle.pc_canonical.proofs.Cuts.{Cuts, blank, piece, is_ascii_text, ascii_utf8}
-use Rattle.pc_canonical.proofs.Cutting.{Ends, space, closed, colon, ends_stop, name_head, cut_name, cut_arguments, ends_arguments, cut_sum, sum_head}
+use Rattle.pc_canonical.proofs.Cutting.{Ends, space, closed, colon, ends_stop, name_head, cut_name, cut_digits, cut_arguments, ends_arguments, cut_sum, sum_head}
 use Rattle.pc_canonical.proofs.Named.{IsSpelledStatement, AreSpelledStatements}
 use Rattle.pc_canonical.proofs.Signs.{cut_op, cut_and, cut_or, cut_arrow, cut_double, cut_dot, cut_open, cut_close, cut_colon, cut_not}
 use Rattle.pc_canonical.proofs.Words.{enclosed_words, statement_words, part_words, goes_on_words}
@@ -78,6 +80,11 @@ module _ (more : List ℕ) (ws : List Word) (cuts : Cuts more ws) where
   cut_exists : Cuts (codes "exists " ++ more) (word.reserved (codes "exists") ∷ ws)
   unfolding is_ascii_text all_letters
   cut_exists = piece Name (codes "exists") (omega arith) (ascii_utf8 (codes "exists") refl) (letters _ _ refl, ends_stop (32 ∷ more) space) (blank cuts)
+
+  cut_count : (m : Bool) → Cuts (count_word m ++ more) (word.reserved (quantifier.count_word m) ∷ ws)
+  unfolding is_ascii_text all_letters
+  cut_count true = piece Name (codes "atmost") (omega arith) (ascii_utf8 (codes "atmost") refl) (letters _ _ refl, ends_stop (32 ∷ more) space) (blank cuts)
+  cut_count false = piece Name (codes "atleast") (omega arith) (ascii_utf8 (codes "atleast") refl) (letters _ _ refl, ends_stop (32 ∷ more) space) (blank cuts)
 
 -- ---- a part, in parentheses or not
 
@@ -136,6 +143,7 @@ module _ (u : Universe) where
   part_head vs (iff s t) more spelled equal = absurd (omega (arith, equal))
   part_head vs (for_all n s body) more spelled equal = absurd (omega (arith, equal))
   part_head vs (exists n s body) more spelled equal = absurd (omega (arith, equal))
+  part_head vs (counts c n s body) more spelled equal = absurd (omega (arith, equal))
 
   -- what stands before a quantifier's body, behind its word
   cut_binding : (n : List ℕ) (s : SortId) (more : List ℕ) (ws : List Word) → IsName n → IsName (sort_name u s) → Cuts more ws
@@ -144,6 +152,10 @@ module _ (u : Universe) where
 
   binding_text : (quantifier n : List ℕ) (s : SortId) (body more : List ℕ) → (quantifier_text u quantifier n s ++ body) ++ more ≡ quantifier ++ (n ++ (codes ":" ++ (sort_name u s ++ (codes " . " ++ (body ++ more)))))
   binding_text quantifier n s body more = simp append_assoc
+
+  counting_text : (c : Counting) (n : List ℕ) (s : SortId) (body more : List ℕ)
+      → (count_text u c n s ++ body) ++ more ≡ count_word (is_at_most c) ++ (decimal (bound_of c) ++ (32 ∷ (n ++ (codes ":" ++ (sort_name u s ++ (codes " . " ++ (body ++ more)))))))
+  counting_text c n s body more = simp append_assoc
 
   ends_further : (vs : Variables) (j : Joint) (asked : ℕ) (ss : Statements) (more : List ℕ) → Ends more → Ends (further vs j asked ss ++ more)
   unfolding further
@@ -178,6 +190,10 @@ module _ (u : Universe) where
     cut_statement vs (exists n s body) spelled more ws ends cuts =
         subst (λ t. Cuts t (statement_words u vs (exists n s body) ws)) (sym (binding_text (codes "exists ") n s (statement_text u (vs ++ (n, s) ∷ []) body) more))
         (cut_exists _ _ (cut_binding n s _ _ spelled.0 spelled.1 (cut_statement (vs ++ (n, s) ∷ []) body spelled.2 more ws ends cuts)))
+    cut_statement vs (counts c n s body) spelled more ws ends cuts =
+        let binding = cut_binding n s _ _ spelled.1 spelled.2 (cut_statement (vs ++ (n, s) ∷ []) body spelled.3 more ws ends cuts) in
+        let bound = cut_digits (bound_of c) _ _ (omega (arith, spelled.0)) space (blank binding) in
+        subst (λ t. Cuts t (statement_words u vs (counts c n s body) ws)) (sym (counting_text c n s (statement_text u (vs ++ (n, s) ∷ []) body) more)) (cut_count _ _ bound (is_at_most c))
 
     cut_parts : (vs : Variables) (j : Joint) (asked : ℕ) (ss : Statements) → AreSpelledStatements u vs ss → CutsAs (joined (separator j) (part_texts u vs asked ss)) (part_words u vs j asked ss)
     cut_parts vs j asked no_statements spelled more ws ends cuts = cuts

@@ -12,14 +12,15 @@ use Rattle.pc_sheet.specs.Sizes.{values_at}
 use Rattle.pc_sheet.specs.WellSorted.{Variables, parts_in}
 use Rattle.pc_sheet.specs.declared.ids.ValueId.{ValueId}
 use Rattle.pc_token.specs.declared.token.Kind.TheVariants.{Open, Close, Comma}
-use Rattle.pc_formula.specs.declared.words.Quantifier.TheVariants.{ForAll, Exists}
+use Rattle.pc_formula.specs.declared.quantifier.Quantifier.TheVariants.{ForAll, Exists, Count}
 use Rattle.pc_formula.specs.Word.{Word, sign, number}
 use Rattle.pc_formula.specs.Tree as tree
 use Rattle.pc_formula.specs.Tree.{Formula, Item, Items, items_of, parts_of}
 use Rattle.pc_formula.specs.Value.{DerivesInt, natural, negative, DerivesNumber, a_number}
+use Rattle.pc_formula.specs.Quantifier.{for_every, for_some, for_so_many}
 use Rattle.pc_formula.specs.Side.{DerivesItem, integer_item, bare_item, applied_item, DerivesItems, last_item, next_item, Adds, nothing_added, added, DerivesSide, a_side}
 use Rattle.pc_formula.specs.Grammar.{Form, Joint, whole, iffs, imps, joined, by_or, by_and, unary, part_form, joint, Derives, quantifier, no_quantifier, iff_one, iff_two, imp_one, imp_two, join, negation, group, comparison, table_atom, Goes_on, no_more, one_more}
-use Rattle.pc_writer.specs.FormulaText.{family_at, sort_name, table_at, variable_at}
+use Rattle.pc_writer.specs.FormulaText.{bound_of, family_at, is_at_most, sort_name, table_at, variable_at}
 use Rattle.pc_canonical.specs.Tree.{value_tree, item_tree, item_trees, argument_trees, added_tree, side_tree, statement_tree, part_trees}
 use Rattle.pc_canonical.proofs.Named.{IsShort, IsSpelledValue, IsSpelledItem, AreSpelledItems, AreSpelledParts, IsSpelledSum, IsSpelledStatement, AreSpelledStatements}
 use Rattle.pc_canonical.proofs.Words.{integer_words, value_words, item_words, more_words, rest_words, sum_words, enclosed_words, statement_words, part_words, goes_on_words}
@@ -91,6 +92,7 @@ own_form (sheet.implies s t) = imps
 own_form (sheet.iff s t) = iffs
 own_form (sheet.for_all n s body) = whole
 own_form (sheet.exists n s body) = whole
+own_form (sheet.counts c n s body) = whole
 
 own_rank : (s : Statement) → rank (own_form s) ≡ tightness s
 own_rank (sheet.compare left op right) = refl
@@ -102,6 +104,7 @@ own_rank (sheet.implies s t) = refl
 own_rank (sheet.iff s t) = refl
 own_rank (sheet.for_all n s body) = refl
 own_rank (sheet.exists n s body) = refl
+own_rank (sheet.counts c n s body) = refl
 
 -- one form further out
 single : (j : Joint) (ws : List Word) (f : Formula) (rest : List Word) → Derives (part_form j) ws f rest → Derives (joined j) ws f rest
@@ -194,10 +197,14 @@ module _ (u : Universe) where
         iff_two (wrap imps s (statement_tree u vs s) (statement_words u vs s) _ (derive_statement vs s spelled.0)) (wrap imps t (statement_tree u vs t) (statement_words u vs t) rest (derive_statement vs t spelled.1))
     derive_statement vs (sheet.for_all n s body) spelled rest =
         let inner = vs ++ (n, s) ∷ [] in
-        quantifier ForAll n (sort_name u s) (widen (own_form body) whole _ (statement_tree u inner body) rest (omega arith) (derive_statement inner body spelled.2 rest))
+        quantifier {q = ForAll} n (sort_name u s) for_every (widen (own_form body) whole _ (statement_tree u inner body) rest (omega arith) (derive_statement inner body spelled.2 rest))
     derive_statement vs (sheet.exists n s body) spelled rest =
         let inner = vs ++ (n, s) ∷ [] in
-        quantifier Exists n (sort_name u s) (widen (own_form body) whole _ (statement_tree u inner body) rest (omega arith) (derive_statement inner body spelled.2 rest))
+        quantifier {q = Exists} n (sort_name u s) for_some (widen (own_form body) whole _ (statement_tree u inner body) rest (omega arith) (derive_statement inner body spelled.2 rest))
+    derive_statement vs (sheet.counts c n s body) spelled rest =
+        let inner = vs ++ (n, s) ∷ [] in
+        quantifier {q = Count (is_at_most c) (pos (bound_of c))} n (sort_name u s) (for_so_many (is_at_most c) (derive_number (bound_of c) _ (omega (arith, spelled.0))))
+        (widen (own_form body) whole _ (statement_tree u inner body) rest (omega arith) (derive_statement inner body spelled.3 rest))
 
     derive_parts : (vs : Variables) (ss : Statements) → 2 ≤ parts_in ss → AreSpelledStatements u vs ss → (j : Joint) (rest : List Word) → Derives (joined j) (part_words u vs j (rank (part_form j)) ss rest) (joint j (trees vs ss)) rest
     derive_parts vs no_statements two spelled j rest = absurd (omega (arith, two))

@@ -1,5 +1,5 @@
 -- The declarations of a book's entries give these entries.
-use Rattle.std.proofs.Common.{◌≡◌, ◌≢◌, ℕ, ◌<◌, ◌≤◌, Bool, true, false, cond, not, ◌&&◌, ◌||◌, List, [], ◌∷◌, ◌++◌, length, map, All, AllPairs, Option, None, Some, IsSomeAnd, arith, refl, sym, subst, ap, ap₂, ◌∙◌, filter}
+use Rattle.std.proofs.Common.{◌≡◌, ◌≢◌, ℕ, ◌<◌, Bool, true, false, cond, not, ◌&&◌, List, [], ◌∷◌, ◌++◌, length, map, All, AllPairs, Option, None, Some, IsSomeAnd, arith, refl, sym, subst, ap, ap₂, ◌∙◌, filter}
 use Rattle.std.specs.Prelude.{◌==◌}
 use Rattle.std.specs.List.{list_any}
 use Rattle.std.proofs.lemmas.Bool.{and_left, or_from, or_parts}

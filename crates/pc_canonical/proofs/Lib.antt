@@ -13,6 +13,7 @@ pub mod Lines
 pub mod Unbroken
 pub mod SpelledLists
 pub mod Standing
+mod CountedTrees
 pub mod Sheets
 mod Chain
 pub mod Entries

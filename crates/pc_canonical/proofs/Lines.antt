@@ -10,7 +10,7 @@ use Rattle.std.specs.Fmt.{decimal, signed_decimal}
 use Rattle.std.specs.List.{flat_map}
 use Rattle.pc_name.specs.Names.{is_reserved, most_name_bytes, IsName}
 use Rattle.pc_name.specs.declared.sign.Op.TheVariants.{Eq}
-use Rattle.pc_sheet.specs.Sheet.{Universe, NamedStatement, Values, listed, range, Table, Family}
+use Rattle.pc_sheet.specs.Sheet.{Universe, NamedStatement, Values, listed, range, Table, Family, Sheet}
 use Rattle.pc_sheet.specs.Sizes.{size_of, values_at, argument_sorts}
 use Rattle.pc_sheet.specs.Entailment.{AreWithin}
 use Rattle.pc_sheet.specs.WellFormed.{AreWellFormedValues, IsDeclaredSort, IsWellFormedUniverse, IsWellFormedTable, IsWellFormedFamily, IsWellFormedRule, IsEntryOf}
@@ -31,7 +31,7 @@ use Rattle.pc_syntax.specs.Spelling.{IsNothing}
 use Rattle.pc_syntax.specs.Line.{LineForm, IsLine, IsForm, spelled_line, begin_line, declares, heading, begins, keyword, StandsBehind}
 use Rattle.pc_writer.specs.Spelling.{value_texts, application_of, family_of, name_of, arguments_text, sort_of, value_text, entry_text}
 use Rattle.pc_writer.specs.FormulaText.{in_parentheses, parenthesized, sort_name, statement_text}
-use Rattle.pc_writer.specs.SheetText.{spaced, values_text, table_line, row_line, family_line, rule_line, enter_line, also_line, is_later, entry_line, has_several, version, heading_line}
+use Rattle.pc_writer.specs.SheetText.{spaced, values_text, table_line, row_line, family_line, rule_line, enter_line, also_line, is_later, entry_line, needs_second, version, heading_line}
 use Rattle.pc_writer.proofs.CellLemmas.{family_within, arguments_within, entered_cell, entered_value}
 use Rattle.pc_canonical.specs.Declarations.{written_values, values_declaration, table_declaration, row_declaration, family_declaration, rule_declaration, written_cell, written_value, also_declaration, enter_declaration, entry_declaration}
 use Rattle.pc_canonical.specs.ReadBack.{AreVariablesNamed}
@@ -152,8 +152,8 @@ version_reads_back n text written short =
     line_from_words _ _ sheet_starts (heading n) text (number text ∷ []) (subst (λ l. Cuts l (number l ∷ [])) written cuts) (omega arith)
     (record { rest = number text ∷ []; words = refl; number = subst (λ l. DerivesNumber (number l ∷ []) n []) written (derive_number n [] short) })
 
-pub heading_reads_back : (es : List Entry) → ReadsAsLine (heading_line es) (heading (version es))
-heading_reads_back es = by (has_several es)
+pub heading_reads_back : (s : Sheet) → ReadsAsLine (heading_line s) (heading (version s))
+heading_reads_back s = by (needs_second s)
   where
     by : (b : Bool) → ReadsAsLine (cond b (codes "sheet 2") (codes "sheet 1")) (heading (cond b 2 1))
     by true = version_reads_back 2 (codes "2") (decimal_digit 2 (omega arith)) (omega arith)

@@ -1,5 +1,6 @@
 -- The canonical text of a sheet is read as its declarations.
-use Rattle.std.proofs.Common.{◌≡◌, ℕ, Bool, true, false, cond, List, [], ◌∷◌, ◌++◌, map, codes, slice_index_or, refl, subst, sym}
+use Rattle.std.proofs.Common.{◌≡◌, ℕ, Bool, true, false, cond, not, ◌||◌, List, [], ◌∷◌, ◌++◌, map, codes, slice_index_or, refl, subst, sym, ap, ◌∙◌}
+use Rattle.std.proofs.lemmas.Bool.{or_left, or_right}
 use Rattle.std.proofs.lemmas.List.{append_assoc, map-append}
 use Rattle.std.proofs.lemmas.List.Elements.{All-get_or, Contains-append_right}
 use Rattle.std.specs.List.{flat_map, AllByRecursion}
@@ -14,9 +15,11 @@ use Rattle.pc_sheet.specs.declared.ids.Entry.{Entry}
 use Rattle.pc_syntax.specs.Tree.{Declared}
 use Rattle.pc_syntax.specs.Line.{LineForm, heading, declares, begins}
 use Rattle.pc_syntax.specs.Sheet.{may_stand, AreStanding, whole, IsSheet}
-use Rattle.pc_writer.specs.SheetText.{sort_line, table_line, row_line, row_lines, family_line, rule_line, is_later, entry_line, entry_lines, has_several, version, universe_lines, sheet_lines, sheet_text}
+use Rattle.pc_writer.specs.Counted.{has_counting, rule_counts}
+use Rattle.pc_writer.specs.SheetText.{sort_line, table_line, row_line, row_lines, family_line, rule_line, is_later, entry_line, entry_lines, has_several, needs_second, version, universe_lines, sheet_lines, sheet_text}
 use Rattle.pc_writer.proofs.LaterEntries.{later_behind}
 use Rattle.pc_canonical.specs.Declarations.{values_declaration, sort_declaration, table_declaration, row_declaration, row_declarations, family_declaration, rule_declaration, also_declaration, enter_declaration, entry_declaration, entry_declarations, universe_declarations, declarations_of, numbered_declarations}
+use Rattle.pc_canonical.proofs.CountedTrees.{counts_alike}
 use Rattle.pc_canonical.proofs.Lines.{heading_reads_back, begin_reads_back, values_read_back, table_reads_back, row_reads_back, family_reads_back, rule_reads_back, entry_reads_back}
 use Rattle.pc_canonical.proofs.Spelled.{family_named, table_named, sort_named, in_sort}
 use Rattle.pc_canonical.proofs.Standing.{AreDeclared, declared_append, declared_unbroken, unbroken_append, declared_map, declared_each, declared_behind, declared_flat_map, all_append, all_map, all_flat_map, all_behind, IsBegun, IsOfUniverse, MayFollow, stand_before_rules, stand_anywhere, numbered_by_line, has_begin}
@@ -37,21 +40,33 @@ all_of_universe u =
     (all_append IsOfUniverse tables (rows ++ families) (all_map IsOfUniverse (table_declaration u) u.tables (λ t. refl))
     (all_append IsOfUniverse rows families (all_flat_map IsOfUniverse (row_declarations u) u.tables (λ t. all_map IsOfUniverse (row_declaration u t) t.rows (λ r. refl))) (all_map IsOfUniverse (family_declaration u) u.families (λ f. refl))))
 
-rules_follow : (u : Universe) (second : Bool) (rules : List NamedStatement) → AllByRecursion (MayFollow second) (map (rule_declaration u) rules)
-rules_follow u second rules = all_map (MayFollow second) (rule_declaration u) rules (λ r. record { outside = refl; version = refl })
+-- a rule that counts makes the version the second one
+module _ (u : Universe) (second : Bool) where
+  rule_follows : (r : NamedStatement) → (rule_counts r ≡ true → second ≡ true) → MayFollow second (rule_declaration u r)
+  rule_follows r needs = record { outside = refl; version = ap (λ b. not b || second) (counts_alike u [] r.states) ∙ by (rule_counts r) refl }
+    where
+      by : (b : Bool) → rule_counts r ≡ b → (not b || second) ≡ true
+      by true is = needs is
+      by false is = refl
 
--- a later entry of a cell makes the version the second one
-entry_follows : (u : Universe) (older : List Entry) (e : Entry) (after : List Entry) → MayFollow (has_several (older ++ e ∷ after)) (entry_declaration u older e)
-entry_follows u older e after = by (is_later older e) refl
-  where
-    by : (b : Bool) → is_later older e ≡ b → MayFollow (has_several (older ++ e ∷ after)) (cond b (also_declaration u e) (enter_declaration u e))
-    by true later = record { outside = refl; version = later_behind older e after later }
-    by false first = record { outside = refl; version = refl }
+  rules_follow : (rules : List NamedStatement) → (has_counting rules ≡ true → second ≡ true) → AllByRecursion (MayFollow second) (map (rule_declaration u) rules)
+  rules_follow [] needs = tt
+  rules_follow (r ∷ rules) needs = (
+    rule_follows r (λ is. needs (or_left (rule_counts r) (has_counting rules) is)),
+    rules_follow rules (λ is. needs (or_right (rule_counts r) (has_counting rules) is)),
+  )
 
-entries_follow : (u : Universe) (es : List Entry) → AllByRecursion (MayFollow (has_several es)) (entry_declarations u es)
-entries_follow u es =
-    let P = MayFollow (has_several es) in
-    all_behind P (entry_declaration u) es (λ older e after is. subst (λ all. MayFollow (has_several all) (entry_declaration u older e)) (sym is) (entry_follows u older e after)) [] es refl
+  -- and so does a later entry of a cell
+  entry_follows : (older : List Entry) (e : Entry) (after : List Entry) → (has_several (older ++ e ∷ after) ≡ true → second ≡ true) → MayFollow second (entry_declaration u older e)
+  entry_follows older e after needs = by (is_later older e) refl
+    where
+      by : (b : Bool) → is_later older e ≡ b → MayFollow second (cond b (also_declaration u e) (enter_declaration u e))
+      by true later = record { outside = refl; version = needs (later_behind older e after later) }
+      by false first = record { outside = refl; version = refl }
+
+  entries_follow : (es : List Entry) → (has_several es ≡ true → second ≡ true) → AllByRecursion (MayFollow second) (entry_declarations u es)
+  entries_follow es needs =
+      all_behind (MayFollow second) (entry_declaration u) es (λ older e after is. entry_follows older e after (λ several. needs (ap has_several is ∙ several))) [] es refl
 
 -- ---- each line of a well-formed sheet
 
@@ -109,31 +124,31 @@ module _ (s : Sheet) (well : IsWellFormed s) where
       let u = s.universe in
       let rules = map (rule_line u) s.rules in
       let entries = entry_lines u s.entries in (
-        (heading_reads_back s.entries).whole,
+        (heading_reads_back s).whole,
         unbroken_append (universe_lines u) (rules ++ (entries ++ codes "begin" ∷ [])) (declared_unbroken _ _ (universe_declared u well.universe))
             (unbroken_append rules (entries ++ codes "begin" ∷ []) (declared_unbroken _ _ (rules_declared u well.universe s.rules well.rules))
             (unbroken_append entries (codes "begin" ∷ []) (declared_unbroken _ _ (entries_declared u well.universe s.entries well.entries)) (begin_reads_back.whole, tt))),
       )
 
-  all_stand : AreStanding [] (sheet_lines s) (forms_of (version s.entries) (declarations_of s))
+  all_stand : AreStanding [] (sheet_lines s) (forms_of (version s) (declarations_of s))
   unfolding forms_of
   all_stand =
       let u = s.universe in
-      let second = has_several s.entries in
-      let first = heading (version s.entries) in
+      let second = needs_second s in
+      let first = heading (version s) in
       let rules = map (rule_declaration u) s.rules in
       let entries = entry_declarations u s.entries in
       let behind_entries : (before : List LineForm) → IsBegun second before → AreStanding before (codes "begin" ∷ []) (begins ∷ []) = λ before is. (begin_reads_back.is, is.begun, tt) in
-      let behind_rules = λ (before : List LineForm) (is : IsBegun second before). stand_anywhere second _ _ (entries_declared u well.universe s.entries well.entries) (entries_follow u s.entries) before is _ _ behind_entries in
-      let behind_universe = λ (before : List LineForm) (is : IsBegun second before). stand_anywhere second _ _ (rules_declared u well.universe s.rules well.rules) (rules_follow u second s.rules) before is _ _ behind_rules in
+      let behind_rules = λ (before : List LineForm) (is : IsBegun second before). stand_anywhere second _ _ (entries_declared u well.universe s.entries well.entries) (entries_follow u second s.entries (or_left (has_several s.entries) (has_counting s.rules))) before is _ _ behind_entries in
+      let behind_universe = λ (before : List LineForm) (is : IsBegun second before). stand_anywhere second _ _ (rules_declared u well.universe s.rules well.rules) (rules_follow u second s.rules (or_right (has_several s.entries) (has_counting s.rules))) before is _ _ behind_rules in
       let standing = stand_before_rules second _ _ (universe_declared u well.universe) (all_of_universe u) (first ∷ []) (begun second) refl _ _ behind_universe in
-      ((heading_reads_back s.entries).is, heading_stands second, subst (AreStanding (first ∷ []) _) (part_forms (universe_declarations u) rules entries (begins ∷ [])) standing)
+      ((heading_reads_back s).is, heading_stands second, subst (AreStanding (first ∷ []) _) (part_forms (universe_declarations u) rules entries (begins ∷ [])) standing)
 
   pub sheet_reads_back : IsSheet (sheet_text s) (numbered_declarations s)
   unfolding forms_of
   sheet_reads_back =
       let ds = declarations_of s in
-      let n = version s.entries in
+      let n = version s in
       let forms = forms_of n ds in
       let standing : AreStanding [] (lines (sheet_text s)) forms = subst (λ ls. AreStanding [] ls forms) (sym (lines_are (sheet_lines s) all_unbroken)) all_stand in
       subst (λ l. IsSheet (sheet_text s) l) (numbered_by_line ds 2) (whole forms standing (has_begin (heading n ∷ map declares ds)))

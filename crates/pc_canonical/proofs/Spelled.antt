@@ -9,15 +9,15 @@ use Rattle.std.specs.Int.Signed.{mag}
 use Rattle.pc_name.specs.Names.{IsName}
 use Rattle.pc_name.specs.declared.sign.Op.{Op}
 use Rattle.pc_name.specs.declared.sign.Sign.{Sign}
-use Rattle.pc_sheet.specs.Sheet.{Universe, Values, listed, range, Sort, Table, Item, Items, no_items, item, variable, constant, number, cell, Sum, Statement, Statements, no_statements, statement, compare, in_table, negation, all_of, some_of, implies, iff, for_all, exists}
+use Rattle.pc_sheet.specs.Sheet.{Universe, Values, listed, range, Sort, Table, Item, Items, no_items, item, variable, constant, number, cell, Sum, Counting, no_more_than, no_fewer_than, of_first, Statement, Statements, no_statements, statement, compare, in_table, negation, all_of, some_of, implies, iff, for_all, exists, counts}
 use Rattle.pc_sheet.specs.Sizes.{count_of, size_of, values_at}
 use Rattle.pc_sheet.specs.WellFormed.{AreWellFormedValues, IsWellFormedUniverse, IsWellFormedTable}
-use Rattle.pc_sheet.specs.WellSorted.{Variables, names_of_values, names_of_sort, name_of_table, name_of_family, declared_names, IsSmallNumber, IsOfSort, AreOfSorts, IsInteger, IsIntegerSum, IsValueOf, AreComparable, IsWellSorted, AreWellSorted}
+use Rattle.pc_sheet.specs.WellSorted.{Variables, names_of_values, names_of_sort, name_of_table, name_of_family, declared_names, IsSmallNumber, IsOfSort, AreOfSorts, IsInteger, IsIntegerSum, IsValueOf, AreComparable, IsBound, IsWellSorted, AreWellSorted}
 use Rattle.pc_sheet.specs.declared.ids.SortId.{SortId}
 use Rattle.pc_sheet.specs.declared.ids.TableId.{TableId}
 use Rattle.pc_sheet.specs.declared.ids.FamilyId.{FamilyId}
 use Rattle.pc_sheet.specs.declared.ids.ValueId.{ValueId}
-use Rattle.pc_writer.specs.FormulaText.{sort_at, table_at, family_at, sort_name}
+use Rattle.pc_writer.specs.FormulaText.{bound_of, sort_at, table_at, family_at, sort_name}
 use Rattle.pc_writer.proofs.CellLemmas.{sort_there}
 use Rattle.pc_writer.proofs.Names.{at_place, there_within}
 use Rattle.pc_writer.proofs.Universe.{values_declared}
@@ -48,6 +48,12 @@ short_sum (negsuc l) k small few = go (ltb k (suc l))
     go : (b : Bool) → mag (cond b (negsuc (suc l - suc k)) (pos (k - suc l))) < 10 ^ 17
     go true = omega (arith, small)
     go false = omega (arith, few)
+
+-- what a quantifier may count
+short_bound : (c : Counting) → IsBound c → bound_of c < 10 ^ 17
+short_bound (no_more_than k) bound = omega (arith, bound)
+short_bound (no_fewer_than k) bound = omega (arith, bound.1)
+short_bound (of_first m i j) bound = absurd bound
 
 -- ---- declared names
 
@@ -188,6 +194,8 @@ module _ (u : Universe) (formed : IsWellFormedUniverse u) where
         (sorted.0.named, sort_named u formed s sorted.0.sort, spelled_statement (vs ++ (n, s) ∷ []) (named_more vs n s named sorted.0.named) body sorted.1)
     spelled_statement vs named (exists n s body) sorted =
         (sorted.0.named, sort_named u formed s sorted.0.sort, spelled_statement (vs ++ (n, s) ∷ []) (named_more vs n s named sorted.0.named) body sorted.1)
+    spelled_statement vs named (counts c n s body) sorted =
+        (short_bound c sorted.0, sorted.1.named, sort_named u formed s sorted.1.sort, spelled_statement (vs ++ (n, s) ∷ []) (named_more vs n s named sorted.1.named) body sorted.2)
 
     spelled_statements : (vs : Variables) → AreVariablesNamed vs → (ss : Statements) → AreWellSorted u vs ss → AreSpelledStatements u vs ss
     spelled_statements vs named no_statements sorted = tt

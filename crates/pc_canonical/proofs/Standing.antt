@@ -5,7 +5,7 @@ use Rattle.std.proofs.lemmas.List.Elements.{All-head, All-tail}
 use Rattle.std.specs.List.{flat_map, list_any, AllByRecursion}
 use Rattle.pc_syntax.specs.Tree.{Declared, list_sort, range_sort, table, row, cell, rule, enter, also}
 use Rattle.pc_syntax.specs.Line.{LineForm, declares, begins}
-use Rattle.pc_syntax.specs.Sheet.{is_heading, is_begin, is_rule, is_rule_line, is_of_universe, is_also, is_second, is_open, may_stand, AreStanding, declared_from}
+use Rattle.pc_syntax.specs.Sheet.{is_heading, is_begin, is_rule, is_rule_line, is_of_universe, is_of_second, is_second, is_open, may_stand, AreStanding, declared_from}
 use Rattle.pc_writer.specs.SheetText.{each_behind}
 use Rattle.pc_canonical.specs.Declarations.{numbered_from}
 use Rattle.pc_canonical.proofs.Lines.{ReadsAsLine}
@@ -84,7 +84,7 @@ or_true : (a : Bool) → (a || true) ≡ true
 or_true true = refl
 or_true false = refl
 
--- behind lines of these forms the sheet has begun and not ended, and `also` lines may stand there or not
+-- behind lines of these forms the sheet has begun and not ended, and lines of the second version may stand there or not
 pub record IsBegun (second : Bool) (before : List LineForm) : Type 0 where
   pub begun : is_open before ≡ true
   pub version : list_any is_second before ≡ second
@@ -109,33 +109,33 @@ no_rule (rule n f) is = absurd (cc)
 no_rule (enter c v) is = absurd (cc)
 no_rule (also c v) is = absurd (cc)
 
-no_also : (d : Declared) → IsOfUniverse d → is_also d ≡ false
-no_also (list_sort n values) is = refl
-no_also (range_sort n low high) is = refl
-no_also (table n sorts) is = refl
-no_also (row n values) is = refl
-no_also (cell n sorts result) is = refl
-no_also (rule n f) is = absurd (cc)
-no_also (enter c v) is = absurd (cc)
-no_also (also c v) is = absurd (cc)
+not_of_second : (d : Declared) → IsOfUniverse d → is_of_second d ≡ false
+not_of_second (list_sort n values) is = refl
+not_of_second (range_sort n low high) is = refl
+not_of_second (table n sorts) is = refl
+not_of_second (row n values) is = refl
+not_of_second (cell n sorts result) is = refl
+not_of_second (rule n f) is = absurd (cc)
+not_of_second (enter c v) is = absurd (cc)
+not_of_second (also c v) is = absurd (cc)
 
 still_no_rule : (before : List LineForm) (d : Declared) → list_any is_rule_line before ≡ false → is_rule d ≡ false → list_any is_rule_line (before ++ declares d ∷ []) ≡ false
 still_no_rule before d none other = list_any-append is_rule_line before (declares d ∷ []) ∙ ap₂ (λ x y. x || (y || false)) none other
 
 stands_before_rules : (second : Bool) (before : List LineForm) (d : Declared) → IsBegun second before → list_any is_rule_line before ≡ false → IsOfUniverse d → may_stand before (declares d) ≡ true
 stands_before_rules second before d is none own =
-    ap₂ (λ x y. x && ((not (is_of_universe d) || not y) && (not (is_also d) || list_any is_second before))) is.begun none
-    ∙ ap₂ (λ x y. x && (not y || list_any is_second before)) (or_true (not (is_of_universe d))) (no_also d own)
+    ap₂ (λ x y. x && ((not (is_of_universe d) || not y) && (not (is_of_second d) || list_any is_second before))) is.begun none
+    ∙ ap₂ (λ x y. x && (not y || list_any is_second before)) (or_true (not (is_of_universe d))) (not_of_second d own)
 
--- not of the universe, and an `also` line in the second version alone
+-- not of the universe, and in the second version where it is of that one alone
 pub record MayFollow (second : Bool) (d : Declared) : Type 0 where
   pub outside : is_of_universe d ≡ false
-  pub version : (not (is_also d) || second) ≡ true
+  pub version : (not (is_of_second d) || second) ≡ true
 
 stands_anywhere : (second : Bool) (before : List LineForm) (d : Declared) → IsBegun second before → MayFollow second d → may_stand before (declares d) ≡ true
 stands_anywhere second before d is may =
-    ap₂ (λ x y. x && ((not y || not (list_any is_rule_line before)) && (not (is_also d) || list_any is_second before))) is.begun may.outside
-    ∙ ap (λ x. not (is_also d) || x) is.version ∙ may.version
+    ap₂ (λ x y. x && ((not y || not (list_any is_rule_line before)) && (not (is_of_second d) || list_any is_second before))) is.begun may.outside
+    ∙ ap (λ x. not (is_of_second d) || x) is.version ∙ may.version
 
 module _ (second : Bool) where
   -- declarations of the universe stand behind such, with what stands behind them

@@ -6,15 +6,16 @@ use Rattle.std.proofs.lemmas.Option.{slice_get-get_or, slice_get_within, unwrap_
 use Rattle.pc_name.specs.declared.sign.Op.{Op}
 use Rattle.pc_name.specs.declared.sign.Sign.{Sign}
 use Rattle.pc_formula.specs.Tree.{named, no_item, one_item, items_of, name_value, integer_value}
-use Rattle.pc_sheet.specs.Sheet.{Universe, Values, listed, range, Family, Item, Items, no_items, item, variable, constant, number, cell, Sum, Statement, Statements, no_statements, statement, compare, in_table, negation, all_of, some_of, implies, iff, for_all, exists}
+use Rattle.pc_sheet.specs.Sheet.{Universe, Values, listed, range, Family, Item, Items, no_items, item, variable, constant, number, cell, Sum, Counting, no_more_than, no_fewer_than, of_first, Statement, Statements, no_statements, statement, compare, in_table, negation, all_of, some_of, implies, iff, for_all, exists, counts}
 use Rattle.pc_sheet.specs.Sizes.{count_of, values_at}
-use Rattle.pc_sheet.specs.WellSorted.{Variables, IsListed, IsOfSort, AreOfSorts, IsInteger, IsIntegerSum, IsValueOf, AreComparable, IsWellSorted, AreWellSorted}
+use Rattle.pc_sheet.specs.Views.{counting_of}
+use Rattle.pc_sheet.specs.WellSorted.{Variables, IsListed, IsOfSort, AreOfSorts, IsInteger, IsIntegerSum, IsValueOf, AreComparable, IsBound, IsWellSorted, AreWellSorted}
 use Rattle.pc_sheet.specs.declared.ids.SortId.{SortId}
 use Rattle.pc_sheet.specs.declared.ids.TableId.{TableId}
 use Rattle.pc_sheet.specs.declared.ids.FamilyId.{FamilyId}
 use Rattle.pc_sheet.specs.declared.ids.ValueId.{ValueId}
-use Rattle.pc_elaborate.specs.Elaboration.{IsSortNamed, IsTableNamed, IsFamilyNamed, IsValueAmong, IsItem, is_number, is_variable, is_value, is_application, IsArgument, is_integer, is_item, AreArguments, no_arguments, one_argument, AreAdded, IsSum, IsStatement, is_comparison, is_table_atom, is_negation, is_conjunction, is_disjunction, is_implication, is_equivalence, is_universal, is_existential, AreStatements, no_statements_left, one_statement}
-use Rattle.pc_writer.specs.FormulaText.{table_at, family_at, sort_name, variable_at}
+use Rattle.pc_elaborate.specs.Elaboration.{IsSortNamed, IsTableNamed, IsFamilyNamed, IsValueAmong, IsItem, is_number, is_variable, is_value, is_application, IsArgument, is_integer, is_item, AreArguments, no_arguments, one_argument, AreAdded, IsSum, IsStatement, is_comparison, is_table_atom, is_negation, is_conjunction, is_disjunction, is_implication, is_equivalence, is_universal, is_existential, is_counting, AreStatements, no_statements_left, one_statement}
+use Rattle.pc_writer.specs.FormulaText.{bound_of, is_at_most, table_at, family_at, sort_name, variable_at}
 use Rattle.pc_writer.proofs.Names.{there_within, place_there}
 use Rattle.pc_canonical.specs.Tree.{value_tree, item_tree, item_trees, argument_trees, added_tree, side_tree, statement_tree, part_trees}
 
@@ -121,6 +122,12 @@ module _ (u : Universe) (vs : Variables) where
 
 -- ---- statements
 
+-- what a rule may count, at most or at least
+same_counting : (c : Counting) → IsBound c → counting_of (is_at_most c) (bound_of c) ≡ c
+same_counting (no_more_than k) bound = refl
+same_counting (no_fewer_than k) bound = refl
+same_counting (of_first m i j) bound = absurd bound
+
 module _ (u : Universe) where
   table_atom_stands : (vs : Variables) (t : TableId) (xs : Items) → IsSomeAnd (slice_get u.tables t.0) (λ table. AreOfSorts u vs xs table.sorts) → IsStatement u vs (statement_tree u vs (in_table t xs)) (in_table t xs)
   table_atom_stands vs t xs sorted =
@@ -147,6 +154,9 @@ module _ (u : Universe) where
         is_universal vs n (sort_name u s) (statement_tree u (vs ++ (n, s) ∷ []) body) s body (sort_stands u s sorted.0.sort) (statement_stands (vs ++ (n, s) ∷ []) body sorted.1)
     statement_stands vs (exists n s body) sorted =
         is_existential vs n (sort_name u s) (statement_tree u (vs ++ (n, s) ∷ []) body) s body (sort_stands u s sorted.0.sort) (statement_stands (vs ++ (n, s) ∷ []) body sorted.1)
+    statement_stands vs (counts c n s body) sorted =
+        subst (λ d. IsStatement u vs (statement_tree u vs (counts c n s body)) (counts d n s body)) (same_counting c sorted.0)
+        (is_counting vs (is_at_most c) (bound_of c) n (sort_name u s) (statement_tree u (vs ++ (n, s) ∷ []) body) s body (sort_stands u s sorted.1.sort) (statement_stands (vs ++ (n, s) ∷ []) body sorted.2))
 
     parts_stand : (vs : Variables) (ss : Statements) → AreWellSorted u vs ss → AreStatements u vs (part_trees u vs ss) ss
     parts_stand vs no_statements sorted = no_statements_left vs

@@ -1,5 +1,5 @@
 -- The generated text is the canonical one.
-use Rattle.std.proofs.Common.{◌≡◌, Bool, false, cond, ℕ, zero, suc, ◌<◌, ◌≤◌, ◌+◌, ◌*◌, ◌%◌, List, [], ◌∷◌, ◌++◌, Some, pos, ◌+ℤ◌, codes, map, slice_get, arith, refl, sym, ap, ap₂, ◌∙◌, subst, append_assoc, append-nil, add-zero, one-add, decimal}
+use Rattle.std.proofs.Common.{◌≡◌, Bool, false, cond, ◌||◌, ℕ, zero, suc, ◌<◌, ◌≤◌, ◌+◌, ◌*◌, ◌%◌, List, [], ◌∷◌, ◌++◌, Some, pos, ◌+ℤ◌, codes, map, slice_get, arith, refl, sym, ap, ap₂, ◌∙◌, subst, append_assoc, append-nil, add-zero, one-add, decimal}
 use Rattle.std.proofs.lemmas.List.{map-append}
 use Rattle.std.proofs.lemmas.List.Concat.{flat_map-append}
 use Rattle.std.specs.Fmt.{digits, signed_decimal}
@@ -86,7 +86,7 @@ module _ (numbered : CellsAreNumberedInOrder) (n : ℕ) (some : 1 ≤ n) where
       ∙ ap₂ (λ (x y : List (List ℕ)). x ++ y) (block_lines_are k (omega (arith, within))) (block ∙ sym (append-nil (block_lines (suc k))))
       ∙ sym (flat_map-append block_lines (up_to k) (suc k ∷ []))
 
-  -- no cell has two entries
+  -- no cell has two entries, and no rule counts
   none_later : writer.has_several (generated_entries n) ≡ false
   none_later = several_none (generated_entries n) (single n)
 
@@ -95,5 +95,5 @@ module _ (numbered : CellsAreNumberedInOrder) (n : ℕ) (some : 1 ≤ n) where
 
   pub canonical : generated_text n ≡ writer.sheet_text (generated_sheet n)
   canonical = ap (flat_map ended) (sym (
-      ap₂ (λ (several : Bool) (es : List (List ℕ)). cond several (codes "sheet 2") (codes "sheet 1") ∷ (writer.universe_lines (generated_universe n) ++ (map (writer.rule_line (generated_universe n)) (chain ∷ other ∷ []) ++ (es ++ codes "begin" ∷ [])))) none_later entry_lines_are
+      ap₂ (λ (several : Bool) (es : List (List ℕ)). cond (several || false) (codes "sheet 2") (codes "sheet 1") ∷ (writer.universe_lines (generated_universe n) ++ (map (writer.rule_line (generated_universe n)) (chain ∷ other ∷ []) ++ (es ++ codes "begin" ∷ [])))) none_later entry_lines_are
       ∙ ap (λ (hs : List (List ℕ)). hs ++ (flat_map block_lines (up_to n) ++ codes "begin" ∷ [])) (head n)))

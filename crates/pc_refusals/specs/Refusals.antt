@@ -6,7 +6,7 @@ use Rattle.pc_refusals.specs.declared.refusal.Refusal.{Refusal}
 use Rattle.pc_refusals.specs.declared.refusal.Refusal.TheVariants.{NotUtf8, Syntax, NoBegin, WrongVersion, UnknownName, DuplicateName, WrongArity, WrongSort, NotAValue, EmptySort, Limit, TooLarge, Inconsistent, Spent, NoEntry, DuplicateRule, NoRule, TooDeep}
 use Rattle.pc_refusals.specs.declared.refusal.Counts.{Counts}
 use Rattle.pc_sheet.specs.declared.limits.Limited.{Limited}
-use Rattle.pc_sheet.specs.declared.limits.Limited.TheVariants.{Sorts, Values, Number, Tables, Families, Arity, Cells, Rows, Rules, Depth, Reads, Entries, Budget}
+use Rattle.pc_sheet.specs.declared.limits.Limited.TheVariants.{Sorts, Values, Number, Tables, Families, Arity, Cells, Rows, Rules, Count, Depth, Reads, Entries, Budget}
 use Rattle.pc_refusals.specs.declared.refusal.SheetRefusal.{SheetRefusal}
 use Rattle.pc_refusals.specs.declared.refusal.LoadFault.{LoadFault}
 use Rattle.pc_refusals.specs.declared.refusal.LoadFault.TheVariants as load_fault
@@ -43,6 +43,7 @@ limit_word_of Arity = codes "arity"
 limit_word_of Cells = codes "cells"
 limit_word_of Rows = codes "rows"
 limit_word_of Rules = codes "rules"
+limit_word_of Count = codes "count"
 limit_word_of Depth = codes "depth"
 limit_word_of Reads = codes "reads"
 limit_word_of Entries = codes "entries"

@@ -153,6 +153,7 @@ fn limit_word(limited: Limited) -> &'static [u8]
         Limited::Cells => b"cells",
         Limited::Rows => b"rows",
         Limited::Rules => b"rules",
+        Limited::Count => b"count",
         Limited::Depth => b"depth",
         Limited::Reads => b"reads",
         Limited::Entries => b"entries",

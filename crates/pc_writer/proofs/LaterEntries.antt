@@ -4,7 +4,6 @@ use Rattle.std.specs.List.{list_any}
 use Rattle.std.proofs.lemmas.Bool.{cases_eq, cases_lt, eqb-true, leb-true, le-leb, ne_eqb, true≢false, false≢true, or_right}
 use Rattle.std.proofs.lemmas.List.{length-append, length-replicate, take-append-drop, take_more, get_or-replicate}
 use Rattle.std.proofs.lemmas.List.Elements.{All-get_or, filter-append}
-use Rattle.std.proofs.lemmas.List.Filters.{length-filter_more}
 use Rattle.std.proofs.lemmas.List.Folds.{list_any-append, list_any_at, Any-from_list_any}
 use Rattle.std.proofs.lemmas.Option.{get_or_from_slice_get}
 use Rattle.pc_sheet.specs.Limits.{most_cells}
@@ -14,8 +13,7 @@ use Rattle.pc_sheet.specs.declared.ids.CellId.{CellId}
 use Rattle.pc_sheet.specs.declared.ids.Entry.{Entry}
 use Rattle.pc_lemmas.proofs.Elements.{contains_first, contains_later, kept_is}
 use Rattle.pc_logic.proofs.CountLemmas.{sizes_count}
-use Rattle.pc_writer.specs.SheetText.{also_line, each_behind, enter_line, entry_line, entry_lines, has_several, is_later, version}
-use Rattle.pc_writer.specs.Versions.{VersionTells}
+use Rattle.pc_writer.specs.SheetText.{also_line, each_behind, enter_line, entry_line, entry_lines, has_several, is_later}
 use Rattle.pc_writer.proofs.CellLemmas.{entered_cell}
 
 -- ---- cells
@@ -164,7 +162,7 @@ first_or_later u older (e ∷ es) single = by (is_later older e) refl (λ first.
     ]
 
 -- a line of a later entry is one of a cell that has several
-also_several : (u : Universe) (es : List Entry) (e : Entry) → Contains (entry_lines u es) (also_line u e) → has_several es ≡ true
+pub also_several : (u : Universe) (es : List Entry) (e : Entry) → Contains (entry_lines u es) (also_line u e) → has_several es ≡ true
 also_several u es e there =
     let i = there.0 in
     let below : i < length es = omega (arith, there.1, length-each_behind (entry_line u) [] es) in
@@ -179,30 +177,12 @@ also_several u es e there =
     by f true several same = several refl
     by f false several same = absurd (other f same)
 
--- ---- the version
-
--- the version by whether some cell has several
-abbrev version_of : Bool → ℕ
-version_of b = cond b 2 1
-
-two_several : (b : Bool) → version_of b ≡ 2 → b ≡ true
-two_several true is = refl
-two_several false is = absurd (omega (arith, is))
-
-one_single : (b : Bool) → version_of b ≡ 1 → b ≡ false
-one_single true is = absurd (omega (arith, is))
-one_single false is = refl
-
-several_two : (b : Bool) → b ≡ true → version_of b ≡ 2
-several_two b is = ap version_of is
-
-single_one : (b : Bool) → b ≡ false → version_of b ≡ 1
-single_one b is = ap version_of is
+-- whether some cell has several shows in the lines
 
 either_lines : (u : Universe) (es : List Entry) → ((e : Entry) × Contains (entry_lines u es) (also_line u e)) ⊎ (((c : CellId) → length (entries_of c es) ≤ 1) × (entry_lines u es ≡ map (enter_line u) es))
 either_lines u es = first_or_later u [] es (λ c. omega arith)
 
-several_also : (u : Universe) (es : List Entry) → has_several es ≡ true → (e : Entry) × Contains (entry_lines u es) (also_line u e)
+pub several_also : (u : Universe) (es : List Entry) → has_several es ≡ true → (e : Entry) × Contains (entry_lines u es) (also_line u e)
 several_also u es several = elim (either_lines u es) [
   | inl there ↦ there
   | inr both ↦ absurd (true≢false (sym several ∙ several_none es both.0))
@@ -213,16 +193,6 @@ single_first u es single = elim (either_lines u es) [
   | inl there ↦ absurd (true≢false (sym (also_several u es there.0 there.1) ∙ single))
   | inr both ↦ both.1
 ]
-
-pub version_tells : (u : Universe) (es : List Entry) → VersionTells u es
-version_tells u es =
-    let b = has_several es in
-    record {
-      several = (λ is. of_several es (two_several b is), λ some. several_two b (several_of es some.0 some.1));
-      single = (λ is. none_several es (one_single b is), λ each. single_one b (several_none es each));
-      later = (λ is. several_also u es (two_several b is), λ some. several_two b (also_several u es some.0 some.1));
-      first = λ is. single_first u es (one_single b is);
-    }
 
 -- ---- cells that are noted
 

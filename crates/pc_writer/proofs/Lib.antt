@@ -8,3 +8,5 @@ pub mod Statements
 pub mod Universe
 pub mod Sheets
 pub mod LaterEntries
+pub mod CountedLemmas
+pub mod VersionLemmas

@@ -16,12 +16,12 @@ universe_parts u =
     ∙ ap (λ t. lines_text sorts ++ t) (lines-append tables (rows ++ families) ∙ ap (λ t. lines_text tables ++ t) (lines-append rows families))
 
 pub sheet_parts : (s : Sheet) → sheet_text s
-    ≡ ended (heading_line s.entries) ++ (lines_text (universe_lines s.universe) ++ (lines_text (map (rule_line s.universe) s.rules) ++ (lines_text (entry_lines s.universe s.entries) ++ ended (codes "begin"))))
+    ≡ ended (heading_line s) ++ (lines_text (universe_lines s.universe) ++ (lines_text (map (rule_line s.universe) s.rules) ++ (lines_text (entry_lines s.universe s.entries) ++ ended (codes "begin"))))
 sheet_parts s =
     let rules = map (rule_line s.universe) s.rules in
     let entries = entry_lines s.universe s.entries in
     let last = codes "begin" ∷ [] in
-    ap (λ t. ended (heading_line s.entries) ++ t) (
+    ap (λ t. ended (heading_line s) ++ t) (
     lines-append (universe_lines s.universe) (rules ++ (entries ++ last))
     ∙ ap (λ t. lines_text (universe_lines s.universe) ++ t) (lines-append rules (entries ++ last) ∙ ap (λ t. lines_text rules ++ t) (lines-append entries last))
     )

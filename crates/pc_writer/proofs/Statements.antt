@@ -1,11 +1,11 @@
 -- The parts of a statement one after another.
-use Rattle.std.proofs.Common.{◌≡◌, ℕ, zero, suc, ◌<◌, ◌≤◌, List, [], ◌∷◌, ◌++◌, length, map, Some, nat_lt, true, false, slice_get, slice_index_or, arith, rules, refl, ap, subst, ◌∙◌, codes, Vec, Box, Global}
+use Rattle.std.proofs.Common.{◌≡◌, ℕ, Bool, zero, suc, ◌<◌, ◌≤◌, List, [], ◌∷◌, ◌++◌, length, map, Some, nat_lt, true, false, slice_get, slice_index_or, arith, rules, refl, ap, subst, ◌∙◌, codes, Vec, Box, Global}
 use Rattle.std.proofs.lemmas.List.{length-map}
-use Rattle.pc_sheet.specs.Sheet.{Universe, Statement, compare, in_table, negation, implies, iff, for_all, exists}
+use Rattle.pc_sheet.specs.Sheet.{Universe, Statement, compare, in_table, negation, implies, iff, for_all, exists, counts}
 use Rattle.pc_sheet.specs.Nesting.{tightness}
-use Rattle.pc_sheet.specs.Views.{item_of, items_of, sum_of, statement_of, statements_of}
+use Rattle.pc_sheet.specs.Views.{counting_of, item_of, items_of, sum_of, statement_of, statements_of}
 use Rattle.pc_sheet.specs.WellSorted.{Variables, AreOfSorts, IsWellSorted, AreWellSorted}
-use Rattle.pc_sheet.specs.declared.formula.Formula.{Formula, Compare, InTable, Not, Implies, Iff, ForAll, Exists, the_lemmas}
+use Rattle.pc_sheet.specs.declared.formula.Formula.{Formula, Compare, InTable, Not, Implies, Iff, ForAll, Exists, Count, the_lemmas}
 use Rattle.pc_sheet.specs.declared.formula.Side.{Side}
 use Rattle.pc_sheet.specs.declared.formula.Term.{Term}
 use Rattle.pc_sheet.specs.declared.ids.SortId.{SortId}
@@ -16,7 +16,8 @@ use Rattle.pc_writer.specs.inside.Scope.{variable_of, variables_of}
 use Rattle.pc_writer.specs.inside.Writable.{AreWritable, IsWritableSum}
 use Rattle.pc_writer.proofs.Names.{there_within}
 use Rattle.pc_writer.proofs.Items.{writable_sides, items_writable}
-use Rattle.pc_writer.specs.FormulaText.{enclosed, part_text, part_texts}
+use Rattle.std.specs.Fmt.{decimal}
+use Rattle.pc_writer.specs.FormulaText.{count_text, count_word, quantifier_text, enclosed, part_text, part_texts}
 
 module _ (u : Universe) (vs : Variables) where
   pub length-part_texts : (asked : ℕ) (fs : List Formula) → length (part_texts u vs asked (statements_of (map statement_of fs))) ≡ length fs
@@ -64,6 +65,14 @@ of_ForAll n s f = search (rules, the_lemmas)
 
 pub of_Exists : (n : List ℕ) (s : SortId) (f : Box Formula Global) → statement_of (Exists n s f) ≡ exists n s (statement_of f.value)
 of_Exists n s f = search (rules, the_lemmas)
+
+pub of_Count : (m : Bool) (k : ℕ) (n : List ℕ) (s : SortId) (f : Box Formula Global) → statement_of (Count m k n s f) ≡ counts (counting_of m k) n s (statement_of f.value)
+of_Count m k n s f = search (rules, the_lemmas)
+
+-- what stands before the body of a quantifier that counts, by whether it is at most
+pub count_parts : (u : Universe) (m : Bool) (k : ℕ) (n : List ℕ) (s : SortId) → count_text u (counting_of m k) n s ≡ count_word m ++ (decimal k ++ quantifier_text u (codes " ") n s)
+count_parts u true k n s = refl
+count_parts u false k n s = refl
 
 module _ (u : Universe) (vs : List scope.Variable) (f : Formula) where
   pub sides_writable : (l : Side) (o : Op) (r : Side) → f ≡ Compare l o r → IsWellSorted u (variables_of vs) (statement_of f) → IsWritableSum u (length vs) (sum_of l) × IsWritableSum u (length vs) (sum_of r)

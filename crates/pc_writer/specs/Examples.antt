@@ -1,8 +1,8 @@
--- Three sheets, with their texts.
+-- Four sheets, with their texts.
 use Rattle.std.specs.Prelude.{◌≡◌, ℕ, pos, neg_ℤ, List, [], ◌∷◌, codes, map}
 use Rattle.pc_name.specs.declared.sign.Op.TheVariants.{Eq, Ne, Lt}
 use Rattle.pc_name.specs.declared.sign.Sign.TheVariants.{Plus, Minus}
-use Rattle.pc_sheet.specs.Sheet.{listed, range, Family, Item, no_items, item, variable, constant, number, cell, Sum, Statement, no_statements, statement, compare, in_table, negation, all_of, some_of, implies, iff, for_all, NamedStatement, Sheet}
+use Rattle.pc_sheet.specs.Sheet.{listed, range, Family, Item, no_items, item, variable, constant, number, cell, Sum, no_more_than, no_fewer_than, Statement, no_statements, statement, compare, in_table, negation, all_of, some_of, implies, iff, for_all, counts, NamedStatement, Sheet}
 use Rattle.pc_sheet.specs.declared.ids.Entry.{Entry}
 use Rattle.pc_writer.specs.SheetText.{entry_lines, lines_text, rule_line, sheet_text, universe_lines}
 
@@ -73,6 +73,38 @@ views_lines =
     ∷ codes "enter c = green"
     ∷ codes "enter a = red"
     ∷ codes "also c = red"
+    ∷ codes "begin"
+    ∷ []
+
+-- ---- rules that count
+
+-- a person's shift on a day
+abbrev on : Item → ℕ → Statement
+on x day = compare (single (cell (record { 0 = 0 }) (item x no_items))) Eq (single (constant (record { 0 = 1 }) (record { 0 = day })))
+
+abbrev pub duties : Sheet
+duties = record {
+  universe = record {
+    sorts = record { name = codes "p"; values = listed (codes "ann" ∷ codes "bob" ∷ codes "cho" ∷ []) } ∷ record { name = codes "d"; values = listed (codes "mon" ∷ codes "tue" ∷ []) } ∷ [];
+    tables = [];
+    families = record { name = codes "s"; sorts = record { 0 = 0 } ∷ []; result_sort = record { 0 = 1 } } ∷ [];
+  };
+  rules =
+      named (codes "few") (counts (no_more_than 1) (codes "x") (record { 0 = 0 }) (on (variable 0) 0))
+      ∷ named (codes "some") (negation (counts (no_fewer_than 2) (codes "x") (record { 0 = 0 }) (both (on (variable 0) 0) (counts (no_more_than 0) (codes "y") (record { 0 = 0 }) (on (variable 1) 1)))))
+      ∷ [];
+  entries = entry 0 0 ∷ [];
+}
+
+abbrev pub duties_lines : List (List ℕ)
+duties_lines =
+    codes "sheet 2"
+    ∷ codes "sort p = ann bob cho"
+    ∷ codes "sort d = mon tue"
+    ∷ codes "cell s(p) : d"
+    ∷ codes "rule few : atmost 1 x:p . s(x) = mon"
+    ∷ codes "rule some : !(atleast 2 x:p . s(x) = mon & (atmost 0 y:p . s(y) = tue))"
+    ∷ codes "enter s(ann) = mon"
     ∷ codes "begin"
     ∷ []
 
@@ -155,10 +187,11 @@ tour_rules =
 abbrev pub tour_entries : List (List ℕ)
 tour_entries = codes "enter tint = red" ∷ codes "enter shift(0) = -1" ∷ []
 
--- the texts of the three sheets are these lines
+-- the texts of the four sheets are these lines
 pub record TextsAreWorked : Type 0 where
   pub of_three : sheet_text three ≡ lines_text three_lines
   pub of_views : sheet_text views ≡ lines_text views_lines
+  pub of_duties : sheet_text duties ≡ lines_text duties_lines
   pub universe_of_tour : universe_lines tour.universe ≡ tour_universe
   pub rules_of_tour : map (rule_line tour.universe) tour.rules ≡ tour_rules
   pub entries_of_tour : entry_lines tour.universe tour.entries ≡ tour_entries

@@ -1,12 +1,12 @@
 -- How items, sides and statements are written, under the names and sorts of the enclosing variables.
-use Rattle.std.specs.Prelude.{ℕ, List, [], ◌∷◌, ◌++◌, codes, nat_lt, cond, slice_index_or}
+use Rattle.std.specs.Prelude.{ℕ, Bool, true, false, List, [], ◌∷◌, ◌++◌, codes, nat_lt, cond, slice_index_or, if◌then◌else◌}
 use Rattle.std.specs.List.{flat_map}
-use Rattle.std.specs.Fmt.{signed_decimal}
+use Rattle.std.specs.Fmt.{decimal, signed_decimal}
 use Rattle.pc_name.specs.declared.sign.Op.{Op}
 use Rattle.pc_name.specs.declared.sign.Op.TheVariants.{Eq, Ne, Lt, Le, Gt, Ge}
 use Rattle.pc_name.specs.declared.sign.Sign.{Sign}
 use Rattle.pc_name.specs.declared.sign.Sign.TheVariants.{Plus, Minus}
-use Rattle.pc_sheet.specs.Sheet.{listed, Sort, Table, Family, Universe, Item, Items, no_items, item, variable, constant, number, cell, Sum, Statement, Statements, no_statements, statement, compare, in_table, negation, all_of, some_of, implies, iff, for_all, exists}
+use Rattle.pc_sheet.specs.Sheet.{listed, Sort, Table, Family, Universe, Item, Items, no_items, item, variable, constant, number, cell, Sum, Counting, no_more_than, no_fewer_than, of_first, Statement, Statements, no_statements, statement, compare, in_table, negation, all_of, some_of, implies, iff, for_all, exists, counts}
 use Rattle.pc_sheet.specs.WellSorted.{Variables}
 use Rattle.pc_sheet.specs.Nesting.{tightness}
 use Rattle.pc_sheet.specs.declared.ids.SortId.{SortId}
@@ -83,6 +83,24 @@ enclosed asked s text = cond (nat_lt (tightness s) asked) (codes "(" ++ (text ++
 abbrev pub quantifier_text : Universe → List ℕ → List ℕ → SortId → List ℕ
 quantifier_text u word name s = word ++ (name ++ (codes ":" ++ (sort_name u s ++ codes " . ")))
 
+-- at most, or at least; no rule has a counter, so what is written for one is of no account
+abbrev pub is_at_most : Counting → Bool
+is_at_most (no_more_than k) = true
+is_at_most (no_fewer_than k) = false
+is_at_most (of_first m i j) = false
+
+abbrev pub bound_of : Counting → ℕ
+bound_of (no_more_than k) = k
+bound_of (no_fewer_than k) = k
+bound_of (of_first m i j) = j
+
+abbrev pub count_word : Bool → List ℕ
+count_word at_most = if at_most then codes "atmost " else codes "atleast "
+
+-- where the quantifier counts
+abbrev pub count_text : Universe → Counting → List ℕ → SortId → List ℕ
+count_text u c name s = count_word (is_at_most c) ++ (decimal (bound_of c) ++ quantifier_text u (codes " ") name s)
+
 abbrev mutual
   pub statement_text : Universe → Variables → Statement → List ℕ
   statement_text u vs (compare left op right) = sum_text u vs left ++ (op_text op ++ sum_text u vs right)
@@ -94,6 +112,7 @@ abbrev mutual
   statement_text u vs (iff s t) = enclosed 2 s (statement_text u vs s) ++ (codes " <-> " ++ enclosed 2 t (statement_text u vs t))
   statement_text u vs (for_all name s body) = quantifier_text u (codes "forall ") name s ++ statement_text u (vs ++ (name, s) ∷ []) body
   statement_text u vs (exists name s body) = quantifier_text u (codes "exists ") name s ++ statement_text u (vs ++ (name, s) ∷ []) body
+  statement_text u vs (counts c name s body) = count_text u c name s ++ statement_text u (vs ++ (name, s) ∷ []) body
 
   pub part_texts : Universe → Variables → ℕ → Statements → List (List ℕ)
   part_texts u vs asked no_statements = []

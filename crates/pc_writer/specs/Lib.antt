@@ -2,6 +2,7 @@ pub mod Spelling
 pub mod Separator
 pub mod Writes
 pub mod FormulaText
+pub mod Counted
 pub mod SheetText
 pub mod Versions
 pub mod Examples

@@ -1,5 +1,5 @@
 -- The canonical text of a sheet, line by line.
-use Rattle.std.specs.Prelude.{ℕ, Bool, List, [], ◌∷◌, ◌++◌, codes, length, map, nat_le, if◌then◌else◌}
+use Rattle.std.specs.Prelude.{ℕ, Bool, List, [], ◌∷◌, ◌++◌, ◌||◌, codes, length, map, nat_le, if◌then◌else◌}
 use Rattle.std.specs.List.{flat_map, list_any}
 use Rattle.std.specs.Fmt.{signed_decimal}
 use Rattle.pc_sheet.specs.Sheet.{Values, listed, range, Sort, Table, Family, Universe, NamedStatement, Sheet}
@@ -7,6 +7,7 @@ use Rattle.pc_sheet.specs.declared.ids.ValueId.{ValueId}
 use Rattle.pc_sheet.specs.WellFormed.{is_of_cell, entries_of}
 use Rattle.pc_sheet.specs.declared.ids.Entry.{Entry}
 use Rattle.pc_writer.specs.Spelling.{value_texts, entry_text}
+use Rattle.pc_writer.specs.Counted.{has_counting}
 use Rattle.pc_writer.specs.FormulaText.{parenthesized, in_parentheses, sort_name, statement_text}
 
 -- ---- lines
@@ -68,12 +69,16 @@ entry_lines u es = each_behind (entry_line u) [] es
 abbrev pub has_several : List Entry → Bool
 has_several es = list_any (λ e. nat_le 2 (length (entries_of e.cell es))) es
 
--- the first one in which these entries can be written
-abbrev pub version : List Entry → ℕ
-version es = if has_several es then 2 else 1
+-- or some rule counts
+abbrev pub needs_second : Sheet → Bool
+needs_second s = has_several s.entries || has_counting s.rules
 
-abbrev pub heading_line : List Entry → List ℕ
-heading_line es = if has_several es then codes "sheet 2" else codes "sheet 1"
+-- the first one in which the sheet can be written
+abbrev pub version : Sheet → ℕ
+version s = if needs_second s then 2 else 1
+
+abbrev pub heading_line : Sheet → List ℕ
+heading_line s = if needs_second s then codes "sheet 2" else codes "sheet 1"
 
 -- ---- the sheet
 
@@ -84,7 +89,7 @@ universe_lines u = map sort_line u.sorts ++ (map (table_line u) u.tables ++ (fla
 -- the version, the universe, all rules, all entries with the oldest first, and the end
 abbrev pub sheet_lines : Sheet → List (List ℕ)
 sheet_lines s =
-    heading_line s.entries ∷ (universe_lines s.universe ++ (map (rule_line s.universe) s.rules ++ (entry_lines s.universe s.entries ++ codes "begin" ∷ [])))
+    heading_line s ∷ (universe_lines s.universe ++ (map (rule_line s.universe) s.rules ++ (entry_lines s.universe s.entries ++ codes "begin" ∷ [])))
 
 -- a line with its end
 abbrev pub ended : List ℕ → List ℕ

@@ -2,15 +2,16 @@
 ghost use Rattle.std.specs.Prelude.{◌≡◌, ◌<◌, ◌++◌, ◌∷◌, [], All, length, map};
 ghost use Rattle.std.specs.List.{flat_map};
 ghost use Rattle.pc_sheet.specs.Nesting.{tightness};
-ghost use Rattle.pc_sheet.specs.Views.{added_of, item_of, items_of, statement_of, statements_of, sum_of};
+ghost use Rattle.pc_sheet.specs.Views.{added_of, counting_of, item_of, items_of, statement_of, statements_of, sum_of};
 ghost use Rattle.pc_sheet.specs.WellSorted.{AreWellSorted, IsNewVariable, IsWellSorted};
-ghost use Rattle.pc_writer.specs.FormulaText.{added_text, in_parentheses, item_texts, op_text, part_text, part_texts, quantifier_text, sign_text, statement_text, sum_text, table_at};
+ghost use Rattle.pc_writer.specs.FormulaText.{added_text, count_text, count_word, in_parentheses, item_texts, op_text, part_text, part_texts, quantifier_text, sign_text, statement_text, sum_text, table_at};
 ghost use Rattle.pc_writer.specs.inside.Scope.{variables_of};
 ghost use Rattle.pc_writer.specs.Spelling.{joined};
 ghost use Rattle.pc_writer.specs.inside.Writable.{AreWritable, IsWritablePart, IsWritableSum};
 ghost use Rattle.pc_writer.specs.Writes.{Writes};
 
 use crate::declared::{write_sort_name, write_table_name};
+use crate::number::write_number;
 use crate::pieces::{write_between, write_text};
 use crate::scope::{Variable, extended};
 use crate::term::{write_arguments, write_term};
@@ -40,7 +41,7 @@ fn tightness(formula: &Formula) -> u8
         Formula::Or(_) => OR,
         Formula::Implies(_, _) => IMPLIES,
         Formula::Iff(_, _) => IFF,
-        Formula::ForAll { .. } | Formula::Exists { .. } => QUANTIFIED,
+        Formula::ForAll { .. } | Formula::Exists { .. } | Formula::Count { .. } => QUANTIFIED,
     }
 }
 
@@ -64,6 +65,12 @@ fn sign_text(sign: Sign) -> &'static str
         Sign::Plus => " + ",
         Sign::Minus => " - ",
     }
+}
+
+fn count_word(at_most: bool) -> &'static str
+    ensures { result.now ≡ count_word at_most }
+{
+    if at_most { "atmost " } else { "atleast " }
 }
 
 /// Writes what is added and subtracted.
@@ -147,6 +154,23 @@ fn write_quantifier<O: Sink>(
     write_text(b" . ", out)
 }
 
+/// Writes what stands before the body of a quantifier that counts.
+fn write_count<O: Sink>(
+    book: &Book,
+    at_most: bool,
+    bound: u16,
+    name: &Name,
+    sort: SortId,
+    out: &mut O,
+) -> Result<(), Failed>
+    requires { sort.0 < length book.now.universe.sorts }
+    ensures { Writes O.given O.faults out.old out.new result (count_text book.now.universe (counting_of at_most bound) name.now sort) }
+{
+    write_text(count_word(at_most).as_bytes(), out)?;
+    write_number(i32::from(bound), out)?;
+    write_quantifier(book, b" ", name, sort, out)
+}
+
 /// Writes a statement.
 #[cycle(formula)]
 pub(crate) fn write_formula<'a, O: Sink>(
@@ -185,6 +209,16 @@ pub(crate) fn write_formula<'a, O: Sink>(
         }
         Formula::Exists { name, sort, body } => {
             write_quantifier(book, b"exists ", name, *sort, out)?;
+            write_body(book, variables, name, *sort, body, out)
+        }
+        Formula::Count {
+            at_most,
+            bound,
+            name,
+            sort,
+            body,
+        } => {
+            write_count(book, *at_most, *bound, name, *sort, out)?;
             write_body(book, variables, name, *sort, body, out)
         }
     }

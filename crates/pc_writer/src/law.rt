@@ -2,13 +2,13 @@
 ghost use Rattle.pc_writer.specs.Examples.{TextsAreWorked};
 ghost use Rattle.pc_writer.specs.Versions.{VersionsTell};
 
-/// The canonical texts of three sheets: a small one, the same with two entries of a cell, and one with a range, a table,
-/// arguments, quantifiers and sums.
+/// The canonical texts of four sheets: a small one, the same with two entries of a cell, one whose rules count, and one with
+/// a range, a table, arguments, quantifiers and sums.
 pub fn texts_are_worked()
     ensures { TextsAreWorked }
 {}
 
-/// A text's version tells whether some cell has two entries or more, and so whether some line is an `also` line.
+/// A text's version tells whether some cell has two entries or more, and so some line is an `also` line, or some rule counts.
 pub fn versions_tell()
     ensures { VersionsTell }
 {}

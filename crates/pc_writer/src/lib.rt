@@ -2,6 +2,7 @@
 #![tactic(auto)]
 
 mod cell;
+mod counted;
 mod declared;
 mod entry;
 mod formula;

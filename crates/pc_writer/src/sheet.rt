@@ -1,11 +1,12 @@
 // Whole sheets, in canonical form.
-ghost use Rattle.std.specs.Prelude.{◌<◌, [], length, map};
+ghost use Rattle.std.specs.Prelude.{◌≡◌, ◌<◌, [], length, map};
 ghost use Rattle.std.specs.List.{flat_map};
 ghost use Rattle.pc_sheet.specs.WellFormed.{IsWellFormed};
 ghost use Rattle.pc_writer.specs.FormulaText.{table_at};
-ghost use Rattle.pc_writer.specs.SheetText.{ended, entry_lines, family_line, heading_line, lines_text, row_lines, rule_line, sheet_text, sort_line, table_line, universe_lines};
+ghost use Rattle.pc_writer.specs.SheetText.{ended, entry_lines, family_line, heading_line, lines_text, needs_second, row_lines, rule_line, sheet_text, sort_line, table_line, universe_lines};
 ghost use Rattle.pc_writer.specs.Writes.{Writes};
 
+use crate::counted::has_counting;
 use crate::later::{has_several, note};
 use crate::lines::{
     write_entry_line, write_family, write_row, write_rule, write_sort, write_table,
@@ -96,12 +97,20 @@ fn write_entry_lines<O: Sink>(book: &Book, out: &mut O) -> Result<(), Failed>
     Ok(())
 }
 
-/// Writes the first line: version 2 where some cell has two entries or more, else version 1.
+/// Whether the first version of the format lacks something that the book has: a second entry of a cell, or a rule that counts.
+fn needs_second(book: &Book) -> bool
+    requires { IsWellFormed book.now }
+    ensures { result ≡ needs_second book.now }
+{
+    has_several(book) || has_counting(book)
+}
+
+/// Writes the first line: the version.
 fn write_heading<O: Sink>(book: &Book, out: &mut O) -> Result<(), Failed>
     requires { IsWellFormed book.now }
-    ensures { Writes O.given O.faults out.old out.new result (ended (heading_line book.now.entries)) }
+    ensures { Writes O.given O.faults out.old out.new result (ended (heading_line book.now)) }
 {
-    if has_several(book) {
+    if needs_second(book) {
         return write_text(b"sheet 2\n", out);
     }
     write_text(b"sheet 1\n", out)
@@ -119,7 +128,7 @@ fn write_universe<O: Sink>(book: &Book, out: &mut O) -> Result<(), Failed>
 }
 
 /// Writes the canonical text of a book: the version, all sorts, all tables, the rows table by table, all families, all
-/// rules, all entries with the oldest first, and `begin`. It takes no memory, and goes over the entries twice.
+/// rules, all entries with the oldest first, and `begin`. It takes no memory, and goes over rules and entries twice.
 pub fn write_sheet<O: Sink>(book: &Book, out: &mut O) -> Result<(), Failed>
     ensures { Writes O.given O.faults out.old out.new result (sheet_text book.now) }
 {

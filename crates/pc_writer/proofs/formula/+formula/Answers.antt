@@ -5,7 +5,7 @@ use Rattle.pc_sheet.specs.WellSorted.{IsWellSorted}
 use Rattle.pc_writer.specs.FormulaText.{statement_text, part_text, part_texts}
 use Rattle.pc_writer.specs.inside.Scope.{variables_of}
 use Rattle.pc_writer.specs.inside.Writable.{AreWritable}
-use Rattle.pc_writer.proofs.Statements.{in_brackets, part_text_at, length-part_texts, sorted_at, sides_writable, arguments_writable, of_Not, of_Implies, of_Iff, of_ForAll, of_Exists}
+use Rattle.pc_writer.proofs.Statements.{in_brackets, part_text_at, length-part_texts, sorted_at, sides_writable, arguments_writable, of_Not, of_Implies, of_Iff, of_ForAll, of_Exists, of_Count}
 use Rattle.pc_writer.proofs.InTurn.{Writes-then, Writes-cut, Writes-same}
 use Rattle.pc_writer.proofs.Joined.{cut_in_separator, cut_in_text, one_more_text, all_texts}
 use Rattle.pc_writer.proofs.formula.+formula.Goals as goal
@@ -177,3 +177,18 @@ write_formula-returns-in_ok-write_quantifier-in-Exists g t c =
     let text = ap (λ f. statement_text u vs (statement_of f)) c.in-Exists.is ∙ ap (statement_text u vs) (of_Exists c.in-Exists.name c.in-Exists.sort c.in-Exists.body) in
     let body = ap (λ f. statement_text u (vs ++ (c.in-Exists.name, c.in-Exists.sort) ∷ []) (statement_of f)) c.deref-in-Exists.ensures in
     Writes-same (sym text) (Writes-then c.in_ok-write_quantifier-in-Exists.ensures (Writes-same body c.write_body-in-Exists.ensures))
+
+pub write_formula-returns-in_err-write_count-in-Count : goal.write_formula-returns-in_err-write_count-in-Count
+write_formula-returns-in_err-write_count-in-Count g t c =
+    let u = c.args.book.now.universe in
+    let vs = variables_of c.args.variables.now in
+    let text = ap (λ f. statement_text u vs (statement_of f)) c.in-Count.is ∙ ap (statement_text u vs) (of_Count c.in-Count.at_most c.in-Count.bound c.in-Count.name c.in-Count.sort c.in-Count.body) in
+    Writes-same (sym text) (Writes-cut c.from_residual-in_err-write_count-in-Count.result _ c.from_residual-in_err-write_count-in-Count.ensures.0 c.in_err-write_count-in-Count.ensures)
+
+pub write_formula-returns-in_ok-write_count-in-Count : goal.write_formula-returns-in_ok-write_count-in-Count
+write_formula-returns-in_ok-write_count-in-Count g t c =
+    let u = c.args.book.now.universe in
+    let vs = variables_of c.args.variables.now in
+    let text = ap (λ f. statement_text u vs (statement_of f)) c.in-Count.is ∙ ap (statement_text u vs) (of_Count c.in-Count.at_most c.in-Count.bound c.in-Count.name c.in-Count.sort c.in-Count.body) in
+    let body = ap (λ f. statement_text u (vs ++ (c.in-Count.name, c.in-Count.sort) ∷ []) (statement_of f)) c.deref-in-Count.ensures in
+    Writes-same (sym text) (Writes-then c.in_ok-write_count-in-Count.ensures (Writes-same body c.write_body-in-Count.ensures))

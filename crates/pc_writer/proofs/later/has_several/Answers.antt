@@ -1,4 +1,4 @@
-use Rattle.std.proofs.Common.{◌≤◌, ◌+◌, ◌∙◌, All, length, take, arith, ap, slice_index_or, sym, subst}
+use Rattle.std.proofs.Common.{◌≤◌, ◌+◌, ◌∙◌, All, length, take, arith, ap, sym, subst}
 use Rattle.std.proofs.lemmas.List.{take_all}
 use Rattle.pc_sheet.specs.WellFormed.{entries_of, IsEntryOf}
 use Rattle.pc_sheet.specs.declared.ids.CellId.{CellId}

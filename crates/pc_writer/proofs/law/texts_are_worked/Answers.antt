@@ -17,6 +17,7 @@ returns c =
     record {
       of_three = refl;
       of_views = refl;
+      of_duties = simp (zero_text, one_text, two_text);
       universe_of_tour = simp (zero_text, one_text, two_text);
       rules_of_tour = simp (one_text, two_text);
       entries_of_tour = simp (zero_text, one_text);

@@ -1,4 +1,4 @@
-use Rattle.pc_writer.proofs.LaterEntries.{version_tells}
+use Rattle.pc_writer.proofs.VersionLemmas.{version_tells}
 use Rattle.pc_writer.proofs.law.versions_tell.Goals as goal
 
 pub returns : goal.returns

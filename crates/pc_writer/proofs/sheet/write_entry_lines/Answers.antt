@@ -1,4 +1,4 @@
-use Rattle.std.proofs.Common.{◌+◌, All, List, ℕ, take, slice_index_or, arith, ap, sym, subst}
+use Rattle.std.proofs.Common.{◌+◌, All, take, arith, ap, sym, subst}
 use Rattle.pc_sheet.specs.WellFormed.{IsEntryOf}
 use Rattle.pc_sheet.specs.declared.ids.Entry.{Entry}
 use Rattle.pc_writer.specs.SheetText.{ended, entry_line, entry_lines, lines_text}

@@ -1,4 +1,4 @@
-use Rattle.std.proofs.Common.{take, Ok, []}
+use Rattle.std.proofs.Common.{take, Ok}
 use Rattle.std.specs.List.{flat_map}
 use Rattle.pc_writer.specs.SheetText.{ended, entry_lines}
 use Rattle.pc_port.specs.declared.source.Failed.{Failed}
