@@ -12,6 +12,7 @@ use Rattle.pc_theory.specs.Theories.{rules_alone}
 use Rattle.pc_lemmas.proofs.Elements.{contains_cases, contains_first, contains_later, contains_map, contains_mapped, contains_none, kept_is}
 use Rattle.pc_theory.proofs.Lists.{at_contained}
 use Rattle.pc_session.proofs.Places.{in_append}
+use Rattle.pc_theory.proofs.OfWhole.{all_searched}
 use Rattle.pc_theory.proofs.Parted.{part_there}
 
 abbrev pub AreApart : {X : Type 0} → List X → Type 0
@@ -70,5 +71,5 @@ part_apart sheet part has =
 
 pub cells_apart : (sheet : Sheet) (kept : Kept) → AreComponentsOf (rules_alone sheet) kept → (i : ℕ) (cells : List CellId) → slice_get kept.cells i ≡ Some cells → AreApart cells
 cells_apart sheet kept are i cells at =
-    let there = part_there sheet kept are i cells at in
+    let there = part_there sheet kept (all_searched (rules_alone sheet) kept are) i cells at in
     apart_from_map number_of cells (subst AreApart there.2 (part_apart (rules_alone sheet) there.0 (at_contained (parts_of (rules_alone sheet)) i there.0 there.1)))

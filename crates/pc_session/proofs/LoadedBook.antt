@@ -32,7 +32,7 @@ is_loaded sheet budget changes spending s is tally light found places rows = rec
   };
   light = light;
   consistent = consistent_by sheet s.theory.base found.found.base_is;
-  spends = (spending, found.found.spends, found.found.limit, ap counts_of (sym tally));
+  spends = (spending, found.found.spends, found.found.limit, found.found.spare, ap counts_of (sym tally));
   steps = λ t j row. inr (subst (λ (x : Tally). steps_in j.lines ≤ x.learned + x.calls) (sym tally) (found.found.few_steps t j (sym (rows t) ∙ row)));
 }
 

@@ -14,7 +14,7 @@ use Rattle.pc_world_list.specs.Worlds.{WorldView}
 use Rattle.pc_search.specs.Found.{Finds, IsFound}
 use Rattle.pc_search.specs.Parts.{AreWorldsOf}
 use Rattle.pc_theory.specs.Theories.{rules_alone, TheoryView, IsTheory, IsPartNumbered}
-use Rattle.pc_theory.specs.Spendings.{IsLawful, IsSpendingOf, IsSpentOn}
+use Rattle.pc_theory.specs.Spendings.{IsLawful, IsSpendingOf, IsSpentOn, LearnsWithin}
 use Rattle.pc_theory.specs.Edits.{IsSpentAlone}
 use Rattle.pc_solver.specs.Spending.{StopSays}
 use Rattle.pc_solver.specs.declared.stop.Stop.{Stop}
@@ -42,7 +42,7 @@ module _ (sheet new : Sheet) (theory : TheoryView) (c : CellId) (gone : Entry �
   numbered_new = subst (λ x. IsPartNumbered (rules_alone x) i p) (sym is_new) numbered
 
   spends : IsSpendingOf new (Some c) s
-  spends = gives new (Some c) theory.components (known_new sheet new theory gone added is_new known).components (alone (Some c) p numbered_new has)
+  spends = gives new (Some c) theory.components (known_new sheet new theory gone added is_new known).components (alone (Some c) p numbered_new has).0
 
   limit_is : s.tally.limit ≡ limit
   limit_is = let of : Tally → ℕ = λ t. t.limit in ap of is_tally ∙ limited
@@ -76,6 +76,7 @@ module _ (sheet new : Sheet) (theory : TheoryView) (c : CellId) (gone : Entry �
             (are_changes sheet rows gone added (map number_of cells) ts changes (s.tally.learned + s.tally.calls) stale apart each_found);
       };
       spends = subst (λ x. IsSpendingOf x (Some c) s) is_new spends;
+      spare = subst LearnsWithin (sym is_tally) (alone (Some c) p numbered_new has).1;
       limited = limit_is;
     }
 

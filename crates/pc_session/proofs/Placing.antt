@@ -27,6 +27,7 @@ use Rattle.pc_lemmas.proofs.Options.{same_some}
 use Rattle.pc_theory.proofs.Lists.{at_contained, at_within, place_of, zip_at, zip_from, zip_length}
 use Rattle.pc_session.proofs.Places.{at_get, get_at, get_set_other, get_set_same, set_length}
 use Rattle.pc_theory.proofs.OfRules.{division_here, base_here, consistent_by}
+use Rattle.pc_theory.proofs.OfWhole.{all_searched}
 use Rattle.pc_theory.proofs.Parted.{as_many, part_is, part_there, number_within}
 use Rattle.std.proofs.lemmas.Bool.{cases_eq, cases_lt}
 use Rattle.pc_session.specs.Views.{counts_of}
@@ -88,7 +89,7 @@ module _ (sheet : Sheet) (theory : TheoryView) (worlds : List (List WorldView)) 
 
   -- there are worlds for each part
   pub as_many_worlds : length worlds ≡ length theory.components.cells
-  as_many_worlds = omega (arith, zip_length (AreWorldsOf sheet) (parts_of (rules_alone sheet)) worlds session.worlds_of, as_many sheet theory.components session.known.components)
+  as_many_worlds = omega (arith, zip_length (AreWorldsOf sheet) (parts_of (rules_alone sheet)) worlds session.worlds_of, as_many sheet theory.components (all_searched (rules_alone sheet) theory.components session.known.components))
 
   pub world_at : (i : ℕ) (p : Part) (d : List WorldView) → i < length worlds → IsPartNumbered (rules_alone sheet) i p → AreWorldsOf sheet p (get_or worlds i d)
   world_at i p d below at = zip_at (AreWorldsOf sheet) (parts_of (rules_alone sheet)) worlds i p (get_or worlds i d) session.worlds_of at (get_at worlds i d below)
@@ -101,7 +102,7 @@ module _ (sheet : Sheet) (theory : TheoryView) (worlds : List (List WorldView)) 
     new = edited sheet gone added
 
     pub number_in : number < length worlds
-    number_in = omega (arith, as_many_worlds, number_within sheet theory.components session.known.components number edit.part edit.numbered)
+    number_in = omega (arith, as_many_worlds, number_within sheet theory.components (all_searched (rules_alone sheet) theory.components session.known.components) number edit.part edit.numbered)
 
     worlds_after : AllZip (AreWorldsOf new) (parts_of (rules_alone new)) (set worlds number ws)
     worlds_after =
@@ -144,7 +145,7 @@ module _ (sheet : Sheet) (theory : TheoryView) (worlds : List (List WorldView)) 
       pub others_stay : OthersStay c theory.components rows rows_after
       others_stay cells t listed has off =
           let p = place_of theory.components.cells cells listed in
-          let are = part_is sheet theory.components session.known.components in
+          let are = part_is sheet theory.components (all_searched (rules_alone sheet) theory.components session.known.components) in
           rows_are t ∙ edit.changes_are.others t (by p.0 p.1)
         where
           make : ℕ → CellId
@@ -153,7 +154,7 @@ module _ (sheet : Sheet) (theory : TheoryView) (worlds : List (List WorldView)) 
           by : (i : ℕ) → slice_get theory.components.cells i ≡ Some cells → ¬ Contains edit.part.cells t.cell.0
           by i at on = elim (cases_eq i number) [
             | inl is ↦
-                let same = part_is sheet theory.components session.known.components i cells at edit.part (ap (slice_get (parts_of (rules_alone sheet))) is ∙ edit.numbered) in
+                let same = part_is sheet theory.components (all_searched (rules_alone sheet) theory.components session.known.components) i cells at edit.part (ap (slice_get (parts_of (rules_alone sheet))) is ∙ edit.numbered) in
                 let from = contains_mapped number_of cells t.cell.0 (subst (λ cs. Contains cs t.cell.0) same on) in
                 off (subst (Contains cells) (let e : from.0 ≡ t.cell = (let make : ℕ → CellId = λ n. record { 0 = n } in ap make from.2) in e) from.1)
             | inr other ↦
@@ -163,7 +164,7 @@ module _ (sheet : Sheet) (theory : TheoryView) (worlds : List (List WorldView)) 
           ]
             where
               part_there_of : (i : ℕ) → slice_get theory.components.cells i ≡ Some cells → (p : Part) × IsPartNumbered (rules_alone sheet) i p × (p.cells ≡ map number_of cells)
-              part_there_of i at = part_there sheet theory.components session.known.components i cells at
+              part_there_of i at = part_there sheet theory.components (all_searched (rules_alone sheet) theory.components session.known.components) i cells at
 
       pub steps_stay : (tally : Tally) → tally.learned + tally.calls ≡ most → Steps rows rows_after (counts_of tally)
       steps_stay tally is t j row = subst (λ n. (row_of rows t ≡ Some j) ⊎ (steps_in j.lines ≤ n)) (sym is) (edit.changes_are.steps t j (sym (rows_are t) ∙ row))
@@ -180,7 +181,7 @@ done law sheet theory worlds rows session formed c gone added limit edit is_edit
       session =
           subst (λ b. IsSession b theory (set worlds edit.part edit.worlds) rows_after) (sym made.book)
           (placed_session sheet theory worlds rows session formed c gone added is_edit edit.part edit.worlds edit.patch most made.is law formed_after rows_after targets rows_are);
-      spends = (edit.spending, subst (λ b. IsSpendingOf b (Some c) edit.spending) (sym made.book) made.spends, made.limited, refl);
+      spends = (edit.spending, subst (λ b. IsSpendingOf b (Some c) edit.spending) (sym made.book) made.spends, made.limited, made.spare, refl);
       stays = rows_stay sheet theory worlds rows session formed c gone added is_edit edit.part edit.worlds edit.patch most made.is rows_after rows_are;
       others = others_stay sheet theory worlds rows session formed c gone added is_edit edit.part edit.worlds edit.patch most made.is rows_after rows_are;
       steps = steps_stay sheet theory worlds rows session formed c gone added is_edit edit.part edit.worlds edit.patch most made.is rows_after rows_are edit.spending.tally refl;

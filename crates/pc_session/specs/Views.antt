@@ -5,7 +5,7 @@ use Rattle.pc_sheet.specs.declared.ids.CellId.{CellId}
 use Rattle.pc_lits.specs.declared.tally.Tally.{Tally}
 use Rattle.pc_components.specs.View.{Kept}
 use Rattle.pc_cache.specs.Rows.{TargetRow}
-use Rattle.pc_theory.specs.Spendings.{IsSpendingOf}
+use Rattle.pc_theory.specs.Spendings.{IsSpendingOf, LearnsWithin}
 use Rattle.pc_theory.specs.declared.spending.Spending.{Spending}
 
 -- what was spent, and the limit
@@ -31,6 +31,6 @@ pub record SessionView : Type 0 where
   pub rows : List TargetRow
   pub bytes : ℕ
 
--- the tally is that of a spending on the touched parts, within the limit
+-- the tally is that of a spending on the touched parts, within the limit and within what a search learns
 abbrev pub IsTallyOf : Sheet → Option CellId → ℕ → Counts → Type 0
-IsTallyOf sheet touched limit counts = (s : Spending) × IsSpendingOf sheet touched s × (s.tally.limit ≡ limit) × (counts_of s.tally ≡ counts)
+IsTallyOf sheet touched limit counts = (s : Spending) × IsSpendingOf sheet touched s × (s.tally.limit ≡ limit) × LearnsWithin s.tally × (counts_of s.tally ≡ counts)

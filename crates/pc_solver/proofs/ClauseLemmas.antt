@@ -20,8 +20,8 @@ use Rattle.pc_lemmas.proofs.Elements.{contains_mapped, contains_cases}
 use Rattle.std.proofs.lemmas.List.Elements.{All-push, All-contains, Contains-append_left, Contains-push, Contains-push_cases}
 use Rattle.pc_log.specs.Derivations.{clause_of_line, hinted_clauses}
 use Rattle.pc_analyze.specs.Learning.{IsSubclause}
-use Rattle.pc_solver.specs.New.{AreNewClauses, ContainNone}
-use Rattle.pc_solver.proofs.NewLemmas.{line_cases, learned_cases, learned_within, new_learned}
+use Rattle.pc_solver.specs.New.{AreNewClauses, HasNoForced, ContainNone}
+use Rattle.pc_solver.proofs.NewLemmas.{line_cases, learned_cases, learned_within, new_learned, avoid_learned}
 use Rattle.pc_propagate.specs.TrailView.{TrailView}
 use Rattle.pc_solver.specs.declared.clauses.Kept.{Kept}
 use Rattle.pc_solver.specs.declared.clauses.Kept.TheVariants.{Block, Learned, Dropped}
@@ -51,6 +51,7 @@ module _ (c : ClausesView) (log : List LogLine) (place : ℕ) (id : StepId) (wit
     over_own = h.over_own;
     learned = h.learned;
     new = h.new;
+    avoids = h.avoids;
   }
     where
       found : (n : ℕ) (other : StepId) → n < length c.used → get_or (set c.axiom_lines place (Some id)) n None ≡ Some other → StandsInLog c.axioms log other (get_or c.axioms (get_or c.used n 0) [])
@@ -120,6 +121,7 @@ module _ (c : ClausesView) (place number : ℕ) (id : StepId) (within : place < 
     over_own = h.over_own;
     learned = λ i clause at. let was = h.learned i clause at in (was.0, was.1, was.2, (standing_kept c.kept place number id within is was.0).1 was.3);
     new = h.new;
+    avoids = h.avoids;
   }
     where
       found : (n : ℕ) (other : StepId) → n < length c.more → line_of (get_or (set c.kept place (Block number (Some id))) n blank) ≡ Some other → StandsInLog c.axioms log other (get_or c.more n [])
@@ -183,6 +185,7 @@ module _ (c : ClausesView) (blocks : ℕ) (h : AreClauses c blocks) (clause : Li
     over_own = logged.over_own;
     learned = λ i other at. kept_still (logged.learned i other at);
     new = logged.new;
+    avoids = logged.avoids;
   }
     where
       found : (n : ℕ) (other : StepId) → n < length (c.more ++ clause ∷ []) → line_of (get_or (c.kept ++ k ∷ []) n blank) ≡ Some other → StandsInLog c.axioms log other (get_or (c.more ++ clause ∷ []) n [])
@@ -594,8 +597,8 @@ module _ (v : ClausesView) (blocks : ℕ) (h : AreClauses v blocks) (clause : Li
       within_known v clause block none (block_is_known v all block (number, slice_get_within (blocks_of v) number block there, get_or_from_slice_get (blocks_of v) number block block there)) inside)
 
   -- the log with the line is one for the clauses with the clause
-  pub learned_logged : id.0 ≡ length log → IsLogOf (record v { more = v.more ++ clause ∷ []; kept = v.kept ++ Learned id ∷ [] }) (log ++ StepLine clause lines true ∷ [])
-  learned_logged at = record {
+  pub learned_logged : HasNoForced (used_clauses v.axioms v.used) clause → id.0 ≡ length log → IsLogOf (record v { more = v.more ++ clause ∷ []; kept = v.kept ++ Learned id ∷ [] }) (log ++ StepLine clause lines true ∷ [])
+  learned_logged unforced at = record {
     derivation = IsDerivation-line v.axioms log (StepLine clause lines true) logged.derivation good earlier;
     blocks = λ i number other here. ⊎_elim
         (λ was. rw grown (slice_get-more (blocks_of v) [] number other (logged.blocks i number other was)))
@@ -610,6 +613,7 @@ module _ (v : ClausesView) (blocks : ℕ) (h : AreClauses v blocks) (clause : Li
         (line_cases log (StepLine clause lines true) i (StepLine other hints learned) here);
     learned = λ i other here. ⊎_elim (λ was. kept_still (logged.learned i other was)) (λ last. subst (IsKeptAs (record v { more = v.more ++ clause ∷ []; kept = v.kept ++ Learned id ∷ [] })) last.1 kept_last) (learned_cases log clause lines i other here);
     new = learned_new;
+    avoids = avoid_learned (used_clauses v.axioms v.used) log clause lines logged.avoids unforced;
   }
     where
       grown : blocks_among (v.more ++ clause ∷ []) (v.kept ++ Learned id ∷ []) ≡ blocks_of v ++ []

@@ -13,7 +13,7 @@ use Rattle.pc_log.specs.Lines.{LogLine, AxiomLine, BlockLine, StepLine}
 use Rattle.pc_log.specs.Derivations.{clause_of_line}
 use Rattle.pc_analyze.specs.Learning.{IsSubclause}
 use Rattle.pc_solver.specs.InLog.{LogGrows, is_marked}
-use Rattle.pc_solver.specs.New.{IsLearnedAt, AreNewClauses, ContainNone}
+use Rattle.pc_solver.specs.New.{IsLearnedAt, AreNewClauses, HasNoForced, AvoidForced, ContainNone}
 
 -- the line at a place is one of the old ones, or the new one
 pub line_cases : (log : List LogLine) (line : LogLine) (i : ℕ) (other : LogLine) → slice_get (log ++ line ∷ []) i ≡ Some other → (slice_get log i ≡ Some other) ⊎ ((i ≡ length log) × (line ≡ other))
@@ -78,6 +78,14 @@ new_learned used log clause hints h no_tautology no_axiom no_learned no_block = 
   where
     first_was : (i j : ℕ) (earlier : List Lit) → i < j → j ≤ length log → IsLearnedAt (log ++ StepLine clause hints true ∷ []) i earlier → IsLearnedAt log i earlier
     first_was i j earlier before low at = ⊎_elim (λ was. was) (λ last. absurd (omega (arith, last.0, before, low))) (learned_cases log clause hints i earlier at)
+
+-- ---- no forced literal
+
+pub avoid_other : (used : List (List Lit)) (log : List LogLine) (line : LogLine) → IsUnlearned line → AvoidForced used log → AvoidForced used (log ++ line ∷ [])
+avoid_other used log line un h i clause at = h i clause (learned_was log line i clause un at)
+
+pub avoid_learned : (used : List (List Lit)) (log : List LogLine) (clause : List Lit) (hints : List StepId) → AvoidForced used log → HasNoForced used clause → AvoidForced used (log ++ StepLine clause hints true ∷ [])
+avoid_learned used log clause hints h none i other at = ⊎_elim (λ was. h i other was) (λ last. subst (HasNoForced used) last.1 none) (learned_cases log clause hints i other at)
 
 -- ---- no block within
 

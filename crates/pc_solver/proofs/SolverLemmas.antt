@@ -154,6 +154,7 @@ empty_log c none no_more = record {
     no_learned = λ i j earlier clause before at. absurd (never_at i (StepLine earlier at.0 true) at.1);
     no_block_line = λ i j number block clause before at. absurd (never_at i (BlockLine number block) at);
   };
+  avoids = λ i clause at. absurd (never_at i (StepLine clause at.0 true) at.1);
 }
   where
     never_at : (i : ℕ) (line : LogLine) → slice_get {X = LogLine} [] i ≡ Some line → ⊥

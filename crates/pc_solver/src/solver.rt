@@ -101,7 +101,7 @@ impl<'g> Solver<'g> {
     pub fn add_block(&mut self, block: &[Lit]) -> Result<(), AllocError>
         requires { AreOwn self.old.problem.own block.now }
         ensures ok { OnOk result (self.new.blocks ≡ self.old.blocks ++ block.now ∷ []) }
-        ensures err { OnErr result (self.new.blocks ≡ self.old.blocks) }
+        ensures err { OnErr result (self.new ≡ self.old) }
         ensures problem { self.new.problem ≡ self.old.problem }
         ensures variables { self.new.variables ≡ self.old.variables }
         ensures trues { self.new.trues ≡ self.old.trues }
@@ -114,7 +114,8 @@ impl<'g> Solver<'g> {
     /// and then the most active variable without a value is made false. Where the assumptions begin as those of the call
     /// before, and no block was added since, what was placed for these stays. The log gets the lines that a learned clause
     /// rests on, the learned clauses, which are marked, and at an `Unsat` one step more, whose clause lies within the
-    /// negated assumptions. No clause is learned that contains a used axiom, a block or a clause learned before.
+    /// negated assumptions. No clause is learned that contains a used axiom, a block or a clause learned before, nor one with
+    /// a literal that unit propagation by the used axioms makes true before any decision.
     pub fn solve(&mut self, assumed: &[Lit], log: &mut Log, tally: &mut Tally) -> Outcome
         requires assumed { AreOwn self.old.problem.own assumed.now }
         requires log { HasLog self.old log.old }

@@ -16,20 +16,24 @@ use Rattle.pc_parts.specs.Parts.{Part}
 use Rattle.pc_parts.specs.PartSheets.{entries_on, sheet_of}
 use Rattle.pc_components.specs.View.{number_of}
 use Rattle.pc_world_list.specs.Worlds.{WorldView}
-use Rattle.pc_solver.specs.Solver.{Problem, IsProblem, IsLawfulLog}
+use Rattle.pc_solver.specs.Solver.{Problem, IsProblem, IsSolverLog}
 use Rattle.pc_solver.specs.Spending.{marked, SpendsOver}
-use Rattle.pc_searched.specs.Laws.{problem_of, PartsAreSearched}
+use Rattle.pc_searched.specs.Laws.{problem_of}
+use Rattle.pc_kept.specs.Laws.{KeptPartsAreSearched, NoneOfTheUsedIsContained}
 use Rattle.pc_search.specs.Parts.{IsPartOf, IsBase, AreWorldsOf, AreAskedOf, AreSearchedOf}
 use Rattle.pc_search.specs.Spending.{IsSearchLog, AreFewWithTargets}
 use Rattle.pc_worlds.specs.Parts.{AddsLogs, marked_in}
 use Rattle.pc_search.proofs.SearchLemmas.{few_with, without_blocks}
 use Rattle.pc_theory.specs.Theories.{rules_alone, TheoryView, IsTheory, IsPartNumbered}
 use Rattle.pc_theory.specs.Targets.{targets_on, AreAsked}
-use Rattle.pc_theory.specs.inside.Tasks.{IsReady, IsPartAt}
-use Rattle.pc_theory.specs.Spendings.{IsGoodLog, IsPartSpending}
+use Rattle.pc_theory.specs.inside.Tasks.{AreSearchedParts, IsReady, IsPartAt}
+use Rattle.pc_theory.specs.Spendings.{IsTouched}
+use Rattle.pc_theory.specs.inside.Spent.{IsSearchedLog, IsSearchedSpending, IsSearchedOn}
+use Rattle.pc_theory.proofs.OfWhole.{searched_parts, spent_whole}
 use Rattle.pc_theory.specs.Edits.{IsBlankOn, IsSpentAlone}
 use Rattle.pc_theory.specs.declared.spending.PartSpending.{PartSpending}
 use Rattle.pc_lemmas.proofs.Options.{same_some}
+use Rattle.pc_theory.proofs.Lists.{at_within}
 use Rattle.pc_theory.proofs.OfRules.{grounded_alone, clauses_alone, division_here, named_here, base_here, consistent_by}
 use Rattle.pc_theory.proofs.Parted.{part_at, few_here, searched_at, is_part}
 use Rattle.pc_theory.proofs.Sizes.{size_few}
@@ -37,23 +41,33 @@ use Rattle.pc_theory.proofs.OnCells.{all_on, few_on}
 use Rattle.pc_theory.proofs.Started.{problem_here}
 use Rattle.pc_theory.proofs.PartMoved.{spent_more, logs_added}
 
-pub ready_there : (sheet : Sheet) (theory : TheoryView) → IsWellFormed sheet → IsTheory (rules_alone sheet) theory → IsReady sheet theory.ground theory.components
+pub ready_there : (sheet : Sheet) (theory : TheoryView) → IsWellFormed sheet → IsTheory (rules_alone sheet) theory → IsReady sheet theory.ground theory.searched
 ready_there sheet theory formed known = record {
   formed = formed;
   ground_is = known.ground ∙ grounded_alone sheet;
   few = subst (λ cs. length cs < 2 ^ 32) (clauses_alone sheet) known.few;
   named = named_here sheet known.named;
-  components = known.components;
+  components = searched_parts (rules_alone sheet) theory.components theory.searched known.components known.searched;
+  whole = theory.components;
+  whole_are = known.components;
+  chosen = known.searched;
   division = division_here sheet known.division;
 }
 
-module _ (searched : PartsAreSearched) (sheet : Sheet) (theory : TheoryView) (formed : IsWellFormed sheet) (known : IsTheory (rules_alone sheet) theory) (i : ℕ) (cells : List CellId) (used : List ℕ) (own : List Var)
-    (at_cells : slice_get theory.components.cells i ≡ Some cells) (at_used : slice_get theory.components.axioms i ≡ Some used) (at_own : slice_get theory.components.variables i ≡ Some own) where
-  ready : IsReady sheet theory.ground theory.components
+-- the part of that number is there
+pub asked_within : (sheet : Sheet) (theory : TheoryView) → IsTheory (rules_alone sheet) theory → (i : ℕ) (ts : List Target) → AreAsked (cell_sizes sheet.universe) theory.components i ts → i < length theory.searched.cells
+asked_within sheet theory known i ts asked = at_within theory.searched.cells i asked.cells (ap (λ cs. slice_get cs i) known.searched.cells ∙ asked.at)
+
+module _ (searched : KeptPartsAreSearched) (sheet : Sheet) (theory : TheoryView) (formed : IsWellFormed sheet) (known : IsTheory (rules_alone sheet) theory) (i : ℕ) (cells : List CellId) (used : List ℕ) (own : List Var)
+    (at_cells : slice_get theory.searched.cells i ≡ Some cells) (at_used : slice_get theory.searched.axioms i ≡ Some used) (at_own : slice_get theory.searched.variables i ≡ Some own) where
+  abbrev parts : AreSearchedParts (rules_alone sheet) theory.searched
+  parts = searched_parts (rules_alone sheet) theory.components theory.searched known.components known.searched
+
+  ready : IsReady sheet theory.ground theory.searched
   ready = ready_there sheet theory formed known
 
-  pub found : (part : Part) × IsPartAt sheet theory.components i part cells used own
-  found = part_at sheet theory.components known.components i cells at_cells used own at_used at_own
+  pub found : (part : Part) × IsPartAt sheet theory.searched i part cells used own
+  found = part_at sheet theory.searched parts i cells at_cells used own at_used at_own
 
   pub consistent : AreRulesConsistent sheet
   consistent = consistent_by sheet theory.base (base_here sheet theory.base known.base)
@@ -71,10 +85,10 @@ module _ (searched : PartsAreSearched) (sheet : Sheet) (theory : TheoryView) (fo
   base_is = base_here sheet theory.base known.base
 
   pub problem_right : IsProblem theory.ground.variables problem
-  problem_right = problem_here sheet theory.ground used own ready.ground_is ((searched_at searched sheet theory.ground theory.components ready i found.0 cells used own found.1).problem ready.few)
+  problem_right = problem_here sheet theory.ground used own ready.ground_is ((searched_at searched sheet theory.ground theory.searched ready i found.0 cells used own found.1).problem ready.few)
 
   part_right : (entries : List Entry) → entries ≡ entries_on (map number_of cells) sheet.entries → IsPartOf sheet found.0 cells entries problem
-  part_right entries are = subst (IsPartOf sheet found.0 cells entries) (sym is_problem) (is_part searched sheet theory.ground theory.components ready i found.0 cells used own found.1 entries are consistent)
+  part_right entries are = subst (IsPartOf sheet found.0 cells entries) (sym is_problem) (is_part searched sheet theory.ground theory.searched ready i found.0 cells used own found.1 entries are consistent)
 
   -- the part of that number is this one
   pub same_part : (p : Part) → IsPartNumbered (rules_alone sheet) i p → found.0 ≡ p
@@ -85,7 +99,7 @@ module _ (searched : PartsAreSearched) (sheet : Sheet) (theory : TheoryView) (fo
 
   module _ (ts : List Target) (asked : AreAsked (cell_sizes sheet.universe) theory.components i ts) where
     same_cells : asked.cells ≡ cells
-    same_cells = same_some (sym asked.at ∙ at_cells)
+    same_cells = same_some (sym asked.at ∙ (ap (λ cs. slice_get cs i) (sym known.searched.cells) ∙ at_cells))
 
     on_cells : All (Contains (targets_on (cell_sizes sheet.universe) cells)) ts
     on_cells = subst (λ cs. All (Contains (targets_on (cell_sizes sheet.universe) cs)) ts) same_cells asked.on
@@ -95,7 +109,7 @@ module _ (searched : PartsAreSearched) (sheet : Sheet) (theory : TheoryView) (fo
 
     pub few_targets : length (cell_sizes sheet.universe) ≤ 4096 → length ts ≤ 2 ^ 21
     few_targets few =
-        omega (arith, few_cells, few_on (cell_sizes sheet.universe) cells (size_few sheet.universe formed.universe) (omega (arith, few, few_here sheet theory.components known.components i cells at_cells)))
+        omega (arith, few_cells, few_on (cell_sizes sheet.universe) cells (size_few sheet.universe formed.universe) (omega (arith, few, few_here sheet theory.searched parts i cells at_cells)))
 
     pub searched_of : (entries : List Entry) → entries ≡ entries_on (map number_of cells) sheet.entries → AreSearchedOf sheet cells entries problem ts
     searched_of entries are = record { part = found.0; is_part = part_right entries are; targets_on = all_on sheet found.0 cells ts found.1.cells_are on_cells }
@@ -111,18 +125,21 @@ module _ (searched : PartsAreSearched) (sheet : Sheet) (theory : TheoryView) (fo
     }
 
     -- what was spent on a blank place
-    module _ (before place : PartSpending) (blank : IsBlankOn i before) (number : place.part ≡ before.part) where
-      alone_if : IsPartSpending sheet found.0 used own place → IsSpentAlone sheet theory.components i place
-      alone_if spent touched p numbered is_touched = record {
-        part = p;
-        used = used;
-        own = own;
-        numbered = subst (λ n. IsPartNumbered (rules_alone sheet) n p) (sym (number ∙ blank.number)) numbered;
-        used_are = ap (slice_get theory.components.axioms) (number ∙ blank.number) ∙ at_used;
-        own_are = ap (slice_get theory.components.variables) (number ∙ blank.number) ∙ at_own;
-        is_touched = is_touched;
-        spent = subst (λ q. IsPartSpending sheet q used own place) (same_part p numbered) spent;
-      }
+    module _ (none : NoneOfTheUsedIsContained) (before place : PartSpending) (blank : IsBlankOn i before) (number : place.part ≡ before.part) where
+      alone_if : IsSearchedSpending sheet found.0 used own place → IsSpentAlone sheet theory.components i place
+      alone_if spent touched p numbered is_touched =
+          let on : IsSearchedOn sheet touched theory.searched place =
+          record {
+            part = p;
+            used = used;
+            own = own;
+            numbered = subst (λ n. IsPartNumbered (rules_alone sheet) n p) (sym (number ∙ blank.number)) numbered;
+            used_are = ap (slice_get theory.searched.axioms) (number ∙ blank.number) ∙ at_used;
+            own_are = ap (slice_get theory.searched.variables) (number ∙ blank.number) ∙ at_own;
+            is_touched = is_touched;
+            spent = subst (λ q. IsSearchedSpending sheet q used own place) (same_part p numbered) spent;
+          } in
+          (spent_whole none sheet formed theory.components theory.searched known.components known.searched touched place on, spent.spare)
 
       nothing_placed : before.tally.placed ≤ length own * (before.tally.learned + before.tally.calls)
       nothing_placed = omega (arith, blank.none_placed)
@@ -131,9 +148,9 @@ module _ (searched : PartsAreSearched) (sheet : Sheet) (theory : TheoryView) (fo
       no_marks = ap (sum_by marked) blank.no_logs ∙ sym blank.none_learned
 
       pub alone_after : (most : ℕ) → AreFewWithTargets (sheet_of sheet found.0) (length ts) most → SpendsOver (length own) before.tally place.tally (marked_in before.logs.items) (marked_in place.logs.items) most
-          → (length place.logs.items ≤ 3) × All (IsGoodLog sheet found.0 used own) place.logs.items → IsSpentAlone sheet theory.components i place
+          → (length place.logs.items ≤ 3) × All (IsSearchedLog sheet found.0 used own) place.logs.items → IsSpentAlone sheet theory.components i place
       alone_after most few spends logs =
-          alone_if (spent_more sheet theory.components i found.0 cells used own found.1 consistent before.tally before.logs.items place most (length ts) few few_cells spends
+          alone_if (spent_more sheet theory.searched i found.0 cells used own found.1 consistent before.tally before.logs.items place most (length ts) few few_cells spends
           (omega (arith, blank.none_learned)) nothing_placed no_marks (omega (arith, blank.no_calls)) logs.0 logs.1)
 
       pub alone_of_part : (entries : List Entry) → entries ≡ entries_on (map number_of cells) sheet.entries
@@ -146,13 +163,13 @@ module _ (searched : PartsAreSearched) (sheet : Sheet) (theory : TheoryView) (fo
           alone_after spends.0 (spends.1 found.0 here) spends.2 (logs_added sheet used own found.0 3 before.logs.items place.logs.items consistent (omega arith) blank.no_logs added)
 
       pub alone_of_reasons : (entries : List Entry) (worlds : List WorldView) → entries ≡ entries_on (map number_of cells) sheet.entries → ((p : Part) → IsPartNumbered (rules_alone sheet) i p → AreWorldsOf sheet p worlds)
-          → AddsLogs 1 (IsLawfulLog problem []) before.logs.items place.logs.items
+          → AddsLogs 1 (IsSolverLog problem []) before.logs.items place.logs.items
           → SpendsOver (length own) before.tally place.tally (marked_in before.logs.items) (marked_in place.logs.items) (length ts * (length worlds * (length entries + 2))) → IsSpentAlone sheet theory.components i place
       alone_of_reasons entries worlds are worlds_are logs spends =
           let here = part_right entries are in
           let sheet_p = sheet_of sheet found.0 in
           let exact = (worlds_are found.0 found.1.numbered).exact in
-          let lawful = subst (λ q. AddsLogs 1 (IsLawfulLog q []) before.logs.items place.logs.items) is_problem logs in
+          let lawful = subst (λ q. AddsLogs 1 (IsSolverLog q []) before.logs.items place.logs.items) is_problem logs in
           let added : AddsLogs 1 (IsSearchLog sheet_p (problem_of sheet used own)) before.logs.items place.logs.items =
           record { added = lawful.added; is = lawful.is; few = lawful.few; each = λ k d below. without_blocks sheet_p (problem_of sheet used own) (get_or lawful.added k d) (lawful.each k d below) } in
           let many : length sheet_p.entries ≡ length entries = ap length here.searched.entries_are in

@@ -1,5 +1,6 @@
 pub mod Lists
 pub mod OfRules
+pub mod OfWhole
 pub mod Parted
 pub mod OnCells
 pub mod Sizes

@@ -1,5 +1,5 @@
 -- Clauses, names and parts are of the rules alone.
-use Rattle.std.proofs.Common.{◌≡◌, ℕ, List, [], ◌∷◌, map, refl, ap, sym, subst, get_or}
+use Rattle.std.proofs.Common.{◌≡◌, ℕ, inl, inr, List, [], ◌∷◌, map, refl, ap, sym, ◌∙◌, subst, get_or, slice_get}
 use Rattle.std.specs.List.{AllZip}
 use Rattle.pc_lemmas.proofs.Elements.{zip_weaker}
 use Rattle.pc_lits.specs.declared.literal.Lit.{Lit}
@@ -20,8 +20,11 @@ use Rattle.pc_parts.specs.Leaves.{cells_of}
 use Rattle.pc_parts.specs.Pieces.{pieces}
 use Rattle.pc_parts.specs.Parts.{Part, IsDivision}
 use Rattle.pc_parts.specs.Components.{parts_of}
-use Rattle.pc_components.specs.PartAxioms.{AreAxiomsOf, AreVariablesOf}
+use Rattle.pc_components.specs.PartAxioms.{AreAxiomsOf, AreVariablesOf, IsUsed}
 use Rattle.pc_components.specs.View.{Kept, variable_number, AreComponentsOf}
+use Rattle.pc_kept.specs.Kept.{IsAmong, AreMeanings, IsLeftOut, AreKept}
+use Rattle.pc_kept.specs.Components.{AreKeptOf}
+use Rattle.pc_solver.specs.Forced.{IsForced}
 use Rattle.pc_reason.specs.Written.{AreOfSheet}
 use Rattle.pc_search.specs.Parts.{IsBase}
 use Rattle.pc_theory.specs.Theories.{rules_alone}
@@ -29,6 +32,36 @@ use Rattle.pc_theory.specs.Theories.{rules_alone}
 map_same : {X Y : Type 0} (f g : X → Y) → ((x : X) → f x ≡ g x) → (xs : List X) → map f xs ≡ map g xs
 map_same f g same [] = refl
 map_same f g same (x ∷ xs) = rw (same x, map_same f g same xs) refl
+
+-- what is kept of one sheet is kept of another with the same axioms
+module _ (a b : Sheet) (same_axioms : axioms a ≡ axioms b) (same_clauses : clauses a ≡ clauses b) (same_number : (x : Symbol) → number a x ≡ number b x) where
+  forced_moves : (numbers : List ℕ) (l : Literal) → IsForced (IsAmong (clauses a) numbers) (lit_of a l) → IsForced (IsAmong (clauses b) numbers) (lit_of b l)
+  forced_moves numbers l h =
+      let make : ℕ → Lit = λ n. record { variable = record { 0 = n }; sign = l.sign } in
+      subst (λ cs. IsForced (IsAmong cs numbers) (lit_of b l)) same_clauses (subst (IsForced (IsAmong (clauses a) numbers)) (ap make (same_number l.what)) h)
+
+  unused_moves : (kept : List ℕ) (x : Symbol) → (¬ IsUsed (clauses a) kept (number a x)) → ¬ IsUsed (clauses b) kept (number b x)
+  unused_moves kept x none used = none (subst (λ cs. IsUsed cs kept (number a x)) (sym same_clauses) (subst (IsUsed (clauses b) kept) (sym (same_number x)) used))
+
+  meanings_move : (numbers : List ℕ) → AreMeanings a numbers → AreMeanings b numbers
+  meanings_move numbers h k g has at = h k g has (ap (λ gs. slice_get gs k) same_axioms ∙ at)
+
+  out_moves : (kept : List ℕ) (g : GroundAxiom) → IsLeftOut a kept g → IsLeftOut b kept g
+  out_moves kept g h = (
+    h.0,
+    elim h.1 [
+      | inl (l, has, forced) ↦ inl (l, has, forced_moves kept l forced)
+      | inr (inl none) ↦ inr (inl (λ l has is. unused_moves kept l.what (none l has is)))
+      | inr (inr (l, has, is, none, (meanings, are, forced))) ↦ inr (inr (l, has, is, unused_moves kept l.what none, (meanings, meanings_move meanings are, forced_moves meanings l forced)))
+    ],
+  )
+
+  kept_moves : (used kept : List ℕ) → AreKept a used kept → AreKept b used kept
+  kept_moves used kept h = record {
+    among = h.among;
+    each = λ k g has at. elim (h.each k g has (ap (λ gs. slice_get gs k) same_axioms ∙ at)) [ inl stays ↦ inl stays | inr out ↦ inr (out_moves kept g out) ];
+    order = h.order;
+  }
 
 module _ (sheet : Sheet) where
   abbrev alone : Sheet
@@ -74,6 +107,20 @@ module _ (sheet : Sheet) where
     variables = subst (λ cs. AllZip (λ used own. AreVariablesOf cs used (map variable_number own)) kept.axioms kept.variables) (sym clauses_alone) h.variables;
     many_numbers = h.many_numbers;
     numbers = h.numbers;
+  }
+
+  pub kept_here : (used kept : List ℕ) → AreKept alone used kept → AreKept sheet used kept
+  kept_here used kept h = kept_moves alone sheet refl clauses_alone number_alone used kept h
+
+  kept_alone : (used kept : List ℕ) → AreKept sheet used kept → AreKept alone used kept
+  kept_alone used kept h = kept_moves sheet alone refl (sym clauses_alone) (λ x. sym (number_alone x)) used kept h
+
+  pub chosen_alone : (whole kept : Kept) → AreKeptOf sheet whole kept → AreKeptOf alone whole kept
+  chosen_alone whole kept h = record {
+    cells = h.cells;
+    numbers = h.numbers;
+    axioms = zip_weaker (AreKept sheet) (AreKept alone) kept_alone whole.axioms kept.axioms h.axioms;
+    variables = subst (λ cs. AllZip (λ used own. AreVariablesOf cs used (map variable_number own)) kept.axioms kept.variables) (sym clauses_alone) h.variables;
   }
 
   symbol_here : (x : Symbol) → IsSymbolOf alone x → IsSymbolOf sheet x

@@ -16,18 +16,19 @@ use Rattle.pc_ground.specs.GroundView.{Grounded}
 use Rattle.pc_parts.specs.Parts.{Part}
 use Rattle.pc_parts.specs.PartSheets.{entries_on, sheet_of}
 use Rattle.pc_components.specs.View.{Kept, number_of}
-use Rattle.pc_solver.specs.Solver.{Problem, SuspendedView, IsLawfulLog}
+use Rattle.pc_solver.specs.Solver.{Problem, SuspendedView, IsSolverLog}
 use Rattle.pc_solver.specs.Spending.{marked, SpendsOver, StopSays}
 use Rattle.pc_solver.specs.declared.stop.Stop.{Stop}
 use Rattle.pc_solver.specs.declared.stop.Stop.TheVariants.{Spent, Memory}
-use Rattle.pc_searched.specs.Laws.{problem_of, PartsAreSearched}
+use Rattle.pc_searched.specs.Laws.{problem_of}
+use Rattle.pc_kept.specs.Laws.{KeptPartsAreSearched}
 use Rattle.pc_search.specs.Parts.{IsBase, IsPartOf, AreSearchedOf}
 use Rattle.pc_search.specs.Spending.{IsSearchLog, AreFewWithTargets}
 use Rattle.pc_worlds.specs.Parts.{AddsLogs, marked_in}
 use Rattle.pc_theory.specs.Theories.{rules_alone, TheoryView, IsTheory, IsPartNumbered}
 use Rattle.pc_theory.specs.Targets.{targets_on, AreAsked}
 use Rattle.pc_theory.specs.inside.Tasks.{IsReady, IsPartAt}
-use Rattle.pc_theory.specs.Spendings.{IsPartSpending}
+use Rattle.pc_theory.specs.inside.Spent.{IsSearchedSpending}
 use Rattle.pc_theory.specs.inside.Starting.{IsStarted}
 use Rattle.pc_theory.specs.inside.Searching.{IsMoved, StopMoves}
 use Rattle.pc_theory.specs.declared.spending.PartSpending.{PartSpending}
@@ -44,20 +45,20 @@ pub popped : (logs rest : List (List LogLine)) (log only : List LogLine) → log
 popped logs [] log only one is = (refl, (let same : log ∷ [] ≡ only ∷ [] = sym is ∙ one in cc))
 popped logs (r ∷ rs) log only one is = absurd (omega (arith, ap length (sym one ∙ is), length-append rs (log ∷ [])))
 
-module _ (searched : PartsAreSearched) (sheet : Sheet) (g : Grounded) (kept : Kept) (ready : IsReady sheet g kept) (base : List ValueId) (is_base : IsBase sheet base) (i : ℕ) (cells : List CellId) (used : List ℕ) (own : List Var)
+module _ (searched : KeptPartsAreSearched) (sheet : Sheet) (g : Grounded) (kept : Kept) (ready : IsReady sheet g kept) (base : List ValueId) (is_base : IsBase sheet base) (i : ℕ) (cells : List CellId) (used : List ℕ) (own : List Var)
     (at_cells : slice_get kept.cells i ≡ Some cells) (at_used : slice_get kept.axioms i ≡ Some used) (at_own : slice_get kept.variables i ≡ Some own) where
   abbrev pub theory : TheoryView
-  theory = record { ground = g; components = kept; base = base }
+  theory = record { ground = g; components = ready.whole; searched = kept; base = base }
 
   -- with the lemmas of Editing of this theory the search's needs are met
   pub known : IsTheory (rules_alone sheet) theory
-  known = theory_of sheet g kept base ready is_base
+  known = theory_of sheet g ready.whole kept base ready ready.whole_are ready.chosen is_base
 
   abbrev ts : List Target
   ts = targets_on (cell_sizes sheet.universe) cells
 
-  pub asked : AreAsked (cell_sizes sheet.universe) kept i ts
-  asked = record { cells = cells; at = at_cells; on = all_from (Contains ts) ts (λ t has. has); few = omega arith }
+  pub asked : AreAsked (cell_sizes sheet.universe) ready.whole i ts
+  asked = record { cells = cells; at = ap (λ cs. slice_get cs i) (sym ready.chosen.cells) ∙ at_cells; on = all_from (Contains ts) ts (λ t has. has); few = omega arith }
 
   pub found : (part : Part) × IsPartAt sheet kept i part cells used own
   found = at_part searched sheet g kept ready i cells used own at_cells at_used at_own
@@ -67,16 +68,16 @@ module _ (searched : PartsAreSearched) (sheet : Sheet) (g : Grounded) (kept : Ke
 
   module _ (before : PartSpending) (s : SuspendedView) (number : before.part ≡ i) (on : IsStarted sheet kept before s) where
     -- what was spent before
-    here : IsPartSpending sheet found.0 used own before
+    here : IsSearchedSpending sheet found.0 used own before
     here =
         let us : on.spent.used ≡ used = same_some (sym on.spent.used_are ∙ (ap (slice_get kept.axioms) number ∙ at_used)) in
         let os : on.spent.own ≡ own = same_some (sym on.spent.own_are ∙ (ap (slice_get kept.variables) number ∙ at_own)) in
         let ps : on.spent.part ≡ found.0 = same_some (sym (subst (λ n. IsPartNumbered (rules_alone sheet) n on.spent.part) number on.spent.numbered) ∙ found.1.numbered) in
-        subst (λ p. IsPartSpending sheet p used own before) ps (subst (λ vs. IsPartSpending sheet on.spent.part used vs before) os (subst (λ ns. IsPartSpending sheet on.spent.part ns on.spent.own before) us on.spent.spent))
+        subst (λ p. IsSearchedSpending sheet p used own before) ps (subst (λ vs. IsSearchedSpending sheet on.spent.part used vs before) os (subst (λ ns. IsSearchedSpending sheet on.spent.part ns on.spent.own before) us on.spent.spent))
 
     -- what was spent on the part after its search, whose logs are `mid`, and behind them the solver's
     pub one_moved : (spent more most : ℕ) (place : PartSpending) (rest mid : List (List LogLine)) (log grown : List LogLine) (blank : Tally) → before.logs.items ≡ rest ++ log ∷ [] → place.logs.items ≡ mid ++ grown ∷ [] → place.part ≡ before.part
-        → blank.placed ≡ before.tally.placed → blank.learned ≡ before.tally.learned → blank.calls ≡ before.tally.calls → AddsLogs 2 (IsSearchLog (sheet_of sheet found.0) (problem_of sheet used own)) [] mid → IsLawfulLog (problem_of sheet used own) [] grown
+        → blank.placed ≡ before.tally.placed → blank.learned ≡ before.tally.learned → blank.calls ≡ before.tally.calls → AddsLogs 2 (IsSearchLog (sheet_of sheet found.0) (problem_of sheet used own)) [] mid → IsSolverLog (problem_of sheet used own) [] grown
         → AreFewWithTargets (sheet_of sheet found.0) (length ts) most → SpendsOver (length own) blank place.tally (marked log + marked_in []) (marked grown + marked_in mid) most → more + before.tally.placed ≡ spent + place.tally.placed → IsMoved sheet kept spent before more place
     one_moved spent more most place rest mid log grown blank is_before is_after same no_placed no_learned no_calls added lawful few spends sum =
         let one = popped before.logs.items rest log on.only.log on.only.only is_before in
@@ -115,7 +116,7 @@ module _ (searched : PartsAreSearched) (sheet : Sheet) (g : Grounded) (kept : Ke
     -- what was spent, as the search says it; room was made in the logs
     pub moved_here : (before : PartSpending) (s : SuspendedView) (number : before.part ≡ i) (on : IsStarted sheet kept before s) (spent more : ℕ) (place : PartSpending) (rest room mid : List (List LogLine)) (log grown : List LogLine) (blank : Tally)
         (entries : List Entry) → entries ≡ entries_on (map number_of cells) sheet.entries → before.logs.items ≡ rest ++ log ∷ [] → room ≡ rest → place.logs.items ≡ mid ++ grown ∷ [] → place.part ≡ before.part
-        → ((p : Part) → IsPartOf sheet p cells entries given → AddsLogs 2 (IsSearchLog (sheet_of sheet p) given) room mid) → IsLawfulLog given [] grown
+        → ((p : Part) → IsPartOf sheet p cells entries given → AddsLogs 2 (IsSearchLog (sheet_of sheet p) given) room mid) → IsSolverLog given [] grown
         → ((most : ℕ) × ((p : Part) → IsPartOf sheet p cells entries given → AreFewWithTargets (sheet_of sheet p) (length targets) most) × SpendsOver (length own) blank place.tally (marked log + marked_in room) (marked grown + marked_in mid) most)
         → blank.placed ≡ before.tally.placed → blank.learned ≡ before.tally.learned → blank.calls ≡ before.tally.calls → more + before.tally.placed ≡ spent + place.tally.placed → IsMoved sheet kept spent before more place
     moved_here before s number on spent more place rest room mid log grown blank entries are is_before is_room is_after same_part added lawful spends no_placed no_learned no_calls sum =
@@ -129,7 +130,7 @@ module _ (searched : PartsAreSearched) (sheet : Sheet) (g : Grounded) (kept : Ke
         let paid : SpendsOver (length own) blank place.tally (marked log + marked_in []) (marked grown + marked_in mid) spends.0 =
         subst (λ ls. SpendsOver (length own) blank place.tally (marked log + marked_in ls) (marked grown + marked_in mid) spends.0) none spends.2
         in
-        one_moved before s number on spent more spends.0 place rest mid log grown blank is_before is_after same_part no_placed no_learned no_calls logs (subst (λ q. IsLawfulLog q [] grown) is_given lawful) few paid sum
+        one_moved before s number on spent more spends.0 place rest mid log grown blank is_before is_after same_part no_placed no_learned no_calls logs (subst (λ q. IsSolverLog q [] grown) is_given lawful) few paid sum
 
 -- where a part's limit is reached, the budget is
 pub stop_moves : (sheet : Sheet) (kept : Kept) (budget spent more : ℕ) (before place : PartSpending) (stop : Stop) → StopSays place.tally stop → place.tally.limit ≡ before.tally.placed + (budget - spent) → spent ≤ budget

@@ -22,7 +22,7 @@ use Rattle.pc_reason.specs.Reasons.{IsTargetOf, Justification}
 use Rattle.pc_edits.specs.Reasons.{IsRowFor}
 use Rattle.pc_cache.specs.Rows.{TargetRow, row_after}
 use Rattle.pc_world_list.specs.Worlds.{WorldView}
-use Rattle.pc_solver.specs.Solver.{SuspendedView, IsLawfulLog}
+use Rattle.pc_solver.specs.Solver.{SuspendedView, IsSolverLog}
 use Rattle.pc_solver.specs.Spending.{marked, SpendsOver}
 use Rattle.pc_solver.specs.declared.stop.Stop.{Stop}
 use Rattle.pc_solver.specs.declared.stop.Stop.TheVariants.{Spent, Memory}
@@ -34,7 +34,8 @@ use Rattle.pc_worlds.specs.Parts.{AddsLogs, marked_in}
 use Rattle.pc_theory.specs.Theories.{rules_alone, IsPartNumbered}
 use Rattle.pc_theory.specs.Targets.{targets_on, target_count}
 use Rattle.pc_theory.specs.inside.Tasks.{IsPartAt}
-use Rattle.pc_theory.specs.Spendings.{IsSetOf, AreFewCalls, IsGoodLog, IsPartSpending, placed_of, learned_of, calls_of, IsSpentOn}
+use Rattle.pc_theory.specs.Spendings.{IsSetOf, AreFewCalls, placed_of, learned_of, calls_of}
+use Rattle.pc_theory.specs.inside.Spent.{IsSearchedLog, IsSearchedSpending, IsSearchedOn}
 use Rattle.pc_theory.specs.inside.Starting.{ArePlaces, IsStarted}
 use Rattle.pc_theory.specs.inside.Searching.{FindsIn, IsMoved, StopMoves, StopPlaces, work_of, AreSearched}
 use Rattle.pc_theory.specs.declared.spending.PartSpending.{PartSpending}
@@ -59,14 +60,14 @@ more_calls s t n e up =
 sets_of : (sheet : Sheet) (part : Part) (sets : List (List Entry)) → AreRulesConsistent sheet → ListsExactly (List Entry) (IsSetOf sheet part) sets → ListsExactly (List Entry) (IsMaximalSet (sheet_of sheet part)) sets
 sets_of sheet part sets consistent listed = record { exact = λ s. (λ has. ((listed.exact s).0 has).1, λ is. (listed.exact s).1 (consistent, is)); different = listed.different }
 
-pub good_log : (sheet : Sheet) (part : Part) (used : List ℕ) (own : List Var) (log : List LogLine) → AreRulesConsistent sheet → IsSearchLog (sheet_of sheet part) (problem_of sheet used own) log → IsGoodLog sheet part used own log
+pub good_log : (sheet : Sheet) (part : Part) (used : List ℕ) (own : List Var) (log : List LogLine) → AreRulesConsistent sheet → IsSearchLog (sheet_of sheet part) (problem_of sheet used own) log → IsSearchedLog sheet part used own log
 good_log sheet part used own log consistent h = record { blocks = h.blocks; lawful = h.lawful; of_sets = λ b has. let r = h.of_sets b has in (r.0, (consistent, r.1), r.2) }
 
 module _ (sheet : Sheet) (kept : Kept) (number : ℕ) (part : Part) (cells : List CellId) (used : List ℕ) (own : List Var) (at : IsPartAt sheet kept number part cells used own) (consistent : AreRulesConsistent sheet)
     (before : Tally) (logs_before : List (List LogLine)) (place : PartSpending) (most targets : ℕ) (few : AreFewWithTargets (sheet_of sheet part) targets most) (many : targets ≤ length (targets_on (cell_sizes sheet.universe) cells))
     (spends : SpendsOver (length own) before place.tally (marked_in logs_before) (marked_in place.logs.items) most) (spare : before.learned ≤ before.placed + before.calls)
     (placed : before.placed ≤ length own * (before.learned + before.calls)) (learned : sum_by marked logs_before ≡ before.learned) (one : before.calls ≤ 1)
-    (few_logs : length place.logs.items ≤ 3) (good_logs : All (IsGoodLog sheet part used own) place.logs.items) where
+    (few_logs : length place.logs.items ≤ 3) (good_logs : All (IsSearchedLog sheet part used own) place.logs.items) where
   few_calls : AreFewCalls sheet part place.tally.calls
   few_calls sets listed =
       let bound = few sets (sets_of sheet part sets consistent listed) in
@@ -84,7 +85,7 @@ module _ (sheet : Sheet) (kept : Kept) (number : ℕ) (part : Part) (cells : Lis
       let same : (before.learned + spends.rose) + (before.calls + spends.called) ≡ place.tally.learned + place.tally.calls = omega (arith, spends.learned, spends.calls) in
       subst (λ n. place.tally.placed ≤ length own * n) same h
 
-  pub spent_more : IsPartSpending sheet part used own place
+  pub spent_more : IsSearchedSpending sheet part used own place
   spent_more = record {
     placed = all_placed;
     spare = omega (arith, spare, spends.spare, spends.learned, spends.calls);
@@ -95,20 +96,20 @@ module _ (sheet : Sheet) (kept : Kept) (number : ℕ) (part : Part) (cells : Lis
   }
 
 pub logs_added : (sheet : Sheet) (used : List ℕ) (own : List Var) (part : Part) (most : ℕ) (old logs : List (List LogLine)) → AreRulesConsistent sheet → most ≤ 3 → old ≡ [] → AddsLogs most (IsSearchLog (sheet_of sheet part) (problem_of sheet used own)) old logs
-    → (length logs ≤ 3) × All (IsGoodLog sheet part used own) logs
+    → (length logs ≤ 3) × All (IsSearchedLog sheet part used own) logs
 logs_added sheet used own part most old logs consistent small none h =
     let is : logs ≡ h.added = h.is ∙ ap (λ xs. xs ++ h.added) none in
-    subst (λ ls. (length ls ≤ 3) × All (IsGoodLog sheet part used own) ls) (sym is) (omega (arith, h.few, small), λ i d below. good_log sheet part used own (get_or h.added i d) consistent (h.each i d below))
+    subst (λ ls. (length ls ≤ 3) × All (IsSearchedLog sheet part used own) ls) (sym is) (omega (arith, h.few, small), λ i d below. good_log sheet part used own (get_or h.added i d) consistent (h.each i d below))
 
 -- and the solver's log behind those of the listing
 pub logs_behind : (sheet : Sheet) (used : List ℕ) (own : List Var) (part : Part) (old mid logs : List (List LogLine)) (log : List LogLine) → AreRulesConsistent sheet → old ≡ [] → AddsLogs 2 (IsSearchLog (sheet_of sheet part) (problem_of sheet used own)) old mid
-    → IsLawfulLog (problem_of sheet used own) [] log → logs ≡ mid ++ log ∷ [] → (length logs ≤ 3) × All (IsGoodLog sheet part used own) logs
+    → IsSolverLog (problem_of sheet used own) [] log → logs ≡ mid ++ log ∷ [] → (length logs ≤ 3) × All (IsSearchedLog sheet part used own) logs
 logs_behind sheet used own part old mid logs log consistent none h lawful behind =
     let two = logs_added sheet used own part 2 old mid consistent (omega arith) none h in
     let is : mid ≡ h.added = h.is ∙ ap (λ xs. xs ++ h.added) none in
-    let last : IsGoodLog sheet part used own log = record { blocks = []; lawful = lawful; of_sets = λ b has. absurd (contains_none b has) } in
-    subst (λ ls. (length ls ≤ 3) × All (IsGoodLog sheet part used own) ls) (sym behind)
-    (omega (arith, length_push mid log, ap length is, h.few), All-append (IsGoodLog sheet part used own) mid (log ∷ []) two.1 (All-cons (IsGoodLog sheet part used own) log [] last (All-nil (IsGoodLog sheet part used own))))
+    let last : IsSearchedLog sheet part used own log = record { blocks = []; lawful = lawful; of_sets = λ b has. absurd (contains_none b has) } in
+    subst (λ ls. (length ls ≤ 3) × All (IsSearchedLog sheet part used own) ls) (sym behind)
+    (omega (arith, length_push mid log, ap length is, h.few), All-append (IsSearchedLog sheet part used own) mid (log ∷ []) two.1 (All-cons (IsSearchedLog sheet part used own) log [] last (All-nil (IsSearchedLog sheet part used own))))
 
 -- ---- a part that was moved on
 
@@ -123,8 +124,8 @@ places_set sheet kept spent more i parts place d are below moved = record {
     | inr other ↦ (let number : PartSpending → ℕ = λ p. p.part in ap number (get_or-set_other parts i j place e other)) ∙ are.numbered j e (omega (arith, within, length-set parts i place))
   ];
   each = λ j e within. elim (cases_eq j i) [
-    | inl is ↦ subst (IsSpentOn sheet None kept) (sym (ap (λ k. get_or (set parts i place) k e) is ∙ get_or-set_same parts i place e below)) moved.spent_on
-    | inr other ↦ subst (IsSpentOn sheet None kept) (sym (get_or-set_other parts i j place e other)) (are.each j e (omega (arith, within, length-set parts i place)))
+    | inl is ↦ subst (IsSearchedOn sheet None kept) (sym (ap (λ k. get_or (set parts i place) k e) is ∙ get_or-set_same parts i place e below)) moved.spent_on
+    | inr other ↦ subst (IsSearchedOn sheet None kept) (sym (get_or-set_other parts i j place e other)) (are.each j e (omega (arith, within, length-set parts i place)))
   ];
 }
 

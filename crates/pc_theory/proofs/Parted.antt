@@ -17,14 +17,15 @@ use Rattle.pc_parts.specs.Parts.{Part, cell_count, part_without_cells}
 use Rattle.pc_parts.specs.PartSheets.{entries_on, sheet_of}
 use Rattle.pc_parts.specs.Components.{labels_of, all_cells, is_labeled, are_no_cells, part_of_first, parts_of}
 use Rattle.pc_parts.specs.Leaves.{cells_of}
-use Rattle.pc_components.specs.PartAxioms.{AreAxiomsOf, AreVariablesOf}
-use Rattle.pc_components.specs.View.{Kept, number_of, variable_number, cells_of_part, AreComponentsOf}
-use Rattle.pc_searched.specs.Laws.{problem_of, AreSearchedBy, PartsAreSearched}
+use Rattle.pc_components.specs.PartAxioms.{AreVariablesOf}
+use Rattle.pc_components.specs.View.{Kept, number_of, variable_number, cells_of_part}
+use Rattle.pc_searched.specs.Laws.{problem_of, AreSearchedBy}
+use Rattle.pc_kept.specs.Laws.{KeptPartsAreSearched}
 use Rattle.pc_search.specs.Parts.{IsPartOf}
 use Rattle.pc_theory.specs.Theories.{rules_alone, IsPartNumbered}
-use Rattle.pc_theory.specs.inside.Tasks.{IsReady, IsPartAt}
+use Rattle.pc_theory.specs.inside.Tasks.{IsKeptOf, AreSearchedParts, IsReady, IsPartAt}
 use Rattle.pc_theory.proofs.Lists.{at_contained, at_within, map_at, at_map, zip_at, few_filtered, in_range, place_of, zip_length}
-use Rattle.pc_theory.proofs.OfRules.{axioms_here, variables_here}
+use Rattle.pc_theory.proofs.OfRules.{axioms_here, variables_here, kept_here}
 
 -- ---- the cells of parts
 
@@ -83,12 +84,12 @@ few_cells_of sheet part has =
 
 -- ---- what is kept of them
 
-module _ (sheet : Sheet) (kept : Kept) (are : AreComponentsOf (rules_alone sheet) kept) where
+module _ (sheet : Sheet) (kept : Kept) (are : AreSearchedParts (rules_alone sheet) kept) where
   pub as_many : length kept.cells ≡ length (parts_of (rules_alone sheet))
   as_many = omega (arith, ap length are.cells, length-map kept.cells (map number_of), length-map (parts_of (rules_alone sheet)) cells_of_part)
 
   pub as_many_axioms : length kept.axioms ≡ length kept.cells
-  as_many_axioms = omega (arith, as_many, zip_length (AreAxiomsOf (rules_alone sheet)) (parts_of (rules_alone sheet)) kept.axioms are.axioms)
+  as_many_axioms = omega (arith, as_many, zip_length (IsKeptOf (rules_alone sheet)) (parts_of (rules_alone sheet)) kept.axioms are.axioms)
 
   pub as_many_variables : length kept.variables ≡ length kept.cells
   as_many_variables = omega (arith, as_many_axioms, zip_length (λ us os. AreVariablesOf (clauses (rules_alone sheet)) us (map variable_number os)) kept.axioms kept.variables are.variables)
@@ -124,6 +125,7 @@ module _ (sheet : Sheet) (kept : Kept) (are : AreComponentsOf (rules_alone sheet
     part_at used own at_used at_own =
         let there = part_there in
         let part = there.0 in
+        let row : IsKeptOf (rules_alone sheet) part used = zip_at (IsKeptOf (rules_alone sheet)) (parts_of (rules_alone sheet)) kept.axioms i part used are.axioms there.1 at_used in
         let has : Contains (parts_of (rules_alone sheet)) part = at_contained (parts_of (rules_alone sheet)) i part there.1 in (
           part,
           record {
@@ -134,7 +136,7 @@ module _ (sheet : Sheet) (kept : Kept) (are : AreComponentsOf (rules_alone sheet
             there = has;
             within = cells_within (rules_alone sheet) part has;
             cells_are = sym there.2;
-            axioms_are = axioms_here sheet part used (zip_at (AreAxiomsOf (rules_alone sheet)) (parts_of (rules_alone sheet)) kept.axioms i part used are.axioms there.1 at_used);
+            axioms_are = (row.0, axioms_here sheet part row.0 row.1, kept_here sheet row.0 used row.2);
             variables_are = variables_here sheet used (map variable_number own)
                 (zip_at (λ us os. AreVariablesOf (clauses (rules_alone sheet)) us (map variable_number os)) kept.axioms kept.variables i used own are.variables at_used at_own);
           },
@@ -153,10 +155,10 @@ module _ (sheet : Sheet) (kept : Kept) (are : AreComponentsOf (rules_alone sheet
 
 -- ---- what a part is searched by
 
-module _ (searched : PartsAreSearched) (sheet : Sheet) (ground : Grounded) (kept : Kept) (ready : IsReady sheet ground kept) (i : ℕ) (part : Part) (cells : List CellId) (used : List ℕ) (own : List Var)
+module _ (searched : KeptPartsAreSearched) (sheet : Sheet) (ground : Grounded) (kept : Kept) (ready : IsReady sheet ground kept) (i : ℕ) (part : Part) (cells : List CellId) (used : List ℕ) (own : List Var)
     (at : IsPartAt sheet kept i part cells used own) where
   pub searched_at : AreSearchedBy sheet (sheet_of sheet part) cells used own
-  searched_at = searched sheet ready.formed (parts_of sheet) ready.division part at.there at.within cells used own at.cells_are at.axioms_are at.variables_are
+  searched_at = searched sheet ready.formed (parts_of sheet) ready.division part at.there at.within cells at.axioms_are.0 used own at.cells_are at.axioms_are.1 at.axioms_are.2 at.variables_are
 
   pub is_part : (entries : List Entry) → entries ≡ entries_on (map number_of cells) sheet.entries → AreRulesConsistent sheet → IsPartOf sheet part cells entries (problem_of sheet used own)
   is_part entries are consistent =

@@ -31,9 +31,10 @@ use Rattle.pc_justify.specs.Found.{clause_at_place, HasNoBlock}
 use Rattle.pc_justify.specs.Laws.{OwnLinesAreNamed}
 use Rattle.pc_analyze.specs.Learning.{IsOverNegated}
 use Rattle.pc_solver.specs.Answers.{truth_in, MeetsEach}
-use Rattle.pc_solver.specs.Solver.{Problem, SolverView, SuspendedView, SuspendedHasLog, IsProblem, IsLawfulLog, HasLog, Spends, clauses_used}
+use Rattle.pc_solver.specs.Solver.{Problem, SolverView, SuspendedView, SuspendedHasLog, IsProblem, IsSolverLog, HasLog, Spends, clauses_used}
 use Rattle.pc_solver.specs.Spending.{marked}
-use Rattle.pc_searched.specs.Laws.{problem_of, AreSearchedBy, PartsAreSearched}
+use Rattle.pc_searched.specs.Laws.{problem_of, AreSearchedBy}
+use Rattle.pc_kept.specs.Laws.{KeptPartsAreSearched}
 use Rattle.pc_search.specs.Found.{steps_in}
 use Rattle.pc_search.proofs.EachLemmas.{steps_split}
 use Rattle.pc_theory.specs.declared.stop.Halt.{Halt}
@@ -41,7 +42,8 @@ use Rattle.pc_theory.specs.declared.stop.Halt.TheVariants.{Inconsistent, Spent, 
 use Rattle.pc_theory.specs.Theories.{rules_alone, IsPartNumbered}
 use Rattle.pc_theory.specs.inside.Tasks.{IsReady, IsPartAt}
 use Rattle.pc_theory.specs.inside.Reading.{HasPairs}
-use Rattle.pc_theory.specs.Spendings.{IsGoodLog, IsPartSpending, placed_of, IsSpentOn}
+use Rattle.pc_theory.specs.Spendings.{placed_of}
+use Rattle.pc_theory.specs.inside.Spent.{IsSearchedLog, IsSearchedSpending, IsSearchedOn}
 use Rattle.pc_theory.specs.inside.Starting.{ArePlaces, IsStarted, AreStarted, HaltSays}
 use Rattle.pc_theory.specs.inside.Calling.{IsEmptyAt, EndSays, IsCalled, IsRefused, set_aside}
 use Rattle.pc_theory.specs.declared.starting.End.{End}
@@ -64,14 +66,14 @@ none_over : (clause : List Lit) → IsOverNegated [] clause → clause ≡ []
 none_over [] h = refl
 none_over (l ∷ ls) h = let r = h l (contains_first l ls) in absurd (contains_none r.0 r.1)
 
-no_block : (p : Problem) (log : List LogLine) → IsLawfulLog p [] log → HasNoBlock log
+no_block : (p : Problem) (log : List LogLine) → IsSolverLog p [] log → HasNoBlock log
 no_block p log lawful i number clause at = none_at (lawful.blocks_are i number clause at)
   where
     none_at : slice_get [] number ≡ Some clause → ⊥
     none_at is = absurd (cc)
 
-lawful_here : (s : SolverView) (p : Problem) (log : List LogLine) → s.problem ≡ p → s.blocks ≡ [] → HasLog s log → IsLawfulLog p [] log
-lawful_here s p log is none has = subst (λ q. IsLawfulLog q [] log) is (subst (λ bs. IsLawfulLog s.problem bs log) none has.lawful)
+lawful_here : (s : SolverView) (p : Problem) (log : List LogLine) → s.problem ≡ p → s.blocks ≡ [] → HasLog s log → IsSolverLog p [] log
+lawful_here s p log is none has = subst (λ q. IsSolverLog q [] log) is (subst (λ bs. IsSolverLog s.problem bs log) none has.lawful)
 
 pub empty_at : OwnLinesAreNamed → (sheet : Sheet) (used : List ℕ) (own : List Var) (s : SolverView) (log : List LogLine) (last : StepId) → IsProblem (variable_count sheet) (problem_of sheet used own)
     → s.problem ≡ problem_of sheet used own → s.blocks ≡ [] → HasLog s log → last.0 < length log → IsOverNegated [] (clause_at_place s.problem.axioms log last.0) → IsEmptyAt sheet log last
@@ -95,7 +97,7 @@ lone log = omega (arith, sum_by-cons marked log [])
 module _ (sheet : Sheet) (kept : Kept) (number : ℕ) (part : Part) (cells : List CellId) (used : List ℕ) (own : List Var) (at : IsPartAt sheet kept number part cells used own)
     (place : PartSpending) (is_number : place.part ≡ number) where
   -- this was spent on it
-  pub spent_there : IsPartSpending sheet part used own place → IsSpentOn sheet None kept place
+  pub spent_there : IsSearchedSpending sheet part used own place → IsSearchedOn sheet None kept place
   spent_there spent = record {
     part = part;
     used = used;
@@ -127,7 +129,7 @@ module _ (sheet : Sheet) (kept : Kept) (number : ℕ) (part : Part) (cells : Lis
           no_calls,
         )
 
-    good : IsGoodLog sheet part used own log
+    good : IsSearchedLog sheet part used own log
     good = record { blocks = []; lawful = lawful_here s (problem_of sheet used own) log problem none has; of_sets = λ b there. absurd (contains_none b there) }
 
     placed : place.tally.placed ≤ length own * (place.tally.learned + place.tally.calls)
@@ -135,14 +137,14 @@ module _ (sheet : Sheet) (kept : Kept) (number : ℕ) (part : Part) (cells : Lis
         let work : spends.rose + 1 ≡ place.tally.learned + place.tally.calls = omega (arith, spends.learned, spends.calls, no_learned, no_calls) in
         subst (λ n. place.tally.placed ≤ length own * n) work (omega (arith, spends.bounded, no_placed))
 
-    part_spending : IsPartSpending sheet part used own place
+    part_spending : IsSearchedSpending sheet part used own place
     part_spending = record {
       placed = placed;
       spare = omega (arith, spends.spare, spends.learned, spends.calls, no_placed, no_learned, no_calls);
       few_calls = λ sets listed. omega (arith, spends.calls, no_calls);
       few_logs = omega (arith, ap length logs);
       learned = ap (sum_by marked) logs ∙ (lone log ∙ marks);
-      logs = subst (All (IsGoodLog sheet part used own)) (sym logs) (All-cons (IsGoodLog sheet part used own) log [] good (All-nil (IsGoodLog sheet part used own)));
+      logs = subst (All (IsSearchedLog sheet part used own)) (sym logs) (All-cons (IsSearchedLog sheet part used own) log [] good (All-nil (IsSearchedLog sheet part used own)));
     }
 
     pub started : IsStarted sheet kept place (set_aside s)
@@ -161,7 +163,7 @@ pub met_used : (axioms : List (List Lit)) (used : List ℕ) (own : List Var) (v 
 met_used axioms used own v meets k has clause at =
     subst (IsTrueUnder v) (get_or_from_slice_get axioms k clause [] at) (meets (get_or axioms k []) (contains_map (λ n. get_or axioms n []) used k has))
 
-module _ (searched : PartsAreSearched) (sheet : Sheet) (g : Grounded) (kept : Kept) (ready : IsReady sheet g kept) where
+module _ (searched : KeptPartsAreSearched) (sheet : Sheet) (g : Grounded) (kept : Kept) (ready : IsReady sheet g kept) where
   -- parts with a cell in common are one
   apart : (i j : ℕ) (p q : Part) → IsPartNumbered (rules_alone sheet) i p → IsPartNumbered (rules_alone sheet) j q → i < j → (c : ℕ) → Contains p.cells c → ¬ Contains q.cells c
   apart i j p q at_p at_q less c on off =
@@ -207,7 +209,7 @@ module _ (searched : PartsAreSearched) (sheet : Sheet) (g : Grounded) (kept : Ke
 
 -- ---- the first call, of what is kept of the part
 
-module _ (searched : PartsAreSearched) (sheet : Sheet) (g : Grounded) (kept : Kept) (ready : IsReady sheet g kept) (i : ℕ) (cells : List CellId) (used : List ℕ) (own : List Var)
+module _ (searched : KeptPartsAreSearched) (sheet : Sheet) (g : Grounded) (kept : Kept) (ready : IsReady sheet g kept) (i : ℕ) (cells : List CellId) (used : List ℕ) (own : List Var)
     (at_cells : slice_get kept.cells i ≡ Some cells) (at_used : slice_get kept.axioms i ≡ Some used) (at_own : slice_get kept.variables i ≡ Some own) where
   abbrev given : Problem
   given = record { axioms = g.clauses; used = used; own = own }
@@ -272,7 +274,7 @@ aside_started sheet kept place s t problem blocks logged on = record {
 
 -- ---- one more part
 
-pub places_more : (sheet : Sheet) (kept : Kept) (spent number : ℕ) (parts : List PartSpending) (place : PartSpending) → ArePlaces sheet kept spent parts → length parts ≡ number → place.part ≡ number → IsSpentOn sheet None kept place
+pub places_more : (sheet : Sheet) (kept : Kept) (spent number : ℕ) (parts : List PartSpending) (place : PartSpending) → ArePlaces sheet kept spent parts → length parts ≡ number → place.part ≡ number → IsSearchedOn sheet None kept place
     → ArePlaces sheet kept (spent + place.tally.placed) (parts ++ place ∷ [])
 places_more sheet kept spent number parts place are many numbered on = record {
   sum = omega (arith, are.sum, sum_push placed_of parts place);
@@ -282,7 +284,7 @@ places_more sheet kept spent number parts place are many numbered on = record {
         let is : j ≡ length parts = omega (arith, below, last, length_push parts place) in
         (let part : PartSpending → ℕ = λ p. p.part in ap part (get_last parts place d j is)) ∙ (numbered ∙ (sym many ∙ sym is))
   ];
-  each = All-append (IsSpentOn sheet None kept) parts (place ∷ []) are.each (All-cons (IsSpentOn sheet None kept) place [] on (All-nil (IsSpentOn sheet None kept)));
+  each = All-append (IsSearchedOn sheet None kept) parts (place ∷ []) are.each (All-cons (IsSearchedOn sheet None kept) place [] on (All-nil (IsSearchedOn sheet None kept)));
 }
 
 module _ (sheet : Sheet) (kept : Kept) (spent number : ℕ) (base now : List ValueId) (parts : List PartSpending) (solvers : List SuspendedView) (are : AreStarted sheet kept spent base parts solvers)
@@ -311,7 +313,7 @@ module _ (sheet : Sheet) (kept : Kept) (spent number : ℕ) (base now : List Val
   }
 
 -- the part that made its first call, with its values
-pub started_next : PartsAreSearched → (sheet : Sheet) (g : Grounded) (kept : Kept) → IsReady sheet g kept → (spent number : ℕ) (base now : List ValueId) (parts : List PartSpending) (solvers : List SuspendedView) (cells : List CellId) (used : List ℕ) (own : List Var)
+pub started_next : KeptPartsAreSearched → (sheet : Sheet) (g : Grounded) (kept : Kept) → IsReady sheet g kept → (spent number : ℕ) (base now : List ValueId) (parts : List PartSpending) (solvers : List SuspendedView) (cells : List CellId) (used : List ℕ) (own : List Var)
     → slice_get kept.cells number ≡ Some cells → slice_get kept.axioms number ≡ Some used → slice_get kept.variables number ≡ Some own → AreStarted sheet kept spent base parts solvers → length parts ≡ number
     → (place : PartSpending) (s : SolverView) (t : SuspendedView) → place.part ≡ number → IsStarted sheet kept place (set_aside s) → IsStarted sheet kept place t → MeetsEach (truth_in s.trues) (clauses_used s.problem)
     → IsAssignment sheet.universe now → ((a : List ValueId) → IsAssignment sheet.universe a → HasValues (cell_sizes sheet.universe) (map number_of cells) (truth_in s.trues) a → AgreeAt (Contains (map number_of cells)) a now)
@@ -339,7 +341,7 @@ pub none_started : (sheet : Sheet) (kept : Kept) (base : List ValueId) (spent : 
 none_started sheet kept base spent parts solvers none no_solvers zero_spent assigns =
     subst (λ ps. AreStarted sheet kept spent base ps solvers) (sym none) (subst (AreStarted sheet kept spent base []) (sym no_solvers)
     (record {
-      places = record { sum = zero_spent; numbered = λ j d below. absurd (omega (arith, below)); each = All-nil (IsSpentOn sheet None kept) };
+      places = record { sum = zero_spent; numbered = λ j d below. absurd (omega (arith, below)); each = All-nil (IsSearchedOn sheet None kept) };
       many = refl;
       started = λ j d e below. absurd (omega (arith, below));
       assigns = assigns;

@@ -20,7 +20,7 @@ use Rattle.pc_world_list.specs.Worlds.{WorldView}
 use Rattle.pc_search.specs.Found.{steps_in}
 use Rattle.pc_search.specs.Parts.{AreWorldsOf, IsBase}
 use Rattle.pc_theory.specs.Theories.{rules_alone, TheoryView, IsTheory}
-use Rattle.pc_theory.specs.Spendings.{IsSpendingOf, IsLawful}
+use Rattle.pc_theory.specs.Spendings.{IsSpendingOf, IsLawful, LearnsWithin}
 use Rattle.pc_theory.specs.declared.spending.Spending.{Spending}
 use Rattle.pc_theory.specs.declared.book.Fault.{Fault}
 use Rattle.pc_theory.specs.declared.book.Fault.TheVariants as fault
@@ -37,6 +37,7 @@ pub record IsFoundIn (sheet : Sheet) (kept : Kept) (budget : ℕ) (base : List V
   pub targets : (r : TargetRow) → Contains changes r → IsTargetOf sheet.universe r.target
   pub limit : s.tally.limit ≡ budget
   pub spends : IsSpendingOf sheet None s
+  pub spare : LearnsWithin s.tally
 
 pub record AreFound (sheet : Sheet) (budget : ℕ) (theory : TheoryView) (worlds : List (List WorldView)) (changes : List TargetRow) (s : Spending) : Type 0 where
   pub theory_is : IsTheory (rules_alone sheet) theory

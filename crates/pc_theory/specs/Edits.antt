@@ -5,7 +5,7 @@ use Rattle.pc_sheet.specs.declared.ids.CellId.{CellId}
 use Rattle.pc_parts.specs.Parts.{Part}
 use Rattle.pc_components.specs.View.{Kept}
 use Rattle.pc_theory.specs.Theories.{rules_alone, IsPartNumbered}
-use Rattle.pc_theory.specs.Spendings.{IsTouched, IsSpentOn}
+use Rattle.pc_theory.specs.Spendings.{IsTouched, IsSpentOn, LearnsWithin}
 use Rattle.pc_theory.specs.declared.spending.PartSpending.{PartSpending}
 
 -- nothing is spent on the part of that number
@@ -16,6 +16,6 @@ pub record IsBlankOn (part : ℕ) (place : PartSpending) : Type 0 where
   pub no_calls : place.tally.calls ≡ 0
   pub no_logs : place.logs.items ≡ []
 
--- whatever is touched, if the part of that number is, this was spent on it
+-- whatever is touched, if the part of that number is, this was spent on it, within what a search learns
 abbrev pub IsSpentAlone : Sheet → Kept → ℕ → PartSpending → Type 0
-IsSpentAlone sheet kept number place = (touched : Option CellId) (p : Part) → IsPartNumbered (rules_alone sheet) number p → IsTouched touched p → IsSpentOn sheet touched kept place
+IsSpentAlone sheet kept number place = (touched : Option CellId) (p : Part) → IsPartNumbered (rules_alone sheet) number p → IsTouched touched p → IsSpentOn sheet touched kept place × LearnsWithin place.tally

@@ -1,6 +1,7 @@
 -- What a search spends, part by part.
 use Rattle.std.specs.Prelude.{◌≡◌, ◌≢◌, ℕ, ◌+◌, ◌*◌, ◌≤◌, List, length, sum_by, All, AllPairs, Contains, Option, None, Some, slice_get}
 use Rattle.pc_lits.specs.declared.literal.Var.{Var}
+use Rattle.pc_lits.specs.declared.tally.Tally.{Tally}
 use Rattle.pc_log.specs.Lines.{LogLine}
 use Rattle.pc_sheet.specs.Sheet.{Sheet}
 use Rattle.pc_sheet.specs.Entailment.{cell_sizes}
@@ -37,11 +38,14 @@ IsGoodLog sheet part used own log = IsListingLog (cell_sizes sheet.universe) (sh
 -- on a part with these axioms and variables
 pub record IsPartSpending (sheet : Sheet) (part : Part) (used : List ℕ) (own : List Var) (s : PartSpending) : Type 0 where
   pub placed : s.tally.placed ≤ length own * (s.tally.learned + s.tally.calls)
-  pub spare : s.tally.learned ≤ s.tally.placed + s.tally.calls
   pub few_calls : AreFewCalls sheet part s.tally.calls
   pub few_logs : length s.logs.items ≤ 3
   pub learned : sum_by marked s.logs.items ≡ s.tally.learned
   pub logs : All (IsGoodLog sheet part used own) s.logs.items
+
+-- what each search keeps, lawful or not: no more clauses were learned than literals placed and calls made
+abbrev pub LearnsWithin : Tally → Type 0
+LearnsWithin tally = tally.learned ≤ tally.placed + tally.calls
 
 -- ---- all parts
 

@@ -9,6 +9,7 @@ use Rattle.pc_ground.specs.Naming.{names_of}
 use Rattle.pc_parts.specs.Parts.{Part, IsDivision}
 use Rattle.pc_parts.specs.Components.{parts_of}
 use Rattle.pc_components.specs.View.{Kept, AreComponentsOf}
+use Rattle.pc_kept.specs.Components.{AreKeptOf}
 use Rattle.pc_reason.specs.Written.{AreOfSheet}
 use Rattle.pc_search.specs.Parts.{IsBase}
 
@@ -19,16 +20,19 @@ rules_alone sheet = record sheet { entries = [] }
 pub record TheoryView : Type 0 where
   pub ground : Grounded
   pub components : Kept
+  -- the same with the axioms that searches take
+  pub searched : Kept
   -- a value for each cell
   pub base : List ValueId
 
--- Of a sheet without entries: the clauses of its rules with their names, its parts, which divide it, and an assignment that fits. All of
--- it is of the rules alone, so that it stays when entries change.
+-- Of a sheet without entries: the clauses of its rules with their names, its parts, which divide it, the axioms of each that searches
+-- take, and an assignment that fits. All of it is of the rules alone, so that it stays when entries change.
 pub record IsTheory (rules : Sheet) (theory : TheoryView) : Type 0 where
   pub ground : theory.ground ≡ grounded rules
   pub few : length (clauses rules) < 2 ^ 32
   pub named : AreOfSheet rules (names_of rules)
   pub components : AreComponentsOf rules theory.components
+  pub searched : AreKeptOf rules theory.components theory.searched
   pub division : IsDivision rules (parts_of rules)
   pub base : IsBase rules theory.base
 

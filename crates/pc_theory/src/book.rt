@@ -17,6 +17,8 @@ use pc_cache::Patch;
 use pc_components::find_components;
 use pc_ground::{GroundFault, ground_book};
 use pc_justify::names_are_of_their_sheet;
+use pc_kept::kept_components;
+use pc_kept::laws::none_of_the_used_is_contained;
 use pc_log::{Log, Span};
 use pc_logic::{Assignment, Book, few_cells, well_formed};
 use pc_names::Names;
@@ -113,6 +115,7 @@ fn search_task(task: Task<'_>, patch: &mut Patch) -> Result<Searched, PartFault>
     ensures fault { IfErr result (IsPartCause task.entry.book.now task.entry.budget) }
 {
     divisions_divide();
+    none_of_the_used_is_contained();
     let mut spent = 0;
     let mut parts = Vec::new(task.alloc);
     let mut solvers = Vec::new(task.alloc);
@@ -141,9 +144,10 @@ fn search_task(task: Task<'_>, patch: &mut Patch) -> Result<Searched, PartFault>
     }
 }
 
-/// Grounds a book, divides it into parts, and makes one call of a solver for each part, which tells whether the rules are
-/// consistent. Then each part's worlds are listed, and the reasons of all targets are put into the patch, which is empty.
-/// The solver of a part's first call serves its reasons, so that a part has at most three logs.
+/// Grounds a book, divides it into parts, chooses of each part the axioms that searches take, and makes one call of a solver for
+/// each part, which tells whether the rules are consistent. Then each part's worlds are listed, and the reasons of all targets
+/// are put into the patch, which is empty. The solver of a part's first call serves its reasons, so that a part has at most
+/// three logs.
 pub fn search_book(
     alloc: Global,
     book: &Book,
@@ -163,11 +167,12 @@ pub fn search_book(
     few_cells(book);
     let ground = ground_book(alloc, book)?;
     let components = find_components(alloc, book, &ground)?;
+    let searched = kept_components(alloc, book, &ground, &components)?;
     let task = Task {
         alloc,
         book,
         ground: &ground,
-        components: &components,
+        components: &searched,
         budget,
     };
     match search_task(task, patch) {
@@ -181,6 +186,7 @@ pub fn search_book(
             theory: Theory {
                 ground,
                 components,
+                searched,
                 base,
             },
             worlds,

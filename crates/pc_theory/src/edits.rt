@@ -12,10 +12,10 @@ ghost use Rattle.pc_theory.specs.Theories.{rules_alone, IsPartNumbered, IsTheory
 use crate::spending::PartSpending;
 use crate::theory::Theory;
 use pc_cache::Patch;
+use pc_kept::laws::{kept_parts_are_searched, none_of_the_used_is_contained};
 use pc_logic::{Book, few_cells, well_formed};
 use pc_search::PartTask;
 use pc_searched::SpareTrails;
-use pc_searched::laws::parts_are_searched;
 use pc_sheet::Target;
 use pc_solver::Stop;
 use pc_world_list::Worlds;
@@ -47,12 +47,13 @@ impl PartTargets<'_> {
         ensures limit { place.new.tally.limit ≡ place.old.tally.limit }
         ensures stop { IfErr result (StopSays place.new.tally) }
     {
-        parts_are_searched();
+        kept_parts_are_searched();
+        none_of_the_used_is_contained();
         let book = self.book;
         let theory = self.theory;
         well_formed(book);
         few_cells(book);
-        let own = theory.components.part(self.part);
+        let own = theory.searched.part(self.part);
         let entries = entries_on(self.alloc, book, own.cells)?;
         place.logs.reserve(2)?;
         let mut trails = SpareTrails::new(self.alloc, theory.ground.variables());
@@ -85,12 +86,13 @@ impl PartTargets<'_> {
         ensures limit { place.new.tally.limit ≡ place.old.tally.limit }
         ensures stop { IfErr result (StopSays place.new.tally) }
     {
-        parts_are_searched();
+        kept_parts_are_searched();
+        none_of_the_used_is_contained();
         let book = self.book;
         let theory = self.theory;
         well_formed(book);
         few_cells(book);
-        let own = theory.components.part(self.part);
+        let own = theory.searched.part(self.part);
         let entries = entries_on(self.alloc, book, own.cells)?;
         let mut trails = SpareTrails::new(self.alloc, theory.ground.variables());
         let task = PartTask {

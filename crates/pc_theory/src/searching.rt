@@ -11,10 +11,10 @@ use crate::spending::PartSpending;
 use crate::targets::targets_on;
 use crate::task::Fitted;
 use pc_cache::Patch;
+use pc_kept::laws::kept_parts_are_searched;
 use pc_logic::few_cells;
 use pc_search::PartTask;
 use pc_searched::SpareTrails;
-use pc_searched::laws::parts_are_searched;
 use pc_solver::{Stop, Suspended};
 use pc_world_list::Worlds;
 use pc_worlds::entries_on;
@@ -43,7 +43,7 @@ fn search_one(
     ensures stop { IfErr result (StopMoves fitted.entry.task.book.now fitted.entry.task.components.now fitted.entry.task.budget spent.old place.old spent.new place.new) }
     ensures trails { trails.new ≡ trails.old }
 {
-    parts_are_searched();
+    kept_parts_are_searched();
     let task = fitted.task;
     few_cells(task.book);
     let part = task.components.part(place.part as usize);

@@ -12,10 +12,10 @@ use crate::spending::PartSpending;
 use crate::stop::Halt;
 use crate::task::Task;
 use pc_justify::{names_are_of_their_sheet, own_lines_are_named, trimmed_lines_refute};
+use pc_kept::laws::kept_parts_are_searched;
 use pc_lits::Tally;
 use pc_log::{Log, Span, StepId, trim};
 use pc_logic::Assignment;
-use pc_searched::laws::parts_are_searched;
 use pc_searched::{SpareTrails, count_pairs};
 use pc_solver::{Outcome, Solver, Suspended};
 use std::alloc::{AllocError, Global};
@@ -77,7 +77,7 @@ fn call_part<'g>(
     ensures refused { IfErr result (IsRefused task.entry.book.now) }
     ensures trails { trails.new ≡ trails.old }
 {
-    parts_are_searched();
+    kept_parts_are_searched();
     own_lines_are_named();
     let part = task.components.part(number);
     let trail = trails.take()?;
@@ -163,7 +163,7 @@ fn start_part<'g>(
     ensures halt { IfErr result (HaltSays task.entry.book.now task.entry.components.now task.entry.budget spent.new parts.new.items) }
     ensures trails { trails.new ≡ trails.old }
 {
-    parts_are_searched();
+    kept_parts_are_searched();
     let number = parts.len();
     let part = task.components.part(number);
     let called = call_part(task, number, task.budget - *spent, trails)?;

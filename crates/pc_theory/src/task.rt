@@ -4,7 +4,8 @@ use pc_ground::Ground;
 use pc_logic::{Assignment, Book};
 use std::alloc::Global;
 
-/// A book with its clauses and parts, and how many literals may be placed for all of them.
+/// A book with its clauses and parts, each part with the axioms that searches take, and how many literals may be placed for all
+/// of them.
 #[derive(Clone, Copy)]
 pub(crate) struct Task<'g> {
     pub(crate) alloc: Global,

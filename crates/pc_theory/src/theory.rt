@@ -12,11 +12,13 @@ use pc_logic::{Assignment, Book, few_cells};
 use pc_sheet::CellId;
 use std::marker::Model;
 
-/// What is known of a book's consistent rules: their clauses, their parts, and an assignment that fits.
+/// What is known of a book's consistent rules: their clauses, their parts, the axioms of each part that searches take, and an
+/// assignment that fits.
 #[derive(Drop)]
 pub struct Theory {
     pub(crate) ground: Ground,
     pub(crate) components: Components,
+    pub(crate) searched: Components,
     pub(crate) base: Assignment,
 }
 
@@ -25,7 +27,7 @@ impl Model for Theory {
 
     ghost Value = { TheoryView };
 
-    ghost view = { λ t. record { ground = t.ground; components = t.components; base = t.base } };
+    ghost view = { λ t. record { ground = t.ground; components = t.components; searched = t.searched; base = t.base } };
 }
 
 impl Theory {

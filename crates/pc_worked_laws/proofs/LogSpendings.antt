@@ -138,7 +138,6 @@ good = of_red (IsSetOf equal_cells whole) ((sets.exact (entry 0 red ∷ [])).0 (
 spent : (p : PartSpending) → p.tally.placed ≡ 5 → p.tally.learned ≡ 1 → p.tally.calls ≡ 2 → p.logs.items ≡ good_log ∷ [] → IsPartSpending equal_cells whole all_axioms all_variables p
 spent p placed learned calls logs = record {
   placed = omega (arith, placed, learned, calls);
-  spare = omega (arith, placed, learned, calls);
   few_calls = λ all exact. few _ p.tally.calls calls;
   few_logs = omega (arith, ap length logs);
   learned = ap (sum_by marked) logs ∙ sym learned;
@@ -255,11 +254,6 @@ another_part s h l =
     let first = first_rule p c in
     omega (arith, rule, first)
 
-learned_too_often : (s : Spending) (p : PartSpending) → s.parts.items ≡ p ∷ [] → p.tally.learned ≡ 8 → p.tally.placed ≡ 5 → p.tally.calls ≡ 2 → ¬ IsLawful equal_cells None 5 s
-learned_too_often s p are learned placed calls l =
-    let on = on_first equal_cells None 5 s p [] are l in
-    omega (arith, on.spent.spare, learned, placed, calls)
-
 four_logs : (s : Spending) (p : PartSpending) → s.parts.items ≡ p ∷ [] → length p.logs.items ≡ 4 → ¬ IsLawful equal_cells None 5 s
 four_logs s p are four l =
     let on = on_first equal_cells None 5 s p [] are l in
@@ -277,6 +271,5 @@ log_spendings = record {
   axiom_learned = axiom_learned;
   another_sum_learned = λ s p are one two l. omega (arith, l.of_sheet.learned, ap (sum_by learned_of) are, one, two);
   another_sum_of_calls = λ s p q are one other sum l. omega (arith, l.of_sheet.calls, ap (sum_by calls_of) are, one, other, sum);
-  too_many_learned = λ s p are h. learned_too_often s p are h.learned_is h.placed_is h.calls_is;
   four_logs = four_logs;
 }

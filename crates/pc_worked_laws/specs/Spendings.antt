@@ -72,7 +72,5 @@ pub record WorkedLogSpendings : Type 0 where
   -- the parts have another sum
   pub another_sum_learned : (s : Spending) (p : PartSpending) → s.parts.items ≡ p ∷ [] → p.tally.learned ≡ 1 → s.tally.learned ≡ 2 → ¬ IsLawful equal_cells None 5 s
   pub another_sum_of_calls : (s : Spending) (p q : PartSpending) → s.parts.items ≡ p ∷ q ∷ [] → p.tally.calls ≡ 1 → q.tally.calls ≡ 1 → s.tally.calls ≡ 1 → ¬ IsLawful two_pairs.sheet None 5 s
-  -- more clauses than literals placed and calls made
-  pub too_many_learned : (s : Spending) (p : PartSpending) → s.parts.items ≡ p ∷ [] → Has p.tally 5 8 2 → ¬ IsLawful equal_cells None 5 s
   -- three solvers have three logs
   pub four_logs : (s : Spending) (p : PartSpending) → s.parts.items ≡ p ∷ [] → length p.logs.items ≡ 4 → ¬ IsLawful equal_cells None 5 s

@@ -13,7 +13,7 @@ use Rattle.pc_world_list.specs.Worlds.{WorldView}
 use Rattle.pc_search.specs.Found.{steps_in}
 use Rattle.pc_search.specs.Parts.{AreWorldsOf}
 use Rattle.pc_theory.specs.Theories.{rules_alone, IsPartNumbered}
-use Rattle.pc_theory.specs.Spendings.{IsSpendingOf}
+use Rattle.pc_theory.specs.Spendings.{IsSpendingOf, LearnsWithin}
 use Rattle.pc_session.specs.declared.edit.Edit.{Edit}
 
 -- what is kept of the target after the changes
@@ -48,4 +48,5 @@ pub record IsMade (sheet : Sheet) (rows : List TargetRow) (c : CellId) (gone : E
   pub book : edit.book ≡ edited sheet gone added
   pub is : IsEdit sheet rows c gone added edit.part edit.worlds edit.patch (edit.spending.tally.learned + edit.spending.tally.calls)
   pub spends : IsSpendingOf (edited sheet gone added) (Some c) edit.spending
+  pub spare : LearnsWithin edit.spending.tally
   pub limited : edit.spending.tally.limit ≡ limit

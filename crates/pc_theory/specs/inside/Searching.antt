@@ -16,7 +16,8 @@ use Rattle.pc_solver.specs.declared.stop.Stop.{Stop}
 use Rattle.pc_solver.specs.declared.stop.Stop.TheVariants.{Spent, Memory}
 use Rattle.pc_theory.specs.Theories.{rules_alone, IsPartNumbered}
 use Rattle.pc_theory.specs.Targets.{targets_on}
-use Rattle.pc_theory.specs.Spendings.{learned_of, calls_of, IsSpentOn}
+use Rattle.pc_theory.specs.Spendings.{learned_of, calls_of}
+use Rattle.pc_theory.specs.inside.Spent.{IsSearchedOn}
 use Rattle.pc_theory.specs.inside.Starting.{ArePlaces}
 use Rattle.pc_theory.specs.declared.spending.PartSpending.{PartSpending}
 
@@ -29,7 +30,7 @@ pub record FindsIn (sheet : Sheet) (kept : Kept) (place : PartSpending) (before 
 -- more was spent on the part, and as much more in all
 pub record IsMoved (sheet : Sheet) (kept : Kept) (spent : ℕ) (place : PartSpending) (more : ℕ) (moved : PartSpending) : Type 0 where
   pub numbered : moved.part ≡ place.part
-  pub spent_on : IsSpentOn sheet None kept moved
+  pub spent_on : IsSearchedOn sheet None kept moved
   pub placed : more + place.tally.placed ≡ spent + moved.tally.placed
   pub learned : place.tally.learned ≤ moved.tally.learned
   pub calls : place.tally.calls ≤ moved.tally.calls

@@ -16,7 +16,8 @@ use Rattle.pc_solver.specs.Solver.{SuspendedView, SuspendedHasLog}
 use Rattle.pc_solver.specs.declared.stop.Stop.{Stop}
 use Rattle.pc_solver.specs.declared.stop.Stop.TheVariants as stop
 use Rattle.pc_theory.specs.Theories.{rules_alone, IsPartNumbered}
-use Rattle.pc_theory.specs.Spendings.{placed_of, IsSpentOn}
+use Rattle.pc_theory.specs.Spendings.{placed_of}
+use Rattle.pc_theory.specs.inside.Spent.{IsSearchedOn}
 use Rattle.pc_theory.specs.declared.spending.PartSpending.{PartSpending}
 use Rattle.pc_theory.specs.declared.stop.Halt.{Halt}
 use Rattle.pc_theory.specs.declared.stop.Halt.TheVariants.{Inconsistent, Spent, Memory}
@@ -25,7 +26,7 @@ use Rattle.pc_theory.specs.declared.stop.Halt.TheVariants.{Inconsistent, Spent, 
 pub record ArePlaces (sheet : Sheet) (kept : Kept) (spent : ℕ) (parts : List PartSpending) : Type 0 where
   pub sum : spent ≡ sum_by placed_of parts
   pub numbered : (j : ℕ) (d : PartSpending) → j < length parts → (slice_index_or parts j d).part ≡ j
-  pub each : All (IsSpentOn sheet None kept) parts
+  pub each : All (IsSearchedOn sheet None kept) parts
 
 -- The solver's log is the only one, and has at most as many steps as clauses were learned and calls made.
 pub record HasOnlyLog (s : SuspendedView) (tally : Tally) (logs : List (List LogLine)) : Type 0 where
@@ -36,7 +37,7 @@ pub record HasOnlyLog (s : SuspendedView) (tally : Tally) (logs : List (List Log
 
 -- The solver, which is without its trail, is one of the place's part, has made one call, and its log is the place's only one.
 pub record IsStarted (sheet : Sheet) (kept : Kept) (place : PartSpending) (s : SuspendedView) : Type 0 where
-  pub spent : IsSpentOn sheet None kept place
+  pub spent : IsSearchedOn sheet None kept place
   pub problem : s.problem ≡ problem_of sheet spent.used spent.own
   pub no_blocks : s.blocks ≡ []
   pub only : HasOnlyLog s place.tally place.logs.items

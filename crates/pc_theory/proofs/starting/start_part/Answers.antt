@@ -22,7 +22,7 @@ pub read_values-requires-clause-pairs : goal.read_values-requires-clause-pairs
 read_values-requires-clause-pairs c =
     let a = c.args in
     let called = c.in_ok-called.ensures.called in
-    first_pairs c.parts_are_searched.ensures a.task.book.now a.task.ground.now a.task.components.now c.requires.ready c.len-number.result _ _ _ c.part-part.ensures.cells c.part-part.ensures.axioms c.part-part.ensures.variables
+    first_pairs c.kept_parts_are_searched.ensures a.task.book.now a.task.ground.now a.task.components.now c.requires.ready c.len-number.result _ _ _ c.part-part.ensures.cells c.part-part.ensures.axioms c.part-part.ensures.variables
     c.in_ok-called.called.solver c.in_ok-called.called.place called.numbered called.started
 
 pub read_values-requires-clause-within : goal.read_values-requires-clause-within
@@ -45,7 +45,7 @@ returns-in_ok-push-in-Met-2-clause-started c =
     subst (λ (ns : List ℕ). (v : List ValueId) → AreWithin ns v → HasValues ns (map number_of cells) (truth_in solver.trues) v → AgreeAt (Contains (map number_of cells)) v base) same c.read_values.ensures.reads
     in
     let next =
-    started_next c.parts_are_searched.ensures a.task.book.now a.task.ground.now a.task.components.now c.requires.ready a.spent.now c.len-number.result a.base.now base a.parts.now.items a.solvers.now.items cells _ _
+    started_next c.kept_parts_are_searched.ensures a.task.book.now a.task.ground.now a.task.components.now c.requires.ready a.spent.now c.len-number.result a.base.now base a.parts.now.items a.solvers.now.items cells _ _
     c.part-part.ensures.cells c.part-part.ensures.axioms c.part-part.ensures.variables c.requires.started (omega (arith, c.len-number.ensures, a.parts.now.ok.0)) place solver c.suspend-solver.result.0 called.numbered called.started
     (aside_started a.task.book.now a.task.components.now place solver c.suspend-solver.result.0 c.suspend-solver.ensures.problem c.suspend-solver.ensures.blocks c.suspend-solver.ensures.log called.started)
     (subst (λ (e : End). EndSays solver place e) c.in-Met.is called.says) assigns reads c.read_values.ensures.elsewhere

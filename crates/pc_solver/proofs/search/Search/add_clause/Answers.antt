@@ -6,12 +6,13 @@ use Rattle.pc_propagate.specs.declared.clauses.ClauseRef.{ClauseRef}
 use Rattle.pc_propagate.specs.Propagation.{IsFalsified}
 use Rattle.pc_propagate.specs.Refs.{IsRef}
 use Rattle.pc_solver.proofs.TurnLemmas.{conflict_same}
-use Rattle.pc_solver.specs.Clauses.{IsKnown, IsOverOwn}
+use Rattle.pc_solver.specs.Clauses.{IsKnown, IsOverOwn, used_clauses}
+use Rattle.pc_solver.specs.New.{HasNoForced}
 use Rattle.pc_solver.specs.InLog.{ContainsNoKnown}
 use Rattle.pc_propagate.specs.Entries.{AreEntries}
 use Rattle.pc_solver.specs.inside.Search.{SearchView}
 use Rattle.pc_solver.proofs.ClauseLemmas.{IsSearch-same}
-use Rattle.pc_solver.proofs.LearnLemmas.{level_seen, learn_nothing, clause_own, known_hints, ref_hints, none_contained, learns_none, learns_then, has_learned, good_lines}
+use Rattle.pc_solver.proofs.LearnLemmas.{level_seen, learn_nothing, clause_own, known_hints, ref_hints, none_contained, none_forced, learns_none, learns_then, has_learned, good_lines}
 use Rattle.pc_solver.proofs.search.Search.add_clause.Goals as goal
 
 pub analyze-requires-clause-level : goal.analyze-requires-clause-level
@@ -52,6 +53,11 @@ pub add_learned-requires-clause-no_tautology : goal.add_learned-requires-clause-
 add_learned-requires-clause-no_tautology c =
     let level = level_seen c.args.self.now c.args.conflict c.self.inside.clauses c.self.inside.trail c.self.view_is c.requires.level in
     subst (λ (cl : List Lit). ¬ IsTautology negated cl) (sym c.deref-3.ensures.value) (none_contained c.learned_clauses_are_new.ensures _ _ c.self.inside.clauses c.lines_of.new.self c.self.inside.trail c.in_ok-learned.learned.clause.items c.in_ok-learned.learned.hints.items level.0 c.in_ok-learned.learned.level c.axioms.ensures.is c.more.ensures (subst (λ (s : SearchView). AreEntries s.trail.variables s.trail.entries) (sym c.self.view_is) c.recall.ensures.entries) c.self.invariant c.in_ok-learned.ensures.learned (c.in_ok-learned.ensures.asserting level.0 (rw (c.axioms.ensures.is, c.more.ensures) level.1)) c.in_ok-lines.ensures.same).0
+
+pub add_learned-requires-clause-unforced : goal.add_learned-requires-clause-unforced
+add_learned-requires-clause-unforced c =
+    let level = level_seen c.args.self.now c.args.conflict c.self.inside.clauses c.self.inside.trail c.self.view_is c.requires.level in
+    subst (HasNoForced (used_clauses c.lines_of.new.self.axioms c.lines_of.new.self.used)) (sym c.deref-3.ensures.value) (none_forced _ _ c.self.inside.clauses c.lines_of.new.self c.self.inside.trail c.in_ok-learned.learned.clause.items c.in_ok-learned.learned.hints.items level.0 c.in_ok-learned.learned.level c.axioms.ensures.is c.more.ensures (subst (λ (s : SearchView). AreEntries s.trail.variables s.trail.entries) (sym c.self.view_is) c.recall.ensures.entries) c.self.invariant c.in_ok-learned.ensures.learned (c.in_ok-learned.ensures.asserting level.0 (rw (c.axioms.ensures.is, c.more.ensures) level.1)) c.in_ok-lines.ensures.same)
 
 pub add_learned-requires-clause-good : goal.add_learned-requires-clause-good
 add_learned-requires-clause-good c =

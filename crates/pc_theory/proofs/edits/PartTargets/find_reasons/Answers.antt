@@ -5,8 +5,15 @@ use Rattle.pc_theory.specs.Edits.{IsSpentAlone}
 use Rattle.pc_theory.specs.Targets.{AreAsked}
 use Rattle.pc_theory.specs.Theories.{rules_alone, TheoryView, IsTheory}
 use Rattle.pc_theory.specs.declared.spending.PartSpending.{PartSpending}
-use Rattle.pc_theory.proofs.Editing.{ground_is, problem_right, few_targets, asked_of, alone_of_reasons, alone_blank}
+use Rattle.pc_theory.proofs.Editing.{asked_within, ground_is, problem_right, few_targets, asked_of, alone_of_reasons, alone_blank}
 use Rattle.pc_theory.proofs.edits.PartTargets.find_reasons.Goals as goal
+
+pub part-own-requires : goal.part-own-requires
+part-own-requires c =
+    let a = c.args in
+    let known = subst (λ (v : TheoryView). IsTheory (rules_alone a.self.book.now) v) (sym c.theory.view_is) c.requires.theory in
+    let asked = subst (λ (v : TheoryView). AreAsked (cell_sizes a.self.book.now.universe) v.components a.self.part a.self.targets.now) (sym c.theory.view_is) c.requires.asked in
+    asked_within a.self.book.now _ known a.self.part a.self.targets.now asked
 
 pub find_reasons-requires-clause-searchable : goal.find_reasons-requires-clause-searchable
 find_reasons-requires-clause-searchable c =
@@ -14,9 +21,9 @@ find_reasons-requires-clause-searchable c =
     let known = subst (λ (v : TheoryView). IsTheory (rules_alone a.self.book.now) v) (sym c.theory.view_is) c.requires.theory in
     let asked = subst (λ (v : TheoryView). AreAsked (cell_sizes a.self.book.now.universe) v.components a.self.part a.self.targets.now) (sym c.theory.view_is) c.requires.asked in
     record {
-      ground = ground_is c.parts_are_searched.ensures a.self.book.now _ c.well_formed-2.ensures known a.self.part _ _ _ c.part-own.ensures.cells c.part-own.ensures.axioms c.part-own.ensures.variables;
-      problem = problem_right c.parts_are_searched.ensures a.self.book.now _ c.well_formed-2.ensures known a.self.part _ _ _ c.part-own.ensures.cells c.part-own.ensures.axioms c.part-own.ensures.variables;
-      few_targets = few_targets c.parts_are_searched.ensures a.self.book.now _ c.well_formed-2.ensures known a.self.part _ _ _ c.part-own.ensures.cells c.part-own.ensures.axioms c.part-own.ensures.variables a.self.targets.now asked (omega (arith, c.few_cells.ensures));
+      ground = ground_is c.kept_parts_are_searched.ensures a.self.book.now _ c.well_formed-2.ensures known a.self.part _ _ _ c.part-own.ensures.cells c.part-own.ensures.axioms c.part-own.ensures.variables;
+      problem = problem_right c.kept_parts_are_searched.ensures a.self.book.now _ c.well_formed-2.ensures known a.self.part _ _ _ c.part-own.ensures.cells c.part-own.ensures.axioms c.part-own.ensures.variables;
+      few_targets = few_targets c.kept_parts_are_searched.ensures a.self.book.now _ c.well_formed-2.ensures known a.self.part _ _ _ c.part-own.ensures.cells c.part-own.ensures.axioms c.part-own.ensures.variables a.self.targets.now asked (omega (arith, c.few_cells.ensures));
       few_entries = omega (arith, ap length c.deref.ensures.value, c.in_ok-entries.ensures.few);
     }
 
@@ -25,7 +32,7 @@ find_reasons-requires-clause-asked c =
     let a = c.args in
     let known = subst (λ (v : TheoryView). IsTheory (rules_alone a.self.book.now) v) (sym c.theory.view_is) c.requires.theory in
     let asked = subst (λ (v : TheoryView). AreAsked (cell_sizes a.self.book.now.universe) v.components a.self.part a.self.targets.now) (sym c.theory.view_is) c.requires.asked in
-    asked_of c.parts_are_searched.ensures a.self.book.now _ c.well_formed-2.ensures known a.self.part _ _ _ c.part-own.ensures.cells c.part-own.ensures.axioms c.part-own.ensures.variables a.self.targets.now asked _ a.worlds.now (c.deref.ensures.value ∙ c.in_ok-entries.ensures.on) c.requires.worlds
+    asked_of c.kept_parts_are_searched.ensures a.self.book.now _ c.well_formed-2.ensures known a.self.part _ _ _ c.part-own.ensures.cells c.part-own.ensures.axioms c.part-own.ensures.variables a.self.targets.now asked _ a.worlds.now (c.deref.ensures.value ∙ c.in_ok-entries.ensures.on) c.requires.worlds
 
 pub returns-clause-spends : goal.returns-clause-spends
 returns-clause-spends c =
@@ -34,7 +41,7 @@ returns-clause-spends c =
     let known = subst (λ (v : TheoryView). IsTheory (rules_alone a.self.book.now) v) (sym c.theory.view_is) c.requires.theory in
     let asked = subst (λ (v : TheoryView). AreAsked (cell_sizes a.self.book.now.universe) v.components a.self.part a.self.targets.now) (sym c.theory.view_is) c.requires.asked in
     subst (λ (v : TheoryView). IsSpentAlone a.self.book.now v.components a.self.part place) c.theory.view_is
-    (alone_of_reasons c.parts_are_searched.ensures a.self.book.now _ c.well_formed-2.ensures known a.self.part _ _ _ c.part-own.ensures.cells c.part-own.ensures.axioms c.part-own.ensures.variables a.self.targets.now asked a.place.now place c.requires.blank refl _ a.worlds.now (c.deref.ensures.value ∙ c.in_ok-entries.ensures.on) c.requires.worlds c.find_reasons.ensures.logs c.find_reasons.ensures.spends)
+    (alone_of_reasons c.kept_parts_are_searched.ensures a.self.book.now _ c.well_formed-2.ensures known a.self.part _ _ _ c.part-own.ensures.cells c.part-own.ensures.axioms c.part-own.ensures.variables a.self.targets.now asked c.none_of_the_used_is_contained.ensures a.place.now place c.requires.blank refl _ a.worlds.now (c.deref.ensures.value ∙ c.in_ok-entries.ensures.on) c.requires.worlds c.find_reasons.ensures.logs c.find_reasons.ensures.spends)
 
 pub returns-clause-limit : goal.returns-clause-limit
 returns-clause-limit c = c.find_reasons.ensures.spends.limit
@@ -46,7 +53,7 @@ returns-in_err-entries-clause-spends c =
     let known = subst (λ (v : TheoryView). IsTheory (rules_alone a.self.book.now) v) (sym c.theory.view_is) c.requires.theory in
     let asked = subst (λ (v : TheoryView). AreAsked (cell_sizes a.self.book.now.universe) v.components a.self.part a.self.targets.now) (sym c.theory.view_is) c.requires.asked in
     subst (λ (v : TheoryView). IsSpentAlone a.self.book.now v.components a.self.part place) c.theory.view_is
-    (alone_blank c.parts_are_searched.ensures a.self.book.now _ c.well_formed-2.ensures known a.self.part _ _ _ c.part-own.ensures.cells c.part-own.ensures.axioms c.part-own.ensures.variables a.self.targets.now asked a.place.now place c.requires.blank refl refl refl)
+    (alone_blank c.kept_parts_are_searched.ensures a.self.book.now _ c.well_formed-2.ensures known a.self.part _ _ _ c.part-own.ensures.cells c.part-own.ensures.axioms c.part-own.ensures.variables a.self.targets.now asked c.none_of_the_used_is_contained.ensures a.place.now place c.requires.blank refl refl refl)
 
 pub returns-clause-found : goal.returns-clause-found
 returns-clause-found c =

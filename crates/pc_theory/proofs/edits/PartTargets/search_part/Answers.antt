@@ -5,8 +5,15 @@ use Rattle.pc_theory.specs.Edits.{IsSpentAlone}
 use Rattle.pc_theory.specs.Targets.{AreAsked}
 use Rattle.pc_theory.specs.Theories.{rules_alone, TheoryView, IsTheory}
 use Rattle.pc_theory.specs.declared.spending.PartSpending.{PartSpending}
-use Rattle.pc_theory.proofs.Editing.{ground_is, problem_right, base_is, few_targets, searched_of, part_of, alone_reserved, alone_blank}
+use Rattle.pc_theory.proofs.Editing.{asked_within, ground_is, problem_right, base_is, few_targets, searched_of, part_of, alone_reserved, alone_blank}
 use Rattle.pc_theory.proofs.edits.PartTargets.search_part.Goals as goal
+
+pub part-own-requires : goal.part-own-requires
+part-own-requires c =
+    let a = c.args in
+    let known = subst (λ (v : TheoryView). IsTheory (rules_alone a.self.book.now) v) (sym c.theory.view_is) c.requires.theory in
+    let asked = subst (λ (v : TheoryView). AreAsked (cell_sizes a.self.book.now.universe) v.components a.self.part a.self.targets.now) (sym c.theory.view_is) c.requires.asked in
+    asked_within a.self.book.now _ known a.self.part a.self.targets.now asked
 
 pub search-requires-clause-listable : goal.search-requires-clause-listable
 search-requires-clause-listable c =
@@ -16,21 +23,21 @@ search-requires-clause-listable c =
     let entries = c.deref.ensures.value ∙ c.in_ok-entries.ensures.on in
     record {
       searchable = record {
-        ground = ground_is c.parts_are_searched.ensures a.self.book.now _ c.well_formed-2.ensures known a.self.part _ _ _ c.part-own.ensures.cells c.part-own.ensures.axioms c.part-own.ensures.variables;
-        problem = problem_right c.parts_are_searched.ensures a.self.book.now _ c.well_formed-2.ensures known a.self.part _ _ _ c.part-own.ensures.cells c.part-own.ensures.axioms c.part-own.ensures.variables;
-        few_targets = few_targets c.parts_are_searched.ensures a.self.book.now _ c.well_formed-2.ensures known a.self.part _ _ _ c.part-own.ensures.cells c.part-own.ensures.axioms c.part-own.ensures.variables a.self.targets.now asked (omega (arith, c.few_cells.ensures));
+        ground = ground_is c.kept_parts_are_searched.ensures a.self.book.now _ c.well_formed-2.ensures known a.self.part _ _ _ c.part-own.ensures.cells c.part-own.ensures.axioms c.part-own.ensures.variables;
+        problem = problem_right c.kept_parts_are_searched.ensures a.self.book.now _ c.well_formed-2.ensures known a.self.part _ _ _ c.part-own.ensures.cells c.part-own.ensures.axioms c.part-own.ensures.variables;
+        few_targets = few_targets c.kept_parts_are_searched.ensures a.self.book.now _ c.well_formed-2.ensures known a.self.part _ _ _ c.part-own.ensures.cells c.part-own.ensures.axioms c.part-own.ensures.variables a.self.targets.now asked (omega (arith, c.few_cells.ensures));
         few_entries = omega (arith, ap length c.deref.ensures.value, c.in_ok-entries.ensures.few);
       };
-      base = base_is c.parts_are_searched.ensures a.self.book.now _ c.well_formed-2.ensures known a.self.part _ _ _ c.part-own.ensures.cells c.part-own.ensures.axioms c.part-own.ensures.variables;
+      base = base_is c.kept_parts_are_searched.ensures a.self.book.now _ c.well_formed-2.ensures known a.self.part _ _ _ c.part-own.ensures.cells c.part-own.ensures.axioms c.part-own.ensures.variables;
       entries = entries;
-      searched = searched_of c.parts_are_searched.ensures a.self.book.now _ c.well_formed-2.ensures known a.self.part _ _ _ c.part-own.ensures.cells c.part-own.ensures.axioms c.part-own.ensures.variables a.self.targets.now asked _ entries;
+      searched = searched_of c.kept_parts_are_searched.ensures a.self.book.now _ c.well_formed-2.ensures known a.self.part _ _ _ c.part-own.ensures.cells c.part-own.ensures.axioms c.part-own.ensures.variables a.self.targets.now asked _ entries;
     }
 
 pub returns-clause-worlds : goal.returns-clause-worlds
 returns-clause-worlds c p numbered =
     let a = c.args in
     let known = subst (λ (v : TheoryView). IsTheory (rules_alone a.self.book.now) v) (sym c.theory.view_is) c.requires.theory in
-    c.search.ensures.worlds p (part_of c.parts_are_searched.ensures a.self.book.now _ c.well_formed-2.ensures known a.self.part _ _ _ c.part-own.ensures.cells c.part-own.ensures.axioms c.part-own.ensures.variables p _ numbered (c.deref.ensures.value ∙ c.in_ok-entries.ensures.on))
+    c.search.ensures.worlds p (part_of c.kept_parts_are_searched.ensures a.self.book.now _ c.well_formed-2.ensures known a.self.part _ _ _ c.part-own.ensures.cells c.part-own.ensures.axioms c.part-own.ensures.variables p _ numbered (c.deref.ensures.value ∙ c.in_ok-entries.ensures.on))
 
 pub returns-clause-spends : goal.returns-clause-spends
 returns-clause-spends c =
@@ -39,7 +46,7 @@ returns-clause-spends c =
     let known = subst (λ (v : TheoryView). IsTheory (rules_alone a.self.book.now) v) (sym c.theory.view_is) c.requires.theory in
     let asked = subst (λ (v : TheoryView). AreAsked (cell_sizes a.self.book.now.universe) v.components a.self.part a.self.targets.now) (sym c.theory.view_is) c.requires.asked in
     subst (λ (v : TheoryView). IsSpentAlone a.self.book.now v.components a.self.part place) c.theory.view_is
-    (alone_reserved c.parts_are_searched.ensures a.self.book.now _ c.well_formed-2.ensures known a.self.part _ _ _ c.part-own.ensures.cells c.part-own.ensures.axioms c.part-own.ensures.variables a.self.targets.now asked a.place.now place c.requires.blank refl _ c.in_ok-reserve.ensures.items _ (c.deref.ensures.value ∙ c.in_ok-entries.ensures.on) c.search.ensures.logs c.search.ensures.spends)
+    (alone_reserved c.kept_parts_are_searched.ensures a.self.book.now _ c.well_formed-2.ensures known a.self.part _ _ _ c.part-own.ensures.cells c.part-own.ensures.axioms c.part-own.ensures.variables a.self.targets.now asked c.none_of_the_used_is_contained.ensures a.place.now place c.requires.blank refl _ c.in_ok-reserve.ensures.items _ (c.deref.ensures.value ∙ c.in_ok-entries.ensures.on) c.search.ensures.logs c.search.ensures.spends)
 
 pub returns-in_err-reserve-clause-spends : goal.returns-in_err-reserve-clause-spends
 returns-in_err-reserve-clause-spends c =
@@ -48,7 +55,7 @@ returns-in_err-reserve-clause-spends c =
     let known = subst (λ (v : TheoryView). IsTheory (rules_alone a.self.book.now) v) (sym c.theory.view_is) c.requires.theory in
     let asked = subst (λ (v : TheoryView). AreAsked (cell_sizes a.self.book.now.universe) v.components a.self.part a.self.targets.now) (sym c.theory.view_is) c.requires.asked in
     subst (λ (v : TheoryView). IsSpentAlone a.self.book.now v.components a.self.part place) c.theory.view_is
-    (alone_blank c.parts_are_searched.ensures a.self.book.now _ c.well_formed-2.ensures known a.self.part _ _ _ c.part-own.ensures.cells c.part-own.ensures.axioms c.part-own.ensures.variables a.self.targets.now asked a.place.now place c.requires.blank refl refl c.in_err-reserve.ensures.items)
+    (alone_blank c.kept_parts_are_searched.ensures a.self.book.now _ c.well_formed-2.ensures known a.self.part _ _ _ c.part-own.ensures.cells c.part-own.ensures.axioms c.part-own.ensures.variables a.self.targets.now asked c.none_of_the_used_is_contained.ensures a.place.now place c.requires.blank refl refl c.in_err-reserve.ensures.items)
 
 pub returns-clause-limit : goal.returns-clause-limit
 returns-clause-limit c = c.search.ensures.spends.2.limit
@@ -60,7 +67,7 @@ returns-in_err-entries-clause-spends c =
     let known = subst (λ (v : TheoryView). IsTheory (rules_alone a.self.book.now) v) (sym c.theory.view_is) c.requires.theory in
     let asked = subst (λ (v : TheoryView). AreAsked (cell_sizes a.self.book.now.universe) v.components a.self.part a.self.targets.now) (sym c.theory.view_is) c.requires.asked in
     subst (λ (v : TheoryView). IsSpentAlone a.self.book.now v.components a.self.part place) c.theory.view_is
-    (alone_blank c.parts_are_searched.ensures a.self.book.now _ c.well_formed-2.ensures known a.self.part _ _ _ c.part-own.ensures.cells c.part-own.ensures.axioms c.part-own.ensures.variables a.self.targets.now asked a.place.now place c.requires.blank refl refl refl)
+    (alone_blank c.kept_parts_are_searched.ensures a.self.book.now _ c.well_formed-2.ensures known a.self.part _ _ _ c.part-own.ensures.cells c.part-own.ensures.axioms c.part-own.ensures.variables a.self.targets.now asked c.none_of_the_used_is_contained.ensures a.place.now place c.requires.blank refl refl refl)
 
 pub returns-clause-found : goal.returns-clause-found
 returns-clause-found c =

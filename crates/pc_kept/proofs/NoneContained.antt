@@ -1,0 +1,49 @@
+-- What contains no kept axiom and no literal that they force contains no axiom of the part.
+use Rattle.std.proofs.Common.{inl, inr, List, [], ◌∷◌, map, Contains, sym, subst}
+use Rattle.std.proofs.lemmas.List.Elements.{All-contains, Contains-append_right}
+use Rattle.pc_sheet.specs.Sheet.{Sheet}
+use Rattle.pc_sheet.specs.WellFormed.{IsWellFormed}
+use Rattle.pc_laws.proofs.SomeAssignment.{some_assignment}
+use Rattle.pc_accept.specs.Literals.{node, Literal}
+use Rattle.pc_accept.specs.Axioms.{Axiom, axiom_some, axiom_one, axiom_rule, axiom_node, axiom_atom, negated_entry, IsClauseOf}
+use Rattle.pc_accept.proofs.AxiomsTrue.{other_axioms_true}
+use Rattle.pc_lemmas.proofs.Elements.{contains_first, contains_map}
+use Rattle.pc_ground.specs.Variables.{number}
+use Rattle.pc_ground.specs.Ground.{axioms, lit_of}
+use Rattle.pc_ground.proofs.OfAxioms.{all_right}
+use Rattle.pc_components.proofs.PartFor.{slice_contains}
+use Rattle.pc_components.proofs.Symbols.{rule_symbols}
+use Rattle.pc_kept.specs.Kept.{IsNode, IsOfNode}
+use Rattle.pc_kept.proofs.KeptFor.{axiom_at}
+use Rattle.pc_kept.specs.Laws.{NoneOfTheUsedIsContained}
+
+-- it names a node
+names_node : (sheet : Sheet) → IsWellFormed sheet → (x : Axiom) → IsOfNode x → (clause : List Literal) → IsClauseOf sheet x clause → (l : Literal) × Contains clause l × IsNode l.what
+names_node sheet formed (axiom_some c) h clause is = absurd h
+names_node sheet formed (axiom_one c v w) h clause is = absurd h
+names_node sheet formed (axiom_rule r) h clause is = absurd h
+names_node sheet formed (axiom_node r path i) h clause is =
+    let base = some_assignment sheet.universe formed.universe in
+    let l = other_axioms_true sheet base.0 base.1 (axiom_node r path i) clause tt is in
+    (l.0, l.1, rule_symbols IsNode sheet r path (λ steps. tt) i clause is l.0 l.1)
+names_node sheet formed (axiom_atom r path reads) h clause is =
+    let end : Literal = record { what = node r path; sign = is.truth } in
+    (end, subst (λ d. Contains d end) (sym is.is) (Contains-append_right (map negated_entry reads) (end ∷ []) end (contains_first end [])), tt)
+
+pub none_of_the_used_is_contained : NoneOfTheUsedIsContained
+none_of_the_used_is_contained sheet formed used kept own are vars clause over avoids none k axiom_clause k_used at inside =
+    let found = axiom_at sheet k axiom_clause at in
+    let g = found.0 in
+    let in_clause : (l : Literal) → Contains g.clause l → Contains clause (lit_of sheet l) =
+    λ l has. inside (lit_of sheet l) (subst (λ c. Contains c (lit_of sheet l)) found.2 (contains_map (lit_of sheet) g.clause l has)) in
+    elim (are.each k g k_used found.1) [
+      | inl stays ↦ none k axiom_clause stays at inside
+      | inr out ↦ elim out.1 [
+        | inl started ↦ avoids (lit_of sheet started.0) (in_clause started.0 started.1) started.2
+        | inr (inl unneeded) ↦
+            let is = All-contains (λ q. IsClauseOf sheet q.name q.clause) (axioms sheet) g (all_right sheet) (slice_contains (axioms sheet) k g found.1) in
+            let l = names_node sheet formed g.name out.0 g.clause is in
+            unneeded l.0 l.1 l.2 ((vars.exact (number sheet l.0.what)).0 (over (lit_of sheet l.0) (in_clause l.0 l.1)))
+        | inr (inr constant) ↦ constant.3 ((vars.exact (number sheet constant.0.what)).0 (over (lit_of sheet constant.0) (in_clause constant.0 constant.1)))
+      ]
+    ]

@@ -1,0 +1,22 @@
+//! What kept axioms are worth. Each function is a law: its contract holds for every sheet, and it does nothing.
+ghost use Rattle.pc_kept.specs.Laws.{KeptAxiomsAreForTheirParts, KeptByWhatIsStored, KeptPartsAreSearched, NoneOfTheUsedIsContained};
+
+/// The kept axioms of a part stand for the part's sheet on its cells.
+pub fn kept_axioms_are_for_their_parts()
+    ensures { KeptAxiomsAreForTheirParts }
+{}
+
+/// What contains no kept axiom and no literal that they force, over their variables, contains no axiom of the part.
+pub fn none_of_the_used_is_contained()
+    ensures { NoneOfTheUsedIsContained }
+{}
+
+/// What is kept by a sheet's clauses, names and number of pairs is kept of the sheet.
+pub fn kept_by_what_is_stored()
+    ensures { KeptByWhatIsStored }
+{}
+
+/// A part is searched on its cells by its kept axioms, over the variables that these name.
+pub fn kept_parts_are_searched()
+    ensures { KeptPartsAreSearched }
+{}
