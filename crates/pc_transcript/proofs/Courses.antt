@@ -1,112 +1,178 @@
 -- How a run ends before its command lines, and how it goes on with them.
-use Rattle.std.proofs.Common.{◌≡◌, ℕ, List, [], ◌≤◌, ◌++◌, length, refl, sym, subst, inl, inr, Option, Some, None, ap}
-use Rattle.std.specs.Io.KnownBytes.{Appends, prepend_known}
-use Rattle.std.proofs.KnownBytes.{Appends-nil}
-use Rattle.pc_refusals.specs.declared.status.Status.{Status}
-use Rattle.pc_refusals.specs.declared.status.Status.TheVariants.{Done, SomeRefused, Usage, SheetRefused, ReadFault, WriteFault, Memory, TooLong, CertRefused}
-use Rattle.pc_port.specs.Port.{AppendsFront}
+use Rattle.std.proofs.Common.{◌≡◌, ◌≢◌, ℕ, List, [], ◌∷◌, ◌≤◌, ◌++◌, length, length-append, arith, refl, sym, ◌∙◌, subst, inl, inr, Option, Some, None, ap}
+use Rattle.std.specs.Io.KnownBytes.{Consumes, prepend_known}
+use Rattle.std.proofs.lemmas.List.{append-nil}
+use Rattle.pc_port.specs.Port.{Rose}
 use Rattle.pc_port.specs.declared.TheConstants.{CHUNK}
+use Rattle.pc_refusals.specs.declared.TheConstants.{SHEET_LIMIT}
+use Rattle.pc_refusals.specs.declared.status.Status.{Status}
+use Rattle.pc_refusals.specs.declared.status.Status.TheVariants.{SheetRefused, ReadFault, WriteFault, Memory, TooLong}
 use Rattle.pc_refusals.specs.declared.refusal.SheetRefusal.{SheetRefusal}
 use Rattle.pc_refusals.specs.Refusals.{sheet_refusal_text}
+use Rattle.pc_refusals.specs.Endings.{too_long_text, TellsAtEnd, sheet_memory_text}
+use Rattle.pc_course.specs.Events.{Outside, Event, took, took_rest, input_failed, Happened, Streams, streams, around}
+use Rattle.pc_course.specs.Stages.{sheet_line, Stage, ends_with}
+use Rattle.pc_course.specs.Runs.{HasTook, nothing, IsSpare, Comes, on_course, past_limit, without_memory, Run, read_failed, Ran}
+use Rattle.pc_course.specs.Runs as runs
+use Rattle.pc_course.proofs.EventLemmas.{happened-append, happened-push, took_does, took_rest_does, read_fails_does, Consumes-split, has_took-left, has_took-right, ends-more}
+use Rattle.pc_course.proofs.RunLemmas.{TellsLast, tells_last, run-more}
 use Rattle.pc_transcript.specs.declared.machine.LoadStop.{LoadStop}
 use Rattle.pc_transcript.specs.declared.machine.LoadStop.TheVariants as load_stop
 use Rattle.pc_transcript.specs.Answer.{Answer, StopsBy}
-use Rattle.pc_refusals.specs.Endings.{Printing, printed, too_long_text, IsPrinted, TellsAtEnd, AppendsPart, sheet_memory_text}
-use Rattle.pc_transcript.specs.SheetPart.{TakesSheet, StopsInSheet, PassesSheetLimit, HasTaken}
-use Rattle.pc_transcript.specs.Run.{Answers, AnswersBy, LacksMemoryForSheet, RefusesSheet, HasLongSheet, IsCutOff, at_sheet_memory, at_sheet, at_long_sheet, at_limit, at_answer, Replays, Replayed, TellsStop, GoesOn, by_refusal, by_want, by_answers}
-use Rattle.pc_transcript.proofs.Ends.{read_ahead}
-use Rattle.pc_transcript.proofs.SheetLines.{has_taken, nothing_taken}
+use Rattle.pc_transcript.specs.Run.{TellsStop}
+use Rattle.pc_transcript.specs.SheetPart.{joined_lines, TakesSheet, StopsInSheet}
+use Rattle.pc_transcript.specs.Course.{AnswersLines, FromSheet, is_refused, answers, IsSheetTaken, FromInput, awaits_sheet, keeps_sheet, has_sheet, Replay, needs_room, from_input}
+use Rattle.pc_transcript.specs.Course as course
+use Rattle.pc_transcript.specs.inside.SoFar.{IsLeft, all, ahead, RanOn, GoesOn, by_refusal, by_want, by_answers, PassesSheet, HasSome}
+use Rattle.pc_transcript.proofs.Ends.{holds_nothing, held_taken, tells_no_read}
 
--- a front of a text that has no other piece
-pub cut_short : {sink sink' : Option (List ℕ)} {text : List ℕ} → AppendsFront sink sink' text → AppendsPart sink sink' (printed [] text)
-cut_short part = record { count = part.count; written = part.front }
+-- ---- from what a reader holds to what its source has left
 
--- a text was told at a status, or a front of it where a write failed
-told : {S N : Type 0} (IsSheet : List ℕ → S → Type 0) (Refuses : List ℕ → SheetRefusal → List ℕ → N → N → Type 0) (Allows : S × N → List ℕ → Answer → S × N → Type 0) (status result : Status) (notes notes' : N) (text : List ℕ) (source source' sink sink' : Option (List ℕ))
-    → Replays IsSheet Refuses Allows status notes notes' (printed [] text) source source' → IsCutOff IsSheet Refuses Allows notes notes' (printed [] text) source source' → (Appends sink sink' text → IsPrinted status sink sink' (printed [] text)) → TellsAtEnd status text result sink sink'
-    → Replayed IsSheet Refuses Allows result notes notes' source source' sink sink'
-told IsSheet Refuses Allows status result notes notes' text source source' sink sink' course cut written tells =
-    elim tells [
-      | inl w ↦ subst (λ (s : Status). Replayed IsSheet Refuses Allows s notes notes' source source' sink sink') (sym w.0) record { text = printed [] text; course = course; written = written w.1 }
-      | inr w ↦ subst (λ (s : Status). Replayed IsSheet Refuses Allows s notes notes' source source' sink sink') (sym w.0) record { text = printed [] text; course = cut; written = cut_short w.1 }
-    ]
-
-pub lacks_memory : {S N : Type 0} (IsSheet : List ℕ → S → Type 0) (Refuses : List ℕ → SheetRefusal → List ℕ → N → N → Type 0) (Allows : S × N → List ℕ → Answer → S × N → Type 0) (result : Status) (notes notes' : N) (source source' sink sink' : Option (List ℕ))
-    → notes' ≡ notes → HasTaken source source' → TellsAtEnd Memory sheet_memory_text result sink sink' → Replayed IsSheet Refuses Allows result notes notes' source source' sink sink'
-lacks_memory IsSheet Refuses Allows result notes notes' source source' sink sink' none taken tells =
-    let lacks : LacksMemoryForSheet notes notes' (printed [] sheet_memory_text) source source' = record { taken = taken; none_noted = none; text_is = refl } in
-    told IsSheet Refuses Allows Memory result notes notes' sheet_memory_text source source' sink sink' (inl lacks) (at_sheet_memory lacks) (λ w. w) tells
-
--- before the first byte
-pub lacks_room : {S N : Type 0} (IsSheet : List ℕ → S → Type 0) (Refuses : List ℕ → SheetRefusal → List ℕ → N → N → Type 0) (Allows : S × N → List ℕ → Answer → S × N → Type 0) (result : Status) (notes : N) (source sink sink' : Option (List ℕ))
-    → TellsAtEnd Memory sheet_memory_text result sink sink' → Replayed IsSheet Refuses Allows result notes notes source source sink sink'
-lacks_room IsSheet Refuses Allows result notes source sink sink' tells = lacks_memory IsSheet Refuses Allows result notes notes source source sink sink' refl (nothing_taken source) tells
-
-pub long_sheet : {S N : Type 0} (IsSheet : List ℕ → S → Type 0) (Refuses : List ℕ → SheetRefusal → List ℕ → N → N → Type 0) (Allows : S × N → List ℕ → Answer → S × N → Type 0) (result : Status) (notes : N) (source source' sink sink' : Option (List ℕ))
-    → PassesSheetLimit source source' → TellsAtEnd TooLong too_long_text result sink sink' → Replayed IsSheet Refuses Allows result notes notes source source' sink sink'
-long_sheet IsSheet Refuses Allows result notes source source' sink sink' passes tells =
-    let long : HasLongSheet notes notes (printed [] too_long_text) source source' = record { passes = passes; none_noted = refl; text_is = refl } in
-    told IsSheet Refuses Allows TooLong result notes notes too_long_text source source' sink sink' (inl long) (at_long_sheet long) (λ w. w) tells
-
-pub fails_in_sheet : {S N : Type 0} (IsSheet : List ℕ → S → Type 0) (Refuses : List ℕ → SheetRefusal → List ℕ → N → N → Type 0) (Allows : S × N → List ℕ → Answer → S × N → Type 0) (notes : N) (source source' sink : Option (List ℕ)) → StopsInSheet source source' → Replayed IsSheet Refuses Allows ReadFault notes notes source source' sink sink
-fails_in_sheet IsSheet Refuses Allows notes source source' sink fails = record { text = printed [] []; course = inl record { stops = fails; none_noted = refl; text_is = refl }; written = Appends-nil sink }
-
-memory_for_sheet : {S N : Type 0} (IsSheet : List ℕ → S → Type 0) (Refuses : List ℕ → SheetRefusal → List ℕ → N → N → Type 0) (Allows : S × N → List ℕ → Answer → S × N → Type 0) (result : Status) (notes notes' : N) (sheet : List ℕ) (source : Option (List ℕ)) (held : List ℕ) (left sink sink' : Option (List ℕ))
-    → notes' ≡ notes → TakesSheet sheet source (prepend_known held left) → length held ≤ CHUNK → TellsAtEnd Memory sheet_memory_text result sink sink' → Replayed IsSheet Refuses Allows result notes notes' source left sink sink'
-memory_for_sheet IsSheet Refuses Allows result notes notes' sheet source held left sink sink' none takes few tells =
-    lacks_memory IsSheet Refuses Allows result notes notes' source left sink sink' none (has_taken sheet source held left takes few) tells
-
-refuses : {S N : Type 0} (IsSheet : List ℕ → S → Type 0) (Refuses : List ℕ → SheetRefusal → List ℕ → N → N → Type 0) (Allows : S × N → List ℕ → Answer → S × N → Type 0) (result : Status) (notes notes' : N) (refusal : SheetRefusal) (more : List ℕ) (sheet : List ℕ) (source : Option (List ℕ)) (held : List ℕ) (left sink sink' : Option (List ℕ))
-    → Refuses sheet refusal more notes notes' → TakesSheet sheet source (prepend_known held left) → length held ≤ CHUNK → TellsAtEnd SheetRefused (sheet_refusal_text refusal ++ more) result sink sink'
-    → Replayed IsSheet Refuses Allows result notes notes' source left sink sink'
-refuses IsSheet Refuses Allows result notes notes' refusal more sheet source held left sink sink' has takes few tells =
-    let refused : RefusesSheet Refuses notes notes' (printed [] (sheet_refusal_text refusal ++ more)) source left =
-    record { sheet = sheet; rest = prepend_known held left; takes = takes; refusal = refusal; more = more; refused = has; ahead = read_ahead held left few; text_is = refl } in
-    told IsSheet Refuses Allows SheetRefused result notes notes' (sheet_refusal_text refusal ++ more) source left sink sink' refused (at_sheet refused) (λ w. w) tells
-
--- no state is made of the sheet
-pub stopped : {S N Q : Type 0} (IsSheet : List ℕ → S → Type 0) (Refuses : List ℕ → SheetRefusal → List ℕ → N → N → Type 0) (Allows : S × N → List ℕ → Answer → S × N → Type 0) (IsProof : Q → List ℕ → Type 0) (stop : LoadStop Q) (result : Status) (notes notes' : N) (sheet : List ℕ) (rest source sink sink' : Option (List ℕ))
-    → StopsBy IsProof (λ why more. Refuses sheet why more notes notes') notes notes' stop → TellsStop IsProof stop result sink sink' → GoesOn IsSheet Refuses Allows sheet result notes notes' rest source source sink sink'
-stopped IsSheet Refuses Allows IsProof (load_stop.Refused why proof) result notes notes' sheet rest source sink sink' stops told = by_refusal why told.0 (stops told.0 told.1) refl told.2
-stopped IsSheet Refuses Allows IsProof load_stop.Memory result notes notes' sheet rest source sink sink' stops told = by_want stops refl told
-
--- from the sheet's state the rest was answered
-answered : {S N : Type 0} (IsSheet : List ℕ → S → Type 0) (Refuses : List ℕ → SheetRefusal → List ℕ → N → N → Type 0) (Allows : S × N → List ℕ → Answer → S × N → Type 0) (start end : S) (notes notes' : N) (status : Status) (sheet : List ℕ) (text : Printing) (source rest source' : Option (List ℕ))
-    → IsSheet sheet start → TakesSheet sheet source rest → AnswersBy Allows (start, notes) (end, notes') status text rest source' → Replays IsSheet Refuses Allows status notes notes' text source source'
-answered IsSheet Refuses Allows start end notes notes' Done sheet text source rest source' is takes by = record { sheet = sheet; rest = rest; takes = takes; start = start; is = is; end = end; goes_on = by }
-answered IsSheet Refuses Allows start end notes notes' SomeRefused sheet text source rest source' is takes by = record { sheet = sheet; rest = rest; takes = takes; start = start; is = is; end = end; goes_on = by }
-answered IsSheet Refuses Allows start end notes notes' Memory sheet text source rest source' is takes by = inr record { sheet = sheet; rest = rest; takes = takes; start = start; is = is; end = end; goes_on = by }
-answered IsSheet Refuses Allows start end notes notes' ReadFault sheet text source rest source' is takes by = inr record { sheet = sheet; rest = rest; takes = takes; start = start; is = is; end = end; goes_on = by }
-answered IsSheet Refuses Allows start end notes notes' TooLong sheet text source rest source' is takes by = inr record { sheet = sheet; rest = rest; takes = takes; start = start; is = is; end = end; goes_on = by }
-answered IsSheet Refuses Allows start end notes notes' WriteFault sheet text source rest source' is takes by =
-    elim by [
-      | inl w ↦ at_limit record { sheet = sheet; rest = rest; takes = takes; start = start; is = is; end = end; goes_on = w }
-      | inr w ↦ at_answer record { sheet = sheet; rest = rest; takes = takes; start = start; is = is; end = end; goes_on = w }
-    ]
-answered IsSheet Refuses Allows start end notes notes' Usage sheet text source rest source' is takes by = absurd by
-answered IsSheet Refuses Allows start end notes notes' SheetRefused sheet text source rest source' is takes by = absurd by
-answered IsSheet Refuses Allows start end notes notes' CertRefused sheet text source rest source' is takes by = absurd by
-
-pub opens : {S N : Type 0} (IsSheet : List ℕ → S → Type 0) (Refuses : List ℕ → SheetRefusal → List ℕ → N → N → Type 0) (Allows : S × N → List ℕ → Answer → S × N → Type 0) (start end : S) (notes notes' : N) (status : Status) (sheet : List ℕ) (source rest source' sink sink' : Option (List ℕ))
-    → IsSheet sheet start → TakesSheet sheet source rest → Answers Allows (start, notes) (end, notes') status rest source' sink sink' → Replayed IsSheet Refuses Allows status notes notes' source source' sink sink'
-opens IsSheet Refuses Allows start end notes notes' status sheet source rest source' sink sink' is takes answers = record {
-  text = answers.text;
-  course = answered IsSheet Refuses Allows start end notes notes' status sheet answers.text source rest source' is takes answers.course;
-  written = answers.written;
+spare_of : {N : Type 0} (Course : List Event → Stage → N → Type 0) (status : Status) (notes : N) (before : Streams) (left : Option (List ℕ)) (n : ℕ) (g : Option (List ℕ)) (m : ℕ) (o : Outside) (events : List Event) → Run Course events status notes → (rest : Option (List ℕ)) → Happened events (around o before) (around o (streams rest n g m)) → IsLeft events rest left
+    → Ran Course CHUNK status notes (around o before) (around o (streams left n g m))
+spare_of Course status notes before left n g m o events run rest happened (all is) = record {
+  events = events;
+  run = run;
+  spare = [];
+  is_spare = nothing;
+  happened = subst (λ (es : List Event). Happened es (around o before) (around o (streams left n g m))) (sym (append-nil events)) (subst (λ (l : Option (List ℕ)). Happened events (around o before) (around o (streams l n g m))) is happened);
+}
+spare_of Course status notes before left n g m o events run rest happened (ahead held few is other some) = record {
+  events = events;
+  run = run;
+  spare = took held ∷ [];
+  is_spare = runs.ahead held few other some;
+  happened = happened-push events (took held) (around o before) (around o (streams rest n g m)) (around o (streams left n g m)) happened (took_does o rest left n n g m held refl (subst (λ (l : Option (List ℕ)). Consumes l left held) (sym is) (held_taken held left)));
 }
 
--- the sheet's part of the input was taken, and the run went on from it
-pub replays_from : {S N : Type 0} (IsSheet : List ℕ → S → Type 0) (Refuses : List ℕ → SheetRefusal → List ℕ → N → N → Type 0) (Allows : S × N → List ℕ → Answer → S × N → Type 0) (result : Status) (notes notes' : N) (sheet : List ℕ) (source : Option (List ℕ)) (held : List ℕ) (left left' sink sink' : Option (List ℕ))
-    → TakesSheet sheet source (prepend_known held left) → length held ≤ CHUNK → GoesOn IsSheet Refuses Allows sheet result notes notes' (prepend_known held left) left left' sink sink'
-    → Replayed IsSheet Refuses Allows result notes notes' source left' sink sink'
-replays_from IsSheet Refuses Allows result notes notes' sheet source held left left' sink sink' takes few (by_refusal refusal more has unread tells) =
-    subst (λ (l : Option (List ℕ)). Replayed IsSheet Refuses Allows result notes notes' source l sink sink') (sym unread) (refuses IsSheet Refuses Allows result notes notes' refusal more sheet source held left sink sink' has takes few tells)
-replays_from IsSheet Refuses Allows result notes notes' sheet source held left left' sink sink' takes few (by_want none unread tells) =
-    subst (λ (l : Option (List ℕ)). Replayed IsSheet Refuses Allows result notes notes' source l sink sink') (sym unread) (memory_for_sheet IsSheet Refuses Allows result notes notes' sheet source held left sink sink' none takes few tells)
-replays_from IsSheet Refuses Allows result notes notes' sheet source held left left' sink sink' takes few (by_answers start end is answers) =
-    opens IsSheet Refuses Allows start end notes notes' result sheet source (prepend_known held left) left' sink sink' is takes answers
+pub finish : {N : Type 0} (Course : List Event → Stage → N → Type 0) (status : Status) (notes : N) (before : Streams) (left : Option (List ℕ)) (n : ℕ) (g : Option (List ℕ)) (m : ℕ)
+    → RanOn Course status notes before (streams left n g m) → (o : Outside) → Ran Course CHUNK status notes (around o before) (around o (streams left n g m))
+finish Course status notes before left n g m ran o = spare_of Course status notes before left n g m o ran.events ran.run ran.rest (ran.happened o) ran.is_left
 
--- a reader that holds nothing adds nothing to what its source has left
-pub holds_nothing : (held : List ℕ) (left : Option (List ℕ)) → held ≡ [] → prepend_known held left ≡ left
-holds_nothing held None none = refl
-holds_nothing held (Some xs) none = ap (λ l. Some (l ++ xs)) none
+-- ---- no state is made of the sheet
+
+pub stopped : {S N Q : Type 0} (IsSheet : List ℕ → S → Type 0) (Refuses : List ℕ → SheetRefusal → List ℕ → N → N → Type 0) (Allows : S × N → List ℕ → Answer → S × N → Type 0) (IsProof : Q → List ℕ → Type 0) (stop : LoadStop Q) (result : Status) (notes notes' : N) (sheet : List ℕ) (rest : Option (List ℕ)) (before after : Streams)
+    → StopsBy IsProof (λ why more. Refuses sheet why more notes notes') notes notes' stop → after.input ≡ before.input → TellsStop IsProof stop result before.output after.output → GoesOn IsSheet Refuses Allows sheet result notes notes' rest before after
+stopped IsSheet Refuses Allows IsProof (load_stop.Refused why proof) result notes notes' sheet rest before after stops unread told = by_refusal why told.0 (stops told.0 told.1) unread told.2
+stopped IsSheet Refuses Allows IsProof load_stop.Memory result notes notes' sheet rest before after stops unread told = by_want stops unread told
+
+short : (xs ys : List ℕ) → length (xs ++ ys) ≤ SHEET_LIMIT → length xs ≤ SHEET_LIMIT
+short xs ys small = omega (arith, small, length-append xs ys)
+
+pub left_more : (first events : List Event) (rest left : Option (List ℕ)) → IsLeft events rest left → IsLeft (first ++ events) rest left
+left_more first events rest left (all is) = all is
+left_more first events rest left (ahead held few is other some) = ahead held few is (ends-more first events other) (has_took-right first events some)
+
+-- ---- the mode `replay`
+
+module _ {S N : Type 0} (IsSheet : List ℕ → S → Type 0) (Refuses : List ℕ → SheetRefusal → List ℕ → N → N → Type 0) (Allows : S × N → List ℕ → Answer → S × N → Type 0) (notes : N) where
+  -- a line that ends the run is told, where so much was taken
+  tells : (events : List Event) (status result : Status) (line : List ℕ) (notes' : N) (before : Streams) (held : List ℕ) (left : Option (List ℕ)) (n : ℕ) (g g' : Option (List ℕ)) (m m' : ℕ)
+      → Comes (Replay IsSheet Refuses Allows notes) events (ends_with line status) notes' → ((o : Outside) → Happened events (around o before) (around o (streams (prepend_known held left) n g m))) → length held ≤ CHUNK → HasTook events
+      → status ≢ WriteFault → status ≢ ReadFault → TellsAtEnd status line result g g' → (result ≡ WriteFault → Rose m m') → (result ≢ WriteFault → m' ≡ m)
+      → RanOn (Replay IsSheet Refuses Allows notes) result notes' before (streams left n g' m')
+  tells events status result line notes' before held left n g g' m m' comes happened few some not_write not_read told rose kept =
+      let rest = prepend_known held left in
+      let last = tells_last (Replay IsSheet Refuses Allows notes) events status result line notes' rest n g g' m m' comes told not_write rose kept in
+      record {
+        events = events ++ last.last;
+        run = last.run;
+        rest = rest;
+        happened = λ o. happened-append events last.last (around o before) (around o (streams rest n g m)) (around o (streams rest n g' m')) (happened o) (last.happened o);
+        is_left = ahead held few refl (ends-more events last.last last.ends) (has_took-left events last.last some);
+      }
+
+  pub lacks_room : (result : Status) (l : Option (List ℕ)) (n : ℕ) (g g' : Option (List ℕ)) (m m' : ℕ) → TellsAtEnd Memory sheet_memory_text result g g' → (result ≡ WriteFault → Rose m m') → (result ≢ WriteFault → m' ≡ m)
+      → RanOn (Replay IsSheet Refuses Allows notes) result notes (streams l n g m) (streams l n g' m')
+  lacks_room result l n g g' m m' told rose kept =
+      let last = tells_last (Replay IsSheet Refuses Allows notes) [] Memory result sheet_memory_text notes l n g g' m m' (without_memory sheet_memory_text (needs_room refl)) told (λ e. absurd (cc e)) rose kept in
+      record { events = last.last; run = last.run; rest = l; happened = last.happened; is_left = all refl }
+
+  pub lacks_memory : (result : Status) (l : Option (List ℕ)) (held : List ℕ) (left : Option (List ℕ)) (n n' : ℕ) (g g' : Option (List ℕ)) (m m' : ℕ) → HasSome l (prepend_known held left) → length held ≤ CHUNK → n' ≡ n → TellsAtEnd Memory sheet_memory_text result g g'
+      → (result ≡ WriteFault → Rose m m') → (result ≢ WriteFault → m' ≡ m) → RanOn (Replay IsSheet Refuses Allows notes) result notes (streams l n g m) (streams left n' g' m')
+  lacks_memory result l held left n n' g g' m m' some few same told rose kept =
+      let rest = prepend_known held left in
+      tells (took some.text ∷ []) Memory result sheet_memory_text notes (streams l n g m) held left n' g g' m m' (without_memory sheet_memory_text (from_input (keeps_sheet some.text some.front some.small refl)))
+      (λ o. (around o (streams rest n' g m), took_does o l rest n n' g m some.text same some.taken, refl)) few (inl tt) (λ e. absurd (cc e)) (λ e. absurd (cc e)) told rose kept
+
+  pub long_sheet : (result : Status) (l : Option (List ℕ)) (held : List ℕ) (left : Option (List ℕ)) (n n' : ℕ) (g g' : Option (List ℕ)) (m m' : ℕ) → PassesSheet l (prepend_known held left) → length held ≤ CHUNK → n' ≡ n → TellsAtEnd TooLong too_long_text result g g'
+      → (result ≡ WriteFault → Rose m m') → (result ≢ WriteFault → m' ≡ m) → RanOn (Replay IsSheet Refuses Allows notes) result notes (streams l n g m) (streams left n' g' m')
+  long_sheet result l held left n n' g g' m m' passes few same told rose kept =
+      let rest = prepend_known held left in
+      let text = joined_lines passes.earlier in
+      let parts = Consumes-split l rest text passes.begun passes.taken in
+      let mid = parts.0 in
+      tells (took text ∷ took passes.begun ∷ []) TooLong result too_long_text notes (streams l n g m) held left n' g g' m m'
+      (past_limit (took text ∷ []) (sheet_line text) (took passes.begun) (from_input (awaits_sheet passes.earlier passes.others passes.small refl)) (passes.one_line, passes.long) refl)
+      (λ o. (around o (streams mid n g m), took_does o l mid n n g m text refl parts.1, (around o (streams rest n' g m), took_does o mid rest n n' g m passes.begun same parts.2, refl))) few (inl tt) (λ e. absurd (cc e)) (λ e. absurd (cc e)) told rose kept
+
+  pub fails_in_sheet : (l : Option (List ℕ)) (held : List ℕ) (left : Option (List ℕ)) (n n' : ℕ) (g : Option (List ℕ)) (m : ℕ) → StopsInSheet l (prepend_known held left) → held ≡ [] → Rose n n'
+      → RanOn (Replay IsSheet Refuses Allows notes) ReadFault notes (streams l n g m) (streams left n' g m)
+  fails_in_sheet l held left n n' g m fails none rose =
+      let rest = prepend_known held left in
+      let text = joined_lines fails.earlier in
+      let parts = Consumes-split l rest text fails.begun fails.taken in
+      let mid = parts.0 in
+      record {
+        events = took text ∷ took fails.begun ∷ input_failed ∷ [];
+        run = read_failed (took text ∷ []) (sheet_line text) fails.begun (from_input (awaits_sheet fails.earlier fails.others (short text fails.begun fails.small) refl)) (fails.no_end, fails.small) refl;
+        rest = rest;
+        happened = λ o. (around o (streams mid n g m), took_does o l mid n n g m text refl parts.1, (around o (streams rest n g m), took_does o mid rest n n g m fails.begun refl parts.2, (around o (streams rest n' g m), read_fails_does o rest n n' g m rose, refl)));
+        is_left = all (holds_nothing held left none);
+      }
+
+  -- ---- from the sheet on
+
+  -- the sheet's part was taken
+  record Takes (sheet : List ℕ) (l rest : Option (List ℕ)) : Type 0 where
+    event : Event
+    taken : IsSheetTaken sheet (event ∷ [])
+    some : HasTook (event ∷ [])
+    happened : (o : Outside) (n n' : ℕ) (g : Option (List ℕ)) (m : ℕ) → n' ≡ n → Happened (event ∷ []) (around o (streams l n g m)) (around o (streams rest n' g m))
+
+  takes_of : (sheet : List ℕ) (l rest : Option (List ℕ)) → TakesSheet sheet l rest → Takes sheet l rest
+  takes_of sheet l rest takes = elim takes.part.ends [
+    | inl begins ↦ record {
+      event = took sheet;
+      taken = record { earlier = takes.part.earlier; last = takes.part.last; is = takes.part.is; others = takes.part.others; ends = inl (begins.0, begins.1, refl); small = takes.small };
+      some = inl tt;
+      happened = λ o n n' g m same. (around o (streams rest n' g m), took_does o l rest n n' g m sheet same takes.taken, refl);
+    }
+    | inr last ↦ record {
+      event = took_rest sheet;
+      taken = record { earlier = takes.part.earlier; last = takes.part.last; is = takes.part.is; others = takes.part.others; ends = inr (last.0, refl); small = takes.small };
+      some = inl tt;
+      happened = λ o n n' g m same. (around o (streams rest n' g m), took_rest_does o l rest n n' g m sheet same takes.taken last.1, refl);
+    }
+  ]
+
+  pub replays_from : (result : Status) (notes' : N) (sheet : List ℕ) (l : Option (List ℕ)) (held : List ℕ) (left left' : Option (List ℕ)) (n n' n'' : ℕ) (g g' : Option (List ℕ)) (m m' : ℕ) → TakesSheet sheet l (prepend_known held left) → length held ≤ CHUNK → n' ≡ n
+      → (result ≢ ReadFault → n'' ≡ n') → (result ≡ WriteFault → Rose m m') → (result ≢ WriteFault → m' ≡ m) → GoesOn IsSheet Refuses Allows sheet result notes notes' (prepend_known held left) (streams left n' g m) (streams left' n'' g' m')
+      → RanOn (Replay IsSheet Refuses Allows notes) result notes' (streams l n g m) (streams left' n'' g' m')
+  replays_from result notes' sheet l held left left' n n' n'' g g' m m' takes few same read_kept rose kept (by_refusal why more has unread told) =
+      let rest = prepend_known held left in
+      let t = takes_of sheet l rest takes in
+      let text = sheet_refusal_text why ++ more in
+      let no_read = tells_no_read SheetRefused result text g g' told (λ e. absurd (cc e)) in
+      subst (λ (x : Option (List ℕ)). RanOn (Replay IsSheet Refuses Allows notes) result notes' (streams l n g m) (streams x n'' g' m')) (sym unread)
+      (tells (t.event ∷ []) SheetRefused result text notes' (streams l n g m) held left n'' g g' m m' (on_course (from_input (has_sheet sheet (t.event ∷ []) [] t.taken (is_refused why more has refl) refl)))
+      (λ o. t.happened o n n'' g m (read_kept no_read ∙ same)) few t.some (λ e. absurd (cc e)) (λ e. absurd (cc e)) told rose kept)
+  replays_from result notes' sheet l held left left' n n' n'' g g' m m' takes few same read_kept rose kept (by_want none unread told) =
+      let rest = prepend_known held left in
+      let t = takes_of sheet l rest takes in
+      let no_read = tells_no_read Memory result sheet_memory_text g g' told (λ e. absurd (cc e)) in
+      subst (λ (x : Option (List ℕ)). RanOn (Replay IsSheet Refuses Allows notes) result notes' (streams l n g m) (streams x n'' g' m')) (sym unread)
+      (subst (λ (x : N). RanOn (Replay IsSheet Refuses Allows notes) result x (streams l n g m) (streams left n'' g' m')) (sym none)
+      (tells (t.event ∷ []) Memory result sheet_memory_text notes (streams l n g m) held left n'' g g' m m' (without_memory sheet_memory_text (from_input (has_sheet sheet (t.event ∷ []) [] t.taken (course.needs_memory refl) refl)))
+      (λ o. t.happened o n n'' g m (read_kept no_read ∙ same)) few t.some (λ e. absurd (cc e)) (λ e. absurd (cc e)) told rose kept))
+  replays_from result notes' sheet l held left left' n n' n'' g g' m m' takes few same read_kept rose kept (by_answers start end is ran) =
+      let rest = prepend_known held left in
+      let t = takes_of sheet l rest takes in
+      let first = t.event ∷ [] in
+      record {
+        events = first ++ ran.events;
+        run = run-more (AnswersLines Allows (start, notes)) (Replay IsSheet Refuses Allows notes) first (λ (pair : S × N). pair.1) (λ events stage pair c. from_input (has_sheet sheet first events t.taken (answers start pair.0 is c) refl)) ran.events result (end, notes') ran.run;
+        rest = ran.rest;
+        happened = λ o. happened-append first ran.events (around o (streams l n g m)) (around o (streams rest n' g m)) (around o (streams ran.rest n'' g' m')) (t.happened o n n' g m same) (ran.happened o);
+        is_left = left_more first ran.events ran.rest left' ran.is_left;
+      }

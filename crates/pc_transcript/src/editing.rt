@@ -2,7 +2,10 @@
 ghost use Rattle.std.specs.Prelude.{◌≡◌, ◌≢◌};
 ghost use Rattle.pc_port.specs.Port.{Rose};
 ghost use Rattle.pc_refusals.specs.Files.{AsksOnce, FailsToRead};
-ghost use Rattle.pc_transcript.specs.Edit.{Edited};
+ghost use Rattle.pc_port.specs.declared.TheConstants.{CHUNK};
+ghost use Rattle.pc_course.specs.Events.{outside, streams};
+ghost use Rattle.pc_course.specs.Runs.{Ran};
+ghost use Rattle.pc_transcript.specs.Course.{Edit};
 
 use crate::LINE_LIMIT;
 use crate::machine::Machine;
@@ -16,7 +19,7 @@ use pc_refusals::{SheetStop, Status, take_file, tell_no_memory_for_sheet, tell_t
 ///
 /// The file's bytes come first and their number, then the sheet, whose load and each edit may do as many propagations as the
 /// budget says; then each command line is answered before the input is read on. Up to the commands the input is left as it
-/// was. What is printed, how much of the input was taken, and what was noted, the clause `edited` says by the status.
+/// was. What is printed, how much of the input was taken, and what was noted, the clause `ran` says.
 pub fn edit<M: Machine, I: Source, H: Shelf, O: Sink>(
     resources: Resources,
     file: &str,
@@ -25,7 +28,7 @@ pub fn edit<M: Machine, I: Source, H: Shelf, O: Sink>(
     out: &mut O,
     notes: &mut M::Notes,
 ) -> Status
-    ensures edited { Edited (M.IsSheet resources.budget) (M.RefusesText resources.budget) M.Allows (H.kept shelf.old) file.now result (H.asked shelf.old) (H.asked shelf.new) notes.old notes.new (I.left input.old) (I.left input.new) (O.given out.old) (O.given out.new) }
+    ensures ran { Ran (Edit (M.IsSheet resources.budget) (M.RefusesText resources.budget) M.Allows file.now notes.old) CHUNK result notes.new (outside (H.kept shelf.old) (H.asked shelf.old) (H.faults shelf.old) (streams (I.left input.old) (I.faults input.old) (O.given out.old) (O.faults out.old))) (outside (H.kept shelf.new) (H.asked shelf.new) (H.faults shelf.new) (streams (I.left input.new) (I.faults input.new) (O.given out.new) (O.faults out.new))) }
     ensures asked { AsksOnce file.now (H.asked shelf.old) (H.asked shelf.new) }
     ensures kept { H.kept shelf.new ≡ H.kept shelf.old }
 

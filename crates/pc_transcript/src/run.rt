@@ -2,7 +2,11 @@
 ghost use Rattle.std.specs.Prelude.{◌≡◌, ◌≢◌, ◌≤◌, length};
 ghost use Rattle.pc_port.specs.Port.{Rose};
 ghost use Rattle.pc_lines.specs.Reader.{coming};
-ghost use Rattle.pc_transcript.specs.Run.{GoesOn, Replayed};
+ghost use Rattle.pc_port.specs.declared.TheConstants.{CHUNK};
+ghost use Rattle.pc_course.specs.Events.{Outside, streams, around};
+ghost use Rattle.pc_course.specs.Runs.{Ran};
+ghost use Rattle.pc_transcript.specs.Course.{Replay};
+ghost use Rattle.pc_transcript.specs.inside.SoFar.{GoesOn};
 
 use crate::LINE_LIMIT;
 use crate::commands::answer_all;
@@ -25,7 +29,7 @@ pub(crate) fn open<M: Machine, I: Source, O: Sink>(
 ) -> Status
     requires longest { LINE_LIMIT ≤ reader.old.longest }
     requires small { length sheet.now ≤ SHEET_LIMIT }
-    ensures goes_on { GoesOn (M.IsSheet resources.budget) (M.RefusesText resources.budget) M.Allows sheet.now result notes.old notes.new (coming reader.old (I.left input.old)) (I.left input.old) (I.left input.new) (O.given out.old) (O.given out.new) }
+    ensures goes_on { GoesOn (M.IsSheet resources.budget) (M.RefusesText resources.budget) M.Allows sheet.now result notes.old notes.new (coming reader.old (I.left input.old)) (streams (I.left input.old) (I.faults input.old) (O.given out.old) (O.faults out.old)) (streams (I.left input.new) (I.faults input.new) (O.given out.new) (O.faults out.new)) }
     ensures read_fault { result ≡ Status.ReadFault → Rose (I.faults input.old) (I.faults input.new) }
     ensures no_read_fault { result ≢ Status.ReadFault → I.faults input.new ≡ I.faults input.old }
     ensures write_fault { result ≡ Status.WriteFault → Rose (O.faults out.old) (O.faults out.new) }
@@ -46,7 +50,7 @@ fn replay_from<M: Machine, I: Source, O: Sink>(
     out: &mut O,
 ) -> Status
     requires longest { reader.old.longest ≡ SHEET_LIMIT }
-    ensures replayed { Replayed (M.IsSheet resources.budget) (M.RefusesText resources.budget) M.Allows result notes.old notes.new (coming reader.old (I.left input.old)) (I.left input.new) (O.given out.old) (O.given out.new) }
+    ensures ran { (o : Outside) → Ran (Replay (M.IsSheet resources.budget) (M.RefusesText resources.budget) M.Allows notes.old) CHUNK result notes.new (around o (streams (coming reader.old (I.left input.old)) (I.faults input.old) (O.given out.old) (O.faults out.old))) (around o (streams (I.left input.new) (I.faults input.new) (O.given out.new) (O.faults out.new))) }
     ensures read_fault { result ≡ Status.ReadFault → Rose (I.faults input.old) (I.faults input.new) }
     ensures no_read_fault { result ≢ Status.ReadFault → I.faults input.new ≡ I.faults input.old }
     ensures write_fault { result ≡ Status.WriteFault → Rose (O.faults out.old) (O.faults out.new) }
@@ -71,7 +75,7 @@ pub fn replay<M: Machine, I: Source, O: Sink>(
     out: &mut O,
     notes: &mut M::Notes,
 ) -> Status
-    ensures replayed { Replayed (M.IsSheet resources.budget) (M.RefusesText resources.budget) M.Allows result notes.old notes.new (I.left input.old) (I.left input.new) (O.given out.old) (O.given out.new) }
+    ensures ran { (o : Outside) → Ran (Replay (M.IsSheet resources.budget) (M.RefusesText resources.budget) M.Allows notes.old) CHUNK result notes.new (around o (streams (I.left input.old) (I.faults input.old) (O.given out.old) (O.faults out.old))) (around o (streams (I.left input.new) (I.faults input.new) (O.given out.new) (O.faults out.new))) }
 
     // A fault is told only where that device was at fault.
     ensures read_fault { result ≡ Status.ReadFault → Rose (I.faults input.old) (I.faults input.new) }
