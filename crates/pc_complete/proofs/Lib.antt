@@ -1,0 +1,4 @@
+pub mod Spending
+pub mod Completing
+pub mod Running
+pub mod Worked

@@ -1,0 +1,4 @@
+pub mod Enough
+pub mod Complete
+pub mod Runs
+pub mod Worked

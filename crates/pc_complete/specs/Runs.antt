@@ -1,0 +1,34 @@
+-- What a run says of lines and sheets for which its budget is enough.
+use Rattle.std.specs.Prelude.{◌≡◌, ℕ, ◌≤◌, List, []}
+use Rattle.pc_words.specs.Words.{Mode, replays, edits, Request, FitsWords, FitNothing}
+use Rattle.pc_refusals.specs.declared.status.Status.{Status}
+use Rattle.pc_refusals.specs.declared.status.Status.TheVariants.{Usage}
+use Rattle.pc_refusals.specs.Endings.{memory_text}
+use Rattle.pc_course.specs.Events.{Outside, Event}
+use Rattle.pc_course.specs.Stages.{Stage, needs, ends_with}
+use Rattle.pc_course.specs.Runs.{Ran}
+use Rattle.pc_transcript.specs.Course.{Replay, Edit}
+use Rattle.pc_spreadsheet.specs.Judgement.{Starts}
+use Rattle.pc_spreadsheet.specs.Allowed.{Notes}
+use Rattle.pc_replay.specs.Course.{usage_text, CourseIn, IsMostAhead, Runs}
+use Rattle.pc_complete.specs.Complete.{AllowsInFull, RefusesInFull}
+
+-- The course in a mode, where of a run of commands the sheet and each line are told as they are judged, if the budget is enough for them.
+abbrev pub CourseInFull : Mode → ℕ → Notes → (List Event → Stage → Notes → Type 0)
+CourseInFull replays budget notes = Replay (Starts budget) (RefusesInFull budget) AllowsInFull notes
+CourseInFull (edits file) budget notes = Edit (Starts budget) (RefusesInFull budget) AllowsInFull file notes
+CourseInFull mode budget notes = CourseIn mode budget notes
+
+-- the words don't fit; or memory is needed to read words that do; or it goes as they ask, so told
+pub data FullCourse (words : List (List ℕ)) (notes : Notes) (events : List Event) : Stage → Notes → Type 0 where
+  without_fit : FitNothing words → events ≡ [] → FullCourse words notes events (ends_with usage_text Usage) notes
+  needs_memory : ¬ FitNothing words → events ≡ [] → FullCourse words notes events (needs memory_text) notes
+  as_asked : {stage : Stage} {notes' : Notes} (request : Request) → FitsWords words request → CourseInFull request.mode request.budget notes events stage notes' → FullCourse words notes events stage notes'
+
+-- what a run with these words did, so told
+abbrev pub RunsInFull : List (List ℕ) → Status → Notes → Notes → Outside → Outside → Type 0
+RunsInFull words status notes notes' before after = (most : ℕ) × IsMostAhead words most × Ran (FullCourse words notes) most status notes' before after
+
+-- so it is of each run
+abbrev pub RunsAreInFull : Type 0
+RunsAreInFull = (words : List (List ℕ)) (status : Status) (notes notes' : Notes) (before after : Outside) → Runs words status notes notes' before after → RunsInFull words status notes notes' before after

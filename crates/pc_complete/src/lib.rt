@@ -1,0 +1,9 @@
+//! Laws: where the budget is enough, no answer tells that it is spent, and each line is answered as it is judged.
+#![tactic(auto)]
+
+mod law;
+
+pub use law::{
+    budgets_are_worked, calls_spend_too_little, lines_are_answered_in_full, runs_are_in_full,
+    texts_are_refused_in_full, transcripts_are_in_full,
+};
