@@ -88,6 +88,19 @@ rule r : c = v/rule r : c = a => 8 UnknownName
 rule r : c = v/rule r : f(1) < 2 => 8 DuplicateName
 rule c : c = v/rule s : f(1) < 2 => ok
 rule r : forall x : n . t(c, x) -> f(x) = x/enter c = v => ok
+rule r : atmost 256 c:a . c = 1 => 7 Limit(Count)
+rule r : atleast 257 c:a . c = 1 => 7 Limit(Count)
+rule r : atleast 0 c:a . c = 1 => 7 Limit(Count)
+rule r : atleast 999999999999999999 x:n . f(x) = 1 => 7 Limit(Count)
+rule r : atmost 65536 x:n . f(x) = 1 => 7 Limit(Count)
+rule r : atleast 65537 x:n . f(x) = 1 => 7 Limit(Count)
+rule r : atmost 1 x:n . atleast 0 x:n . f(x) = 1 => 7 Limit(Count)
+rule r : atmost 1 x:n . atleast 1 x:n . f(x) = 1 => 7 DuplicateName
+rule r : c = a & (atmost 256 x:n . f(x) = 1) => 7 UnknownName
+rule r : atmost 255 c:a . c = 1 => 7 DuplicateName
+rule r : atleast 256 x:a . c = 1 => 7 UnknownName
+rule r : atleast 1 x:n . f(x) = v => 7 WrongSort
+rule r : atmost 0 x:n . atleast 1 y:s . t(y, f(x)) => ok
 enter a(4) = a => 7 UnknownName
 enter t(4) = a => 7 WrongSort
 enter c(a) = a => 7 WrongArity
@@ -142,6 +155,9 @@ sort k = 1 .. 2/cell c : k/[1023:rule r# : c = 1/]rule x : c = 2 => ok
 sort k = 1 .. 2/cell c : k/[1023:rule r# : c = 1/]rule r1 : c = 2 => 1027 DuplicateName
 sort k = 1 .. 2/cell c : k/[1024:rule r# : c = 1/]rule r1 : c = 1 => 1028 Limit(Rules)
 sort k = 1 .. 2/cell c : k/[1024:rule r# : c = 1/]rule r1 : c = a => 1028 UnknownName
+sort k = 1 .. 2/cell c : k/rule r :[15: forall x#:k .] atmost 255 y:k . c = y => ok
+sort k = 1 .. 2/cell c : k/rule r :[16: atleast 1 x#:k .] atmost 255 c:k . c = 1 => 4 Limit(Depth)
+sort k = 1 .. 2/cell c : k/rule r :[16: forall x#:k .] atmost 256 c:k . c = 1 => 4 Limit(Count)
 sort k = 0 .. 9/cell c : k/[8:also c = #/] => ok
 sort k = 0 .. 9/cell c : k/[9:also c = #/] => 12 Limit(Entries)
 sort k = 0 .. 9/cell c : k/[8:also c = #/]also c = 7/also c = 0 => ok

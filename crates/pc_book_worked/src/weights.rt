@@ -15,8 +15,8 @@ use std::alloc::{AllocError, Global};
 use std::test::Fail;
 
 // Lines of sheets, `/` for their ends, and their weights: three cells that have to be equal, without and with one more rule, as
-// much as a book may weigh and a little more, two hundred blocks of four colored slots, sixteen quantifiers over 256 values, and
-// nothing.
+// much as a book may weigh and a little more, two hundred blocks of four colored slots, sixteen quantifiers over 256 values,
+// nothing, and quantifiers that count.
 const WEIGHTS: &str = "\
 sort color = red green/cell a : color/cell b : color/cell c : color/rule ab : a = b/rule bc : b = c => 38
 sort color = red green/cell a : color/cell b : color/cell c : color/rule ab : a = b/rule bc : b = c/rule t : a = red | b = red => 54
@@ -25,6 +25,9 @@ sort n = 1 .. 200/sort i = 1 .. 100/cell c(i) : n/sort u = 1 .. 1/cell d : u => 
 sort block = 1 .. 200/sort slot = 1 .. 4/sort color = red green blue/cell x(block, slot) : color/rule chain : forall b:block . x(b, 1) = x(b, 2) & x(b, 2) = x(b, 3)/rule other : forall b:block . x(b, 3) != x(b, 4) => 26004
 sort v = 0 .. 255/cell c : v/rule deep : forall a:v . exists b:v . forall d:v . exists e:v . forall f:v . exists g:v . forall h:v . exists i:v . forall j:v . exists k:v . forall l:v . exists m:v . forall n:v . exists o:v . forall p:v . exists q:v . a + q = c => 4000001
  => 0
+sort p = ann bob cho/sort d = mon tue/cell s(p) : d/rule few : atmost 1 x:p . s(x) = mon => 72
+sort p = ann bob cho/sort d = mon tue/cell s(p) : d/rule some : atleast 1 x:p . s(x) = mon => 47
+sort p = ann bob cho/sort d = mon tue/cell s(p) : d/rule all : !(atleast 3 x:p . s(x) = mon) => 101
 ";
 
 // The weight of the sheet with these lines.

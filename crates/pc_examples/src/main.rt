@@ -18,6 +18,7 @@ replay; nights.sheet nights.commands; nights.display
 replay; roster.sheet roster.commands; roster.display
 replay; school.sheet school.commands; school.display
 replay; server.sheet server.commands; server.display
+replay; shop.sheet shop.commands; shop.display
 replay; timetable.sheet timetable.commands; timetable.display
 replay; trip.sheet trip.commands; trip.display
 check weekend.sheet; weekend.certificate; weekend.display

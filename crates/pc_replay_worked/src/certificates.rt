@@ -32,6 +32,8 @@ c = red, red, 4 step ~a=red b=red : 3 1 2/ => CertRefused/refused use-not-entere
 d = red, red, 4 step ~a=red b=red : 3 1 2/ => CertRefused/refused unknown-name line 3/
 a = red, red, 4 step ~a=red b=red : 2 1 3/ => CertRefused/refused bad-step line 10/
 a = red, red, 4 step ~a=red b=red : 3 1 99/ => CertRefused/refused bad-step line 10/
+a = red, red, 4 step ~a=red b=red : 3 99 2/ => CertRefused/refused bad-step line 10/
+a = red, red, 4 step ~a=red b=red : 3 4 2/ => CertRefused/refused bad-step line 10/
 a = red, red, 4 step ~a=red b=red : 4/ => CertRefused/refused bad-step line 10/
 a = red, red, 4 stop/ => CertRefused/refused syntax line 10/
 a = red, red,  => CertRefused/refused wrong-end/

@@ -2,11 +2,19 @@
 #![tactic(auto)]
 
 #[cfg(test)]
+mod bounds;
+#[cfg(test)]
 mod certificates;
+#[cfg(test)]
+mod counting;
+#[cfg(test)]
+mod devices;
 #[cfg(test)]
 mod judging;
 #[cfg(test)]
 mod modes;
+#[cfg(test)]
+mod numbered_clauses;
 #[cfg(test)]
 mod roster;
 #[cfg(test)]

@@ -5,7 +5,7 @@ use std::alloc::{AllocError, Global};
 use std::test::Fail;
 
 // What is declared, but for one rule.
-const DECLARED: &str = "\
+pub(crate) const DECLARED: &str = "\
 sheet 1
 sort person = ann bob cho dan eva fay gus hal
 sort day = 1 .. 5
@@ -23,9 +23,10 @@ rule apart : forall x:person . forall y:person . pair(x, y) -> room(x) != room(y
 rule leads : shift(lead) = 1 & room(lead) = north
 ";
 
-const WEEKEND: &str = "rule weekend : forall x:person . shift(x) = 5 -> room(x) = north\n";
+pub(crate) const WEEKEND: &str =
+    "rule weekend : forall x:person . shift(x) = 5 -> room(x) = north\n";
 
-const ENTRIES: &str = "\
+pub(crate) const ENTRIES: &str = "\
 enter shift(ann) = 1
 enter room(ann) = north
 enter shift(bob) = 2

@@ -6,7 +6,7 @@ use std::alloc::{AllocError, Global};
 use std::test::Fail;
 
 // The words, parted by spaces.
-fn parted(alloc: Global, text: &str) -> Result<Vec<String>, AllocError> {
+pub(crate) fn parted(alloc: Global, text: &str) -> Result<Vec<String>, AllocError> {
     let mut words = Vec::new(alloc);
     for word in text.split(' ') {
         words.push(word.to_string(alloc)?)?;
@@ -15,7 +15,7 @@ fn parted(alloc: Global, text: &str) -> Result<Vec<String>, AllocError> {
 }
 
 // A shelf of one file, `k.sheet`.
-fn shelf_of(alloc: Global, sheet: &[u8]) -> Result<MemoryShelf, AllocError> {
+pub(crate) fn shelf_of(alloc: Global, sheet: &[u8]) -> Result<MemoryShelf, AllocError> {
     let mut files = Vec::new(alloc);
     files.push(("k.sheet".to_string(alloc)?, sheet.to_vec(alloc)?))?;
     Ok(MemoryShelf::new(files, Vec::new(alloc)))
@@ -655,7 +655,7 @@ cell nest(pigeon) : hole
 rule apart : forall x:pigeon . forall y:pigeon . x = y | nest(x) != nest(y)
 begin
 --- SheetRefused
-sheet refused 14 spent placed=5000 learned=310 calls=1
+sheet refused 14 spent placed=5000 learned=372 calls=1
 ===
 replay --budget=157688
 sheet 1

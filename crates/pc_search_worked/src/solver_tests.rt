@@ -10,7 +10,11 @@ use std::test::Fail;
 
 // Sheets, and behind dashes what the sheet's solver is asked, row by row. Assumed is, by the numbers of a cell and a value, that
 // the cell has the value, or with a `!` that it hasn't. Behind it stands what the cells have then, or how many literals the clause
-// has by which this can't be, and how many of these are negated assumptions.
+// has by which this can't be, how many of these are negated assumptions, and whether a clause was learned up to there: where none
+// was, unit propagation alone refutes what is assumed, without a decision.
+//
+// The sheets are: one of a rule that is never true; three equal cells; at most three of eight cells with a value, which refute each
+// fourth one; at least six of eight, of which two may have others and a third one may not; and pigeons that don't fit.
 const SOLVED: &str = "\
 sheet 1
 sort color = red green
@@ -18,7 +22,7 @@ cell a : color
 rule never : a != a
 begin
 ---
- => Unsat 0 0
+ => Unsat 0 0 propagated
 ===
 sheet 1
 sort color = red green
@@ -29,11 +33,38 @@ rule ab : a = b
 rule bc : b = c
 begin
 ---
-0.0 2.1 => Unsat 2 2
+0.0 2.1 => Unsat 2 2 propagated
 0.0 => Sat 0.0 1.0 2.0
 !0.0 => Sat 0.1 1.1 2.1
-2.0 !1.0 => Unsat 2 2
+2.0 !1.0 => Unsat 2 2 propagated
 2.1 => Sat 0.1 1.1 2.1
+===
+sheet 2
+sort p = 1 .. 8
+sort d = mon tue wed
+cell s(p) : d
+rule three : atmost 3 x:p . s(x) = mon
+begin
+---
+0.0 1.0 2.0 3.0 => Unsat 4 4 propagated
+4.0 5.0 6.0 7.0 => Unsat 4 4 propagated
+7.0 0.0 4.0 2.0 => Unsat 4 4 propagated
+3.0 6.0 1.0 5.0 => Unsat 4 4 propagated
+1.0 3.0 7.0 0.1 2.2 4.1 5.2 6.1 => Sat 0.1 1.0 2.2 3.0 4.1 5.2 6.1 7.0
+6.0 2.0 0.0 7.0 => Unsat 4 4 propagated
+===
+sheet 2
+sort p = 1 .. 8
+sort d = mon tue wed
+cell s(p) : d
+rule six : !(atmost 5 x:p . s(x) = mon)
+rule more : atleast 1 y:d . atleast 6 x:p . s(x) = y
+begin
+---
+2.1 5.2 => Sat 0.0 1.0 2.1 3.0 4.0 5.2 6.0 7.0
+0.2 1.1 2.2 => Unsat 3 3 propagated
+7.1 3.2 5.1 => Unsat 3 3 propagated
+0.1 7.2 => Sat 0.1 1.0 2.0 3.0 4.0 5.0 6.0 7.2
 ===
 sheet 1
 sort pigeon = 1 .. 7
@@ -42,7 +73,7 @@ cell nest(pigeon) : hole
 rule apart : forall x:pigeon . forall y:pigeon . x = y | nest(x) != nest(y)
 begin
 ---
- => Unsat 0 0
+ => Unsat 0 0 learned
 ";
 
 fn number_in(text: &str) -> u16 {
@@ -98,7 +129,12 @@ fn clause_text(
             count = count.wrapping_add(1);
         }
     }
-    format!(in alloc; "Unsat {} {count}", clause.len())
+    let how = if solving.has_learned() {
+        "learned"
+    } else {
+        "propagated"
+    };
+    format!(in alloc; "Unsat {} {count} {how}", clause.len())
 }
 
 fn told(

@@ -131,6 +131,16 @@ impl<'a> Solving<'a> {
         }
     }
 
+    /// Whether the solver has learned a clause.
+    pub fn has_learned(&self) -> bool {
+        for number in 0..self.log.len() {
+            if let Line::Step { learned: true, .. } = self.log.line(StepId(number)) {
+                return true;
+            }
+        }
+        false
+    }
+
     /// Whether the target is true by the solver's values.
     pub fn is_true(&self, target: Target) -> bool {
         let whole = self.whole;

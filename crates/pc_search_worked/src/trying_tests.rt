@@ -7,7 +7,8 @@ use pc_world_list::{Worlds, without};
 use std::alloc::{AllocError, Global};
 use std::test::Fail;
 
-// Four cells of three colors in a row; seats by a range, with a table and quantifiers; two parts, one with sums.
+// Four cells of three colors in a row; seats by a range, with a table and quantifiers; two parts, one with sums; and four people who
+// are counted by days, inside other quantifiers and around them.
 const SMALL: &str = "\
 sheet 1
 sort color = red green blue
@@ -42,6 +43,14 @@ cell d : n
 rule sum : a + b <= 2
 rule more : (a = 2) <-> !(b = 0 | a < 2)
 rule cd : c = d + 1
+begin
+===
+sheet 2
+sort p = ann bob cho dan
+sort d = mon tue wed
+cell s(p) : d
+rule few : forall y:d . atmost 2 x:p . s(x) = y
+rule some : (atleast 2 y:d . exists x:p . s(x) = y) <-> !(atmost 0 x:p . s(x) = mon)
 begin
 ";
 

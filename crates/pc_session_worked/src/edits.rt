@@ -58,6 +58,20 @@ pub fn load_told(alloc: Global, text: &str, budget: u64) -> Result<String, Alloc
     }
 }
 
+/// Whether a load ends before so many literals were placed, with at most so many calls.
+pub fn loads_within(alloc: Global, text: &str, placed: u64, calls: u128) -> bool {
+    if placed < 1 || placed > 1_000_000_000_000 {
+        return false;
+    }
+    let Some(book) = book_of(alloc, text) else {
+        return false;
+    };
+    match Session::load(alloc, book, placed) {
+        Ok(session) => session.tally().calls <= calls,
+        Err(_) => false,
+    }
+}
+
 // How an edit is refused.
 fn refusal_text(alloc: Global, refused: &EditRefused) -> Result<String, AllocError> {
     match refused {

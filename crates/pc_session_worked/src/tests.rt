@@ -1,4 +1,4 @@
-use crate::edits::{edit, load_told, session_of};
+use crate::edits::{edit, load_told, loads_within, session_of};
 use crate::rows::{is_as_loaded, is_as_tried, parts_text, reasons_text, whole_text};
 use pc_session::Session;
 use std::alloc::{AllocError, Global};
@@ -6,8 +6,8 @@ use std::test::Fail;
 
 // Sheets, and behind dashes edits. Before an edit stand the cells whose reasons it leaves as they are, line for line, `-` for none,
 // or `*` where it leaves all of the session. Behind it stands how it ends, and the part of each cell. The sheets are: three equal
-// cells, with entries that contradict each other; two parts, which a rule joins; two parts, with several entries of a cell; and one
-// whose budget runs out.
+// cells, with entries that contradict each other; two parts, which a rule joins; two parts, with several entries of a cell; three
+// cells that are counted, beside another one, which a count joins; and one whose budget runs out.
 const EDITS: &str = "\
 sheet 1
 sort color = red green
@@ -105,6 +105,28 @@ begin
 * also a = red => spent 1 0 1 0011
 * enter a = red => spent 1 0 1 0011
 ===
+sheet 2
+sort p = ann bob cho
+sort d = mon tue
+cell s(p) : d
+cell u : d
+rule few : atmost 1 x:p . s(x) = mon
+begin
+---
+- enter u = tue => searched 0001
+3 enter s(ann) = mon => searched 0001
+3 enter s(cho) = mon => searched 0001
+0123 enter s(cho) = mon => still 0001
+3 also s(bob) = mon => searched 0001
+* rule most : atleast 2 y:p . s(y) = mon => inconsistent 0001
+* rule few : atleast 1 x:p . s(x) = mon => duplicate rule 0001
+- rule some : !(atmost 1 x:p . s(x) = u) => searched 0000
+- drop few => searched 0000
+- clear s(cho) => searched 0000
+- rule both : atmost 1 y:d . atleast 2 x:p . s(x) = y => searched 0000
+- drop some => searched 0001
+3 clear s(bob) = mon => searched 0001
+===
 sheet 1
 sort pigeon = 1 .. 7
 sort hole = 1 .. 6
@@ -187,6 +209,9 @@ rule cd : c < d
 rule ab : a != b
 rule bc : b != c
 ===
+rule few : atmost 1 x:n . a = x | b = x
+rule some : !(atleast 2 x:n . c = x | d > x)
+===
 rule ac : a != c | b = 1
 rule bd : b <= d
 rule cd : c != d
@@ -234,7 +259,7 @@ fn is_right_throughout(alloc: Global, session: &mut Session) -> Result<bool, All
 // The same of a session over a sheet with these rules.
 fn is_walked_so(alloc: Global, rules: &str) -> Result<bool, AllocError> {
     let text = format!(in alloc;
-        "sheet 1\nsort n = 0 .. 2\ncell a : n\ncell b : n\ncell c : n\ncell d : n\n{rules}begin\n"
+        "sheet 2\nsort n = 0 .. 2\ncell a : n\ncell b : n\ncell c : n\ncell d : n\n{rules}begin\n"
     )?;
     match session_of(alloc, text.as_str()) {
         Some(mut session) => is_right_throughout(alloc, &mut session),
@@ -295,6 +320,130 @@ fn is_loaded_so(alloc: Global, block: &str) -> Result<bool, AllocError> {
 fn loads(rt: HostRuntime) -> Result<(), Fail> {
     for block in LOADS.split("===\n") {
         assert!(rt; is_loaded_so(rt.alloc(), block)?, "{block}");
+    }
+    Ok(())
+}
+
+// So many literals and calls, and a sheet whose load takes no more: a tenth above what the search took when its axioms were first
+// chosen part by part.
+const COUNTED: &str = "\
+9578 213
+sheet 1
+sort person = ann bob cho dan eva fay gus hal
+sort day = 1 .. 5
+sort place = north south
+table pair(person, person)
+row pair(ann, bob)
+row pair(cho, dan)
+row pair(eva, fay)
+row pair(gus, hal)
+cell shift(person) : day
+cell room(person) : place
+cell lead : person
+rule together : forall x:person . forall y:person . pair(x, y) -> shift(x) = shift(y)
+rule apart : forall x:person . forall y:person . pair(x, y) -> room(x) != room(y)
+rule weekend : forall x:person . shift(x) = 5 -> room(x) = north
+rule leads : shift(lead) = 1 & room(lead) = north
+enter shift(ann) = 1
+enter room(ann) = north
+enter shift(bob) = 2
+enter shift(cho) = 3
+enter room(dan) = north
+enter shift(eva) = 4
+enter room(eva) = south
+enter room(fay) = south
+enter shift(gus) = 2
+enter shift(hal) = 2
+enter room(gus) = north
+enter lead = ann
+begin
+===
+587381 847
+sheet 1
+sort event = e1_1 e1_2 e2_1 e2_2 e3_1 e3_2 e4_1 e4_2 e5_1 e5_2 e6_1 e6_2 e7_1 e7_2 e8_1 e8_2 e9_1 e9_2 e10_1 e10_2
+sort slot = 1 .. 10
+sort room = r1 r2 r3
+table next(event, event)
+table clash(event, event)
+row next(e1_1, e1_2)
+row next(e2_1, e2_2)
+row next(e3_1, e3_2)
+row next(e4_1, e4_2)
+row next(e5_1, e5_2)
+row next(e6_1, e6_2)
+row next(e7_1, e7_2)
+row next(e8_1, e8_2)
+row next(e9_1, e9_2)
+row next(e10_1, e10_2)
+row clash(e1_1, e4_1)
+row clash(e1_1, e4_2)
+row clash(e1_2, e4_1)
+row clash(e1_2, e4_2)
+row clash(e1_1, e7_1)
+row clash(e1_1, e7_2)
+row clash(e1_2, e7_1)
+row clash(e1_2, e7_2)
+row clash(e2_1, e6_1)
+row clash(e2_1, e6_2)
+row clash(e2_2, e6_1)
+row clash(e2_2, e6_2)
+row clash(e2_1, e9_1)
+row clash(e2_1, e9_2)
+row clash(e2_2, e9_1)
+row clash(e2_2, e9_2)
+row clash(e4_1, e7_1)
+row clash(e4_1, e7_2)
+row clash(e4_2, e7_1)
+row clash(e4_2, e7_2)
+row clash(e6_1, e9_1)
+row clash(e6_1, e9_2)
+row clash(e6_2, e9_1)
+row clash(e6_2, e9_2)
+row clash(e8_1, e10_1)
+row clash(e8_1, e10_2)
+row clash(e8_2, e10_1)
+row clash(e8_2, e10_2)
+cell at(event) : slot
+cell in(event) : room
+rule follow : forall x:event . forall y:event . next(x, y) -> at(y) = at(x) + 1 & in(y) = in(x)
+rule teacher : forall x:event . forall y:event . clash(x, y) -> at(x) != at(y)
+rule free : forall x:event . forall y:event . x = y | at(x) != at(y) | in(x) != in(y)
+enter at(e10_1) = 6
+enter in(e5_1) = r1
+enter in(e4_1) = r1
+enter at(e2_2) = 4
+enter at(e9_2) = 10
+enter at(e9_1) = 8
+enter at(e10_2) = 8
+enter at(e6_2) = 2
+enter at(e3_2) = 8
+enter at(e7_2) = 3
+enter at(e8_2) = 10
+enter in(e3_1) = r3
+enter in(e7_1) = r1
+enter at(e4_1) = 7
+enter at(e7_1) = 1
+enter at(e3_1) = 6
+enter in(e10_1) = r2
+enter in(e1_1) = r2
+begin
+";
+
+fn is_counted_so(alloc: Global, block: &str) -> bool {
+    let (counts, sheet) = block.split_once('\n').unwrap_or((block, ""));
+    let (placed, calls) = counts.split_once(' ').unwrap_or((counts, ""));
+    loads_within(
+        alloc,
+        sheet,
+        placed.parse::<u64>().unwrap_or(0),
+        calls.parse::<u128>().unwrap_or(0),
+    )
+}
+
+#[test]
+fn counts(rt: HostRuntime) -> Result<(), Fail> {
+    for block in COUNTED.split("===\n") {
+        assert!(rt; is_counted_so(rt.alloc(), block), "{block}");
     }
     Ok(())
 }

@@ -25,6 +25,9 @@ forall x:p . x = a & x = b => ForAll { name: Name { text: "x" }, sort: Name { te
 forall x : p . exists y : q . x = y -> a = b => ForAll { name: Name { text: "x" }, sort: Name { text: "p" }, body: Exists { name: Name { text: "y" }, sort: Name { text: "q" }, body: Implies(Compare { left: SideTree { first: Named { name: Name { text: "x" }, args: [] }, rest: [] }, op: Eq, right: SideTree { first: Named { name: Name { text: "y" }, args: [] }, rest: [] } }, Compare { left: SideTree { first: Named { name: Name { text: "a" }, args: [] }, rest: [] }, op: Eq, right: SideTree { first: Named { name: Name { text: "b" }, args: [] }, rest: [] } }) } }
 (forall x:p . f(x) = a) | b = c => Or([ForAll { name: Name { text: "x" }, sort: Name { text: "p" }, body: Compare { left: SideTree { first: Named { name: Name { text: "f" }, args: [Named { name: Name { text: "x" }, args: [] }] }, rest: [] }, op: Eq, right: SideTree { first: Named { name: Name { text: "a" }, args: [] }, rest: [] } } }, Compare { left: SideTree { first: Named { name: Name { text: "b" }, args: [] }, rest: [] }, op: Eq, right: SideTree { first: Named { name: Name { text: "c" }, args: [] }, rest: [] } }])
 !(exists x:p . x = a) <-> b = c => Iff(Not(Exists { name: Name { text: "x" }, sort: Name { text: "p" }, body: Compare { left: SideTree { first: Named { name: Name { text: "x" }, args: [] }, rest: [] }, op: Eq, right: SideTree { first: Named { name: Name { text: "a" }, args: [] }, rest: [] } } }), Compare { left: SideTree { first: Named { name: Name { text: "b" }, args: [] }, rest: [] }, op: Eq, right: SideTree { first: Named { name: Name { text: "c" }, args: [] }, rest: [] } })
+atmost 2 x:p . x = a => Count { at_most: true, bound: 2, name: Name { text: "x" }, sort: Name { text: "p" }, body: Compare { left: SideTree { first: Named { name: Name { text: "x" }, args: [] }, rest: [] }, op: Eq, right: SideTree { first: Named { name: Name { text: "a" }, args: [] }, rest: [] } } }
+atleast 007 x : p . forall y:q . x = y -> a = b => Count { at_most: false, bound: 7, name: Name { text: "x" }, sort: Name { text: "p" }, body: ForAll { name: Name { text: "y" }, sort: Name { text: "q" }, body: Implies(Compare { left: SideTree { first: Named { name: Name { text: "x" }, args: [] }, rest: [] }, op: Eq, right: SideTree { first: Named { name: Name { text: "y" }, args: [] }, rest: [] } }, Compare { left: SideTree { first: Named { name: Name { text: "a" }, args: [] }, rest: [] }, op: Eq, right: SideTree { first: Named { name: Name { text: "b" }, args: [] }, rest: [] } }) } }
+!(atleast 999999999999999999 x:p . x = a) | b = c => Or([Not(Count { at_most: false, bound: 999999999999999999, name: Name { text: "x" }, sort: Name { text: "p" }, body: Compare { left: SideTree { first: Named { name: Name { text: "x" }, args: [] }, rest: [] }, op: Eq, right: SideTree { first: Named { name: Name { text: "a" }, args: [] }, rest: [] } } }), Compare { left: SideTree { first: Named { name: Name { text: "b" }, args: [] }, rest: [] }, op: Eq, right: SideTree { first: Named { name: Name { text: "c" }, args: [] }, rest: [] } }])
 x + 1 - -2 <= f(y, 3) => Compare { left: SideTree { first: Named { name: Name { text: "x" }, args: [] }, rest: [(Plus, Number(1)), (Minus, Number(-2))] }, op: Le, right: SideTree { first: Named { name: Name { text: "f" }, args: [Named { name: Name { text: "y" }, args: [] }, Number(3)] }, rest: [] } }
 a - 3 < a - -3 => Compare { left: SideTree { first: Named { name: Name { text: "a" }, args: [] }, rest: [(Minus, Number(3))] }, op: Lt, right: SideTree { first: Named { name: Name { text: "a" }, args: [] }, rest: [(Minus, Number(-3))] } }
 - 3 > -007 + 0 => Compare { left: SideTree { first: Number(-3), rest: [] }, op: Gt, right: SideTree { first: Number(-7), rest: [(Plus, Number(0))] } }
@@ -62,6 +65,18 @@ a = b -> exists x:p . x = a
 forall x p . x = a
 forall x:p x = a
 forall x:p .
+forall 1 x:p . x = a
+atmost x:p . x = a
+atmost -1 x:p . x = a
+atmost (1) x:p . x = a
+atmost 1 2 x:p . x = a
+atmost 1 x p . x = a
+atleast 1 : p . x = a
+atleast 1 x:p x = a
+atleast 1 x:p .
+atleast 1
+a = b & atmost 1 x:p . x = a
+!atleast 1 x:p . x = a
 a - - - 3 = b
 - - 3 = b
 - x = b
@@ -233,7 +248,7 @@ fn reads_wide_formulas(rt: HostRuntime) -> Result<(), Fail> {
 
 #[test]
 fn counts_the_words_that_nest(rt: HostRuntime) -> Result<(), Fail> {
-    let line = "!(forall x:p . f(x) = 1 -> exists y:p . (y != x) <-> atmost - !=";
-    assert!(rt; nesting(rt.alloc(), line) == 7);
+    let line = "!(forall x:p . f(x) = 1 -> exists y:p . (y != x) <-> atmost - atleast !=";
+    assert!(rt; nesting(rt.alloc(), line) == 9);
     Ok(())
 }

@@ -85,7 +85,9 @@ show @ => Syntax
 show @!# => Syntax
 ; @! => nothing
 rule r : forall x : s . @a = b => TooDeep
+rule r : atmost 1 x : s . @a = b => TooDeep
 rule r : @a = b => AddRule(
+rule r : atleast 1 x:s . x = a => AddRule(
 "#;
 
 // Lines with tabs.
@@ -204,6 +206,10 @@ also a = b/sheet 2/begin => Syntax { line: 1 }
 sheet 1/also a = b/begin => Syntax { line: 2 }
 sheet 1/rule r : a = b/enter a = b/also a = b/begin => Syntax { line: 4 }
 sheet 1/also @!/begin => TooDeep { line: 2 }
+sheet 1/rule r : atmost 1 x:s . a = b/begin => Syntax { line: 2 }
+sheet 1/rule q : a = b/rule r : a = b & !(c = d | (forall y:s . atleast 1 x:s . a = b))/begin => Syntax { line: 3 }
+sheet 1/rule q : a = b <-> (a = b -> (exists y:s . !(atmost 0 x:s . a = b)))/begin => Syntax { line: 2 }
+sheet 2/rule r : atmost x:s . a = b/begin => Syntax { line: 2 }
 sheet 2/also a/begin => Syntax { line: 2 }
 sheet 2/also a != b/begin => Syntax { line: 2 }
 sheet 2/clear a = b/begin => Syntax { line: 2 }
@@ -232,6 +238,7 @@ sheet 1/begin\r => Syntax { line: 2 }
 sheet 1//sort = a//cell => Syntax { line: 3 }
 sheet 1/sort color = red green/cell a : color/rule r : a = => Syntax { line: 4 }
 sheet 1/rule r : @!a = b/begin => TooDeep { line: 2 }
+sheet 1/rule r : atmost 1 x:s . @a = b/begin => TooDeep { line: 2 }
 sheet 2 @!/begin => TooDeep { line: 1 }
 sheet 2 @/begin => Syntax { line: 1 }
 sheet 1/begin/@! => TooDeep { line: 3 }
@@ -242,6 +249,7 @@ sheet 1/begin => []
 sheet 2/begin => []
 ;/sheet 02/also a = b/begin => [(3, Also(
 sheet 2/rule r : a = b/also a = b/begin => [(2, Rule(
+sheet 2/rule r : atmost 1 x:s . a = b/begin => [(2, Rule(
 sheet 2/rule also : also = b/enter also = b/also also = also/begin => [(2, Rule(
 ";
 

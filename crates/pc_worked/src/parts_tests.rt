@@ -112,6 +112,18 @@ rule leads : shift(lead) = 1 & room(lead) = north
 begin
 ---
  0 1 2 3 4 5 6 7 8 9 10 11 12 13 14 15 16
+===
+sheet 2
+sort person = ann bob cho
+sort day = 1 .. 2
+sort turn = on off
+cell shift(person, day) : turn
+rule few : forall d:day . atmost 1 x:person . shift(x, d) = on
+rule many : atleast 1 x:person . shift(x, 1) = on
+begin
+---
+ 0 2 4
+ 1 3 5
 ";
 
 // Two pairs.
@@ -129,6 +141,23 @@ begin
 
 // The numbers of each part's axioms: those of its cells first, and then those of its rule.
 const AXIOMS_OF_PAIRS: &str = " 0 1 2 3 8 9 10 11 12\n 4 5 6 7 13 14 15 16 17\n";
+
+// A count in each part.
+const COUNTS: &str = "\
+sheet 2
+sort person = ann bob cho
+sort day = mon tue
+cell shift(person) : day
+cell spare(person) : day
+rule few : atmost 1 x:person . shift(x) = mon
+rule many : atleast 1 x:person . spare(x) = mon
+begin
+";
+
+// Of each part the axioms of its cells, of its rule, of the three bodies and of its counters: six of these up to two, and
+// then three up to one.
+const AXIOMS_OF_COUNTS: &str =
+    " 0 1 2 3 4 5 12 13 14 15 16 17 18 19 20 21 22 23 24 25 26 27 28 29 30 31 32 33 34 35 36 37 38\n 6 7 8 9 10 11 39 40 41 42 43 44 45 46 47 48 49 50 51 52 53 54 55\n";
 
 const MANY_BLOCKS: &str = "\
 sheet 1
@@ -238,6 +267,7 @@ fn sheets_are_divided(rt: HostRuntime) -> Result<(), Fail> {
 fn parts_have_their_axioms(rt: HostRuntime) -> Result<(), Fail> {
     assert!(rt; have_axioms(rt.alloc(), PAIRS, AXIOMS_OF_PAIRS)?);
     assert!(rt; are_alike(rt.alloc(), PAIRS, 2, (2, 9, 5))?);
+    assert!(rt; have_axioms(rt.alloc(), COUNTS, AXIOMS_OF_COUNTS)?);
     assert!(rt; are_alike(rt.alloc(), MANY_BLOCKS, 200, (4, 49, 18))?);
     Ok(())
 }

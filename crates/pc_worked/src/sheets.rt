@@ -10,7 +10,7 @@ pub fn book_of(alloc: Global, row: &str) -> Result<Option<Book>, AllocError> {
     let (before, after) = lines.as_str().split_once('@').unwrap_or((&lines, ""));
     let count = if after.is_empty() { 0 } else { 300_000 };
     let ones = " + 1".repeat(alloc, count)?;
-    let text = format!(in alloc; "sheet 1\n{before}{ones}{after}\nbegin\n")?;
+    let text = format!(in alloc; "sheet 2\n{before}{ones}{after}\nbegin\n")?;
     if text.len() > 4_194_304 {
         return Ok(None);
     }

@@ -8,10 +8,12 @@ use std::alloc::{AllocError, Global};
 use std::test::Fail;
 
 // Lines of sheets, and behind them how much there is to try, whether the rules are consistent, the least support of the first
-// cell's first value, the least support of its opposite, and the maximal sets: of nothing, and of three equal cells.
+// cell's first value, the least support of its opposite, and the maximal sets: of nothing, of three equal cells, and of two cells
+// that are counted.
 const ROWS: &str = "\
 ; nothing => 1 true None Some([]) [[]]
 sort color = red green/cell a : color/cell b : color/cell c : color/rule ab : a = b/rule bc : b = c/enter a = red/enter c = green => 32 true Some([Entry { cell: CellId(0), value: ValueId(0) }]) Some([Entry { cell: CellId(2), value: ValueId(1) }]) [[Entry { cell: CellId(0), value: ValueId(0) }], [Entry { cell: CellId(2), value: ValueId(1) }]]
+sort p = ann bob/sort d = mon tue/cell s(p) : d/rule few : atmost 1 x:p . s(x) = mon/enter s(ann) = mon/enter s(bob) = mon => 16 true Some([Entry { cell: CellId(0), value: ValueId(0) }]) Some([Entry { cell: CellId(1), value: ValueId(0) }]) [[Entry { cell: CellId(0), value: ValueId(0) }], [Entry { cell: CellId(1), value: ValueId(0) }]]
 ";
 
 const ENTRY: Entry = Entry {
