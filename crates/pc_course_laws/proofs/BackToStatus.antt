@@ -1,5 +1,5 @@
 -- From a run's events to what it said by its status.
-use Rattle.std.proofs.Common.{◌≡◌, ◌≢◌, ℕ, ◌+◌, ◌<◌, ◌≤◌, Bool, true, false, List, [], ◌∷◌, ◌++◌, length, refl, sym, ◌∙◌, ap, subst, arith, inl, inr, Option, All, append_assoc, append-nil, take}
+use Rattle.std.proofs.Common.{◌≡◌, ◌≢◌, ℕ, ◌<◌, ◌≤◌, Bool, true, false, List, [], ◌∷◌, ◌++◌, length, refl, sym, ◌∙◌, ap, subst, arith, inl, inr, Option, All, append_assoc, append-nil, take}
 use Rattle.std.specs.List.{list_any}
 use Rattle.std.specs.Io.KnownBytes.{Consumes, Appends, IsAtEnd}
 use Rattle.std.proofs.KnownBytes.{Consumes-nil}
@@ -29,11 +29,11 @@ use Rattle.pc_course_laws.proofs.FlatLemmas.{taken_together, told_together, happ
 -- ---- what was read ahead
 
 -- of what is still to come so much is read, and nothing is told
-record Spare (mid b : Outside) : Type 0 where
-  ahead : IsReadAhead mid.input b.input
-  quiet : b.output ≡ mid.output
+pub record Spare (mid b : Outside) : Type 0 where
+  pub ahead : IsReadAhead mid.input b.input
+  pub quiet : b.output ≡ mid.output
 
-spare_of : (events spare : List Event) (mid b : Outside) → IsSpare CHUNK events spare → Happened spare mid b → Spare mid b
+pub spare_of : (events spare : List Event) (mid b : Outside) → IsSpare CHUNK events spare → Happened spare mid b → Spare mid b
 spare_of events spare mid b nothing happened = record {
   ahead = record { held = []; more = subst (λ (o : Outside). Consumes mid.input o.input []) (sym happened) (Consumes-nil mid.input); few = omega arith };
   quiet = ap (λ (o : Outside). o.output) happened;
@@ -43,7 +43,7 @@ spare_of events spare mid b (ahead held few other some) happened = record {
   quiet = ap (λ (o : Outside). o.output) happened.2 ∙ ap (λ (o : Outside). o.output) happened.1.0;
 }
 
-no_spare : (events spare : List Event) (mid b : Outside) → (HasTook events → EndsTelling events → ⊥) → IsSpare CHUNK events spare → Happened spare mid b → b ≡ mid
+pub no_spare : (events spare : List Event) (mid b : Outside) → (HasTook events → EndsTelling events → ⊥) → IsSpare CHUNK events spare → Happened spare mid b → b ≡ mid
 no_spare events spare mid b fails nothing happened = happened
 no_spare events spare mid b fails (ahead held few other some) happened = absurd (fails some other)
 
@@ -60,13 +60,13 @@ told_of_lines (pair ∷ more) = ap (λ (xs : List ℕ). answer_text pair.1 ++ xs
 taken-append : (xs ys : List Event) → taken_in (xs ++ ys) ≡ taken_in xs ++ taken_in ys
 taken-append xs ys = flat_map-append taken_of xs ys
 
-told-append : (xs ys : List Event) → told_in (xs ++ ys) ≡ told_in xs ++ told_in ys
+pub told-append : (xs ys : List Event) → told_in (xs ++ ys) ≡ told_in xs ++ told_in ys
 told-append xs ys = flat_map-append told_of xs ys
 
-taken_after : (t : Transcript) (more : List Event) → taken_in (events_of t ++ more) ≡ input_of t ++ taken_in more
+pub taken_after : (t : Transcript) (more : List Event) → taken_in (events_of t ++ more) ≡ input_of t ++ taken_in more
 taken_after t more = taken-append (events_of t) more ∙ ap (λ (xs : List ℕ). xs ++ taken_in more) (taken_of_lines t)
 
-told_after : (t : Transcript) (more : List Event) → told_in (events_of t ++ more) ≡ output_of t ++ told_in more
+pub told_after : (t : Transcript) (more : List Event) → told_in (events_of t ++ more) ≡ output_of t ++ told_in more
 told_after t more = told-append (events_of t) more ∙ ap (λ (xs : List ℕ). xs ++ told_in more) (told_of_lines t)
 
 -- ---- lines
@@ -83,7 +83,7 @@ has_byte line is = elim is [
   | inr last ↦ last.1
 ]
 
-abbrev IsLineIntake : Intake → Type 0
+abbrev pub IsLineIntake : Intake → Type 0
 IsLineIntake (sheet_line before) = Unit {0}
 IsLineIntake (line_within limit) = Unit {0}
 IsLineIntake (no_line_within limit) = Unit {0}
@@ -91,7 +91,7 @@ IsLineIntake (rest_within limit) = ⊥
 IsLineIntake (sheet_file file) = ⊥
 
 -- what passes the limit of a line is some bytes that were taken
-is_took : (intake : Intake) (event : Event) → IsLineIntake intake → PassesLimit intake event → (begun : List ℕ) × (event ≡ took begun) × PassesLimit intake (took begun)
+pub is_took : (intake : Intake) (event : Event) → IsLineIntake intake → PassesLimit intake event → (begun : List ℕ) × (event ≡ took begun) × PassesLimit intake (took begun)
 is_took (sheet_line before) (took bytes) of_line passes = (bytes, refl, passes)
 is_took (sheet_line before) (took_rest bytes) of_line passes = absurd passes
 is_took (sheet_line before) (gave name text) of_line passes = absurd passes
@@ -116,7 +116,7 @@ is_took (no_line_within limit) output_failed of_line passes = absurd passes
 is_took (rest_within limit) event of_line passes = absurd of_line
 is_took (sheet_file file) event of_line passes = absurd of_line
 
-command_line : (t : Transcript) → All (IsLine LINE_LIMIT) (lines t) → All IsCommandLine (lines t)
+pub command_line : (t : Transcript) → All (IsLine LINE_LIMIT) (lines t) → All IsCommandLine (lines t)
 command_line t each = All-weaker (IsLine LINE_LIMIT) IsCommandLine is_command_line (lines t) each
 
 -- ---- the sheet
@@ -142,7 +142,7 @@ sheet_is_quiet text taken is = elim is.ends [
 ]
 
 -- a line was taken: it is complete, nothing is told, and this was taken
-line_of : (line : List ℕ) (taken : List Event) (a b : Outside) → IsLineTaken line taken → Happened taken a b → IsCompleteLine line b.input × (told_in taken ≡ []) × (taken_in taken ≡ line)
+pub line_of : (line : List ℕ) (taken : List Event) (a b : Outside) → IsLineTaken line taken → Happened taken a b → IsCompleteLine line b.input × (told_in taken ≡ []) × (taken_in taken ≡ line)
 line_of line taken a b is happened = elim is [
   | inl w ↦ (inl w.0, ap told_in w.1, ap taken_in w.1 ∙ append-nil line)
   | inr w ↦ let h = subst (λ (es : List Event). Happened es a b) w.2 happened in (inr (w.0, w.1, subst (λ (o : Outside). IsAtEnd o.input) (sym h.2) h.1.2), ap told_in w.2, ap taken_in w.2 ∙ append-nil line)
@@ -150,7 +150,7 @@ line_of line taken a b is happened = elim is [
 
 -- ---- what a status prints
 
-printed_all : (no_memory refused : Bool) (sink sink' : Option (List ℕ)) (text : List ℕ) → Appends sink sink' text → IsPrinted (worse_of no_memory refused) sink sink' (printed text [])
+pub printed_all : (no_memory refused : Bool) (sink sink' : Option (List ℕ)) (text : List ℕ) → Appends sink sink' text → IsPrinted (worse_of no_memory refused) sink sink' (printed text [])
 printed_all true refused sink sink' text w = subst (λ (xs : List ℕ). Appends sink sink' xs) (sym (append-nil text)) w
 printed_all false true sink sink' text w = subst (λ (xs : List ℕ). Appends sink sink' xs) (sym (append-nil text)) w
 printed_all false false sink sink' text w = subst (λ (xs : List ℕ). Appends sink sink' xs) (sym (append-nil text)) w
@@ -205,7 +205,7 @@ module _ {S N : Type 0} (IsSheet : List ℕ → S → Type 0) (Refuses : List �
 
   -- ---- where a read failed
 
-  awaits : (intake : Intake) (more : List Event) (start end : S × N) → AnswersLines Allows start more (takes intake) end → (t : Transcript) × Legal Allows start t end × All (IsWholeLine LINE_LIMIT) (lines t) × (length t ≤ MAX_LINES) × (more ≡ events_of t) × ((begun : List ℕ) → CanBegin intake begun → IsOpenLine LINE_LIMIT begun)
+  pub awaits : (intake : Intake) (more : List Event) (start end : S × N) → AnswersLines Allows start more (takes intake) end → (t : Transcript) × Legal Allows start t end × All (IsWholeLine LINE_LIMIT) (lines t) × (length t ≤ MAX_LINES) × (more ≡ events_of t) × ((begun : List ℕ) → CanBegin intake begun → IsOpenLine LINE_LIMIT begun)
       × ((begun : List ℕ) → PassesLimit intake (took begun) → PassesLine (length t) begun) × IsLineIntake intake
   awaits intake more start end (awaits_line t legal whole few is) = (t, legal, whole, omega (arith, few), is, λ begun can. can, λ begun passes. inl passes, tt)
   awaits intake more start end (awaits_end t legal whole full is) = (
@@ -458,13 +458,13 @@ module _ {S N : Type 0} (IsSheet : List ℕ → S → Type 0) (Refuses : List �
   at_write_fault notes' stage piece count events a mid source' sink sink' (ends_so status) comes happened read_ahead alone written =
       cut_off notes' piece status count (told_in events) a.input source' sink sink' (last_line notes' piece status events a mid source' comes happened read_ahead alone) written
 
-told_alone : (line : List ℕ) → HasTook (told line ∷ []) → ⊥
+pub told_alone : (line : List ℕ) → HasTook (told line ∷ []) → ⊥
 told_alone line some = elim some [
   | inl w ↦ w
   | inr w ↦ w
 ]
 
-cut_alone : (part : List ℕ) → HasTook (told part ∷ output_failed ∷ []) → ⊥
+pub cut_alone : (part : List ℕ) → HasTook (told part ∷ output_failed ∷ []) → ⊥
 cut_alone part some = elim some [
   | inl w ↦ w
   | inr w ↦ elim w [
