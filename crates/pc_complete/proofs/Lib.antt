@@ -1,4 +1,5 @@
 pub mod Spending
 pub mod Completing
 pub mod Running
+pub mod Ending
 pub mod Worked

@@ -1,5 +1,5 @@
 -- What a run says, with its answers and refusals in full.
-use Rattle.std.proofs.Common.{◌≡◌, ℕ, ◌≤◌, inl, inr, List, [], ◌∷◌, sym, subst, arith}
+use Rattle.std.proofs.Common.{ℕ, ◌≤◌, inl, inr, List, [], ◌∷◌, sym, subst, arith}
 use Rattle.pc_lines.specs.Lines as a_line
 use Rattle.pc_words.specs.Words.{Mode, replays, edits, checks, demonstrates, Request, FitsWords}
 use Rattle.pc_sheet.specs.WellFormed.{IsWellFormed}

@@ -1,8 +1,10 @@
--- What a run says of lines and sheets for which its budget is enough.
-use Rattle.std.specs.Prelude.{◌≡◌, ℕ, ◌≤◌, List, []}
-use Rattle.pc_words.specs.Words.{Mode, replays, edits, Request, FitsWords, FitNothing}
+-- What a run says of lines and sheets for which its budget is enough, and how runs of commands end.
+use Rattle.std.specs.Prelude.{◌≡◌, ◌≢◌, ℕ, ◌⊎◌, List, []}
+use Rattle.std.specs.Io.KnownBytes.{IsAtEnd}
+use Rattle.pc_port.specs.Port.{Rose}
+use Rattle.pc_words.specs.Words.{Mode, replays, edits, checks, demonstrates, Request, FitsWords, FitNothing}
 use Rattle.pc_refusals.specs.declared.status.Status.{Status}
-use Rattle.pc_refusals.specs.declared.status.Status.TheVariants.{Usage}
+use Rattle.pc_refusals.specs.declared.status.Status.TheVariants.{Done, SomeRefused, SheetRefused, Memory, TooLong, Usage}
 use Rattle.pc_refusals.specs.Endings.{memory_text}
 use Rattle.pc_course.specs.Events.{Outside, Event}
 use Rattle.pc_course.specs.Stages.{Stage, needs, ends_with}
@@ -32,3 +34,28 @@ RunsInFull words status notes notes' before after = (most : ℕ) × IsMostAhead 
 -- so it is of each run
 abbrev pub RunsAreInFull : Type 0
 RunsAreInFull = (words : List (List ℕ)) (status : Status) (notes notes' : Notes) (before after : Outside) → Runs words status notes notes' before after → RunsInFull words status notes notes' before after
+
+-- ---- how runs of commands end
+
+-- the modes that answer command lines
+abbrev pub IsOfCommands : Mode → Type 0
+IsOfCommands replays = Unit {0}
+IsOfCommands (edits file) = Unit {0}
+IsOfCommands (checks file) = ⊥
+IsOfCommands (demonstrates blocks) = ⊥
+
+-- no count of faults has risen, and none stands at its greatest value
+pub record IsFaultless (before after : Outside) : Type 0 where
+  pub input : ¬ Rose before.input_faults after.input_faults
+  pub shelf : ¬ Rose before.shelf_faults after.shelf_faults
+  pub output : ¬ Rose before.output_faults after.output_faults
+
+-- done, or some refused, and the input is at its end; or memory was wanting
+abbrev pub IsAnswered : Status → Outside → Type 0
+IsAnswered status after = (((status ≡ Done) ⊎ (status ≡ SomeRefused)) × IsAtEnd after.input) ⊎ (status ≡ Memory)
+
+-- So ends each run of commands without a fault, where nothing was too long and the sheet wasn't refused.
+abbrev pub FaultlessRunsAreAnswered : Type 0
+FaultlessRunsAreAnswered =
+    (words : List (List ℕ)) (request : Request) (status : Status) (notes notes' : Notes) (before after : Outside) → FitsWords words request → IsOfCommands request.mode → Runs words status notes notes' before after → IsFaultless before after
+    → status ≢ TooLong → status ≢ SheetRefused → IsAnswered status after

@@ -1,12 +1,13 @@
 //! Laws over the definitions, each the contract of a function that does nothing.
 ghost use Rattle.pc_complete.specs.Enough.{CallsSpendTooLittle};
 ghost use Rattle.pc_complete.specs.Complete.{LinesAreAnsweredInFull, TextsAreRefusedInFull, TextsOfEnoughAreOpened, TranscriptsAreInFull};
-ghost use Rattle.pc_complete.specs.Runs.{RunsAreInFull};
+ghost use Rattle.pc_complete.specs.Runs.{FaultlessRunsAreAnswered, RunsAreInFull};
 ghost use Rattle.pc_complete.specs.Worked.{NoVerdictIsSpent, WorkedBudgets};
 
 use pc_sheet::cells_are_numbered_in_order;
 use pc_sortcheck::sheets_are_well_formed;
 use pc_spreadsheet::{lines_have_one_verdict, states_are_well_formed, texts_have_one_verdict};
+use pc_words::words_fit_one_request;
 
 /// A session's load and each of its edits answer that the budget is spent only where it is less than enough for the parts
 /// that the edit touches, in the sheet that it would make.
@@ -50,6 +51,14 @@ pub fn runs_are_in_full()
     transcripts_are_in_full();
     texts_are_refused_in_full();
     states_are_well_formed();
+}
+
+/// A run of commands in which no device was at fault, nothing was too long and the sheet wasn't refused is answered to the
+/// end of its input, or memory was wanting.
+pub fn faultless_runs_are_answered()
+    ensures { FaultlessRunsAreAnswered }
+{
+    words_fit_one_request();
 }
 
 /// What is enough for small sheets; and no verdict on a line is that its search spent the budget.
