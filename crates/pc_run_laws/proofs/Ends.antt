@@ -62,16 +62,16 @@ module _ (P : Status → Type 0) (common : HasCommon P) where
     input_in notes events stage notes' (keeps_sheet text front small is) = tt
     input_in notes events stage notes' (has_sheet text taken more sheet from is) = sheet_in text notes more stage notes' from
 
-    replay_in : (notes : N) (events : List Event) (stage : Stage) (notes' : N) → Replay IsSheet Refuses A notes events stage notes' → EndsIn P stage
+    pub replay_in : (notes : N) (events : List Event) (stage : Stage) (notes' : N) → Replay IsSheet Refuses A notes events stage notes' → EndsIn P stage
     replay_in notes events stage notes' (needs_room is) = tt
     replay_in notes events stage notes' (from_input from) = input_in notes events stage notes' from
 
-    edit_in : (file : List ℕ) (notes : N) (events : List Event) (stage : Stage) (notes' : N) → Edit IsSheet Refuses A file notes events stage notes' → EndsIn P stage
+    pub edit_in : (file : List ℕ) (notes : N) (events : List Event) (stage : Stage) (notes' : N) → Edit IsSheet Refuses A file notes events stage notes' → EndsIn P stage
     edit_in file notes events stage notes' (course.needs_memory is) = tt
     edit_in file notes events stage notes' (awaits_file is) = tt
     edit_in file notes events stage notes' (has_file text more small from is) = sheet_in text notes more stage notes' from
 
-  demo_in : (blocks budget : ℕ) (notes : Notes) (events : List Event) (stage : Stage) (notes' : Notes) → Demo blocks budget notes events stage notes' → EndsIn P stage
+  pub demo_in : (blocks budget : ℕ) (notes : Notes) (events : List Event) (stage : Stage) (notes' : Notes) → Demo blocks budget notes events stage notes' → EndsIn P stage
   demo_in blocks budget notes events stage notes' (demo.needs_memory none) = tt
   demo_in blocks budget notes events stage notes' (demo.is_refused why more refuses none) = common.sheet_refused
   demo_in blocks budget notes events stage notes' (demo.is_loaded start loaded loads none) = tt

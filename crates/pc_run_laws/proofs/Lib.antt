@@ -1,2 +1,4 @@
 pub mod Ends
 pub mod Usages
+pub mod Certificates
+pub mod Memories

@@ -1,12 +1,25 @@
 -- What a run's status says of its words, of what happened, and of what was noted.
-use Rattle.std.specs.Prelude.{◌≡◌, ℕ, ◌⊎◌, List}
-use Rattle.std.specs.Io.KnownBytes.{Appends}
-use Rattle.pc_words.specs.Words.{FitNothing}
+use Rattle.std.specs.Prelude.{◌≡◌, ℕ, ◌≤◌, ◌⊎◌, true, List, [], ◌∷◌, ◌++◌, length}
+use Rattle.std.specs.List.{list_any}
+use Rattle.std.specs.Io.KnownBytes.{Consumes, Appends}
+use Rattle.pc_sheet.specs.Sheet.{Sheet}
+use Rattle.pc_sortcheck.specs.Declaring.{ReadsAs}
+use Rattle.pc_cert.specs.declared.TheConstants.{CERT_LIMIT}
+use Rattle.pc_words.specs.Words.{checks, Request, FitsWords, FitNothing}
+use Rattle.pc_refusals.specs.declared.TheConstants.{SHEET_LIMIT}
 use Rattle.pc_refusals.specs.declared.status.Status.{Status}
-use Rattle.pc_refusals.specs.declared.status.Status.TheVariants.{Usage, WriteFault}
-use Rattle.pc_course.specs.Events.{Outside}
-use Rattle.pc_spreadsheet.specs.Allowed.{Notes}
-use Rattle.pc_replay.specs.Course.{usage_text, Runs}
+use Rattle.pc_refusals.specs.declared.status.Status.TheVariants.{Usage, WriteFault, Memory, CertRefused}
+use Rattle.pc_refusals.specs.Endings.{memory_text, sheet_memory_text}
+use Rattle.pc_course.specs.Events.{Outside, Event, took_rest, gave, told, Happened}
+use Rattle.pc_course.specs.Stages.{needs, ends_with, ends}
+use Rattle.pc_transcript.specs.Answer.{is_no_memory}
+use Rattle.pc_transcript.specs.Transcript.{Transcript, Legal}
+use Rattle.pc_judge.specs.declared.told.Told.{Told}
+use Rattle.pc_judge.specs.Judged.{IsJudged, judged_text, status_of_told}
+use Rattle.pc_judge.specs.Course.{Check}
+use Rattle.pc_spreadsheet.specs.Judgement.{State}
+use Rattle.pc_spreadsheet.specs.Allowed.{Notes, Allows}
+use Rattle.pc_replay.specs.Course.{usage_text, CourseIn, Runs}
 
 -- ---- words that don't fit
 
@@ -23,3 +36,44 @@ UsageIsOfWords = (words : List (List ℕ)) (status : Status) (notes notes' : Not
 -- where the words fit nothing the run ends so, or by a failed write
 abbrev pub WordsAreTold : Type 0
 WordsAreTold = (words : List (List ℕ)) (status : Status) (notes notes' : Notes) (before after : Outside) → Runs words status notes notes' before after → FitNothing words → (status ≡ Usage) ⊎ (status ≡ WriteFault)
+
+-- ---- certificates that are refused
+
+-- The words ask to check a file. Its text reads as a sheet; all of the input, within the limit, is no certificate in this sheet or has a
+-- verdict other than accepted; this is told, and no more of the input was taken. Nothing was noted.
+pub record IsRefusedCertificate (words : List (List ℕ)) (notes notes' : Notes) (before after : Outside) : Type 0 where
+  pub request : Request
+  pub fits : FitsWords words request
+  pub file : List ℕ
+  pub is_check : request.mode ≡ checks file
+  pub text : List ℕ
+  pub sheet : Sheet
+  pub small : length text ≤ SHEET_LIMIT
+  pub reads : ReadsAs text sheet
+  pub certificate : List ℕ
+  pub few : length certificate ≤ CERT_LIMIT
+  pub what : Told
+  pub judged : IsJudged sheet certificate what
+  pub refuses : status_of_told what ≡ CertRefused
+  pub last : Outside
+  pub happened : Happened (gave file text ∷ took_rest certificate ∷ told (judged_text sheet what) ∷ []) before last
+  pub else_same : after ≡ record last { input = after.input }
+  pub none_ahead : Consumes last.input after.input []
+  pub none_noted : notes' ≡ notes
+
+abbrev pub CertificatesAreRefused : Type 0
+CertificatesAreRefused = (words : List (List ℕ)) (status : Status) (notes notes' : Notes) (before after : Outside) → Runs words status notes notes' before after → status ≡ CertRefused → IsRefusedCertificate words notes notes' before after
+
+-- ---- memory that is wanting
+
+-- Memory was wanted to read words that fit, and nothing but this happened; or, in the mode that they ask for, at the sheet; or, in a check, at
+-- the certificate; or at a line, where all lines of the mode's course were answered, to the end of the input or to the last line told.
+pub data WantsMemory (words : List (List ℕ)) (notes notes' : Notes) (events : List Event) : Type 0 where
+  at_words : ¬ FitNothing words → events ≡ told memory_text ∷ [] → notes' ≡ notes → WantsMemory words notes notes' events
+  at_sheet : (request : Request) (earlier : List Event) → FitsWords words request → CourseIn request.mode request.budget notes earlier (needs sheet_memory_text) notes' → events ≡ earlier ++ told sheet_memory_text ∷ [] → WantsMemory words notes notes' events
+  at_certificate : (request : Request) (file : List ℕ) (earlier : List Event) → FitsWords words request → request.mode ≡ checks file → Check file earlier (needs memory_text) → events ≡ earlier ++ told memory_text ∷ [] → notes' ≡ notes → WantsMemory words notes notes' events
+  at_line : (request : Request) (start end : State) (t : Transcript) → FitsWords words request → CourseIn request.mode request.budget notes events (ends Memory) notes' → Legal Allows (start, notes) t (end, notes') → list_any (λ pair. is_no_memory pair.1) t ≡ true → WantsMemory words notes notes' events
+  at_clear : (request : Request) (earlier : List Event) (line : List ℕ) (start end : State) (t : Transcript) → FitsWords words request → CourseIn request.mode request.budget notes earlier (ends_with line Memory) notes' → events ≡ earlier ++ told line ∷ [] → Legal Allows (start, notes) t (end, notes') → list_any (λ pair. is_no_memory pair.1) t ≡ true → WantsMemory words notes notes' events
+
+abbrev pub MemoryIsWanted : Type 0
+MemoryIsWanted = (words : List (List ℕ)) (status : Status) (notes notes' : Notes) (before after : Outside) (runs : Runs words status notes notes' before after) → status ≡ Memory → WantsMemory words notes notes' runs.2.events

@@ -1,0 +1,195 @@
+-- Where runs want memory.
+use Rattle.std.proofs.Common.{◌≡◌, ◌≢◌, ◌⊎◌, ℕ, Bool, true, false, List, [], ◌∷◌, ◌++◌, refl, ◌∙◌, ap, subst, inl, inr}
+use Rattle.std.specs.List.{list_any}
+use Rattle.pc_checker.specs.declared.verdict.Verdict.{Verdict}
+use Rattle.pc_checker.specs.declared.verdict.Verdict.TheVariants.{UseNotEntered, BadValues, UseNotHeld, RuleBroken, BadAxiom, BadStep, WrongEnd, Accepted}
+use Rattle.pc_words.specs.Words.{Mode, replays, edits, checks, demonstrates, Request, FitsWords, FitNothing}
+use Rattle.pc_refusals.specs.declared.status.Status.{Status}
+use Rattle.pc_refusals.specs.declared.status.Status.TheVariants.{Memory}
+use Rattle.pc_refusals.specs.Endings.{memory_text, sheet_memory_text}
+use Rattle.pc_course.specs.Events.{Event, told}
+use Rattle.pc_course.specs.Stages.{Stage, takes, needs, tells, ends_with, ends}
+use Rattle.pc_course.specs.Runs.{Comes, on_course, past_limit, without_memory, Run, ended, ended_with, read_failed, read_failed_at_file, write_failed}
+use Rattle.pc_transcript.specs.Answer.{is_refused as was_refused, is_no_memory}
+use Rattle.pc_transcript.specs.Transcript.{Transcript, Legal, worse_of}
+use Rattle.pc_transcript.specs.Course as course
+use Rattle.pc_transcript.specs.Course.{AnswersLines, awaits_line, awaits_end, has_answer, has_all, FromSheet, is_refused, answers, FromInput, awaits_sheet, keeps_sheet, has_sheet, Replay, needs_room, from_input, Edit, awaits_file, has_file}
+use Rattle.pc_judge.specs.declared.told.Told.{Told}
+use Rattle.pc_judge.specs.declared.told.Told.TheVariants as is_told
+use Rattle.pc_judge.specs.Judged.{status_of_told}
+use Rattle.pc_judge.specs.Course as check
+use Rattle.pc_judge.specs.Course.{Check}
+use Rattle.pc_demo.specs.Course as demo
+use Rattle.pc_demo.specs.Course.{Demo}
+use Rattle.pc_spreadsheet.specs.Judgement.{State, Starts}
+use Rattle.pc_spreadsheet.specs.Allowed.{Notes, Allows, RefusesText}
+use Rattle.pc_replay.specs.Course as asked
+use Rattle.pc_replay.specs.Course.{CourseIn, Course, without_fit, as_asked, Runs}
+use Rattle.pc_run_laws.specs.ByStatus.{WantsMemory, at_words, at_sheet, at_certificate, at_line, at_clear, MemoryIsWanted}
+
+-- ---- the courses
+
+-- memory was wanted at a line
+record AtLine (notes notes' : Notes) : Type 0 where
+  start : State
+  end : State
+  t : Transcript
+  legal : Legal Allows (start, notes) t (end, notes')
+  wants : list_any (λ pair. is_no_memory pair.1) t ≡ true
+
+-- where memory is needed it is for the sheet; and where the run ends so, it was wanted at a line
+abbrev At : Notes → Notes → Stage → Type 0
+At notes notes' (takes intake) = Unit {0}
+At notes notes' (needs line) = line ≡ sheet_memory_text
+At notes notes' (tells piece) = Unit {0}
+At notes notes' (ends_with line status) = status ≡ Memory → AtLine notes notes'
+At notes notes' (ends status) = status ≡ Memory → AtLine notes notes'
+
+worse_wants : (no_memory refused : Bool) → worse_of no_memory refused ≡ Memory → no_memory ≡ true
+worse_wants true refused e = refl
+worse_wants false true e = absurd (cc e)
+worse_wants false false e = absurd (cc e)
+
+at_some : (notes notes' : Notes) (start end : State) (t : Transcript) → Legal Allows (start, notes) t (end, notes') → worse_of (list_any (λ pair. is_no_memory pair.1) t) (list_any (λ pair. was_refused pair.1) t) ≡ Memory → AtLine notes notes'
+at_some notes notes' start end t legal e = record { start = start; end = end; t = t; legal = legal; wants = worse_wants (list_any (λ pair. is_no_memory pair.1) t) (list_any (λ pair. was_refused pair.1) t) e }
+
+lines_at : (notes notes' : Notes) (start end : State) (events : List Event) (stage : Stage) → AnswersLines Allows (start, notes) events stage (end, notes') → At notes notes' stage
+lines_at notes notes' start end events stage (awaits_line t legal whole few is) = tt
+lines_at notes notes' start end events stage (awaits_end t legal whole full is) = tt
+lines_at notes notes' start end events stage (has_answer t mid line taken answer legal whole few of_line allowed is) = tt
+lines_at notes notes' start end events stage (has_all t legal each all count is) = at_some notes notes' start end t legal
+
+module _ (budget : ℕ) where
+  sheet_at : (text : List ℕ) (notes notes' : Notes) (events : List Event) (stage : Stage) → FromSheet (Starts budget) (RefusesText budget) Allows text notes events stage notes' → At notes notes' stage
+  sheet_at text notes notes' events stage (course.needs_memory is) = refl
+  sheet_at text notes notes' events stage (is_refused why more has is) = λ e. absurd (cc e)
+  sheet_at text notes notes' events stage (answers start end is h) = lines_at notes notes' start end events stage h
+
+  input_at : (notes notes' : Notes) (events : List Event) (stage : Stage) → FromInput (Starts budget) (RefusesText budget) Allows notes events stage notes' → At notes notes' stage
+  input_at notes notes' events stage (awaits_sheet earlier others small is) = tt
+  input_at notes notes' events stage (keeps_sheet text front small is) = refl
+  input_at notes notes' events stage (has_sheet text taken more sheet from is) = sheet_at text notes notes' more stage from
+
+  replay_at : (notes notes' : Notes) (events : List Event) (stage : Stage) → Replay (Starts budget) (RefusesText budget) Allows notes events stage notes' → At notes notes' stage
+  replay_at notes notes' events stage (needs_room is) = refl
+  replay_at notes notes' events stage (from_input from) = input_at notes notes' events stage from
+
+  edit_at : (file : List ℕ) (notes notes' : Notes) (events : List Event) (stage : Stage) → Edit (Starts budget) (RefusesText budget) Allows file notes events stage notes' → At notes notes' stage
+  edit_at file notes notes' events stage (course.needs_memory is) = refl
+  edit_at file notes notes' events stage (awaits_file is) = tt
+  edit_at file notes notes' events stage (has_file text more small from is) = sheet_at text notes notes' more stage from
+
+demo_at : (blocks budget : ℕ) (notes notes' : Notes) (events : List Event) (stage : Stage) → Demo blocks budget notes events stage notes' → At notes notes' stage
+demo_at blocks budget notes notes' events stage (demo.needs_memory none) = refl
+demo_at blocks budget notes notes' events stage (demo.is_refused why more refuses none) = λ e. absurd (cc e)
+demo_at blocks budget notes notes' events stage (demo.is_loaded start loaded loads none) = tt
+demo_at blocks budget notes notes' events stage (demo.has_answer start loaded t done mid end answer loads clears few allowed is) = tt
+demo_at blocks budget notes notes' events stage (demo.is_cleared start loaded t end cleared loads clears sums is) = at_some notes notes' start end t clears.legal
+
+verdict_other : (verdict : Verdict) → status_of_told (is_told.Verdict verdict) ≢ Memory
+verdict_other (UseNotEntered line) = λ e. absurd (cc e)
+verdict_other (BadValues line) = λ e. absurd (cc e)
+verdict_other (UseNotHeld line) = λ e. absurd (cc e)
+verdict_other (RuleBroken rule) = λ e. absurd (cc e)
+verdict_other (BadAxiom line) = λ e. absurd (cc e)
+verdict_other (BadStep line) = λ e. absurd (cc e)
+verdict_other WrongEnd = λ e. absurd (cc e)
+verdict_other Accepted = λ e. absurd (cc e)
+
+told_other : (what : Told) → status_of_told what ≢ Memory
+told_other (is_told.Verdict verdict) = verdict_other verdict
+told_other (is_told.Syntax line) = λ e. absurd (cc e)
+told_other (is_told.UnknownName line) = λ e. absurd (cc e)
+
+-- in a check it is needed for the sheet or for the certificate
+abbrev CheckAt : Stage → Type 0
+CheckAt (takes intake) = Unit {0}
+CheckAt (needs line) = (line ≡ sheet_memory_text) ⊎ (line ≡ memory_text)
+CheckAt (tells piece) = Unit {0}
+CheckAt (ends_with line status) = status ≢ Memory
+CheckAt (ends status) = status ≢ Memory
+
+check_at : (file : List ℕ) (events : List Event) (stage : Stage) → Check file events stage → CheckAt stage
+check_at file events stage (check.needs_file_memory is) = inl refl
+check_at file events stage (check.awaits_file is) = tt
+check_at file events stage (check.needs_sheet_memory text small is) = inl refl
+check_at file events stage (check.is_refused text why small has none is) = λ e. absurd (cc e)
+check_at file events stage (check.awaits_certificate text sheet small reads is) = tt
+check_at file events stage (check.needs_memory text sheet some small reads few is) = inr refl
+check_at file events stage (check.is_judged text sheet certificate what small reads few judged is) = told_other what
+
+-- ---- a run in a mode
+
+module _ (words : List (List ℕ)) (notes : Notes) where
+  module _ (request : Request) (fits : FitsWords words request) where
+    line_wants : (notes' : Notes) (events : List Event) (status : Status) → CourseIn request.mode request.budget notes events (ends status) notes' → status ≡ Memory → AtLine notes notes' → WantsMemory words notes notes' events
+    line_wants notes' events status h e at =
+        at_line request at.start at.end at.t fits (subst (λ (s : Status). CourseIn request.mode request.budget notes events (ends s) notes') e h) at.legal at.wants
+
+    clear_wants : (notes' : Notes) (events earlier : List Event) (line : List ℕ) (status : Status) → CourseIn request.mode request.budget notes earlier (ends_with line status) notes' → status ≡ Memory → events ≡ earlier ++ told line ∷ [] → AtLine notes notes' → WantsMemory words notes notes' events
+    clear_wants notes' events earlier line status h e is at =
+        at_clear request earlier line at.start at.end at.t fits (subst (λ (s : Status). CourseIn request.mode request.budget notes earlier (ends_with line s) notes') e h) is at.legal at.wants
+
+    sheet_wants : (notes' : Notes) (events earlier : List Event) (line : List ℕ) → CourseIn request.mode request.budget notes earlier (needs line) notes' → line ≡ sheet_memory_text → events ≡ earlier ++ told line ∷ [] → WantsMemory words notes notes' events
+    sheet_wants notes' events earlier line h same is =
+        at_sheet request earlier fits (subst (λ (l : List ℕ). CourseIn request.mode request.budget notes earlier (needs l) notes') same h) (is ∙ ap (λ (l : List ℕ). earlier ++ told l ∷ []) same)
+
+    cert_wants : (file : List ℕ) (notes' : Notes) (events earlier : List Event) (line : List ℕ) → request.mode ≡ checks file → notes' ≡ notes → Check file earlier (needs line) → line ≡ memory_text → events ≡ earlier ++ told line ∷ [] → WantsMemory words notes notes' events
+    cert_wants file notes' events earlier line mode none h same is =
+        at_certificate request file earlier fits mode (subst (λ (l : List ℕ). Check file earlier (needs l)) same h) (is ∙ ap (λ (l : List ℕ). earlier ++ told l ∷ []) same) none
+
+  -- at a stage: what a run that ends there, or for want of memory there, wants
+  abbrev WantsAt : Notes → List Event → Stage → Type 0
+  WantsAt notes' earlier (takes intake) = Unit {0}
+  WantsAt notes' earlier (needs line) = (events : List Event) → events ≡ earlier ++ told line ∷ [] → WantsMemory words notes notes' events
+  WantsAt notes' earlier (tells piece) = Unit {0}
+  WantsAt notes' earlier (ends_with line status) = (events : List Event) → status ≡ Memory → events ≡ earlier ++ told line ∷ [] → WantsMemory words notes notes' events
+  WantsAt notes' earlier (ends status) = status ≡ Memory → WantsMemory words notes notes' earlier
+
+  of_lines : (request : Request) → FitsWords words request → (notes' : Notes) (earlier : List Event) (stage : Stage) → CourseIn request.mode request.budget notes earlier stage notes' → At notes notes' stage → WantsAt notes' earlier stage
+  of_lines request fits notes' earlier (takes intake) h at = tt
+  of_lines request fits notes' earlier (needs line) h at = λ events is. sheet_wants request fits notes' events earlier line h at is
+  of_lines request fits notes' earlier (tells piece) h at = tt
+  of_lines request fits notes' earlier (ends_with line status) h at = λ events e is. clear_wants request fits notes' events earlier line status h e is (at e)
+  of_lines request fits notes' earlier (ends status) h at = λ e. line_wants request fits notes' earlier status h e (at e)
+
+  of_check : (file : List ℕ) (budget : ℕ) → FitsWords words (record { mode = checks file; budget = budget }) → (notes' : Notes) (earlier : List Event) (stage : Stage) → CourseIn (checks file) budget notes earlier stage notes' → CheckAt stage → WantsAt notes' earlier stage
+  of_check file budget fits notes' earlier (takes intake) h at = tt
+  of_check file budget fits notes' earlier (needs line) h at = λ events is. elim at [
+    | inl same ↦ sheet_wants (record { mode = checks file; budget = budget }) fits notes' events earlier line h same is
+    | inr same ↦ cert_wants (record { mode = checks file; budget = budget }) fits file notes' events earlier line refl h.1 h.0 same is
+  ]
+  of_check file budget fits notes' earlier (tells piece) h at = tt
+  of_check file budget fits notes' earlier (ends_with line status) h at = λ events e is. absurd (at e)
+  of_check file budget fits notes' earlier (ends status) h at = λ e. absurd (at e)
+
+  mode_wants : (mode : Mode) (budget : ℕ) → FitsWords words (record { mode = mode; budget = budget }) → (notes' : Notes) (earlier : List Event) (stage : Stage) → CourseIn mode budget notes earlier stage notes' → WantsAt notes' earlier stage
+  mode_wants replays budget fits notes' earlier stage h = of_lines (record { mode = replays; budget = budget }) fits notes' earlier stage h (replay_at budget notes notes' earlier stage h)
+  mode_wants (edits file) budget fits notes' earlier stage h = of_lines (record { mode = edits file; budget = budget }) fits notes' earlier stage h (edit_at budget file notes notes' earlier stage h)
+  mode_wants (checks file) budget fits notes' earlier stage h = of_check file budget fits notes' earlier stage h (check_at file earlier stage h.0)
+  mode_wants (demonstrates blocks) budget fits notes' earlier stage h = of_lines (record { mode = demonstrates blocks; budget = budget }) fits notes' earlier stage h (demo_at blocks budget notes notes' earlier stage h)
+
+  -- ---- the run
+
+  words_want : ¬ FitNothing words → (earlier events : List Event) → earlier ≡ [] → events ≡ earlier ++ told memory_text ∷ [] → WantsMemory words notes notes events
+  words_want some earlier events none is = at_words some (is ∙ ap (λ (es : List Event). es ++ told memory_text ∷ []) none) refl
+
+  course_wants : (events : List Event) (stage : Stage) (notes' : Notes) → Course words notes events stage notes' → WantsAt notes' events stage
+  course_wants events stage notes' (without_fit none is) = λ all e more. absurd (cc e)
+  course_wants events stage notes' (asked.needs_memory some is) = λ all more. words_want some events all is more
+  course_wants events stage notes' (as_asked request fits h) = mode_wants request.mode request.budget fits notes' events stage h
+
+  comes_wants : (events : List Event) (stage : Stage) (notes' : Notes) → Comes (Course words notes) events stage notes' → WantsAt notes' events stage
+  comes_wants events stage notes' (on_course h) = course_wants events stage notes' h
+  comes_wants events stage notes' (past_limit before intake event h passes is) = λ all e more. absurd (cc e)
+  comes_wants events stage notes' (without_memory line h) = λ all e more. course_wants events (needs line) notes' h all more
+
+  run_wants : (events : List Event) (status : Status) (notes' : Notes) → Run (Course words notes) events status notes' → status ≡ Memory → WantsMemory words notes notes' events
+  run_wants events status notes' (ended h) e = comes_wants events (ends status) notes' h e
+  run_wants events status notes' (ended_with before line h is) e = comes_wants before (ends_with line status) notes' h events e is
+  run_wants events status notes' (read_failed before intake begun h can is) e = absurd (cc e)
+  run_wants events status notes' (read_failed_at_file before name h is) e = absurd (cc e)
+  run_wants events status notes' (write_failed before stage piece count h telling is) e = absurd (cc e)
+
+pub memories : MemoryIsWanted
+memories words status notes notes' before after runs e = run_wants words notes runs.2.events status notes' runs.2.run e
