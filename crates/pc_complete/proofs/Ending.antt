@@ -31,7 +31,7 @@ use Rattle.pc_complete.specs.Runs.{IsOfCommands, IsFaultless, IsAnswered, Faultl
 abbrev IsAllTaken : List Event → Type 0
 IsAllTaken events = (before : List Event) × (events ≡ before ++ took_rest [] ∷ [])
 
-abbrev IsOfLines : Status → Type 0
+abbrev pub IsOfLines : Status → Type 0
 IsOfLines status = ((status ≡ Done) ⊎ (status ≡ SomeRefused)) ⊎ (status ≡ Memory)
 
 -- A course ends with all of the input, by a status of lines; or its last piece refuses the sheet.
@@ -47,7 +47,7 @@ behind first events (takes intake) goes = tt
 behind first events (needs line) goes = tt
 behind first events (tells piece) goes = tt
 
-worse_is : (no_memory refused : Bool) → IsOfLines (worse_of no_memory refused)
+pub worse_is : (no_memory refused : Bool) → IsOfLines (worse_of no_memory refused)
 worse_is true refused = inr refl
 worse_is false true = inl (inr refl)
 worse_is false false = inl (inl refl)
@@ -156,7 +156,7 @@ mode_goes (demonstrates blocks) budget notes of events stage notes' c = absurd o
 
 module _ (one : WordsFitOneRequest) (words : List (List ℕ)) (request : Request) (fits : FitsWords words request) (notes : Notes) where
   -- what is so where nothing has happened and memory is needed, and on the course in the mode, is so by words that fit
-  by_words : {P : List Event → Stage → Type 0} → P [] (needs memory_text) → ((events : List Event) (stage : Stage) (notes' : Notes) → CourseIn request.mode request.budget notes events stage notes' → P events stage)
+  pub by_words : {P : List Event → Stage → Type 0} → P [] (needs memory_text) → ((events : List Event) (stage : Stage) (notes' : Notes) → CourseIn request.mode request.budget notes events stage notes' → P events stage)
       → (events : List Event) (stage : Stage) (notes' : Notes) → asked.Course words notes events stage notes' → P events stage
   by_words {P} start mode events stage notes' (asked.without_fit none is) = absurd (none request fits)
   by_words {P} start mode events stage notes' (asked.needs_memory fit is) = subst (λ (es : List Event). P es (needs memory_text)) (sym is) start

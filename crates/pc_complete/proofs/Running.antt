@@ -39,7 +39,7 @@ module _ {N : Type 0} (C D : List Event → Stage → N → Type 0) (to : (event
   ran_to most status notes before after r = record { events = r.events; run = run_to r.events status notes r.run; spare = r.spare; is_spare = r.is_spare; happened = r.happened }
 
 -- words that fit give a budget
-some_budget : (words : List (List ℕ)) (request : Request) → FitsWords words request → 1 ≤ request.budget
+pub some_budget : (words : List (List ℕ)) (request : Request) → FitsWords words request → 1 ≤ request.budget
 some_budget words request (inl fit) = let same = fit.1 in omega (arith, same)
 some_budget words request (inr fit) = fit.budget.2.some
 

@@ -1,7 +1,8 @@
 -- What a run says of lines and sheets for which its budget is enough, and how runs of commands end.
-use Rattle.std.specs.Prelude.{◌≡◌, ◌≢◌, ℕ, ◌⊎◌, List, []}
+use Rattle.std.specs.Prelude.{◌≡◌, ◌≢◌, ℕ, ◌⊎◌, List, [], Some}
 use Rattle.std.specs.Io.KnownBytes.{IsAtEnd}
 use Rattle.pc_port.specs.Port.{Rose}
+use Rattle.pc_port.specs.Shelf.{Files, file_named}
 use Rattle.pc_words.specs.Words.{Mode, replays, edits, checks, demonstrates, Request, FitsWords, FitNothing}
 use Rattle.pc_refusals.specs.declared.status.Status.{Status}
 use Rattle.pc_refusals.specs.declared.status.Status.TheVariants.{Done, SomeRefused, SheetRefused, Memory, TooLong, Usage}
@@ -10,10 +11,10 @@ use Rattle.pc_course.specs.Events.{Outside, Event}
 use Rattle.pc_course.specs.Stages.{Stage, needs, ends_with}
 use Rattle.pc_course.specs.Runs.{Ran}
 use Rattle.pc_transcript.specs.Course.{Replay, Edit}
-use Rattle.pc_spreadsheet.specs.Judgement.{Starts}
+use Rattle.pc_spreadsheet.specs.Judgement.{State, Starts}
 use Rattle.pc_spreadsheet.specs.Allowed.{Notes}
 use Rattle.pc_replay.specs.Course.{usage_text, CourseIn, IsMostAhead, Runs}
-use Rattle.pc_complete.specs.Complete.{AllowsInFull, RefusesInFull}
+use Rattle.pc_complete.specs.Complete.{AllowsInFull, RefusesInFull, HasEnoughFor}
 
 -- The course in a mode, where of a run of commands the sheet and each line are told as they are judged, if the budget is enough for them.
 abbrev pub CourseInFull : Mode → ℕ → Notes → (List Event → Stage → Notes → Type 0)
@@ -59,3 +60,9 @@ abbrev pub FaultlessRunsAreAnswered : Type 0
 FaultlessRunsAreAnswered =
     (words : List (List ℕ)) (request : Request) (status : Status) (notes notes' : Notes) (before after : Outside) → FitsWords words request → IsOfCommands request.mode → Runs words status notes notes' before after → IsFaultless before after
     → status ≢ TooLong → status ≢ SheetRefused → IsAnswered status after
+
+-- So ends each run that edits a file, without a fault, where nothing was too long, whose text starts a run and has budget enough for its sheet.
+abbrev pub RunsOfEnoughAreAnswered : Type 0
+RunsOfEnoughAreAnswered =
+    (words : List (List ℕ)) (file text : List ℕ) (budget : ℕ) (files : Files) (state : State) (status : Status) (notes notes' : Notes) (before after : Outside) → FitsWords words record { mode = edits file; budget = budget }
+    → before.kept ≡ Some files → file_named file files ≡ Some text → Starts budget text state → HasEnoughFor budget text → Runs words status notes notes' before after → IsFaultless before after → status ≢ TooLong → IsAnswered status after

@@ -1,7 +1,7 @@
 //! Laws over the definitions, each the contract of a function that does nothing.
 ghost use Rattle.pc_complete.specs.Enough.{CallsSpendTooLittle};
 ghost use Rattle.pc_complete.specs.Complete.{LinesAreAnsweredInFull, TextsAreRefusedInFull, TextsOfEnoughAreOpened, TranscriptsAreInFull};
-ghost use Rattle.pc_complete.specs.Runs.{FaultlessRunsAreAnswered, RunsAreInFull};
+ghost use Rattle.pc_complete.specs.Runs.{FaultlessRunsAreAnswered, RunsAreInFull, RunsOfEnoughAreAnswered};
 ghost use Rattle.pc_complete.specs.Worked.{NoVerdictIsSpent, WorkedBudgets};
 
 use pc_sheet::cells_are_numbered_in_order;
@@ -59,6 +59,16 @@ pub fn faultless_runs_are_answered()
     ensures { FaultlessRunsAreAnswered }
 {
     words_fit_one_request();
+}
+
+/// A run that edits a file from whose text a run starts, with budget enough for that, in which no device was at fault and
+/// nothing was too long, is answered to the end of its input, or memory was wanting.
+pub fn runs_of_enough_are_answered()
+    ensures { RunsOfEnoughAreAnswered }
+{
+    words_fit_one_request();
+    texts_are_refused_in_full();
+    faultless_runs_are_answered();
 }
 
 /// What is enough for small sheets; and no verdict on a line is that its search spent the budget.

@@ -5,6 +5,6 @@ mod law;
 
 pub use law::{
     budgets_are_worked, calls_spend_too_little, faultless_runs_are_answered,
-    lines_are_answered_in_full, runs_are_in_full, texts_are_refused_in_full,
-    transcripts_are_in_full,
+    lines_are_answered_in_full, runs_are_in_full, runs_of_enough_are_answered,
+    texts_are_refused_in_full, transcripts_are_in_full,
 };
