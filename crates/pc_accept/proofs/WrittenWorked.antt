@@ -5,7 +5,7 @@ use Rattle.pc_laws.specs.Examples.{red, green, entry, equal_cells}
 use Rattle.pc_accept.specs.Literals.{Literal, positive}
 use Rattle.pc_accept.specs.Axioms.{negated_entry, pair_of}
 use Rattle.pc_accept.specs.Examples.{WorkedWritable}
-use Rattle.pc_accept.specs.Writable.{IsSymbolOf, IsPathOf}
+use Rattle.pc_accept.specs.Writable.{IsSymbolOf, IsPathOf, IsSetOf}
 use Rattle.std.proofs.lemmas.List.Elements.{All-nil, All-cons}
 
 root : IsPathOf equal_cells 0 []
@@ -17,12 +17,14 @@ used = All-cons (IsEntryOf equal_cells.universe) (entry 0 red) [] (omega arith) 
 pub worked_writable : WorkedWritable
 worked_writable = record {
   written = record {
-    claim = omega arith;
+    claim = (refl, omega arith);
+    sets = All-nil (IsSetOf equal_cells);
     uses = used;
     values = All-cons (IsEntryOf equal_cells.universe) (entry 0 red) (entry 1 red ∷ []) (omega arith)
         (All-cons (IsEntryOf equal_cells.universe) (entry 1 red) [] (omega arith) (All-nil (IsEntryOf equal_cells.universe)));
     lines = (omega arith, ((root, reads), (omega arith, ((symbols, hints), tt))));
     few = omega arith;
+    few_sets = omega arith;
   };
   no_such_cell = λ h. h.uses 0 (entry 2 red) (omega arith);
   later_hint = λ h. let below = h.lines.1.1.1.0.1 2 0 (omega arith) in absurd (omega (arith, below));

@@ -151,7 +151,7 @@ abbrev pub refuting : List Line
 refuting = taken (axiom_rule 0) ∷ taken (axiom_atom 0 [] []) ∷ derived [] (0 ∷ 1 ∷ []) ∷ []
 
 abbrev pub refutation : List Line → Certificate
-refutation lines = record { claim = inconsistent; uses = []; values = []; lines = lines }
+refutation lines = record { claim = inconsistent; sets = []; uses = []; values = []; lines = lines }
 
 pub record WorkedRefutation : Type 0 where
   pub accepted : Accepts never (refutation refuting)
