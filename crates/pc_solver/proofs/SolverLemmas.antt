@@ -111,7 +111,7 @@ pub answered : DerivationsAreSound → (s n : SearchView) (p q : Tally) (log gro
     → EndSays n assumed grown q o → AnswerSays (seen_as n.trail.variables n.clauses (literals n.trail.entries)) assumed grown q o
 answered law s n p q log grown assumed k m Sat h is are says = found_meets n.clauses n.trail.variables n.trail.entries assumed is.over_own are.different says.0 says.1
 answered law s n p q log grown assumed k m (Unsat id) h is are says =
-    (says.1.0, rw says.1.1 says.2, none_meets law n.clauses grown id says.0 assumed h.logged says.1 says.2)
+    (says.1.0, rw says.1.1 says.2, none_meets law n.clauses grown id says.0 assumed h.logged says.1 says.2, says.3)
 answered law s n p q log grown assumed k m Spent h is are says = says
 answered law s n p q log grown assumed k m Memory h is are says = tt
 

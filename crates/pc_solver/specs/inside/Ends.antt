@@ -23,7 +23,7 @@ use Rattle.pc_solver.specs.declared.decisions.Next.TheVariants.{Place, Failed, D
 use Rattle.pc_solver.specs.declared.outcome.Outcome.{Outcome}
 use Rattle.pc_solver.specs.declared.outcome.Outcome.TheVariants.{Sat, Unsat, Spent, Memory}
 use Rattle.pc_solver.specs.Clauses.{ClausesView, IsGiven}
-use Rattle.pc_solver.specs.InLog.{StandsInLog}
+use Rattle.pc_solver.specs.InLog.{StandsInLog, IsLastStep}
 use Rattle.pc_solver.specs.inside.Search.{SearchView, AreTrue, Advances, IsUnderWay}
 
 -- each used axiom and each block has a literal that is true by the entries
@@ -33,7 +33,7 @@ AreMet c entries = (r : ClauseRef) → IsGiven c r → (m : Lit) × Contains (cl
 -- what a search that ends says of its clauses, entries and log
 abbrev pub EndSays : SearchView → List Lit → List LogLine → Tally → Outcome → Type 0
 EndSays s assumed log tally Sat = AreMet s.clauses s.trail.entries × AreTrue s.trail.entries assumed
-EndSays s assumed log tally (Unsat id) = (clause : List Lit) × StandsInLog s.clauses.axioms log id clause × IsOverNegated assumed clause
+EndSays s assumed log tally (Unsat id) = (clause : List Lit) × StandsInLog s.clauses.axioms log id clause × IsOverNegated assumed clause × IsLastStep log id
 EndSays s assumed log tally Spent = tally.placed ≡ tally.limit
 EndSays s assumed log tally Memory = Unit {0}
 
@@ -87,9 +87,9 @@ IsUnsat (Some (Unsat id)) P = P id
 IsUnsat (Some Spent) P = ⊥
 IsUnsat (Some Memory) P = ⊥
 
--- the search ended with a line whose clause is within the negated assumptions
+-- the search ended with a step whose clause is within the negated assumptions
 abbrev pub Refutes : SearchView → List Lit → List LogLine → Option Outcome → Type 0
-Refutes s assumed log ended = IsUnsat ended (λ id. (clause : List Lit) × StandsInLog s.clauses.axioms log id clause × IsOverNegated assumed clause)
+Refutes s assumed log ended = IsUnsat ended (λ id. (clause : List Lit) × StandsInLog s.clauses.axioms log id clause × IsOverNegated assumed clause × IsLastStep log id)
 
 -- After a clause was learned: its literal has no value and is the last one that isn't false, or the trail is quiet.
 abbrev pub LearntSays : SearchView → Learnt → Type 0

@@ -32,7 +32,7 @@ pub returns-clause-refutes : goal.returns-clause-refutes
 returns-clause-refutes c =
     let among = decisions_assumed c.args.assumed.now c.args.self.now.trail.entries c.args.failed c.recall.ensures.entries.different c.requires.under_way.first c.requires.failed.0 c.requires.failed.1 in
     refutes c.refute.new.self c.args.assumed.now c.refute.new.log c.in_ok-last.last.clause.items c.refute.result
-    (c.in_ok-last.ensures.only c.args.assumed.now c.requires.failed.0 (subst (λ (s : SearchView). AreDecisionsAmong s.trail.entries c.args.assumed.now) (sym c.self.view_is) among)) c.refute.ensures.unsat
+    (c.in_ok-last.ensures.only c.args.assumed.now c.requires.failed.0 (subst (λ (s : SearchView). AreDecisionsAmong s.trail.entries c.args.assumed.now) (sym c.self.view_is) among)) c.refute.ensures.unsat c.refute.ensures.step
 
 pub returns-in_err-last-clause-err : goal.returns-in_err-last-clause-err
 returns-in_err-last-clause-err c = on_err c.from_residual.result (logs_none c.args.self.now c.args.log.now c.requires.under_way.logged)

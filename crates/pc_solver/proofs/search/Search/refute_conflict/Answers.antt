@@ -34,7 +34,7 @@ pub refute-requires-clause-over_own : goal.refute-requires-clause-over_own
 refute-requires-clause-over_own c = nothing_over c.args.self.now.clauses.own c.in_ok-last.last.clause.items c.in_ok-last.ensures.empty
 
 pub returns-clause-refutes : goal.returns-clause-refutes
-returns-clause-refutes c = refutes c.refute.new.self c.args.assumed.now c.refute.new.log c.in_ok-last.last.clause.items c.refute.result (over_nothing c.args.assumed.now c.in_ok-last.last.clause.items c.in_ok-last.ensures.empty) c.refute.ensures.unsat
+returns-clause-refutes c = refutes c.refute.new.self c.args.assumed.now c.refute.new.log c.in_ok-last.last.clause.items c.refute.result (over_nothing c.args.assumed.now c.in_ok-last.last.clause.items c.in_ok-last.ensures.empty) c.refute.ensures.unsat c.refute.ensures.step
 
 pub returns-in_err-last-clause-err : goal.returns-in_err-last-clause-err
 returns-in_err-last-clause-err c = on_err c.from_residual.result (logs_none c.args.self.now c.args.log.now c.requires.under_way.logged)
