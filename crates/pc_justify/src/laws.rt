@@ -1,6 +1,6 @@
 //! From the lines of a log to accepted certificates.
 
-ghost use Rattle.pc_justify.specs.Laws.{NamedLinesDerive, NamesAreOfTheirSheet, OwnLinesAreNamed, TrimmedLinesJustify, TrimmedLinesRefute};
+ghost use Rattle.pc_justify.specs.Laws.{NamedLinesDerive, NamesAreOfTheirSheet, OwnLinesAreNamed, OwnLinesAreNamedBeside, TrimmedLinesAreAgainst, TrimmedLinesDeriveBeside, TrimmedLinesJustify, TrimmedLinesRefute};
 
 use pc_ground::laws::{
     clauses_are_of_axioms, pairs_are_variables, symbols_are_variables, variables_have_their_places,
@@ -24,6 +24,13 @@ pub fn own_lines_are_named()
     variables_have_their_places();
 }
 
+/// In a log whose blocks are numbered below a bound and whose steps are over variables of the sheet each line has names.
+pub fn own_lines_are_named_beside()
+    ensures { OwnLinesAreNamedBeside }
+{
+    variables_have_their_places();
+}
+
 /// A line that derives a target from its least support justifies the target, once it is trimmed.
 pub fn trimmed_lines_justify()
     ensures { TrimmedLinesJustify }
@@ -42,6 +49,29 @@ pub fn trimmed_lines_refute()
 {
     clauses_are_of_axioms();
     symbols_are_variables();
+    variables_have_their_places();
+    trimming_keeps_derivations();
+    accepted_are_writable();
+}
+
+/// A line with the empty clause derives it beside the clauses that the log's blocks are, once it is trimmed.
+pub fn trimmed_lines_derive_beside()
+    ensures { TrimmedLinesDeriveBeside }
+{
+    clauses_are_of_axioms();
+    symbols_are_variables();
+    variables_have_their_places();
+    trimming_keeps_derivations();
+    accepted_are_writable();
+}
+
+/// A line whose clause lies within negated entries makes an accepted derivation against a rule, once it is trimmed.
+pub fn trimmed_lines_are_against()
+    ensures { TrimmedLinesAreAgainst }
+{
+    clauses_are_of_axioms();
+    symbols_are_variables();
+    pairs_are_variables();
     variables_have_their_places();
     trimming_keeps_derivations();
     accepted_are_writable();

@@ -7,6 +7,7 @@
 mod laws;
 
 pub use laws::{
-    named_lines_derive, names_are_of_their_sheet, own_lines_are_named, trimmed_lines_justify,
+    named_lines_derive, names_are_of_their_sheet, own_lines_are_named, own_lines_are_named_beside,
+    trimmed_lines_are_against, trimmed_lines_derive_beside, trimmed_lines_justify,
     trimmed_lines_refute,
 };

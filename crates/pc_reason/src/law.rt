@@ -1,6 +1,6 @@
 // Laws over the definitions, each the contract of a function that does nothing.
 ghost use Rattle.pc_reason.specs.Shows.{JustificationsShowSupports};
-ghost use Rattle.pc_reason.specs.Written.{AcceptedReasonsAreWritable, AcceptedRefutationsAreWritable};
+ghost use Rattle.pc_reason.specs.Written.{AcceptedReasonsAreWritable, AcceptedRefutationsAreWritable, DerivedLinesAreWritable};
 
 /// What justifies a target is its least support with an assignment that fits and has it.
 pub fn justifications_show_supports()
@@ -11,4 +11,5 @@ pub fn justifications_show_supports()
 pub fn accepted_are_writable()
     ensures reasons { AcceptedReasonsAreWritable }
     ensures refutations { AcceptedRefutationsAreWritable }
+    ensures lines { DerivedLinesAreWritable }
 {}
