@@ -1,76 +1,33 @@
 -- Lines that are added to what was read.
-use Rattle.std.proofs.Common.{◌≡◌, ◌↔◌, ℕ, suc, ◌+◌, ◌<◌, inl, inr, Bool, true, false, Result, Ok, Err, IfOk, MatchBool, Option, Some, None, List, [], ◌∷◌, ◌++◌, map, length, if◌then◌else◌, ◌≤◌, append_assoc, refl, ap, sym, ◌∙◌, subst, arith}
+use Rattle.std.proofs.Common.{◌≡◌, ◌↔◌, ℕ, suc, ◌+◌, ◌<◌, ◌⊎◌, inl, inr, Bool, true, false, Result, Ok, Err, IfOk, MatchBool, Option, Some, None, List, [], ◌∷◌, ◌++◌, map, length, if◌then◌else◌, ◌≤◌, ◌==◌, append_assoc, refl, ap, ap₂, sym, ◌∙◌, subst, arith}
 use Rattle.std.specs.Option.{option_map, option_or}
 use Rattle.std.proofs.lemmas.List.{map-append, append-nil}
-use Rattle.std.specs.Prelude.{Vec}
+use Rattle.std.specs.Prelude.{Vec, vec_len}
 use Rattle.std.specs.declared.alloc.Global.{Global}
 use Rattle.pc_cert.specs.declared.cert.Said.{Said}
+use Rattle.pc_cert.specs.declared.cert.SaidSet.{SaidSet}
 use Rattle.pc_sheet.specs.Sheet.{Sheet}
 use Rattle.pc_sheet.specs.declared.ids.Entry.{Entry}
 use Rattle.pc_accept.specs.Literals.{Symbol}
-use Rattle.pc_cert.specs.Written.{nothing, heading, claims, claims_inconsistent, uses, assigns, derives, ends, WrittenPair, WrittenPart, derived, SaidLine}
-use Rattle.pc_cert.specs.Meaning.{IsPairNamed, IsSaidLine}
-use Rattle.pc_cert.specs.Text.{claim_in, uses_from, values_from, after_from, parts_from, has_entry}
-use Rattle.pc_cert.specs.Views.{claim_of, said_of, literal_of, place_of, part_of, numbered_part_of, places_in, places_of, AppearInOrder}
+use Rattle.pc_accept.specs.Accepts as accepts
+use Rattle.pc_cert.specs.Written.{nothing, heading, claims, begins, uses, assigns, derives, ends, WrittenPair, WrittenClaim, WrittenPart, CertificatePart, derived, SaidLine}
+use Rattle.pc_cert.specs.Meaning.{IsPairNamed, IsPartNamed, IsClaimNamed, IsSaidLine}
+use Rattle.pc_cert.specs.Order.{kind_of, sets_in}
+use Rattle.pc_cert.specs.Text.{SetReading, claim_in, in_front, sets_from, uses_from, values_from, has_entry, has_claim_or_entry, after_from, parts_from}
+use Rattle.pc_cert.specs.Views.{claim_of, set_of, said_of, literal_of, place_of, part_of, numbered_part_of, places_in, places_of, AppearInOrder}
 use Rattle.pc_cert.specs.Numbered.{StartsWith, AreSymbolNumbers, IsPartTaken}
 use Rattle.pc_cert.specs.Gathered.{IsGathered, IsSaidNext, AddsLine}
 use Rattle.pc_cert.specs.declared.cert.Claim.{Claim}
 use Rattle.pc_cert.specs.declared.cert.CertLine.{CertLine}
 use Rattle.pc_cert.specs.declared.cert.CertPart.{CertPart}
-use Rattle.pc_cert.specs.declared.cert.CertPart.TheVariants.{Axiom, Step}
+use Rattle.pc_cert.specs.declared.cert.CertPart.TheVariants.{Axiom, Step, Block}
 use Rattle.pc_cert.specs.declared.draft.Draft.{Draft}
 use Rattle.pc_cert.specs.declared.table.Table.{Table}
 use Rattle.pc_lits.specs.declared.literal.Lit.{Lit}
 use Rattle.pc_cert.proofs.Numbered.{appear_on, literal_still}
-use Rattle.pc_accept.specs.Accepts as accepts
-
-uses_on : (n : ℕ) (ls : List SaidLine) (l : SaidLine) → uses_from n (ls ++ l ∷ []) ≡ uses_from n ls ++ uses_from (n + length ls) (l ∷ [])
-uses_on n [] l = ap (λ m. uses_from m (l ∷ [])) (let e : n ≡ n + 0 = omega arith in e)
-uses_on n (nothing ∷ ls) l = uses_on (n + 1) ls l ∙ ap (λ m. uses_from (n + 1) ls ++ uses_from m (l ∷ [])) (let e : n + 1 + length ls ≡ n + suc (length ls) = omega arith in e)
-uses_on n (heading ∷ ls) l = uses_on (n + 1) ls l ∙ ap (λ m. uses_from (n + 1) ls ++ uses_from m (l ∷ [])) (let e : n + 1 + length ls ≡ n + suc (length ls) = omega arith in e)
-uses_on n ((claims e holds) ∷ ls) l = uses_on (n + 1) ls l ∙ ap (λ m. uses_from (n + 1) ls ++ uses_from m (l ∷ [])) (let e : n + 1 + length ls ≡ n + suc (length ls) = omega arith in e)
-uses_on n (claims_inconsistent ∷ ls) l = uses_on (n + 1) ls l ∙ ap (λ m. uses_from (n + 1) ls ++ uses_from m (l ∷ [])) (let e : n + 1 + length ls ≡ n + suc (length ls) = omega arith in e)
-uses_on n ((uses e) ∷ ls) l = ap (λ xs. (n, e) ∷ xs) (uses_on (n + 1) ls l ∙ ap (λ m. uses_from (n + 1) ls ++ uses_from m (l ∷ [])) (let e : n + 1 + length ls ≡ n + suc (length ls) = omega arith in e))
-uses_on n ((assigns e) ∷ ls) l = uses_on (n + 1) ls l ∙ ap (λ m. uses_from (n + 1) ls ++ uses_from m (l ∷ [])) (let e : n + 1 + length ls ≡ n + suc (length ls) = omega arith in e)
-uses_on n ((derives k p) ∷ ls) l = uses_on (n + 1) ls l ∙ ap (λ m. uses_from (n + 1) ls ++ uses_from m (l ∷ [])) (let e : n + 1 + length ls ≡ n + suc (length ls) = omega arith in e)
-uses_on n (ends ∷ ls) l = uses_on (n + 1) ls l ∙ ap (λ m. uses_from (n + 1) ls ++ uses_from m (l ∷ [])) (let e : n + 1 + length ls ≡ n + suc (length ls) = omega arith in e)
-
-values_on : (n : ℕ) (ls : List SaidLine) (l : SaidLine) → values_from n (ls ++ l ∷ []) ≡ values_from n ls ++ values_from (n + length ls) (l ∷ [])
-values_on n [] l = ap (λ m. values_from m (l ∷ [])) (let e : n ≡ n + 0 = omega arith in e)
-values_on n (nothing ∷ ls) l = values_on (n + 1) ls l ∙ ap (λ m. values_from (n + 1) ls ++ values_from m (l ∷ [])) (let e : n + 1 + length ls ≡ n + suc (length ls) = omega arith in e)
-values_on n (heading ∷ ls) l = values_on (n + 1) ls l ∙ ap (λ m. values_from (n + 1) ls ++ values_from m (l ∷ [])) (let e : n + 1 + length ls ≡ n + suc (length ls) = omega arith in e)
-values_on n ((claims e holds) ∷ ls) l = values_on (n + 1) ls l ∙ ap (λ m. values_from (n + 1) ls ++ values_from m (l ∷ [])) (let e : n + 1 + length ls ≡ n + suc (length ls) = omega arith in e)
-values_on n (claims_inconsistent ∷ ls) l = values_on (n + 1) ls l ∙ ap (λ m. values_from (n + 1) ls ++ values_from m (l ∷ [])) (let e : n + 1 + length ls ≡ n + suc (length ls) = omega arith in e)
-values_on n ((uses e) ∷ ls) l = values_on (n + 1) ls l ∙ ap (λ m. values_from (n + 1) ls ++ values_from m (l ∷ [])) (let e : n + 1 + length ls ≡ n + suc (length ls) = omega arith in e)
-values_on n ((assigns e) ∷ ls) l = ap (λ xs. (n, e) ∷ xs) (values_on (n + 1) ls l ∙ ap (λ m. values_from (n + 1) ls ++ values_from m (l ∷ [])) (let e : n + 1 + length ls ≡ n + suc (length ls) = omega arith in e))
-values_on n ((derives k p) ∷ ls) l = values_on (n + 1) ls l ∙ ap (λ m. values_from (n + 1) ls ++ values_from m (l ∷ [])) (let e : n + 1 + length ls ≡ n + suc (length ls) = omega arith in e)
-values_on n (ends ∷ ls) l = values_on (n + 1) ls l ∙ ap (λ m. values_from (n + 1) ls ++ values_from m (l ∷ [])) (let e : n + 1 + length ls ≡ n + suc (length ls) = omega arith in e)
-
-parts_on : (n : ℕ) (ls : List SaidLine) (l : SaidLine) → parts_from n (ls ++ l ∷ []) ≡ parts_from n ls ++ parts_from (n + length ls) (l ∷ [])
-parts_on n [] l = ap (λ m. parts_from m (l ∷ [])) (let e : n ≡ n + 0 = omega arith in e)
-parts_on n (nothing ∷ ls) l = parts_on (n + 1) ls l ∙ ap (λ m. parts_from (n + 1) ls ++ parts_from m (l ∷ [])) (let e : n + 1 + length ls ≡ n + suc (length ls) = omega arith in e)
-parts_on n (heading ∷ ls) l = parts_on (n + 1) ls l ∙ ap (λ m. parts_from (n + 1) ls ++ parts_from m (l ∷ [])) (let e : n + 1 + length ls ≡ n + suc (length ls) = omega arith in e)
-parts_on n ((claims e holds) ∷ ls) l = parts_on (n + 1) ls l ∙ ap (λ m. parts_from (n + 1) ls ++ parts_from m (l ∷ [])) (let e : n + 1 + length ls ≡ n + suc (length ls) = omega arith in e)
-parts_on n (claims_inconsistent ∷ ls) l = parts_on (n + 1) ls l ∙ ap (λ m. parts_from (n + 1) ls ++ parts_from m (l ∷ [])) (let e : n + 1 + length ls ≡ n + suc (length ls) = omega arith in e)
-parts_on n ((uses e) ∷ ls) l = parts_on (n + 1) ls l ∙ ap (λ m. parts_from (n + 1) ls ++ parts_from m (l ∷ [])) (let e : n + 1 + length ls ≡ n + suc (length ls) = omega arith in e)
-parts_on n ((assigns e) ∷ ls) l = parts_on (n + 1) ls l ∙ ap (λ m. parts_from (n + 1) ls ++ parts_from m (l ∷ [])) (let e : n + 1 + length ls ≡ n + suc (length ls) = omega arith in e)
-parts_on n ((derives k p) ∷ ls) l = ap (λ xs. (n, p) ∷ xs) (parts_on (n + 1) ls l ∙ ap (λ m. parts_from (n + 1) ls ++ parts_from m (l ∷ [])) (let e : n + 1 + length ls ≡ n + suc (length ls) = omega arith in e))
-parts_on n (ends ∷ ls) l = parts_on (n + 1) ls l ∙ ap (λ m. parts_from (n + 1) ls ++ parts_from m (l ∷ [])) (let e : n + 1 + length ls ≡ n + suc (length ls) = omega arith in e)
-
-after_on : (n d : ℕ) (ls : List SaidLine) (l : SaidLine) → after_from n d (ls ++ l ∷ []) ≡ (if has_entry l then n + length ls + 1 else after_from n d ls)
-after_on n d [] l = ap (λ m. if has_entry l then m else d) (let e : n + 1 ≡ n + 0 + 1 = omega arith in e)
-after_on n d (m ∷ ls) l = after_on (n + 1) (if has_entry m then n + 1 else d) ls l ∙ ap (λ k. if has_entry l then k else after_from (n + 1) (if has_entry m then n + 1 else d) ls) (let e : n + 1 + length ls + 1 ≡ n + suc (length ls) + 1 = omega arith in e)
-
-claim_on : (ls : List SaidLine) (l : SaidLine) → claim_in (ls ++ l ∷ []) ≡ option_or (claim_in ls) (claim_in (l ∷ []))
-claim_on [] l = refl
-claim_on (nothing ∷ ls) l = claim_on ls l
-claim_on (heading ∷ ls) l = claim_on ls l
-claim_on ((claims e holds) ∷ ls) l = refl
-claim_on (claims_inconsistent ∷ ls) l = refl
-claim_on ((uses e) ∷ ls) l = claim_on ls l
-claim_on ((assigns e) ∷ ls) l = claim_on ls l
-claim_on ((derives k p) ∷ ls) l = claim_on ls l
-claim_on (ends ∷ ls) l = claim_on ls l
+use Rattle.pc_cert.proofs.Words.{false_no_true}
+use Rattle.pc_cert.proofs.Ordered.{numbers_equal}
+use Rattle.pc_cert.proofs.Grown.{uses_on, values_on, parts_on, after_on, claim_on, BeginsNone, Quiet, plain_claim, plain_use, plain_value, set_over, made, grown, fresh, within, begun, sets_counted, quiet_grown, none_or_last, no_last}
 
 or_none : {A : Type 0} (o : Option A) → option_or o None ≡ o
 or_none None = refl
@@ -83,74 +40,206 @@ mapped_or f (Some x) q = refl
 pushed : {A B : Type 0} (f : A → B) (xs : List A) (x : A) (now : List A) → now ≡ xs ++ x ∷ [] → map f now ≡ map f xs ++ f x ∷ []
 pushed f xs x now e = ap (map f) e ∙ map-append f xs (x ∷ [])
 
+nothing_more : {A : Type 0} (xs : List A) → xs ≡ xs ++ []
+nothing_more xs = sym (append-nil xs)
+
+-- how many sets began is how many were gathered
+pub gathered_sets : (ls : List SaidLine) (d : Draft) (n : ℕ) → IsGathered ls d → n ≡ vec_len d.sets → n ≡ sets_in (map kind_of ls)
+gathered_sets ls d n g is = is ∙ d.sets.ok.0 ∙ lengths d.sets.items ∙ ap length g.sets ∙ sets_counted 1 ls
+  where
+    lengths : (xs : List SaidSet) → length xs ≡ length (map set_of xs)
+    lengths [] = refl
+    lengths (x ∷ xs) = ap suc (lengths xs)
+
+-- ---- one line more
+
 module _ (ls : List SaidLine) (old new : Draft) (number : ℕ) (g : IsGathered ls old) (at : number ≡ length ls + 1) (l : SaidLine) where
   here : 1 + length ls ≡ number
   here = omega (arith, at)
 
-  gathered : option_map claim_of new.claim ≡ option_or (option_map claim_of old.claim) (claim_in (l ∷ [])) → map said_of new.uses.items ≡ map said_of old.uses.items ++ uses_from number (l ∷ [])
-      → map said_of new.values.items ≡ map said_of old.values.items ++ values_from number (l ∷ []) → new.after ≡ (if has_entry l then number + 1 else old.after)
-      → map (numbered_part_of new.table.names) new.lines.items ≡ map (numbered_part_of old.table.names) old.lines.items ++ parts_from number (l ∷ [])
-      → AppearInOrder 0 (places_of new.lines.items) (length new.table.names) → AreSymbolNumbers new.table → IsGathered (ls ++ l ∷ []) new
-  gathered claim used valued after parted appear kept = record {
-    claim = claim ∙ ap (λ o. option_or o (claim_in (l ∷ []))) g.claim ∙ sym (claim_on ls l);
-    uses = used ∙ ap (λ xs. xs ++ uses_from number (l ∷ [])) g.uses ∙ ap (λ n. uses_from 1 ls ++ uses_from n (l ∷ [])) (sym here) ∙ sym (uses_on 1 ls l);
-    values = valued ∙ ap (λ xs. xs ++ values_from number (l ∷ [])) g.values ∙ ap (λ n. values_from 1 ls ++ values_from n (l ∷ [])) (sym here) ∙ sym (values_on 1 ls l);
-    after = after ∙ ap (λ a. if has_entry l then number + 1 else a) g.after ∙ ap (λ n. if has_entry l then n + 1 else after_from 1 0 ls) (sym here) ∙ sym (after_on 1 0 ls l);
-    parts = parted ∙ ap (λ xs. xs ++ parts_from number (l ∷ [])) g.parts ∙ ap (λ n. parts_from 1 ls ++ parts_from n (l ∷ [])) (sym here) ∙ sym (parts_on 1 ls l);
-    appear = appear;
-    kept = kept;
-  }
+  -- what every line may change
+  record Changes : Type 0 where
+    claim : option_map claim_of new.claim ≡ option_or (option_map claim_of old.claim) (claim_in (l ∷ []))
+    parts : map (numbered_part_of new.table.names) new.lines.items ≡ map (numbered_part_of old.table.names) old.lines.items ++ parts_from number (l ∷ [])
+    appear : AppearInOrder 0 (places_of new.lines.items) (length new.table.names)
+    kept : AreSymbolNumbers new.table
+
+  claimed_on : Changes → option_map claim_of new.claim ≡ claim_in (ls ++ l ∷ [])
+  claimed_on c = c.claim ∙ ap (λ o. option_or o (claim_in (l ∷ []))) g.claim ∙ sym (claim_on ls l)
+
+  parted_on : Changes → map (numbered_part_of new.table.names) new.lines.items ≡ parts_from 1 (ls ++ l ∷ [])
+  parted_on c = c.parts ∙ ap (λ xs. xs ++ parts_from number (l ∷ [])) g.parts ∙ ap (λ n. parts_from 1 ls ++ parts_from n (l ∷ [])) (sym here) ∙ sym (parts_on 1 ls l)
+
+  -- where no set began
+  gathered_own : BeginsNone l → Changes → sets_from 1 ls ≡ [] → map set_of new.sets.items ≡ [] → map said_of new.uses.items ≡ map said_of old.uses.items ++ uses_from number (l ∷ [])
+      → map said_of new.values.items ≡ map said_of old.values.items ++ values_from number (l ∷ []) → new.after ≡ (if has_claim_or_entry l then number + 1 else old.after) → IsGathered (ls ++ l ∷ []) new
+  gathered_own plain c none sets used valued after =
+      let f = fresh l plain 1 ls none in
+      record {
+        claim = claimed_on c;
+        sets = sets ∙ sym f.2;
+        uses = used ∙ ap (λ xs. xs ++ uses_from number (l ∷ [])) (g.uses ∙ ap (uses_from 1) f.0) ∙ ap (λ n. uses_from 1 ls ++ uses_from n (l ∷ [])) (sym here) ∙ sym (uses_on 1 ls l) ∙ ap (uses_from 1) (sym f.1);
+        values = valued ∙ ap (λ xs. xs ++ values_from number (l ∷ [])) (g.values ∙ ap (values_from 1) f.0) ∙ ap (λ n. values_from 1 ls ++ values_from n (l ∷ [])) (sym here) ∙ sym (values_on 1 ls l) ∙ ap (values_from 1) (sym f.1);
+        after = after ∙ ap (λ a. if has_claim_or_entry l then number + 1 else a) (g.after ∙ ap (after_from has_claim_or_entry 1 0) f.0)
+            ∙ ap (λ n. if has_claim_or_entry l then n + 1 else after_from has_claim_or_entry 1 0 ls) (sym here) ∙ sym (after_on has_claim_or_entry 1 0 ls l) ∙ ap (after_from has_claim_or_entry 1 0) (sym f.1);
+        parts = parted_on c;
+        appear = c.appear;
+        kept = c.kept;
+      }
+
+  -- the same of what is said in front of the sets
+  record SameOwn : Type 0 where
+    uses : map said_of new.uses.items ≡ map said_of old.uses.items
+    values : map said_of new.values.items ≡ map said_of old.values.items
+    after : new.after ≡ old.after
+
+  -- where the last set goes on
+  gathered_set : BeginsNone l → Changes → (ss : List SetReading) (s : SetReading) → sets_from 1 ls ≡ ss ++ s ∷ [] → map set_of new.sets.items ≡ ss ++ grown number l s ∷ [] → SameOwn → IsGathered (ls ++ l ∷ []) new
+  gathered_set plain c ss s last sets own =
+      let w = within l plain 1 ls ss s last in
+      record {
+        claim = claimed_on c;
+        sets = sets ∙ ap (λ n. ss ++ grown n l s ∷ []) (sym here) ∙ sym w.0;
+        uses = own.uses ∙ g.uses ∙ ap (uses_from 1) (sym w.1);
+        values = own.values ∙ g.values ∙ ap (values_from 1) (sym w.1);
+        after = own.after ∙ g.after ∙ ap (after_from has_claim_or_entry 1 0) (sym w.1);
+        parts = parted_on c;
+        appear = c.appear;
+        kept = c.kept;
+      }
+
+  -- where the line says nothing of entries
+  gathered_quiet : Quiet l → Changes → map set_of new.sets.items ≡ map set_of old.sets.items → map said_of new.uses.items ≡ map said_of old.uses.items → map said_of new.values.items ≡ map said_of old.values.items
+      → (sets_from 1 ls ≡ [] → new.after ≡ (if has_claim_or_entry l then number + 1 else old.after)) → ((ss : List SetReading) (s : SetReading) → sets_from 1 ls ≡ ss ++ s ∷ [] → new.after ≡ old.after) → IsGathered (ls ++ l ∷ []) new
+  gathered_quiet q c sets used valued first later = elim (none_or_last (sets_from 1 ls)) [
+    | inl none ↦
+        gathered_own q.plain c none (sets ∙ g.sets ∙ none) (used ∙ nothing_more _ ∙ ap (λ xs. map said_of old.uses.items ++ xs) (sym (q.uses number)))
+        (valued ∙ nothing_more _ ∙ ap (λ xs. map said_of old.values.items ++ xs) (sym (q.values number))) (first none)
+    | inr last ↦
+        gathered_set q.plain c last.0 last.1 last.2 (sets ∙ g.sets ∙ last.2 ∙ ap (λ s. last.0 ++ s ∷ []) (sym (quiet_grown l q number last.1)))
+        (record { uses = used; values = valued; after = later last.0 last.1 last.2 })
+  ]
 
 same_claim : (d : Draft) → option_map claim_of d.claim ≡ option_or (option_map claim_of d.claim) None
 same_claim d = sym (or_none (option_map claim_of d.claim))
 
-nothing_more : {A : Type 0} (xs : List A) → xs ≡ xs ++ []
-nothing_more xs = sym (append-nil xs)
-
 -- ---- lines that say nothing
 
+quiet_nothing : Quiet nothing
+quiet_nothing = record { plain = record { front = λ ls. refl; sets = λ n ls. refl; kind = refl }; uses = λ n. refl; values = λ n. refl; entry = refl }
+
+quiet_heading : Quiet heading
+quiet_heading = record { plain = record { front = λ ls. refl; sets = λ n ls. refl; kind = refl }; uses = λ n. refl; values = λ n. refl; entry = refl }
+
+quiet_ends : Quiet ends
+quiet_ends = record { plain = record { front = λ ls. refl; sets = λ n ls. refl; kind = refl }; uses = λ n. refl; values = λ n. refl; entry = refl }
+
+quiet_part : (n : ℕ) (p : CertificatePart) → Quiet (derives n p)
+quiet_part k p = record { plain = record { front = λ ls. refl; sets = λ n ls. refl; kind = refl }; uses = λ n. refl; values = λ n. refl; entry = refl }
+
 module _ (sheet : Sheet) (ls : List SaidLine) (d : Draft) (number : ℕ) (g : IsGathered ls d) (at : number ≡ length ls + 1) where
+  unchanged : (l : SaidLine) → claim_in (l ∷ []) ≡ None → parts_from number (l ∷ []) ≡ [] → Changes ls d d number g at l
+  unchanged l claim parts = record { claim = same_claim d ∙ ap (option_or (option_map claim_of d.claim)) (sym claim); parts = nothing_more _ ∙ ap (λ xs. map (numbered_part_of d.table.names) d.lines.items ++ xs) (sym parts); appear = g.appear; kept = g.kept }
+
+  adds : (l : SaidLine) → Quiet l → claim_in (l ∷ []) ≡ None → parts_from number (l ∷ []) ≡ [] → has_claim_or_entry l ≡ false → IsGathered (ls ++ l ∷ []) d
+  adds l q claim parts none = gathered_quiet ls d d number g at l q (unchanged l claim parts) refl refl refl (λ e. ap (λ (b : Bool). if b then number + 1 else d.after) (sym none)) (λ ss s e. refl)
+
   pub adds_nothing : AddsLine sheet nothing ls d
-  adds_nothing = record { line = nothing; named = tt; gathered = gathered ls d d number g at nothing (same_claim d) (nothing_more _) (nothing_more _) refl (nothing_more _) g.appear g.kept }
+  adds_nothing = record { line = nothing; named = tt; gathered = adds nothing quiet_nothing refl refl refl }
 
   pub adds_heading : AddsLine sheet heading ls d
-  adds_heading = record { line = heading; named = tt; gathered = gathered ls d d number g at heading (same_claim d) (nothing_more _) (nothing_more _) refl (nothing_more _) g.appear g.kept }
+  adds_heading = record { line = heading; named = tt; gathered = adds heading quiet_heading refl refl refl }
 
   pub adds_ends : AddsLine sheet ends ls d
-  adds_ends = record { line = ends; named = tt; gathered = gathered ls d d number g at ends (same_claim d) (nothing_more _) (nothing_more _) refl (nothing_more _) g.appear g.kept }
+  adds_ends = record { line = ends; named = tt; gathered = adds ends quiet_ends refl refl refl }
 
--- ---- claims and entries
+  pub adds_begins : IsGathered (ls ++ begins ∷ []) d → AddsLine sheet begins ls d
+  adds_begins gathered = record { line = begins; named = tt; gathered = gathered }
 
-module _ (ls : List SaidLine) (old new : Draft) (number : ℕ) (g : IsGathered ls old) (at : number ≡ length ls + 1) where
-  claimed : (l : SaidLine) (c : Claim) → claim_in (l ∷ []) ≡ Some (claim_of c) → new.claim ≡ option_or old.claim (Some c) → option_map claim_of new.claim ≡ option_or (option_map claim_of old.claim) (claim_in (l ∷ []))
-  claimed l c is e = ap (option_map claim_of) e ∙ mapped_or claim_of old.claim (Some c) ∙ ap (option_or (option_map claim_of old.claim)) (sym is)
+-- ---- claims
 
-pub inconsistent_more : (ls : List SaidLine) (old : Draft) (number : ℕ) → IsGathered ls old → number ≡ length ls + 1 → (c : Claim) (claim : Option Claim) → claim_of c ≡ accepts.inconsistent → claim ≡ option_or old.claim (Some c)
-    → IsGathered (ls ++ claims_inconsistent ∷ []) (record { claim = claim; uses = old.uses; values = old.values; after = number + 1; table = old.table; lines = old.lines })
-inconsistent_more ls old number g at c claim is e =
-    let new : Draft = record { claim = claim; uses = old.uses; values = old.values; after = number + 1; table = old.table; lines = old.lines } in
-    gathered ls old new number g at claims_inconsistent (claimed ls old new number g at claims_inconsistent c (ap Some (sym is)) e) (nothing_more _) (nothing_more _) refl (nothing_more _) g.appear g.kept
+module _ (sheet : Sheet) (w : WrittenClaim) (ls : List SaidLine) (old : Draft) (number : ℕ) where
+  pub claim_adds : IsGathered ls old → number ≡ length ls + 1 → (c : Claim) → ((x : accepts.Claim) → (Some (claim_of c) ≡ Some x) ↔ IsClaimNamed sheet w x) → (claim : Option Claim) → claim ≡ option_or old.claim (Some c) → (after : ℕ)
+      → (old.sets.items ≡ [] → after ≡ number + 1) → ((old.sets.items ≡ [] → ⊥) → after ≡ old.after)
+      → AddsLine sheet (claims w) ls (record { claim = claim; sets = old.sets; uses = old.uses; values = old.values; after = after; table = old.table; lines = old.lines })
+  claim_adds g at c exact claim same after first later =
+      let new : Draft = record { claim = claim; sets = old.sets; uses = old.uses; values = old.values; after = after; table = old.table; lines = old.lines } in
+      let l : SaidLine = claims (claim_of c) in
+      let quiet : Quiet l = record { plain = plain_claim (claim_of c); uses = λ n. refl; values = λ n. refl; entry = refl } in
+      let changes : Changes ls old new number g at l = record { claim = ap (option_map claim_of) same ∙ mapped_or claim_of old.claim (Some c); parts = nothing_more _; appear = g.appear; kept = g.kept } in
+      record { line = l; named = (exact (claim_of c)).0 refl; gathered = gathered_quiet ls old new number g at l quiet changes refl refl refl (λ none. first (empty old.sets.items (g.sets ∙ none))) (λ ss s last. later (λ none. no_last ss s (sym (ap (map set_of) none) ∙ g.sets ∙ last))) }
+    where
+      empty : (xs : List SaidSet) → map set_of xs ≡ [] → xs ≡ []
+      empty [] e = refl
+      empty (x ∷ xs) e = absurd (cc)
+
+-- ---- sets
+
+pub set_more : (ls : List SaidLine) (old : Draft) (number : ℕ) → IsGathered ls old → number ≡ length ls + 1 → (set : SaidSet) (more : Vec SaidSet Global) → set_of set ≡ set_over number [] → more.items ≡ old.sets.items ++ set ∷ []
+    → IsGathered (ls ++ begins ∷ []) (record { claim = old.claim; sets = more; uses = old.uses; values = old.values; after = old.after; table = old.table; lines = old.lines })
+set_more ls old number g at set more is pushed_on =
+    let new : Draft = record { claim = old.claim; sets = more; uses = old.uses; values = old.values; after = old.after; table = old.table; lines = old.lines } in
+    let b = begun 1 ls in
+    let changes : Changes ls old new number g at begins = record { claim = same_claim old; parts = nothing_more _; appear = g.appear; kept = g.kept } in
+    record {
+      claim = claimed_on ls old new number g at begins changes;
+      sets = pushed set_of old.sets.items set more.items pushed_on ∙ ap₂ (λ xs x. xs ++ x ∷ []) g.sets (is ∙ ap (λ n. set_over n []) (let e : number ≡ 1 + length ls = omega (arith, at) in e)) ∙ sym b.0;
+      uses = g.uses ∙ ap (uses_from 1) (sym b.1);
+      values = g.values ∙ ap (values_from 1) (sym b.1);
+      after = g.after ∙ ap (after_from has_claim_or_entry 1 0) (sym b.1);
+      parts = parted_on ls old new number g at begins changes;
+      appear = g.appear;
+      kept = g.kept;
+    }
+
+-- ---- entries
 
 module _ (sheet : Sheet) (p : WrittenPair) (ls : List SaidLine) (old : Draft) (number : ℕ) where
-  pub target_adds : IsGathered ls old → number ≡ length ls + 1 → (holds : Bool) (e : Entry) → ((x : Entry) → (Some e ≡ Some x) ↔ IsPairNamed sheet.universe p x) → (c : Claim) (claim : Option Claim)
-      → claim_of c ≡ accepts.implied (record { cell = e.cell; value = e.value; holds = holds }) → claim ≡ option_or old.claim (Some c)
-      → AddsLine sheet (claims p holds) ls (record { claim = claim; uses = old.uses; values = old.values; after = number + 1; table = old.table; lines = old.lines })
-  target_adds g at holds e exact c claim is same =
-      let new : Draft = record { claim = claim; uses = old.uses; values = old.values; after = number + 1; table = old.table; lines = old.lines } in
-      record { line = claims e holds; named = ((exact e).0 refl, refl); gathered = gathered ls old new number g at (claims e holds) (claimed ls old new number g at (claims e holds) c (ap Some (sym is)) same) (nothing_more _) (nothing_more _) refl (nothing_more _) g.appear g.kept }
+  -- in front of the sets
+  module _ (sets : Vec SaidSet Global) (more : Vec Said Global) where
+    pub use_adds : IsGathered ls old → number ≡ length ls + 1 → old.sets.items ≡ [] → sets.items ≡ [] → IsSaidNext sheet.universe p number old.uses.items more.items
+        → AddsLine sheet (uses p) ls (record { claim = old.claim; sets = sets; uses = more; values = old.values; after = number + 1; table = old.table; lines = old.lines })
+    use_adds g at none still next =
+        let new : Draft = record { claim = old.claim; sets = sets; uses = more; values = old.values; after = number + 1; table = old.table; lines = old.lines } in
+        let l : SaidLine = uses next.entry in
+        let changes : Changes ls old new number g at l = record { claim = same_claim old; parts = nothing_more _; appear = g.appear; kept = g.kept } in
+        record { line = l; named = next.named; gathered = gathered_own ls old new number g at l (plain_use next.entry) changes (sym g.sets ∙ ap (map set_of) none) (ap (map set_of) still) (pushed said_of old.uses.items (record { line = number; entry = next.entry }) more.items next.pushed) (nothing_more _) refl }
 
-module _ (sheet : Sheet) (p : WrittenPair) (ls : List SaidLine) (old : Draft) (number : ℕ) (more : Vec Said Global) where
-  pub use_adds : IsGathered ls old → number ≡ length ls + 1 → IsSaidNext sheet.universe p number old.uses.items more.items
-      → AddsLine sheet (uses p) ls (record { claim = old.claim; uses = more; values = old.values; after = number + 1; table = old.table; lines = old.lines })
-  use_adds g at next =
-      let new : Draft = record { claim = old.claim; uses = more; values = old.values; after = number + 1; table = old.table; lines = old.lines } in
-      record { line = uses next.entry; named = next.named; gathered = gathered ls old new number g at (uses next.entry) (same_claim old) (pushed said_of old.uses.items (record { line = number; entry = next.entry }) more.items next.pushed) (nothing_more _) refl (nothing_more _) g.appear g.kept }
+    pub value_adds : IsGathered ls old → number ≡ length ls + 1 → old.sets.items ≡ [] → sets.items ≡ [] → IsSaidNext sheet.universe p number old.values.items more.items
+        → AddsLine sheet (assigns p) ls (record { claim = old.claim; sets = sets; uses = old.uses; values = more; after = number + 1; table = old.table; lines = old.lines })
+    value_adds g at none still next =
+        let new : Draft = record { claim = old.claim; sets = sets; uses = old.uses; values = more; after = number + 1; table = old.table; lines = old.lines } in
+        let l : SaidLine = assigns next.entry in
+        let changes : Changes ls old new number g at l = record { claim = same_claim old; parts = nothing_more _; appear = g.appear; kept = g.kept } in
+        record { line = l; named = next.named; gathered = gathered_own ls old new number g at l (plain_value next.entry) changes (sym g.sets ∙ ap (map set_of) none) (ap (map set_of) still) (nothing_more _) (pushed said_of old.values.items (record { line = number; entry = next.entry }) more.items next.pushed) refl }
 
-  pub value_adds : IsGathered ls old → number ≡ length ls + 1 → IsSaidNext sheet.universe p number old.values.items more.items
-      → AddsLine sheet (assigns p) ls (record { claim = old.claim; uses = old.uses; values = more; after = number + 1; table = old.table; lines = old.lines })
-  value_adds g at next =
-      let new : Draft = record { claim = old.claim; uses = old.uses; values = more; after = number + 1; table = old.table; lines = old.lines } in
-      record { line = assigns next.entry; named = next.named; gathered = gathered ls old new number g at (assigns next.entry) (same_claim old) (nothing_more _) (pushed said_of old.values.items (record { line = number; entry = next.entry }) more.items next.pushed) refl (nothing_more _) g.appear g.kept }
+  -- in the last set
+  module _ (g : IsGathered ls old) (at : number ≡ length ls + 1) (front : List SaidSet) (s : SaidSet) (last : old.sets.items ≡ front ++ s ∷ []) (more : Vec Said Global) (sets : Vec SaidSet Global) where
+    last_read : sets_from 1 ls ≡ map set_of front ++ set_of s ∷ []
+    last_read = sym g.sets ∙ pushed set_of front s old.sets.items last
+
+    abbrev with_sets : Draft
+    with_sets = record { claim = old.claim; sets = sets; uses = old.uses; values = old.values; after = old.after; table = old.table; lines = old.lines }
+
+    pub use_in_set : IsSaidNext sheet.universe p number s.uses.items more.items → sets.items ≡ front ++ (record { line = s.line; uses = more; values = s.values; after = number + 1 }) ∷ [] → AddsLine sheet (uses p) ls with_sets
+    use_in_set next put =
+        let l : SaidLine = uses next.entry in
+        let changes : Changes ls old with_sets number g at l = record { claim = same_claim old; parts = nothing_more _; appear = g.appear; kept = g.kept } in
+        let now : SaidSet = record { line = s.line; uses = more; values = s.values; after = number + 1 } in
+        let grows : set_of now ≡ grown number l (set_of s) =
+        ap₂ (λ us vs. made s.line us vs (number + 1)) (pushed said_of s.uses.items (record { line = number; entry = next.entry }) more.items next.pushed) (nothing_more (map said_of s.values.items))
+        in
+        record { line = l; named = next.named; gathered = gathered_set ls old with_sets number g at l (plain_use next.entry) changes (map set_of front) (set_of s) last_read (pushed set_of front now sets.items put ∙ ap (λ x. map set_of front ++ x ∷ []) grows) (record { uses = refl; values = refl; after = refl }) }
+
+    pub value_in_set : IsSaidNext sheet.universe p number s.values.items more.items → sets.items ≡ front ++ (record { line = s.line; uses = s.uses; values = more; after = number + 1 }) ∷ [] → AddsLine sheet (assigns p) ls with_sets
+    value_in_set next put =
+        let l : SaidLine = assigns next.entry in
+        let changes : Changes ls old with_sets number g at l = record { claim = same_claim old; parts = nothing_more _; appear = g.appear; kept = g.kept } in
+        let now : SaidSet = record { line = s.line; uses = s.uses; values = more; after = number + 1 } in
+        let grows : set_of now ≡ grown number l (set_of s) =
+        ap₂ (λ us vs. made s.line us vs (number + 1)) (nothing_more (map said_of s.uses.items)) (pushed said_of s.values.items (record { line = number; entry = next.entry }) more.items next.pushed)
+        in
+        record { line = l; named = next.named; gathered = gathered_set ls old with_sets number g at l (plain_value next.entry) changes (map set_of front) (set_of s) last_read (pushed set_of front now sets.items put ∙ ap (λ x. map set_of front ++ x ∷ []) grows) (record { uses = refl; values = refl; after = refl }) }
 
 -- ---- parts
 
@@ -189,6 +278,7 @@ module _ (b c : List Symbol) (g : StartsWith b c) where
   part_still : (p : CertPart) → Below (length b) (places_in p) → part_of b p ≡ part_of c p
   part_still (Axiom a) is = refl
   part_still (Step clause hints) is = ap (λ ls. derived ls hints.items) (lits_still clause.items is)
+  part_still (Block j) is = refl
 
   lines_still : (lines : List CertLine) → Below (length b) (places_of lines) → map (numbered_part_of b) lines ≡ map (numbered_part_of c) lines
   lines_still [] is = refl
@@ -201,10 +291,10 @@ places_on [] l = append-nil (places_in l.part)
 places_on (k ∷ ks) l = ap (λ ps. places_in k.part ++ ps) (places_on ks l) ∙ sym (append_assoc (places_in k.part) (places_of ks) (places_in l.part))
 
 pub part_adds : (sheet : Sheet) (w : WrittenPart) (place : ℕ) (ls : List SaidLine) (old : Draft) (number : ℕ) (table : Table) (q : CertPart) (more : Vec CertLine Global) → IsGathered ls old → number ≡ length ls + 1
-    → (AreSymbolNumbers old.table → AreSymbolNumbers table) → IsPartTaken sheet w old.table.names table.names q → more.items ≡ old.lines.items ++ (record { line = number; part = q }) ∷ []
-    → AddsLine sheet (derives place w) ls (record { claim = old.claim; uses = old.uses; values = old.values; after = old.after; table = table; lines = more })
-part_adds sheet w place ls old number table q more g at kept took push =
-    let new : Draft = record { claim = old.claim; uses = old.uses; values = old.values; after = old.after; table = table; lines = more } in
+    → (AreSymbolNumbers old.table → AreSymbolNumbers table) → (sets : ℕ) → sets ≡ vec_len old.sets → IsPartTaken sheet sets w old.table.names table.names q → more.items ≡ old.lines.items ++ (record { line = number; part = q }) ∷ []
+    → AddsLine sheet (derives place w) ls (record { claim = old.claim; sets = old.sets; uses = old.uses; values = old.values; after = old.after; table = table; lines = more })
+part_adds sheet w place ls old number table q more g at kept sets are took push =
+    let new : Draft = record { claim = old.claim; sets = old.sets; uses = old.uses; values = old.values; after = old.after; table = table; lines = more } in
     let line : CertLine = record { line = number; part = q } in
     let l : SaidLine = derives place (part_of table.names q) in
     let still = lines_still old.table.names table.names took.grows old.lines.items (below 0 (places_of old.lines.items) (length old.table.names) g.appear) in
@@ -213,46 +303,50 @@ part_adds sheet w place ls old number table q more g at kept took push =
     in
     let places : places_of more.items ≡ places_of old.lines.items ++ places_in q = ap places_of push ∙ places_on old.lines.items line in
     let appear = subst (λ ks. AppearInOrder 0 ks (length table.names)) (sym places) (appear_on 0 (places_of old.lines.items) (length old.table.names) (places_in q) (length table.names) g.appear took.appear) in
-    record { line = l; named = (refl, took.named); gathered = gathered ls old new number g at l (same_claim old) (nothing_more _) (nothing_more _) refl parted appear (kept g.kept) }
+    let changes : Changes ls old new number g at l = record { claim = same_claim old; parts = parted; appear = appear; kept = kept g.kept } in
+    let named = subst (λ n. IsPartNamed sheet n w (part_of table.names q)) (gathered_sets ls old sets g are) took.named in
+    record { line = l; named = (refl, named); gathered = gathered_quiet ls old new number g at l (quiet_part place (part_of table.names q)) changes refl refl refl (λ e. refl) (λ ss s e. refl) }
+
+pub no_items : {A : Type 0} (v : Vec A Global) → vec_len v ≡ 0 → v.items ≡ []
+no_items v none = by v.items (sym v.ok.0 ∙ none)
+  where
+    by : {A : Type 0} (xs : List A) → length xs ≡ 0 → xs ≡ []
+    by [] e = refl
+    by (x ∷ xs) e = absurd (omega (arith, e))
+
+pub is_none : {A : Type 0} (v : Vec A Global) (b : Bool) → b ≡ (vec_len v == 0) → b ≡ true → v.items ≡ []
+is_none v b is goes = no_items v (numbers_equal (vec_len v) 0 (sym is ∙ goes))
+
+pub is_some : {A : Type 0} (v : Vec A Global) (b : Bool) → b ≡ (vec_len v == 0) → b ≡ false → v.items ≡ [] → ⊥
+is_some v b is stays none = false_no_true b stays (is ∙ ap (λ n. n == 0) (v.ok.0 ∙ ap length none))
 
 -- ---- what stands for nothing
 
-module _ (sheet : Sheet) (p : WrittenPair) (exact : (x : Entry) → (◌≡◌ {A = Option Entry} None (Some x)) ↔ IsPairNamed sheet.universe p x) where
-  pub never : (x : Entry) → IsPairNamed sheet.universe p x → ⊥
-  never x is = let e = (exact x).1 is in absurd (cc)
+pub never : (sheet : Sheet) (p : WrittenPair) → ((x : Entry) → (◌≡◌ {A = Option Entry} None (Some x)) ↔ IsPairNamed sheet.universe p x) → (x : Entry) → IsPairNamed sheet.universe p x → ⊥
+never sheet p exact x is = let e = (exact x).1 is in absurd (cc)
 
-  pub no_target : (holds : Bool) → (l : SaidLine) → IsSaidLine sheet (claims p holds) l → ⊥
-  no_target holds nothing is = absurd is
-  no_target holds heading is = absurd is
-  no_target holds (claims e b) is = never e is.0
-  no_target holds claims_inconsistent is = absurd is
-  no_target holds (uses e) is = absurd is
-  no_target holds (assigns e) is = absurd is
-  no_target holds (derives k q) is = absurd is
-  no_target holds ends is = absurd is
+module _ (sheet : Sheet) (sets : ℕ) where
+  pub no_claim : (w : WrittenClaim) → ((x : accepts.Claim) → (◌≡◌ {A = Option accepts.Claim} None (Some x)) ↔ IsClaimNamed sheet w x) → (l : SaidLine) → IsSaidLine sheet sets (claims w) l → ⊥
+  no_claim w exact (claims c) is = let e = (exact c).1 is in absurd (cc)
+  no_claim w exact l is = absurd is
 
-module _ (sheet : Sheet) (p : WrittenPair) (none : (x : Entry) → IsPairNamed sheet.universe p x → ⊥) where
-  pub no_use : (l : SaidLine) → IsSaidLine sheet (uses p) l → ⊥
-  no_use nothing is = absurd is
-  no_use heading is = absurd is
-  no_use (claims e b) is = absurd is
-  no_use claims_inconsistent is = absurd is
-  no_use (uses e) is = none e is
-  no_use (assigns e) is = absurd is
-  no_use (derives k q) is = absurd is
-  no_use ends is = absurd is
+  pub no_use : (p : WrittenPair) → ((x : Entry) → IsPairNamed sheet.universe p x → ⊥) → (l : SaidLine) → IsSaidLine sheet sets (uses p) l → ⊥
+  no_use p none (uses e) is = none e is
+  no_use p none l is = absurd is
 
-  pub no_value : (l : SaidLine) → IsSaidLine sheet (assigns p) l → ⊥
-  no_value nothing is = absurd is
-  no_value heading is = absurd is
-  no_value (claims e b) is = absurd is
-  no_value claims_inconsistent is = absurd is
-  no_value (uses e) is = absurd is
-  no_value (assigns e) is = none e is
-  no_value (derives k q) is = absurd is
-  no_value ends is = absurd is
+  pub no_part : (w : WrittenPart) (place : ℕ) → ((p : CertificatePart) → IsPartNamed sheet sets w p → ⊥) → (l : SaidLine) → IsSaidLine sheet sets (derives place w) l → ⊥
+  no_part w place none (derives m p) is = none p is.1
+  no_part w place none l is = absurd is
+
+  pub no_value : (p : WrittenPair) → ((x : Entry) → IsPairNamed sheet.universe p x → ⊥) → (l : SaidLine) → IsSaidLine sheet sets (assigns p) l → ⊥
+  no_value p none (assigns e) is = none e is
+  no_value p none l is = absurd is
 
 -- what follows from either answer
+pub both_more : (b : Bool) (P Q R S : Type 0) → (P → R) → (Q → S) → MatchBool b P Q → MatchBool b R S
+both_more true P Q R S f g is = f is
+both_more false P Q R S f g is = g is
+
 pub either_more : {E : Type 0} (r : Result Bool E) (P Q R S : Type 0) → (P → R) → (Q → S) → IfOk r (λ b. MatchBool b P Q) → IfOk r (λ b. MatchBool b R S)
 either_more (Ok true) P Q R S f g is = f is
 either_more (Ok false) P Q R S f g is = g is

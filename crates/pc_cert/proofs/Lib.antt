@@ -13,6 +13,9 @@ mod Spelling
 mod Images
 mod KeyLemmas
 mod Numbered
+mod Ordered
+mod Clauses
+mod Grown
 mod Gathered
 mod Taken
 mod Finished

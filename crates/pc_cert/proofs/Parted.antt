@@ -2,8 +2,8 @@
 use Rattle.std.proofs.Common.{◌≡◌, ◌≢◌, ℕ, List, [], ◌∷◌, ◌++◌, get_or, Bor, codes, refl, sym, ◌∙◌, ap}
 use Rattle.std.specs.List.{AllByRecursion}
 use Rattle.pc_formula.specs.Tree.{Cell, Value}
-use Rattle.pc_cert.specs.Written.{WrittenPair, WrittenPath, WrittenLiteral, WrittenPart, written_some, written_one, written_rule, written_node_clause, written_atom, written_step}
-use Rattle.pc_cert.specs.Line.{IsSomeForm, IsOneForm, IsNodeForm, IsAtomForm, IsStep, IsPartStarting}
+use Rattle.pc_cert.specs.Written.{WrittenPair, WrittenPath, WrittenLiteral, WrittenPart, written_some, written_one, written_rule, written_node_clause, written_atom, written_step, written_block}
+use Rattle.pc_cert.specs.Line.{IsSomeForm, IsOneForm, IsNodeForm, IsAtomForm, IsStep, IsBlockForm, IsPartStarting}
 use Rattle.pc_cert.specs.Trees.{seen}
 use Rattle.pc_cert.proofs.Words.{differ, heads, tails}
 
@@ -14,6 +14,7 @@ only_some texts none (written_rule n) is = differ (codes "rule") (codes "some") 
 only_some texts none (written_node_clause p i) is = differ (codes "node") (codes "some") refl is.0
 only_some texts none (written_atom p reads) is = differ (codes "atom") (codes "some") refl is.0
 only_some texts none (written_step ls hints) is = differ (codes "step") (codes "some") refl is.0
+only_some texts none (written_block j) is = differ (codes "block") (codes "some") refl is.0
 
 pub only_one : (texts : List (List ℕ)) → ((c : Cell) (v w : Value) → IsOneForm texts c v w → ⊥) → (part : WrittenPart) → IsPartStarting (codes "one") texts part → ⊥
 only_one texts none (written_some c) is = differ (codes "some") (codes "one") refl is.0
@@ -22,6 +23,7 @@ only_one texts none (written_rule n) is = differ (codes "rule") (codes "one") re
 only_one texts none (written_node_clause p i) is = differ (codes "node") (codes "one") refl is.0
 only_one texts none (written_atom p reads) is = differ (codes "atom") (codes "one") refl is.0
 only_one texts none (written_step ls hints) is = differ (codes "step") (codes "one") refl is.0
+only_one texts none (written_block j) is = differ (codes "block") (codes "one") refl is.0
 
 pub only_node : (texts : List (List ℕ)) → ((p : WrittenPath) (i : ℕ) → IsNodeForm texts p i → ⊥) → (part : WrittenPart) → IsPartStarting (codes "node") texts part → ⊥
 only_node texts none (written_some c) is = differ (codes "some") (codes "node") refl is.0
@@ -30,6 +32,7 @@ only_node texts none (written_rule n) is = differ (codes "rule") (codes "node") 
 only_node texts none (written_node_clause p i) is = none p i is.1
 only_node texts none (written_atom p reads) is = differ (codes "atom") (codes "node") refl is.0
 only_node texts none (written_step ls hints) is = differ (codes "step") (codes "node") refl is.0
+only_node texts none (written_block j) is = differ (codes "block") (codes "node") refl is.0
 
 pub only_atom : (texts : List (List ℕ)) → ((p : WrittenPath) (reads : List WrittenPair) → IsAtomForm texts p reads → ⊥) → (part : WrittenPart) → IsPartStarting (codes "atom") texts part → ⊥
 only_atom texts none (written_some c) is = differ (codes "some") (codes "atom") refl is.0
@@ -38,6 +41,7 @@ only_atom texts none (written_rule n) is = differ (codes "rule") (codes "atom") 
 only_atom texts none (written_node_clause p i) is = differ (codes "node") (codes "atom") refl is.0
 only_atom texts none (written_atom p reads) is = none p reads is.1
 only_atom texts none (written_step ls hints) is = differ (codes "step") (codes "atom") refl is.0
+only_atom texts none (written_block j) is = differ (codes "block") (codes "atom") refl is.0
 
 pub only_step : (texts : List (List ℕ)) → ((ls : List WrittenLiteral) (hints : List ℕ) → IsStep texts ls hints → ⊥) → (part : WrittenPart) → IsPartStarting (codes "step") texts part → ⊥
 only_step texts none (written_some c) is = differ (codes "some") (codes "step") refl is.0
@@ -46,6 +50,16 @@ only_step texts none (written_rule n) is = differ (codes "rule") (codes "step") 
 only_step texts none (written_node_clause p i) is = differ (codes "node") (codes "step") refl is.0
 only_step texts none (written_atom p reads) is = differ (codes "atom") (codes "step") refl is.0
 only_step texts none (written_step ls hints) is = none ls hints is.1
+only_step texts none (written_block j) is = differ (codes "block") (codes "step") refl is.0
+
+pub only_block : (texts : List (List ℕ)) → ((j : ℕ) → IsBlockForm texts j → ⊥) → (part : WrittenPart) → IsPartStarting (codes "block") texts part → ⊥
+only_block texts none (written_some c) is = differ (codes "some") (codes "block") refl is.0
+only_block texts none (written_one c v w) is = differ (codes "one") (codes "block") refl is.0
+only_block texts none (written_rule n) is = differ (codes "rule") (codes "block") refl is.0
+only_block texts none (written_node_clause p i) is = differ (codes "node") (codes "block") refl is.0
+only_block texts none (written_atom p reads) is = differ (codes "atom") (codes "block") refl is.0
+only_block texts none (written_step ls hints) is = differ (codes "step") (codes "block") refl is.0
+only_block texts none (written_block j) is = none j is.1
 
 -- ---- the first texts of a list
 

@@ -6,11 +6,12 @@ use Rattle.std.specs.Str.Lines.{lines}
 use Rattle.std.proofs.lemmas.List.{map-append, append-nil}
 use Rattle.std.proofs.lemmas.Slice.Eq.{bytes_eq-Decides}
 use Rattle.pc_sheet.specs.Sheet.{Sheet}
-use Rattle.pc_cert.specs.Written.{nothing, heading, claims, claims_inconsistent, uses, assigns, derives, ends, WrittenLine, SaidLine}
-use Rattle.pc_cert.specs.Line.{IsCertificateForm, IsCertificateLine}
+use Rattle.pc_accept.specs.Accepts.{Claim, implied, inconsistent, repairs, unimplied, against}
+use Rattle.pc_cert.specs.Written.{nothing, heading, claims, begins, uses, assigns, derives, ends, WrittenClaim, written_implied, written_inconsistent, written_repairs, written_unimplied, written_against, WrittenLine, SaidLine}
+use Rattle.pc_cert.specs.Line.{IsClaimForm, IsCertificateForm, IsCertificateLine}
 use Rattle.pc_cert.specs.Texts.{texts_of}
-use Rattle.pc_cert.specs.Meaning.{IsSaidLine}
-use Rattle.pc_cert.specs.Order.{LineKind, empty_line, heading_line, target_line, use_line, value_line, numbered_line, end_line, kind_of, may_stand}
+use Rattle.pc_cert.specs.Meaning.{IsClaimNamed, IsSaidLine}
+use Rattle.pc_cert.specs.Order.{LineKind, empty_line, heading_line, target_line, set_line, use_line, value_line, numbered_line, end_line, kind_of, kind_of_claim, kind_of_written, kind_of_written_claim, sets_in, may_stand}
 use Rattle.pc_cert.specs.Standing.{order_of}
 use Rattle.pc_cert.specs.Text.{SaysOfSheet, AllSay, IsCertificateAtFault, formless, nameless, syntax, unknown_name, IsTextReading, fault_at, faulty}
 use Rattle.pc_cert.specs.Gathered.{AddsLine}
@@ -21,78 +22,31 @@ use Rattle.pc_cert.specs.declared.order.Order.{Order}
 use Rattle.pc_cert.specs.declared.cert.CertFault.{CertFault}
 use Rattle.pc_cert.specs.declared.cert.CertFault.TheVariants as cert_fault
 
-pub same_kind : (sheet : Sheet) (f : WrittenLine) (l : SaidLine) → IsSaidLine sheet f l → kind_of l ≡ kind_of f
-same_kind sheet nothing nothing is = refl
-same_kind sheet nothing heading is = absurd is
-same_kind sheet nothing (claims e c) is = absurd is
-same_kind sheet nothing claims_inconsistent is = absurd is
-same_kind sheet nothing (uses e) is = absurd is
-same_kind sheet nothing (assigns e) is = absurd is
-same_kind sheet nothing (derives m q) is = absurd is
-same_kind sheet nothing ends is = absurd is
-same_kind sheet heading nothing is = absurd is
-same_kind sheet heading heading is = refl
-same_kind sheet heading (claims e c) is = absurd is
-same_kind sheet heading claims_inconsistent is = absurd is
-same_kind sheet heading (uses e) is = absurd is
-same_kind sheet heading (assigns e) is = absurd is
-same_kind sheet heading (derives m q) is = absurd is
-same_kind sheet heading ends is = absurd is
-same_kind sheet (claims p b) nothing is = absurd is
-same_kind sheet (claims p b) heading is = absurd is
-same_kind sheet (claims p b) (claims e c) is = refl
-same_kind sheet (claims p b) claims_inconsistent is = absurd is
-same_kind sheet (claims p b) (uses e) is = absurd is
-same_kind sheet (claims p b) (assigns e) is = absurd is
-same_kind sheet (claims p b) (derives m q) is = absurd is
-same_kind sheet (claims p b) ends is = absurd is
-same_kind sheet claims_inconsistent nothing is = absurd is
-same_kind sheet claims_inconsistent heading is = absurd is
-same_kind sheet claims_inconsistent (claims e c) is = absurd is
-same_kind sheet claims_inconsistent claims_inconsistent is = refl
-same_kind sheet claims_inconsistent (uses e) is = absurd is
-same_kind sheet claims_inconsistent (assigns e) is = absurd is
-same_kind sheet claims_inconsistent (derives m q) is = absurd is
-same_kind sheet claims_inconsistent ends is = absurd is
-same_kind sheet (uses p) nothing is = absurd is
-same_kind sheet (uses p) heading is = absurd is
-same_kind sheet (uses p) (claims e c) is = absurd is
-same_kind sheet (uses p) claims_inconsistent is = absurd is
-same_kind sheet (uses p) (uses e) is = refl
-same_kind sheet (uses p) (assigns e) is = absurd is
-same_kind sheet (uses p) (derives m q) is = absurd is
-same_kind sheet (uses p) ends is = absurd is
-same_kind sheet (assigns p) nothing is = absurd is
-same_kind sheet (assigns p) heading is = absurd is
-same_kind sheet (assigns p) (claims e c) is = absurd is
-same_kind sheet (assigns p) claims_inconsistent is = absurd is
-same_kind sheet (assigns p) (uses e) is = absurd is
-same_kind sheet (assigns p) (assigns e) is = refl
-same_kind sheet (assigns p) (derives m q) is = absurd is
-same_kind sheet (assigns p) ends is = absurd is
-same_kind sheet (derives n w) nothing is = absurd is
-same_kind sheet (derives n w) heading is = absurd is
-same_kind sheet (derives n w) (claims e c) is = absurd is
-same_kind sheet (derives n w) claims_inconsistent is = absurd is
-same_kind sheet (derives n w) (uses e) is = absurd is
-same_kind sheet (derives n w) (assigns e) is = absurd is
-same_kind sheet (derives n w) (derives m q) is = ap numbered_line is.0
-same_kind sheet (derives n w) ends is = absurd is
-same_kind sheet ends nothing is = absurd is
-same_kind sheet ends heading is = absurd is
-same_kind sheet ends (claims e c) is = absurd is
-same_kind sheet ends claims_inconsistent is = absurd is
-same_kind sheet ends (uses e) is = absurd is
-same_kind sheet ends (assigns e) is = absurd is
-same_kind sheet ends (derives m q) is = absurd is
-same_kind sheet ends ends is = refl
+claim_kind : (sheet : Sheet) (w : WrittenClaim) (c : Claim) → IsClaimNamed sheet w c → kind_of_claim c ≡ kind_of_written_claim w
+claim_kind sheet (written_implied p holds) (implied t) is = refl
+claim_kind sheet written_inconsistent inconsistent is = refl
+claim_kind sheet written_repairs repairs is = refl
+claim_kind sheet (written_unimplied p) (unimplied t) is = refl
+claim_kind sheet (written_against n) (against r) is = refl
+claim_kind sheet w c is = absurd is
+
+pub same_kind : (sheet : Sheet) (sets : ℕ) (f : WrittenLine) (l : SaidLine) → IsSaidLine sheet sets f l → kind_of l ≡ kind_of_written f
+same_kind sheet sets nothing nothing is = refl
+same_kind sheet sets heading heading is = refl
+same_kind sheet sets (claims w) (claims c) is = claim_kind sheet w c is
+same_kind sheet sets begins begins is = refl
+same_kind sheet sets (uses p) (uses e) is = refl
+same_kind sheet sets (assigns p) (assigns e) is = refl
+same_kind sheet sets (derives n w) (derives m q) is = ap numbered_line is.0
+same_kind sheet sets ends ends is = refl
+same_kind sheet sets f l is = absurd is
 
 -- ---- the first text of a line tells where it may stand
 
 abbrev start_kind : List (List ℕ) → LineKind
 start_kind [] = empty_line
 start_kind (t ∷ ts) =
-    if bytes_eq t (codes "certificate") then heading_line else if bytes_eq t (codes "claim") then target_line else if bytes_eq t (codes "use") then use_line
+    if bytes_eq t (codes "certificate") then heading_line else if bytes_eq t (codes "claim") then target_line else if bytes_eq t (codes "set") then set_line else if bytes_eq t (codes "use") then use_line
     else if bytes_eq t (codes "value") then value_line else if bytes_eq t (codes "end") then end_line else numbered_line (digits_value 10 t)
 
 no_true : (b : Bool) → (b ≡ true → ⊥) → b ≡ false
@@ -102,20 +56,27 @@ no_true false never = refl
 no_word : (t w : List ℕ) → IsNumeral 10 t → (IsNumeral 10 w → ⊥) → bytes_eq t w ≡ false
 no_word t w is never = no_true (bytes_eq t w) (λ e. never (subst (IsNumeral 10) ((bytes_eq-Decides t w).0 e) is))
 
-choose : (a b c d e : Bool) (k : LineKind) → a ≡ false → b ≡ false → c ≡ false → d ≡ false → e ≡ false
-    → (if a then heading_line else if b then target_line else if c then use_line else if d then value_line else if e then end_line else k) ≡ k
-choose a b c d e k p q r s t = rw p (rw q (rw r (rw s (rw t refl))))
+choose : (a b c d e f : Bool) (k : LineKind) → a ≡ false → b ≡ false → c ≡ false → d ≡ false → e ≡ false → f ≡ false
+    → (if a then heading_line else if b then target_line else if c then set_line else if d then use_line else if e then value_line else if f then end_line else k) ≡ k
+choose a b c d e f k p q r s t u = rw p (rw q (rw r (rw s (rw t (rw u refl)))))
 
 numeral_kind : (t : List ℕ) (ts : List (List ℕ)) → IsNumeral 10 t → start_kind (t ∷ ts) ≡ numbered_line (digits_value 10 t)
 numeral_kind t ts is =
-    choose _ _ _ _ _ (numbered_line (digits_value 10 t)) (no_word t (codes "certificate") is (λ n. omega (arith, n.1.0))) (no_word t (codes "claim") is (λ n. omega (arith, n.1.0)))
-    (no_word t (codes "use") is (λ n. omega (arith, n.1.0))) (no_word t (codes "value") is (λ n. omega (arith, n.1.0))) (no_word t (codes "end") is (λ n. omega (arith, n.1.0)))
+    choose _ _ _ _ _ _ (numbered_line (digits_value 10 t)) (no_word t (codes "certificate") is (λ n. omega (arith, n.1.0))) (no_word t (codes "claim") is (λ n. omega (arith, n.1.0)))
+    (no_word t (codes "set") is (λ n. omega (arith, n.1.0))) (no_word t (codes "use") is (λ n. omega (arith, n.1.0))) (no_word t (codes "value") is (λ n. omega (arith, n.1.0))) (no_word t (codes "end") is (λ n. omega (arith, n.1.0)))
 
-by_start : (before : List LineKind) (line : List ℕ) (texts : List (List ℕ)) (f : WrittenLine) → IsCertificateForm line texts f → may_stand before (kind_of f) ≡ may_stand before (start_kind texts)
+claim_by_start : (before : List LineKind) (line : List ℕ) (texts : List (List ℕ)) (c : WrittenClaim) → IsClaimForm line texts c → may_stand before (kind_of_written_claim c) ≡ may_stand before (start_kind texts)
+claim_by_start before line texts (written_implied p b) is = ap (λ ts. may_stand before (start_kind ts)) (sym is.0.is)
+claim_by_start before line texts written_inconsistent is = ap (λ ts. may_stand before (start_kind ts)) (sym is)
+claim_by_start before line texts written_repairs is = ap (λ ts. may_stand before (start_kind ts)) (sym is)
+claim_by_start before line texts (written_unimplied p) is = ap (λ ts. may_stand before (start_kind ts)) (sym is.0.is)
+claim_by_start before line texts (written_against n) is = ap (λ ts. may_stand before (start_kind ts)) (sym is.0)
+
+by_start : (before : List LineKind) (line : List ℕ) (texts : List (List ℕ)) (f : WrittenLine) → IsCertificateForm line texts f → may_stand before (kind_of_written f) ≡ may_stand before (start_kind texts)
 by_start before line texts nothing is = ap (λ ts. may_stand before (start_kind ts)) (sym is)
 by_start before line texts heading is = ap (λ ts. may_stand before (start_kind ts)) (sym is.are)
-by_start before line texts (claims p b) is = ap (λ ts. may_stand before (start_kind ts)) (sym is.0.is)
-by_start before line texts claims_inconsistent is = ap (λ ts. may_stand before (start_kind ts)) (sym is)
+by_start before line texts (claims c) is = claim_by_start before line texts c is
+by_start before line texts begins is = ap (λ ts. may_stand before (start_kind ts)) (sym is)
 by_start before line texts (uses p) is = ap (λ ts. may_stand before (start_kind ts)) (sym is.0.is)
 by_start before line texts (assigns p) is = ap (λ ts. may_stand before (start_kind ts)) (sym is.0.is)
 by_start before line texts (derives n w) is =
@@ -131,21 +92,21 @@ module _ (sheet : Sheet) (ls : List SaidLine) (line : List ℕ) (f : WrittenLine
   abbrev before : List LineKind
   before = map kind_of ls
 
-  pub misplaced : (b : Bool) → b ≡ may_stand before (kind_of f) → b ≡ false → IsCertificateAtFault sheet before line syntax
+  pub misplaced : (b : Bool) → b ≡ may_stand before (kind_of_written f) → b ≡ false → IsCertificateAtFault sheet before line syntax
   misplaced b same stays = formless (λ g line_g may.
-      false_true (may_stand before (kind_of g)) (by_start before line (texts_of line) g line_g ∙ sym (by_start before line (texts_of line) f is) ∙ sym same ∙ stays) may)
+      false_true (may_stand before (kind_of_written g)) (by_start before line (texts_of line) g line_g ∙ sym (by_start before line (texts_of line) f is) ∙ sym same ∙ stays) may)
 
-  pub unnamed : (A : Type 0) (b : Bool) → may_stand before (kind_of f) ≡ true → b ≡ false → MatchBool b A ((l : SaidLine) → IsSaidLine sheet f l → ⊥) → IsCertificateAtFault sheet before line unknown_name
-  unnamed A b may stays told = nameless f is may (subst (λ c. MatchBool c A ((l : SaidLine) → IsSaidLine sheet f l → ⊥)) stays told)
+  pub unnamed : (A : Type 0) (b : Bool) → may_stand before (kind_of_written f) ≡ true → b ≡ false → MatchBool b A ((l : SaidLine) → IsSaidLine sheet (sets_in before) f l → ⊥) → IsCertificateAtFault sheet before line unknown_name
+  unnamed A b may stays told = nameless f is may (subst (λ c. MatchBool c A ((l : SaidLine) → IsSaidLine sheet (sets_in before) f l → ⊥)) stays told)
 
-  pub taken_line : (d : Draft) (o : Order) (N : Type 0) (b : Bool) → may_stand before (kind_of f) ≡ true → b ≡ true → MatchBool b (AddsLine sheet f ls d) N → o ≡ order_of (before ++ kind_of f ∷ []) → IsTaken sheet ls line o d
+  pub taken_line : (d : Draft) (o : Order) (N : Type 0) (b : Bool) → may_stand before (kind_of_written f) ≡ true → b ≡ true → MatchBool b (AddsLine sheet f ls d) N → o ≡ order_of (before ++ kind_of_written f ∷ []) → IsTaken sheet ls line o d
   taken_line d o N b may goes told order =
       let adds = subst (λ c. MatchBool c (AddsLine sheet f ls d) N) goes told in
       record {
         says = adds.line;
         is = record { form = f; is = is; may = may; named = adds.named };
         gathered = adds.gathered;
-        order = order ∙ ap (λ k. order_of (before ++ k ∷ [])) (sym (same_kind sheet f adds.line adds.named)) ∙ ap order_of (sym (map-append kind_of ls (adds.line ∷ [])));
+        order = order ∙ ap (λ k. order_of (before ++ k ∷ [])) (sym (same_kind sheet (sets_in before) f adds.line adds.named)) ∙ ap order_of (sym (map-append kind_of ls (adds.line ∷ [])));
       }
 
 pub no_form : (sheet : Sheet) (before : List LineKind) (line : List ℕ) (number : ℕ) (e : CertFault) → IsFormless line number e → IsLineFault sheet before line number e

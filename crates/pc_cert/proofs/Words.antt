@@ -9,7 +9,7 @@ heads x y xs ys e = cc
 pub tails : {A : Type 0} (x y : A) (xs ys : List A) → x ∷ xs ≡ y ∷ ys → xs ≡ ys
 tails x y xs ys e = cc
 
-false_no_true : (b : Bool) → b ≡ false → b ≡ true → ⊥
+pub false_no_true : (b : Bool) → b ≡ false → b ≡ true → ⊥
 false_no_true b e f = cc
 
 pub differ : (a b : List ℕ) → bytes_eq a b ≡ false → a ≡ b → ⊥

@@ -1,9 +1,9 @@
 -- How symbols get their numbers as literals are read.
-use Rattle.std.specs.Prelude.{◌≡◌, List, ◌++◌, length, map}
+use Rattle.std.specs.Prelude.{◌≡◌, ℕ, List, ◌++◌, length, map}
 use Rattle.pc_sheet.specs.Sheet.{Sheet}
 use Rattle.pc_lits.specs.declared.literal.Lit.{Lit}
-use Rattle.pc_accept.specs.Literals.{Symbol}
-use Rattle.pc_cert.specs.Written.{WrittenLiteral, WrittenPart}
+use Rattle.pc_accept.specs.Literals.{Symbol, Literal}
+use Rattle.pc_cert.specs.Written.{WrittenLiteral, WrittenPart, derived, blocked}
 use Rattle.pc_cert.specs.Meaning.{IsLiteralNamed, IsPartNamed, AreNamedEach}
 use Rattle.pc_cert.specs.Views.{symbol_of, literal_of, part_of, place_of, places_in, AppearInOrder}
 use Rattle.pc_cert.specs.declared.cert.CertPart.{CertPart}
@@ -23,8 +23,13 @@ pub record AreNumbered (sheet : Sheet) (written : List WrittenLiteral) (old new 
   pub named : AreNamedEach (IsLiteralNamed sheet) written (map (literal_of new) lits)
   pub appear : AppearInOrder (length old) (map place_of lits) (length new)
 
--- the same of a part of the derivation
-pub record IsPartTaken (sheet : Sheet) (written : WrittenPart) (old new : List Symbol) (p : CertPart) : Type 0 where
+-- the same of a part of the derivation behind so many sets
+pub record IsPartTaken (sheet : Sheet) (sets : ℕ) (written : WrittenPart) (old new : List Symbol) (p : CertPart) : Type 0 where
   pub grows : StartsWith old new
-  pub named : IsPartNamed sheet written (part_of new p)
+  pub named : IsPartNamed sheet sets written (part_of new p)
   pub appear : AppearInOrder (length old) (places_in p) (length new)
+
+-- behind so many sets this names neither a clause with hints nor a set's
+pub record IsNoClause (sheet : Sheet) (sets : ℕ) (written : WrittenPart) : Type 0 where
+  pub not_derived : (ls : List Literal) (ns : List ℕ) → IsPartNamed sheet sets written (derived ls ns) → ⊥
+  pub not_blocked : (k : ℕ) → IsPartNamed sheet sets written (blocked k) → ⊥

@@ -10,8 +10,9 @@ use Rattle.pc_names.specs.declared.axiom_name.AxiomName.{AxiomName}
 use Rattle.pc_names.specs.declared.axiom_name.AxiomName.TheVariants.{Any, One, Rule, Node, Atom}
 use Rattle.pc_cert.specs.declared.cert.Cert.{Cert}
 use Rattle.pc_cert.specs.declared.cert.CertPart.{CertPart}
-use Rattle.pc_cert.specs.declared.cert.CertPart.TheVariants.{Axiom, Step}
+use Rattle.pc_cert.specs.declared.cert.CertPart.TheVariants.{Axiom, Step, Block}
 use Rattle.pc_cert.specs.declared.cert.Said.{Said}
+use Rattle.pc_cert.specs.declared.cert.SaidSet.{SaidSet}
 use Rattle.pc_cert.specs.Text.{CertificateReading}
 use Rattle.pc_cert.specs.Views.{symbols_of, reading_of, AreSymbolsDistinct}
 
@@ -34,17 +35,29 @@ IsOverSheet sheet (Atom p reads) = All (IsEntryOf sheet.universe) reads.items
 abbrev pub IsPartOver : Sheet → List Symbol → CertPart → Type 0
 IsPartOver sheet symbols (Axiom a) = IsOverSheet sheet a
 IsPartOver sheet symbols (Step clause hints) = All (IsNamedIn symbols) clause.items
+IsPartOver sheet symbols (Block j) = Unit {0}
 
--- with a claim of inconsistency there are neither used entries nor values
-abbrev pub IsBare : CertificateReading → accepts.Claim → Type 0
-IsBare r (accepts.implied t) = Unit {0}
-IsBare r accepts.inconsistent = (r.uses ≡ []) × (r.values ≡ [])
+pub record IsSetSaidOf (sheet : Sheet) (s : SaidSet) : Type 0 where
+  pub uses : All (IsSaidOf sheet) s.uses.items
+  pub values : All (IsSaidOf sheet) s.values.items
 
--- entries of the sheet, different symbols, literals of these, and neither used entries nor values beside a claim of
--- inconsistency
+abbrev pub HasNoEntries : CertificateReading → Type 0
+HasNoEntries r = (r.uses ≡ []) × (r.values ≡ [])
+
+-- with a claim of inconsistency or on sets there are neither used entries nor values, and with another claim than one on sets there
+-- are no sets; a rule that is named is one of the sheet's
+abbrev pub IsBare : Sheet → CertificateReading → accepts.Claim → Type 0
+IsBare sheet r (accepts.implied t) = r.sets ≡ []
+IsBare sheet r accepts.inconsistent = (r.sets ≡ []) × HasNoEntries r
+IsBare sheet r accepts.repairs = HasNoEntries r
+IsBare sheet r (accepts.unimplied t) = HasNoEntries r
+IsBare sheet r (accepts.against k) = (r.sets ≡ []) × (k < length sheet.rules)
+
+-- entries of the sheet, different symbols, literals of these, and nothing beside what the claim asks for
 pub record IsReadFor (sheet : Sheet) (c : Cert) : Type 0 where
+  pub sets : All (IsSetSaidOf sheet) c.sets.items
   pub uses : All (IsSaidOf sheet) c.uses.items
   pub values : All (IsSaidOf sheet) c.values.items
   pub distinct : AreSymbolsDistinct (symbols_of c)
   pub parts : All (λ l. IsPartOver sheet (symbols_of c) l.part) c.lines.items
-  pub bare : IsBare (reading_of c) (reading_of c).claim
+  pub bare : IsBare sheet (reading_of c) (reading_of c).claim

@@ -6,12 +6,14 @@ use denote.Ref.{Bor}
 use Rattle.pc_sheet.specs.declared.formula.Rule.{Rule}
 use Rattle.pc_sheet.specs.declared.nodes.NodePath.{NodePath}
 use Rattle.pc_formula.specs.Tree.{cell_of, value_of}
-use Rattle.pc_cert.specs.Written.{nothing, heading, claims, claims_inconsistent, uses, assigns, derives, ends, WrittenPair, WrittenPath, WrittenSymbol, written_pair, written_node, WrittenLiteral, WrittenPart, written_some, written_one, written_rule, written_node_clause, written_atom, written_step, WrittenLine}
+use Rattle.pc_cert.specs.Written.{nothing, heading, claims, begins, uses, assigns, derives, ends, WrittenPair, WrittenPath, WrittenSymbol, written_pair, written_node, WrittenLiteral, WrittenClaim, written_implied, written_inconsistent, written_repairs, written_unimplied, written_against, WrittenPart, written_some, written_one, written_rule, written_node_clause, written_atom, written_step, written_block, WrittenLine}
 use Rattle.pc_cert.specs.declared.tree.PairTree.{PairTree}
 use Rattle.pc_cert.specs.declared.tree.PathTree.{PathTree}
 use Rattle.pc_cert.specs.declared.tree.SymbolTree.{SymbolTree}
 use Rattle.pc_cert.specs.declared.tree.SymbolTree.TheVariants as symbol
 use Rattle.pc_cert.specs.declared.tree.LiteralTree.{LiteralTree}
+use Rattle.pc_cert.specs.declared.tree.ClaimTree.{ClaimTree}
+use Rattle.pc_cert.specs.declared.tree.ClaimTree.TheVariants as claim
 use Rattle.pc_cert.specs.declared.tree.PartTree.{PartTree}
 use Rattle.pc_cert.specs.declared.tree.PartTree.TheVariants as part
 use Rattle.pc_cert.specs.declared.tree.LineTree.{LineTree}
@@ -41,12 +43,20 @@ part_of (part.Rule n) = written_rule n
 part_of (part.Node p i) = written_node_clause (path_of p) i
 part_of (part.Atom p reads) = written_atom (path_of p) (map pair_of reads.items)
 part_of (part.Step clause hints) = written_step (map literal_of clause.items) hints.items
+part_of (part.Block j) = written_block j
+
+abbrev pub claim_of : ClaimTree → WrittenClaim
+claim_of (claim.Implied p holds) = written_implied (pair_of p) holds
+claim_of claim.Inconsistent = written_inconsistent
+claim_of claim.Repairs = written_repairs
+claim_of (claim.Not p) = written_unimplied (pair_of p)
+claim_of (claim.Against n) = written_against n
 
 abbrev pub line_of : LineTree → WrittenLine
 line_of line.Nothing = nothing
 line_of line.Heading = heading
-line_of (line.Claims p holds) = claims (pair_of p) holds
-line_of line.ClaimsInconsistent = claims_inconsistent
+line_of (line.Claims c) = claims (claim_of c)
+line_of line.Begins = begins
 line_of (line.Uses p) = uses (pair_of p)
 line_of (line.Assigns p) = assigns (pair_of p)
 line_of (line.Derives n p) = derives n (part_of p)

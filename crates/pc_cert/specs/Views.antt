@@ -6,15 +6,16 @@ use Rattle.pc_lits.specs.declared.literal.Lit.{Lit}
 use Rattle.pc_accept.specs.Literals as plain
 use Rattle.pc_accept.specs.Accepts as accepts
 use Rattle.pc_names.specs.Views.{axiom_of}
-use Rattle.pc_cert.specs.Written.{CertificatePart, taken, derived}
-use Rattle.pc_cert.specs.Text.{CertificateReading, certificate, fault_at, syntax, unknown_name, IsTextReading}
+use Rattle.pc_cert.specs.Written.{CertificatePart, taken, derived, blocked}
+use Rattle.pc_cert.specs.Text.{SetReading, CertificateReading, certificate, fault_at, syntax, unknown_name, IsTextReading}
 use Rattle.pc_cert.specs.declared.cert.Claim.{Claim}
-use Rattle.pc_cert.specs.declared.cert.Claim.TheVariants.{Implied, Inconsistent}
+use Rattle.pc_cert.specs.declared.cert.Claim.TheVariants.{Implied, Inconsistent, Repairs, Not, Against}
 use Rattle.pc_cert.specs.declared.cert.Said.{Said}
+use Rattle.pc_cert.specs.declared.cert.SaidSet.{SaidSet}
 use Rattle.pc_cert.specs.declared.cert.Symbol.{Symbol}
 use Rattle.pc_cert.specs.declared.cert.Symbol.TheVariants.{Pair, Node}
 use Rattle.pc_cert.specs.declared.cert.CertPart.{CertPart}
-use Rattle.pc_cert.specs.declared.cert.CertPart.TheVariants.{Axiom, Step}
+use Rattle.pc_cert.specs.declared.cert.CertPart.TheVariants.{Axiom, Step, Block}
 use Rattle.pc_cert.specs.declared.cert.CertLine.{CertLine}
 use Rattle.pc_cert.specs.declared.cert.Cert.{Cert}
 use Rattle.pc_cert.specs.declared.cert.CertFault.{CertFault}
@@ -23,9 +24,15 @@ use Rattle.pc_cert.specs.declared.cert.CertFault.TheVariants as cert_fault
 abbrev pub claim_of : Claim → accepts.Claim
 claim_of (Implied t) = accepts.implied t
 claim_of Inconsistent = accepts.inconsistent
+claim_of Repairs = accepts.repairs
+claim_of (Not t) = accepts.unimplied t
+claim_of (Against r) = accepts.against r
 
 abbrev pub said_of : Said → ℕ × Entry
 said_of s = (s.line, s.entry)
+
+abbrev pub set_of : SaidSet → SetReading
+set_of s = record { line = s.line; uses = map said_of s.uses.items; values = map said_of s.values.items; after = s.after }
 
 abbrev pub symbol_of : Symbol → plain.Symbol
 symbol_of (Pair c v) = plain.pair c v
@@ -43,6 +50,7 @@ literal_of symbols l = record { what = symbol_at symbols l.variable.0; sign = l.
 abbrev pub part_of : List plain.Symbol → CertPart → CertificatePart
 part_of symbols (Axiom a) = taken (axiom_of a)
 part_of symbols (Step clause hints) = derived (map (literal_of symbols) clause.items) hints.items
+part_of symbols (Block j) = blocked j
 
 abbrev pub numbered_part_of : List plain.Symbol → CertLine → ℕ × CertificatePart
 numbered_part_of symbols l = (l.line, part_of symbols l.part)
@@ -51,7 +59,7 @@ abbrev pub symbols_of : Cert → List plain.Symbol
 symbols_of c = map symbol_of c.symbols.items
 
 abbrev pub reading_of : Cert → CertificateReading
-reading_of c = record { claim = claim_of c.claim; uses = map said_of c.uses.items; values = map said_of c.values.items; after = c.after; parts = map (numbered_part_of (symbols_of c)) c.lines.items }
+reading_of c = record { claim = claim_of c.claim; sets = map set_of c.sets.items; uses = map said_of c.uses.items; values = map said_of c.values.items; after = c.after; parts = map (numbered_part_of (symbols_of c)) c.lines.items }
 
 -- ---- how symbols are numbered
 
@@ -62,6 +70,7 @@ place_of l = l.variable.0
 abbrev pub places_in : CertPart → List ℕ
 places_in (Axiom a) = []
 places_in (Step clause hints) = map place_of clause.items
+places_in (Block j) = []
 
 abbrev pub places_of : List CertLine → List ℕ
 places_of [] = []

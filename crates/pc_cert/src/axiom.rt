@@ -4,9 +4,9 @@ ghost use Rattle.std.specs.Option.{option_map};
 ghost use Rattle.pc_accept.specs.Axioms.{Axiom};
 ghost use Rattle.pc_formula.specs.Tree.{cell_of, value_of};
 ghost use Rattle.pc_names.specs.Views.{axiom_of};
-ghost use Rattle.pc_cert.specs.Meaning.{IsPartNamed};
+ghost use Rattle.pc_cert.specs.Meaning.{IsAxiomNamed};
 ghost use Rattle.pc_cert.specs.Trees.{pair_of, part_of, path_of};
-ghost use Rattle.pc_cert.specs.Written.{taken, written_some, written_one, written_rule, written_node_clause, written_atom};
+ghost use Rattle.pc_cert.specs.Written.{written_some, written_one, written_rule, written_node_clause, written_atom};
 
 use crate::entries::named_entries;
 use crate::lookup::{named_cell, named_rule, named_values};
@@ -19,7 +19,7 @@ use std::alloc::{AllocError, Global};
 
 // `some`
 fn some_axiom(book: &Book, cell: &CellTree) -> Option<AxiomName>
-    ensures { (a : Axiom) → (option_map axiom_of result ≡ Some a) ↔ IsPartNamed book.now (written_some (cell_of cell.now)) (taken a) }
+    ensures { (a : Axiom) → (option_map axiom_of result ≡ Some a) ↔ IsAxiomNamed book.now (written_some (cell_of cell.now)) a }
 {
     let Some(id) = named_cell(book, cell) else {
         return None;
@@ -34,7 +34,7 @@ fn one_axiom(
     first: &ValueTree,
     second: &ValueTree,
 ) -> Option<AxiomName>
-    ensures { (a : Axiom) → (option_map axiom_of result ≡ Some a) ↔ IsPartNamed book.now (written_one (cell_of cell.now) (value_of first.now) (value_of second.now)) (taken a) }
+    ensures { (a : Axiom) → (option_map axiom_of result ≡ Some a) ↔ IsAxiomNamed book.now (written_one (cell_of cell.now) (value_of first.now) (value_of second.now)) a }
 {
     let Some((id, v, w)) = named_values(book, cell, first, second) else {
         return None;
@@ -44,7 +44,7 @@ fn one_axiom(
 
 // `rule`
 fn rule_axiom(book: &Book, name: &Name) -> Option<AxiomName>
-    ensures { (a : Axiom) → (option_map axiom_of result ≡ Some a) ↔ IsPartNamed book.now (written_rule name.now) (taken a) }
+    ensures { (a : Axiom) → (option_map axiom_of result ≡ Some a) ↔ IsAxiomNamed book.now (written_rule name.now) a }
 {
     let Some(rule) = named_rule(book, name) else {
         return None;
@@ -59,7 +59,7 @@ fn node_axiom(
     path: &PathTree,
     number: u32,
 ) -> Result<Option<AxiomName>, AllocError>
-    ensures { IfOk result (λ o. (a : Axiom) → (option_map axiom_of o ≡ Some a) ↔ IsPartNamed book.now (written_node_clause (path_of path.now) number) (taken a)) }
+    ensures { IfOk result (λ o. (a : Axiom) → (option_map axiom_of o ≡ Some a) ↔ IsAxiomNamed book.now (written_node_clause (path_of path.now) number) a) }
 {
     let Some(place) = named_node(alloc, book, path)? else {
         return Ok(None);
@@ -74,7 +74,7 @@ fn atom_axiom(
     path: &PathTree,
     reads: &[PairTree],
 ) -> Result<Option<AxiomName>, AllocError>
-    ensures { IfOk result (λ o. (a : Axiom) → (option_map axiom_of o ≡ Some a) ↔ IsPartNamed book.now (written_atom (path_of path.now) (map pair_of reads.now)) (taken a)) }
+    ensures { IfOk result (λ o. (a : Axiom) → (option_map axiom_of o ≡ Some a) ↔ IsAxiomNamed book.now (written_atom (path_of path.now) (map pair_of reads.now)) a) }
 {
     let Some(place) = named_node(alloc, book, path)? else {
         return Ok(None);
@@ -85,13 +85,13 @@ fn atom_axiom(
     Ok(Some(AxiomName::Atom(place, entries)))
 }
 
-/// The axiom that the part names. A step names none.
+/// The axiom that the part names. A step and a set's clause name none.
 pub fn named_axiom(
     alloc: Global,
     book: &Book,
     part: &PartTree,
 ) -> Result<Option<AxiomName>, AllocError>
-    ensures { IfOk result (λ o. (a : Axiom) → (option_map axiom_of o ≡ Some a) ↔ IsPartNamed book.now (part_of part.now) (taken a)) }
+    ensures { IfOk result (λ o. (a : Axiom) → (option_map axiom_of o ≡ Some a) ↔ IsAxiomNamed book.now (part_of part.now) a) }
 {
     match part {
         PartTree::Any(cell) => Ok(some_axiom(book, cell)),
@@ -100,5 +100,6 @@ pub fn named_axiom(
         PartTree::Node(path, number) => node_axiom(alloc, book, path, *number),
         PartTree::Atom(path, reads) => atom_axiom(alloc, book, path, reads.as_slice()),
         PartTree::Step { .. } => Ok(None),
+        PartTree::Block(_) => Ok(None),
     }
 }

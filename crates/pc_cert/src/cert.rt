@@ -13,6 +13,12 @@ pub enum Claim {
     Implied(Target),
     /// No assignment makes every rule true.
     Inconsistent,
+    /// The certificate's sets are the maximal sets.
+    Repairs,
+    /// The target isn't implied.
+    Not(Target),
+    /// Where the other rules are true and the used entries stand, the rule of this number is false.
+    Against(u32),
 }
 
 /// An entry, with the number of the line that says it, from 1.
@@ -22,6 +28,15 @@ pub struct Said {
     pub entry: Entry,
 }
 
+/// A set of entries and an assignment, with the number of its first line, and one more than that of its last.
+#[derive(Debug, Drop, PartialEq, Eq)]
+pub struct SaidSet {
+    pub line: u32,
+    pub uses: Vec<Said>,
+    pub values: Vec<Said>,
+    pub after: u32,
+}
+
 /// What a literal is about: that a cell has a value, or a node's truth.
 #[derive(Debug, Drop, PartialEq, Eq)]
 pub enum Symbol {
@@ -29,12 +44,14 @@ pub enum Symbol {
     Node(NodePath),
 }
 
-/// A part of a derivation: an axiom, or a clause with its hints. A literal's variable is a place in the certificate's
+/// A part of a derivation: an axiom, a clause with its hints, or the clause of the entries that aren't in a set, by the set's
+/// place. A literal's variable is a place in the certificate's
 /// symbols. Hints are as written: numbers of lines of the derivation, from 1. They may name lines that there aren't.
 #[derive(Debug, Drop, PartialEq, Eq)]
 pub enum CertPart {
     Axiom(AxiomName),
     Step { clause: Vec<Lit>, hints: Vec<u64> },
+    Block(usize),
 }
 
 /// A part of a derivation, with the number of its line in the text, from 1.
@@ -48,11 +65,13 @@ pub struct CertLine {
 #[derive(Debug, Drop, PartialEq, Eq)]
 pub struct Cert {
     pub claim: Claim,
+    /// The sets, where the claim is on sets. Then there are no used entries and values beside theirs.
+    pub sets: Vec<SaidSet>,
     /// The entries that are used.
     pub uses: Vec<Said>,
     /// The assignment.
     pub values: Vec<Said>,
-    /// One more than the number of the last line with a claim, a used entry or a value.
+    /// One more than the number of the last line with a claim, a used entry or a value, in front of the sets.
     pub after: u32,
     /// What the literals of the clauses are about, in the order in which they first appear there.
     pub symbols: Vec<Symbol>,

@@ -2,23 +2,24 @@
 ghost use Rattle.std.specs.Prelude.{◌≡◌, ◌+◌, ◌<◌, ◌^◌, ◌∷◌, ◌++◌, [], ℕ, List, length, map, IfOk, MatchBool};
 ghost use Rattle.pc_cert.specs.Gathered.{IsGathered, IsSaidNext, AddsLine};
 ghost use Rattle.pc_cert.specs.Meaning.{IsSaidLine, IsPairNamed};
-ghost use Rattle.pc_cert.specs.Trees.{pair_of, part_of, line_of};
+ghost use Rattle.pc_cert.specs.Order.{kind_of, sets_in};
+ghost use Rattle.pc_cert.specs.Trees.{claim_of, pair_of, part_of, line_of};
 ghost use Rattle.pc_sheet.specs.declared.ids.Entry.{Entry as TheEntry};
-ghost use Rattle.pc_cert.specs.Written.{SaidLine, claims, claims_inconsistent, uses, assigns, derives};
+ghost use Rattle.pc_cert.specs.Written.{SaidLine, claims, begins, uses, assigns, derives};
 
-use crate::cert::{CertLine, Claim, Said};
+use crate::cert::{CertLine, Claim, Said, SaidSet};
 use crate::derived::named_part;
-use crate::lookup::named_entry;
+use crate::lookup::{named_claim, named_entry};
 use crate::table::Table;
-use crate::tree::{LineTree, PairTree, PartTree};
+use crate::tree::{ClaimTree, LineTree, PairTree, PartTree};
 use pc_logic::Book;
-use pc_sheet::Target;
 use std::alloc::{AllocError, Global};
 
-/// What lines said so far.
+/// What lines said so far. An entry is the last set's, where a set began.
 #[derive(Drop)]
 pub struct Draft {
     pub claim: Option<Claim>,
+    pub sets: Vec<SaidSet>,
     pub uses: Vec<Said>,
     pub values: Vec<Said>,
     pub after: u32,
@@ -26,31 +27,33 @@ pub struct Draft {
     pub lines: Vec<CertLine>,
 }
 
-// `claim` on a target
-fn say_target(book: &Book, pair: &PairTree, holds: bool, number: u32, draft: &mut Draft) -> bool
+// `claim`
+fn say_claim(book: &Book, claim: &ClaimTree, number: u32, draft: &mut Draft) -> bool
     requires { number + 1 < 2 ^ 32 }
-    ensures { (ls : List SaidLine) → IsGathered ls draft.old → number ≡ length ls + 1 → MatchBool result (AddsLine book.now (claims (pair_of pair.now) holds) ls draft.new) ((l : SaidLine) → IsSaidLine book.now (claims (pair_of pair.now) holds) l → ⊥) }
+    ensures { (ls : List SaidLine) → IsGathered ls draft.old → number ≡ length ls + 1 → MatchBool result (AddsLine book.now (claims (claim_of claim.now)) ls draft.new) ((l : SaidLine) → IsSaidLine book.now (sets_in (map kind_of ls)) (claims (claim_of claim.now)) l → ⊥) }
 {
-    let Some(entry) = named_entry(book, pair) else {
+    let Some(claim) = named_claim(book, claim) else {
         return false;
     };
-    let target = Target {
-        cell: entry.cell,
-        value: entry.value,
-        holds,
-    };
-    draft.claim = draft.claim.or(Some(Claim::Implied(target)));
-    draft.after = number + 1;
+    draft.claim = draft.claim.or(Some(claim));
+    if draft.sets.is_empty() {
+        draft.after = number + 1;
+    }
     true
 }
 
-// `claim inconsistent`
-fn say_inconsistent(number: u32, draft: &mut Draft)
+// `set`
+fn say_set(alloc: Global, number: u32, draft: &mut Draft) -> Result<(), AllocError>
     requires { number + 1 < 2 ^ 32 }
-    ensures { (ls : List SaidLine) → IsGathered ls draft.old → number ≡ length ls + 1 → IsGathered (ls ++ claims_inconsistent ∷ []) draft.new }
+    ensures { (ls : List SaidLine) → IsGathered ls draft.old → number ≡ length ls + 1 → IfOk result (λ _. IsGathered (ls ++ begins ∷ []) draft.new) }
 {
-    draft.claim = draft.claim.or(Some(Claim::Inconsistent));
-    draft.after = number + 1;
+    draft.sets.push(SaidSet {
+        line: number,
+        uses: Vec::new(alloc),
+        values: Vec::new(alloc),
+        after: number + 1,
+    })?;
+    Ok(())
 }
 
 // Adds the entry that is named to what such lines said.
@@ -75,10 +78,16 @@ fn push_said(
 // `use`
 fn say_use(book: &Book, pair: &PairTree, number: u32, draft: &mut Draft) -> Result<bool, AllocError>
     requires { number + 1 < 2 ^ 32 }
-    ensures { (ls : List SaidLine) → IsGathered ls draft.old → number ≡ length ls + 1 → IfOk result (λ b. MatchBool b (AddsLine book.now (uses (pair_of pair.now)) ls draft.new) ((l : SaidLine) → IsSaidLine book.now (uses (pair_of pair.now)) l → ⊥)) }
+    ensures { (ls : List SaidLine) → IsGathered ls draft.old → number ≡ length ls + 1 → IfOk result (λ b. MatchBool b (AddsLine book.now (uses (pair_of pair.now)) ls draft.new) ((l : SaidLine) → IsSaidLine book.now (sets_in (map kind_of ls)) (uses (pair_of pair.now)) l → ⊥)) }
 {
-    draft.after = number + 1;
-    push_said(book, pair, number, &mut draft.uses)
+    let Some(mut set) = draft.sets.pop() else {
+        draft.after = number + 1;
+        return push_said(book, pair, number, &mut draft.uses);
+    };
+    let named = push_said(book, pair, number, &mut set.uses)?;
+    set.after = number + 1;
+    draft.sets.push(set)?;
+    Ok(named)
 }
 
 // `value`
@@ -89,10 +98,16 @@ fn say_value(
     draft: &mut Draft,
 ) -> Result<bool, AllocError>
     requires { number + 1 < 2 ^ 32 }
-    ensures { (ls : List SaidLine) → IsGathered ls draft.old → number ≡ length ls + 1 → IfOk result (λ b. MatchBool b (AddsLine book.now (assigns (pair_of pair.now)) ls draft.new) ((l : SaidLine) → IsSaidLine book.now (assigns (pair_of pair.now)) l → ⊥)) }
+    ensures { (ls : List SaidLine) → IsGathered ls draft.old → number ≡ length ls + 1 → IfOk result (λ b. MatchBool b (AddsLine book.now (assigns (pair_of pair.now)) ls draft.new) ((l : SaidLine) → IsSaidLine book.now (sets_in (map kind_of ls)) (assigns (pair_of pair.now)) l → ⊥)) }
 {
-    draft.after = number + 1;
-    push_said(book, pair, number, &mut draft.values)
+    let Some(mut set) = draft.sets.pop() else {
+        draft.after = number + 1;
+        return push_said(book, pair, number, &mut draft.values);
+    };
+    let named = push_said(book, pair, number, &mut set.values)?;
+    set.after = number + 1;
+    draft.sets.push(set)?;
+    Ok(named)
 }
 
 // A line of the derivation.
@@ -104,9 +119,10 @@ fn say_part(
     number: u32,
     draft: &mut Draft,
 ) -> Result<bool, AllocError>
-    ensures { (ls : List SaidLine) → IsGathered ls draft.old → number ≡ length ls + 1 → IfOk result (λ b. MatchBool b (AddsLine book.now (derives place (part_of part.now)) ls draft.new) ((l : SaidLine) → IsSaidLine book.now (derives place (part_of part.now)) l → ⊥)) }
+    ensures { (ls : List SaidLine) → IsGathered ls draft.old → number ≡ length ls + 1 → IfOk result (λ b. MatchBool b (AddsLine book.now (derives place (part_of part.now)) ls draft.new) ((l : SaidLine) → IsSaidLine book.now (sets_in (map kind_of ls)) (derives place (part_of part.now)) l → ⊥)) }
 {
-    let Some(part) = named_part(alloc, book, part, &mut draft.table)? else {
+    let sets = draft.sets.len();
+    let Some(part) = named_part(alloc, book, sets, part, &mut draft.table)? else {
         return Ok(false);
     };
     draft.lines.push(CertLine { line: number, part })?;
@@ -122,14 +138,14 @@ pub fn say(
     draft: &mut Draft,
 ) -> Result<bool, AllocError>
     requires { number + 1 < 2 ^ 32 }
-    ensures { (ls : List SaidLine) → IsGathered ls draft.old → number ≡ length ls + 1 → IfOk result (λ b. MatchBool b (AddsLine book.now (line_of line.now) ls draft.new) ((l : SaidLine) → IsSaidLine book.now (line_of line.now) l → ⊥)) }
+    ensures { (ls : List SaidLine) → IsGathered ls draft.old → number ≡ length ls + 1 → IfOk result (λ b. MatchBool b (AddsLine book.now (line_of line.now) ls draft.new) ((l : SaidLine) → IsSaidLine book.now (sets_in (map kind_of ls)) (line_of line.now) l → ⊥)) }
 {
     match line {
         LineTree::Nothing => Ok(true),
         LineTree::Heading => Ok(true),
-        LineTree::Claims(pair, holds) => Ok(say_target(book, pair, *holds, number, draft)),
-        LineTree::ClaimsInconsistent => {
-            say_inconsistent(number, draft);
+        LineTree::Claims(claim) => Ok(say_claim(book, claim, number, draft)),
+        LineTree::Begins => {
+            say_set(alloc, number, draft)?;
             Ok(true)
         }
         LineTree::Uses(pair) => say_use(book, pair, number, draft),

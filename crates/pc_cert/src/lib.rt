@@ -3,6 +3,7 @@
 
 mod axiom;
 mod cert;
+mod claim;
 mod derived;
 mod draft;
 mod entries;
@@ -22,7 +23,7 @@ mod table;
 mod texts;
 mod tree;
 
-pub use cert::{Cert, CertFault, CertLine, CertPart, Claim, Said, Symbol};
+pub use cert::{Cert, CertFault, CertLine, CertPart, Claim, Said, SaidSet, Symbol};
 pub use law::worked_lines;
 pub use numbering::Numbering;
 pub use pc_lits::{Lit, Var};

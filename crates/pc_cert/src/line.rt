@@ -1,26 +1,17 @@
 // The reader of a line.
-ghost use Rattle.std.specs.Prelude.{◌≡◌, ◌↔◌, ◌∷◌, [], List, ℕ, IfOk, IsTrue, codes};
+ghost use Rattle.std.specs.Prelude.{◌≡◌, ◌∷◌, List, ℕ, IfOk, codes};
 ghost use Rattle.pc_cert.specs.Written.{WrittenLine, WrittenPart};
 ghost use Rattle.pc_cert.specs.Line.{IsCertificateForm, IsCertificateLine, IsDerivationForm};
 ghost use Rattle.pc_cert.specs.Trees.{line_of, seen};
 
+use crate::claim::read_claim_line;
 use crate::number::read_number;
 use crate::part::{is_word, read_part};
-use crate::spelled::{read_claim, read_word_pair};
+use crate::spelled::read_word_pair;
 use crate::texts::texts;
 use crate::tree::LineTree;
 use pc_formula::Refusal;
 use std::alloc::Global;
-
-// Whether the texts are the one word.
-fn is_one_word(texts: &[&[u8]], word: &str) -> bool
-    ensures { IsTrue result ↔ (seen texts.now ≡ word.now ∷ []) }
-{
-    let [text] = texts else {
-        return false;
-    };
-    is_word(text, word)
-}
 
 // `certificate` and the number 1
 fn heading_line(rest: &[&[u8]]) -> Result<LineTree, Refusal>
@@ -53,11 +44,20 @@ fn claim_line(alloc: Global, line: &[u8], rest: &[&[u8]]) -> Result<LineTree, Re
     ensures told { IfOk result (λ t. IsCertificateForm line.now (codes "claim" ∷ seen rest.now) (line_of t)) }
     ensures none { result ≡ Err Refusal.Syntax → (f : WrittenLine) → IsCertificateForm line.now (codes "claim" ∷ seen rest.now) f → ⊥ }
 {
-    if is_one_word(rest, "inconsistent") {
-        return Ok(LineTree::ClaimsInconsistent);
+    let claim = read_claim_line(alloc, line, rest)?;
+    Ok(LineTree::Claims(claim))
+}
+
+// `set`
+fn set_line(rest: &[&[u8]]) -> Result<LineTree, Refusal>
+    ensures told { IfOk result (λ t. (l : List ℕ) → IsCertificateForm l (codes "set" ∷ seen rest.now) (line_of t)) }
+    ensures none { result ≡ Err Refusal.Syntax → (l : List ℕ) (f : WrittenLine) → IsCertificateForm l (codes "set" ∷ seen rest.now) f → ⊥ }
+{
+    if rest.is_empty() {
+        Ok(LineTree::Begins)
+    } else {
+        Err(Refusal::Syntax)
     }
-    let (pair, holds) = read_claim(alloc, line)?;
-    Ok(LineTree::Claims(pair, holds))
 }
 
 // `use`
@@ -107,6 +107,9 @@ pub fn read_line(alloc: Global, line: &[u8]) -> Result<LineTree, Refusal>
     }
     if is_word(first, "claim") {
         return claim_line(alloc, line, rest);
+    }
+    if is_word(first, "set") {
+        return set_line(rest);
     }
     if is_word(first, "use") {
         return use_line(alloc, line, rest);

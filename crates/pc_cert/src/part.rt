@@ -114,6 +114,20 @@ fn step_part(alloc: Global, texts: &[&[u8]]) -> Result<PartTree, Refusal>
     Ok(PartTree::Step { clause, hints })
 }
 
+// The number of a set
+fn block_part(texts: &[&[u8]]) -> Result<PartTree, Refusal>
+    ensures told { IfOk result (λ p. IsPartStarting (codes "block") (seen texts.now) (part_of p)) }
+    ensures none { result ≡ Err Refusal.Syntax → (p : WrittenPart) → IsPartStarting (codes "block") (seen texts.now) p → ⊥ }
+{
+    let [number] = texts else {
+        return Err(Refusal::Syntax);
+    };
+    match read_number(number) {
+        Some(number) => Ok(PartTree::Block(number)),
+        None => Err(Refusal::Syntax),
+    }
+}
+
 /// The part of a derivation that the texts are.
 pub fn read_part(alloc: Global, texts: &[&[u8]]) -> Result<PartTree, Refusal>
     ensures told { IfOk result (λ p. IsPartForm (seen texts.now) (part_of p)) }
@@ -139,6 +153,9 @@ pub fn read_part(alloc: Global, texts: &[&[u8]]) -> Result<PartTree, Refusal>
     }
     if is_word(word, "step") {
         return step_part(alloc, rest);
+    }
+    if is_word(word, "block") {
+        return block_part(rest);
     }
     Err(Refusal::Syntax)
 }

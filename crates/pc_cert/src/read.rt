@@ -82,6 +82,7 @@ fn empty_draft(alloc: Global) -> Draft
 {
     Draft {
         claim: None,
+        sets: Vec::new(alloc),
         uses: Vec::new(alloc),
         values: Vec::new(alloc),
         after: 0,
@@ -96,6 +97,7 @@ fn finish(order: &Order, draft: Draft, number: u32) -> Result<Cert, CertFault>
 {
     let Draft {
         claim,
+        sets,
         uses,
         values,
         after,
@@ -111,6 +113,7 @@ fn finish(order: &Order, draft: Draft, number: u32) -> Result<Cert, CertFault>
     let symbols = table.into_symbols();
     Ok(Cert {
         claim,
+        sets,
         uses,
         values,
         after,

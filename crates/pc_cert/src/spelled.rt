@@ -3,7 +3,7 @@ ghost use Rattle.std.specs.Prelude.{◌≡◌, Bool, IfOk};
 ghost use Rattle.pc_formula.specs.Tree.{Cell, Value, cell_of, value_of};
 ghost use Rattle.pc_cert.specs.Written.{WrittenPair};
 ghost use Rattle.pc_cert.specs.Texts.{SpellsThis, IsWholePair, IsCellText, IsValueText, IsReadText};
-ghost use Rattle.pc_cert.specs.Line.{IsWordPair, IsClaim, SpellsPair};
+ghost use Rattle.pc_cert.specs.Line.{IsWordPair, IsClaim, IsDenial, SpellsPair};
 ghost use Rattle.pc_cert.specs.Trees.{pair_of, claimed_of};
 
 use crate::texts::Spelled;
@@ -83,6 +83,26 @@ fn claim_words(alloc: Global, words: &mut Words<'_>) -> Result<(PairTree, bool),
     Ok((PairTree { cell, value }, holds))
 }
 
+// Reads `claim`, `not`, CELL = VALUE and the end.
+fn denial_words(alloc: Global, words: &mut Words<'_>) -> Result<PairTree, Refusal>
+    ensures told { IfOk result (λ p. IsDenial words.old (pair_of p)) }
+    ensures none { result ≡ Err Refusal.Syntax → (p : WrittenPair) → IsDenial words.old p → ⊥ }
+{
+    let Some(first) = words.take_name() else {
+        return Err(Refusal::Syntax);
+    };
+    if first != "claim" {
+        return Err(Refusal::Syntax);
+    }
+    let Some(second) = words.take_name() else {
+        return Err(Refusal::Syntax);
+    };
+    if second != "not" {
+        return Err(Refusal::Syntax);
+    }
+    whole_pair(alloc, words)
+}
+
 /// The cell with a value that stands behind the word that starts the line.
 pub fn read_word_pair(alloc: Global, text: &[u8], word: &str) -> Result<PairTree, Refusal>
     ensures told { IfOk result (λ p. SpellsPair text.now word.now (pair_of p)) }
@@ -101,4 +121,14 @@ pub fn read_claim(alloc: Global, text: &[u8]) -> Result<(PairTree, bool), Refusa
     let spelled = Spelled::new(alloc, text)?;
     let mut words = spelled.words();
     claim_words(alloc, &mut words)
+}
+
+/// The cell and the value of which the line claims that the cell needn't have it.
+pub fn read_denial(alloc: Global, text: &[u8]) -> Result<PairTree, Refusal>
+    ensures told { IfOk result (λ p. SpellsThis IsDenial text.now (pair_of p)) }
+    ensures none { result ≡ Err Refusal.Syntax → (p : WrittenPair) → SpellsThis IsDenial text.now p → ⊥ }
+{
+    let spelled = Spelled::new(alloc, text)?;
+    let mut words = spelled.words();
+    denial_words(alloc, &mut words)
 }

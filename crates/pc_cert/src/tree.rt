@@ -27,6 +27,16 @@ pub struct LiteralTree {
     pub sign: bool,
 }
 
+/// What stands behind `claim`.
+#[derive(Debug, Drop)]
+pub enum ClaimTree {
+    Implied(PairTree, bool),
+    Inconsistent,
+    Repairs,
+    Not(PairTree),
+    Against(Name),
+}
+
 /// What stands behind the number of a line of the derivation.
 #[derive(Debug, Drop)]
 pub enum PartTree {
@@ -39,6 +49,7 @@ pub enum PartTree {
         clause: Vec<LiteralTree>,
         hints: Vec<u64>,
     },
+    Block(u64),
 }
 
 /// A line by its form.
@@ -46,8 +57,8 @@ pub enum PartTree {
 pub enum LineTree {
     Nothing,
     Heading,
-    Claims(PairTree, bool),
-    ClaimsInconsistent,
+    Claims(ClaimTree),
+    Begins,
     Uses(PairTree),
     Assigns(PairTree),
     Derives(u64, PartTree),

@@ -1,6 +1,7 @@
 mod Words
 pub mod Entries
 mod Standing
+mod Speaks
 mod ForTheSheet
 mod Texts
 mod Parts
@@ -8,4 +9,3 @@ mod Signs
 mod Forms
 mod Named
 mod Readings
-mod Speaks

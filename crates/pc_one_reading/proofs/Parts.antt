@@ -3,9 +3,9 @@ use Rattle.std.proofs.Common.{◌≡◌, ◌≢◌, ℕ, List, [], ◌∷◌, �
 use Rattle.std.specs.Prelude.{codes}
 use Rattle.std.specs.List.{AllByRecursion}
 use Rattle.pc_formula.specs.Tree.{Cell, Value}
-use Rattle.pc_cert.specs.Written.{WrittenPair, WrittenPath, WrittenLiteral, WrittenPart, written_some, written_one, written_rule, written_node_clause, written_atom, written_step}
+use Rattle.pc_cert.specs.Written.{WrittenPair, WrittenPath, WrittenLiteral, WrittenPart, written_some, written_one, written_rule, written_node_clause, written_atom, written_step, written_block}
 use Rattle.pc_cert.specs.Texts.{IsCellText, IsValueText, IsReadText, IsNumberText, IsPathText, IsLiteralText, AreAll}
-use Rattle.pc_cert.specs.Line.{IsSomeForm, IsOneForm, IsNodeForm, IsAtomForm, IsStep, part_word, FollowsPart, IsPartForm, IsDerivationForm}
+use Rattle.pc_cert.specs.Line.{IsSomeForm, IsOneForm, IsNodeForm, IsAtomForm, IsStep, IsBlockForm, part_word, FollowsPart, IsPartForm, IsDerivationForm}
 use Rattle.pc_one_reading.proofs.Words.{heads, tails, differ}
 use Rattle.pc_one_reading.proofs.Texts.{IsUnambiguous, are_all_once, number_once, path_once, cell_once, value_once, read_once, literal_once}
 
@@ -58,6 +58,11 @@ module _ (laws : IsUnambiguous) where
       ap₂ written_step (are_all_once IsLiteralText (literal_once laws) b.literals ls ms (subst (λ ts. AreAll IsLiteralText ts ls) cut.0 a.clause) b.clause)
       (are_all_once IsNumberText number_once b.hints hs is (subst (λ ts. AreAll IsNumberText ts hs) cut.1 a.lines) b.lines)
 
+  block_once : (texts : List (List ℕ)) (j k : ℕ) → IsBlockForm texts j → IsBlockForm texts k → j ≡ k
+  block_once texts j k a b =
+      let same = heads a.number b.number [] [] (sym a.are ∙ b.are) in
+      number_once b.number j k (subst (λ t. IsNumberText t j) same a.is_number) b.is_number
+
   -- the word that starts a part decides its form
   follows_once : (texts : List (List ℕ)) (p q : WrittenPart) → part_word p ≡ part_word q → FollowsPart p texts → FollowsPart q texts → p ≡ q
   follows_once texts (written_some c) (written_some d) e a b = ap written_some (some_once texts c d a b)
@@ -66,6 +71,7 @@ module _ (laws : IsUnambiguous) where
   follows_once texts (written_node_clause p i) (written_node_clause q j) e a b = node_once texts p q i j a b
   follows_once texts (written_atom p xs) (written_atom q ys) e a b = atom_once texts p q xs ys a b
   follows_once texts (written_step ls hs) (written_step ms is) e a b = step_once texts ls ms hs is a b
+  follows_once texts (written_block j) (written_block k) e a b = ap written_block (block_once texts j k a b)
   follows_once texts p q e a b = absurd (differ (part_word p) (part_word q) refl e)
 
   part_once : (texts : List (List ℕ)) (p q : WrittenPart) → IsPartForm texts p → IsPartForm texts q → p ≡ q

@@ -8,10 +8,10 @@ use Rattle.pc_sheet.specs.declared.ids.Entry.{Entry}
 use Rattle.pc_accept.specs.Accepts.{Claim}
 use Rattle.pc_elaborate.specs.Laws.{TreesHaveOneOutcome}
 use Rattle.pc_cert.specs.Written.{WrittenLine, CertificatePart, SaidLine}
-use Rattle.pc_cert.specs.Order.{LineKind, kind_of}
+use Rattle.pc_cert.specs.Order.{LineKind, kind_of, sets_in}
 use Rattle.pc_cert.specs.Line.{IsCertificateLine}
 use Rattle.pc_cert.specs.Meaning.{IsSaidLine}
-use Rattle.pc_cert.specs.Text.{SaysOfSheet, AllSay, CertificateFault, IsCertificateAtFault, formless, nameless, CertificateReading, SayTogether, TextReading, certificate, fault_at, has_end, IsTextReading, whole, endless, faulty}
+use Rattle.pc_cert.specs.Text.{SaysOfSheet, AllSay, CertificateFault, IsCertificateAtFault, formless, nameless, SetReading, CertificateReading, SayTogether, TextReading, certificate, fault_at, has_end, IsTextReading, whole, endless, faulty}
 use Rattle.pc_one_reading.proofs.Words.{false_no_true}
 use Rattle.pc_one_reading.proofs.Texts.{IsUnambiguous}
 use Rattle.pc_one_reading.proofs.Forms.{line_once}
@@ -19,35 +19,36 @@ use Rattle.pc_one_reading.proofs.Named.{line_named_once}
 
 -- ---- what lines say together
 
-abbrev reading : Claim → List (ℕ × Entry) → List (ℕ × Entry) → ℕ → List (ℕ × CertificatePart) → CertificateReading
-reading c us vs n ps = record { claim = c; uses = us; values = vs; after = n; parts = ps }
+abbrev reading : Claim → List SetReading → List (ℕ × Entry) → List (ℕ × Entry) → ℕ → List (ℕ × CertificatePart) → CertificateReading
+reading c ss us vs n ps = record { claim = c; sets = ss; uses = us; values = vs; after = n; parts = ps }
 
 same_some : {A : Type 0} (a b : A) → Some a ≡ Some b → a ≡ b
 same_some a b e = cc
 
 together_once : (ls : List SaidLine) (r s : CertificateReading) → SayTogether ls r → SayTogether ls s → r ≡ s
 together_once ls r s a b =
-    ap (λ c. reading c r.uses r.values r.after r.parts) (same_some r.claim s.claim (sym a.claim ∙ b.claim))
-    ∙ ap (λ us. reading s.claim us r.values r.after r.parts) (a.uses ∙ sym b.uses)
-    ∙ ap (λ vs. reading s.claim s.uses vs r.after r.parts) (a.values ∙ sym b.values)
-    ∙ ap (λ n. reading s.claim s.uses s.values n r.parts) (a.after ∙ sym b.after)
-    ∙ ap (λ ps. reading s.claim s.uses s.values s.after ps) (a.parts ∙ sym b.parts)
+    ap (λ c. reading c r.sets r.uses r.values r.after r.parts) (same_some r.claim s.claim (sym a.claim ∙ b.claim))
+    ∙ ap (λ ss. reading s.claim ss r.uses r.values r.after r.parts) (a.sets ∙ sym b.sets)
+    ∙ ap (λ us. reading s.claim s.sets us r.values r.after r.parts) (a.uses ∙ sym b.uses)
+    ∙ ap (λ vs. reading s.claim s.sets s.uses vs r.after r.parts) (a.values ∙ sym b.values)
+    ∙ ap (λ n. reading s.claim s.sets s.uses s.values n r.parts) (a.after ∙ sym b.after)
+    ∙ ap (λ ps. reading s.claim s.sets s.uses s.values s.after ps) (a.parts ∙ sym b.parts)
 
 record SameFault (ks ls : List (List ℕ)) (d e : CertificateFault) : Type 0 where
   places : length ks ≡ length ls
   faults : d ≡ e
 
-module _ (sheet : Sheet) (form_once : (line : List ℕ) (f g : WrittenLine) → IsCertificateLine line f → IsCertificateLine line g → f ≡ g) (named_once : (f : WrittenLine) (l m : SaidLine) → IsSaidLine sheet f l → IsSaidLine sheet f m → l ≡ m) where
+module _ (sheet : Sheet) (form_once : (line : List ℕ) (f g : WrittenLine) → IsCertificateLine line f → IsCertificateLine line g → f ≡ g) (named_once : (sets : ℕ) (f : WrittenLine) (l m : SaidLine) → IsSaidLine sheet sets f l → IsSaidLine sheet sets f m → l ≡ m) where
   -- ---- a line behind lines of these kinds
 
   says_once : (before : List LineKind) (line : List ℕ) (l m : SaidLine) → SaysOfSheet sheet before line l → SaysOfSheet sheet before line m → l ≡ m
   says_once before line l m a b =
       let forms = form_once line a.form b.form a.is b.is in
-      named_once b.form l m (subst (λ f. IsSaidLine sheet f l) forms a.named) b.named
+      named_once (sets_in before) b.form l m (subst (λ f. IsSaidLine sheet (sets_in before) f l) forms a.named) b.named
 
   says_no_fault : (before : List LineKind) (line : List ℕ) (l : SaidLine) (e : CertificateFault) → SaysOfSheet sheet before line l → IsCertificateAtFault sheet before line e → ⊥
   says_no_fault before line l e a (formless none) = none a.form a.is a.may
-  says_no_fault before line l e a (nameless form is may none) = none l (subst (λ f. IsSaidLine sheet f l) (form_once line a.form form a.is is) a.named)
+  says_no_fault before line l e a (nameless form is may none) = none l (subst (λ f. IsSaidLine sheet (sets_in before) f l) (form_once line a.form form a.is is) a.named)
 
   one_fault : (before : List LineKind) (line : List ℕ) (d e : CertificateFault) → IsCertificateAtFault sheet before line d → IsCertificateAtFault sheet before line e → d ≡ e
   one_fault before line d e (formless none) (formless never) = refl
@@ -136,7 +137,7 @@ module _ (sheet : Sheet) (form_once : (line : List ℕ) (f g : WrittenLine) → 
       let same = first_fault [] before earlier k l rest more ls ms d e (sym parted ∙ cut) a b one other in
       ap₂ (λ n x. fault_at (n + 1) x) same.places same.faults
 
-pub one_saying : TreesHaveOneOutcome → (sheet : Sheet) → IsWellFormed sheet → (form : WrittenLine) (k l : SaidLine) → IsSaidLine sheet form k → IsSaidLine sheet form l → k ≡ l
+pub one_saying : TreesHaveOneOutcome → (sheet : Sheet) → IsWellFormed sheet → (sets : ℕ) (form : WrittenLine) (k l : SaidLine) → IsSaidLine sheet sets form k → IsSaidLine sheet sets form l → k ≡ l
 one_saying outcomes sheet formed = line_named_once sheet (outcomes sheet.universe formed.universe) formed.rules.different
 
 pub one_reading : IsUnambiguous → TreesHaveOneOutcome → (sheet : Sheet) → IsWellFormed sheet → (text : List ℕ) (r s : TextReading) → IsTextReading sheet text r → IsTextReading sheet text s → r ≡ s

@@ -1,20 +1,24 @@
--- A claim of a cell and a value has a sign in its line, and so isn't `claim inconsistent`.
-use Rattle.std.proofs.Common.{◌≡◌, ℕ, ℤ, zero, suc, ◌<◌, Bool, true, false, not, ◌||◌, ◌==◌, List, [], ◌∷◌, ◌++◌, length, map, refl, sym, ◌∙◌, ap, subst, arith, if◌then◌else◌}
+-- A claim of a cell and a value has a sign in its line, and so is none of words and names alone; and it isn't one with `not`.
+use Rattle.std.proofs.Common.{◌≡◌, ℕ, ℤ, zero, suc, ◌<◌, ◌≤◌, ◌⊎◌, inl, inr, ⊎_elim, get_or, Bool, true, false, not, ◌||◌, ◌==◌, List, [], ◌∷◌, ◌++◌, length, map, refl, sym, ◌∙◌, ap, subst, arith, if◌then◌else◌}
 use Rattle.std.specs.Prelude.{codes, slice_index, slice_range, nat_lt, filter}
 use Rattle.std.specs.List.{AllByRecursion, list_all, slice_split, onto_first}
+use Rattle.std.specs.Str.{NoCharPasses, NonePass}
+use Rattle.std.proofs.lemmas.Bool.{cases_lt}
 use Rattle.std.proofs.lemmas.Bool.Decides.{nat_tests}
+use Rattle.std.proofs.lemmas.Str.{NoCharPasses-byte}
+use Rattle.unicode_ident.proofs.IdentLemmas.{is_xid_start-ascii, is_xid_continue-ascii}
 use Rattle.pc_token.specs.declared.token.Kind.{Kind}
 use Rattle.pc_token.specs.declared.token.Kind.TheVariants.{Name, Number, Comma, Close, Open, Minus}
 use Rattle.pc_token.specs.declared.token.Token.{Token}
 use Rattle.pc_token.specs.Token.{is_blank, IsOfKind, IsTokenOf, ReadsTokens}
-use Rattle.pc_name.specs.Names.{is_reserved}
+use Rattle.pc_name.specs.Names.{starts_name, continues_name, HasNameCharacters, is_reserved}
 use Rattle.pc_formula.specs.Word.{Word, name, reserved, number, sign, word, word_of}
 use Rattle.pc_formula.specs.Tree.{Cell, Value}
 use Rattle.pc_formula.specs.Value.{DerivesName, a_name, DerivesNumber, a_number, DerivesInt, natural, negative, DerivesValue, by_name, by_integer, Listed, last, next, InParentheses, enclosed, Arguments, no_argument, arguments, DerivesCell, a_cell}
 use Rattle.pc_formula.specs.Equation.{equality}
 use Rattle.pc_cert.specs.Written.{WrittenPair}
-use Rattle.pc_cert.specs.Texts.{texts_of, SpellsThis}
-use Rattle.pc_cert.specs.Line.{IsClaim}
+use Rattle.pc_cert.specs.Texts.{texts_of, SpellsThis, IsNameText}
+use Rattle.pc_cert.specs.Line.{IsClaim, IsDenial}
 use Rattle.pc_one_reading.proofs.Words.{heads, tails, false_no_true, both_first, both_second}
 
 -- ---- what is derived is a front of the words
@@ -100,10 +104,10 @@ sign_stands line (t ∷ ts) from to k (f ∷ fs) rest reads e = sign_stands line
 -- ---- bytes
 
 -- neither `=` nor `!`
-abbrev is_clear : ℕ → Bool
+abbrev pub is_clear : ℕ → Bool
 is_clear b = not ((b == 61) || (b == 33))
 
-abbrev IsClear : ℕ → Type 0
+abbrev pub IsClear : ℕ → Type 0
 IsClear b = is_clear b ≡ true
 
 blank_clear : (b : ℕ) → is_blank b ≡ true → IsClear b
@@ -133,7 +137,7 @@ clear_line (c ∷ cs) all =
 some_length : (c : ℕ) (cs : List ℕ) → nat_lt 0 (length (c ∷ cs)) ≡ true
 some_length c cs = grind (arith, nat_tests)
 
-abbrev AreClear : List (List ℕ) → Type 0
+abbrev pub AreClear : List (List ℕ) → Type 0
 AreClear texts = AllByRecursion (AllByRecursion IsClear) texts
 
 abbrev without_empty : List (List ℕ) → List (List ℕ)
@@ -173,8 +177,97 @@ claim_token line p holds s =
     let whole = ends_more (name (codes "claim")) s.is.rest (sign (equality holds) ∷ s.is.pair.rest) sign_behind in
     sign_stands line has.tokens 0 (length line) (equality holds) whole.front s.is.pair.rest has.splits (sym has.words ∙ s.is.are ∙ whole.are)
 
-pub claim_no_word : (line : List ℕ) (p : WrittenPair) (holds : Bool) → texts_of line ≡ codes "claim" ∷ codes "inconsistent" ∷ [] → SpellsThis IsClaim line (p, holds) → ⊥
-claim_no_word line p holds are s =
-    let words : AllByRecursion (AllByRecursion IsClear) (codes "claim" ∷ codes "inconsistent" ∷ []) = (clear_all (codes "claim") refl, (clear_all (codes "inconsistent") refl, tt)) in
-    let texts = subst (λ ts. AllByRecursion (AllByRecursion IsClear) ts) (sym are) words in
-    sign_not_clear line holds (claim_token line p holds s) (clear_line line (clear_parts (slice_split is_blank line) texts))
+denial_token : (line : List ℕ) (p : WrittenPair) → SpellsThis IsDenial line p → HasToken line (equality true)
+denial_token line p s =
+    let has = s.spells.has in
+    let sign_behind = cell_ends s.is.rest p.cell (sign (equality true) ∷ s.is.pair.rest) s.is.pair.cell in
+    let behind = ends_more (name (codes "not")) s.is.rest (sign (equality true) ∷ s.is.pair.rest) sign_behind in
+    let whole = ends_more (name (codes "claim")) (name (codes "not") ∷ s.is.rest) (sign (equality true) ∷ s.is.pair.rest) behind in
+    sign_stands line has.tokens 0 (length line) (equality true) whole.front s.is.pair.rest has.splits (sym has.words ∙ s.is.are ∙ whole.are)
+
+clear_of_texts : (line : List ℕ) (texts : List (List ℕ)) → texts_of line ≡ texts → AreClear texts → AllByRecursion IsClear line
+clear_of_texts line texts are clear = clear_line line (clear_parts (slice_split is_blank line) (subst AreClear (sym are) clear))
+
+-- a line whose texts have no sign claims nothing with one
+module _ (line : List ℕ) (texts : List (List ℕ)) (are : texts_of line ≡ texts) (clear : AreClear texts) where
+  pub no_claim : (p : WrittenPair) (holds : Bool) → SpellsThis IsClaim line (p, holds) → ⊥
+  no_claim p holds s = sign_not_clear line holds (claim_token line p holds s) (clear_of_texts line texts are clear)
+
+  pub no_denial : (p : WrittenPair) → SpellsThis IsDenial line p → ⊥
+  no_denial p s = sign_not_clear line true (denial_token line p s) (clear_of_texts line texts are clear)
+
+pub claim_and_word_clear : (word : List ℕ) → list_all is_clear word ≡ true → AreClear (codes "claim" ∷ word ∷ [])
+claim_and_word_clear word clear = (clear_all (codes "claim") refl, (clear_all word clear, tt))
+
+-- ---- names
+
+abbrev is_marked : ℕ → Bool
+is_marked b = (b == 61) || (b == 33)
+
+-- no character of a name is a sign's
+no_mark : (c : ℕ) → (continues_name c ≡ true) ⊎ (starts_name c ≡ true) → is_marked c ≡ false
+no_mark c passes = by (is_marked c) refl
+  where
+    at : (d : ℕ) → continues_name d ≡ false → starts_name d ≡ false → c ≡ d → ⊥
+    at d stops starts same = elim passes [
+      | inl goes ↦ false_no_true (continues_name c) (ap continues_name same ∙ stops) goes
+      | inr goes ↦ false_no_true (starts_name c) (ap starts_name same ∙ starts) goes
+    ]
+
+    by : (b : Bool) → is_marked c ≡ b → is_marked c ≡ false
+    by false is = is
+    by true is =
+        let which : (c ≡ 61) ⊎ (c ≡ 33) = grind (arith, nat_tests) in
+        absurd (⊎_elim (at 61 (is_xid_continue-ascii 61 (omega arith)) (is_xid_start-ascii 61 (omega arith))) (at 33 (is_xid_continue-ascii 33 (omega arith)) (is_xid_start-ascii 33 (omega arith))) which)
+
+none_marked : (cs : List ℕ) → AllByRecursion (λ d. continues_name d ≡ true) cs → NonePass is_marked cs
+none_marked [] each = tt
+none_marked (c ∷ cs) each = (no_mark c (inl each.0), none_marked cs each.1)
+
+no_mark_passes : (text : List ℕ) → HasNameCharacters text → NoCharPasses is_marked text
+no_mark_passes text (c, cs, is, starts, each) = (c ∷ cs, sym is, (no_mark c (inr starts), none_marked cs each))
+
+clear_byte : (b : ℕ) → is_marked b ≡ false → IsClear b
+clear_byte b is = ap not is
+
+beyond_clear : (b : ℕ) → 128 ≤ b → IsClear b
+beyond_clear b high = grind (arith, nat_tests)
+
+clear_by_place : (bs : List ℕ) → ((i : ℕ) → i < length bs → IsClear (get_or bs i 0)) → AllByRecursion IsClear bs
+clear_by_place [] each = tt
+clear_by_place (b ∷ bs) each = (each 0 (omega arith), clear_by_place bs (λ i below. each (suc i) (omega (arith, below))))
+
+name_clear : (text : List ℕ) → HasNameCharacters text → AllByRecursion IsClear text
+name_clear text is = clear_by_place text (λ i below. elim (cases_lt (get_or text i 0) 128) [
+  | inl ascii ↦ clear_byte (get_or text i 0) (NoCharPasses-byte is_marked text i (no_mark_passes text is) below ascii)
+  | inr high ↦ beyond_clear (get_or text i 0) high
+])
+
+pub claim_against_clear : (n : List ℕ) → IsNameText n → AreClear (codes "claim" ∷ codes "against" ∷ n ∷ [])
+claim_against_clear n is = (clear_all (codes "claim") refl, (clear_all (codes "against") refl, (name_clear n is.name.characters, tt)))
+
+-- ---- a cell behind `not`
+
+cell_behind_name : (ws : List Word) (vs : List Value) (rest : List Word) → Arguments DerivesValue ws vs rest → (b : List ℕ) (more : List Word) (k : Kind) (behind : List Word) → ws ≡ name b ∷ more → rest ≡ sign k ∷ behind → ⊥
+cell_behind_name ws vs rest no_argument b more k behind named signed = absurd (let both : name b ∷ more ≡ sign k ∷ behind = sym named ∙ signed in let same = heads (name b) (sign k) more behind both in cc)
+cell_behind_name ws vs rest (arguments (enclosed {ws = there} d)) b more k behind named signed = absurd (let same = heads (sign Open) (name b) there more named in cc)
+
+-- no cell that a sign follows starts with two names
+no_two_names : (ws : List Word) (c : Cell) (rest : List Word) → DerivesCell ws c rest → (a b : List ℕ) (more : List Word) (k : Kind) (behind : List Word) → ws ≡ name a ∷ name b ∷ more → rest ≡ sign k ∷ behind → ⊥
+no_two_names ws c rest (a_cell {ws = there} {values = values} text d) a b more k behind named signed =
+    cell_behind_name there values rest d b more k behind (tails (name text) (name a) there (name b ∷ more) named) signed
+
+record StartsWithName (ws : List Word) : Type 0 where
+  text : List ℕ
+  more : List Word
+  are : ws ≡ name text ∷ more
+
+cell_starts : (ws : List Word) (c : Cell) (rest : List Word) → DerivesCell ws c rest → StartsWithName ws
+cell_starts ws c rest (a_cell {ws = there} text d) = record { text = text; more = there; are = refl }
+
+-- the words of a claim that a cell has a value, or hasn't it, aren't those of a claim with `not`
+pub no_denial_words : (ws : List Word) (q : WrittenPair × Bool) (p : WrittenPair) → IsClaim ws q → IsDenial ws p → ⊥
+no_denial_words ws q p a b =
+    let rest : a.rest ≡ name (codes "not") ∷ b.rest = tails (name (codes "claim")) (name (codes "claim")) a.rest (name (codes "not") ∷ b.rest) (sym a.are ∙ b.are) in
+    let first = cell_starts b.rest p.cell _ b.pair.cell in
+    no_two_names a.rest q.0.cell _ a.pair.cell (codes "not") first.text first.more (equality q.1) a.pair.rest (rest ∙ ap (λ vs. name (codes "not") ∷ vs) first.are) refl

@@ -78,6 +78,10 @@ module _ (laws : IsUnambiguous) where
   pub spelled_once : {A : Type 0} (Is : List Word → A → Type 0) → ((ws : List Word) (a b : A) → Is ws a → Is ws b → a ≡ b) → (text : List ℕ) (a b : A) → SpellsThis Is text a → SpellsThis Is text b → a ≡ b
   spelled_once Is once text a b s t = once t.words a b (subst (λ ws. Is ws a) (one_words text s.words t.words s.spells.has t.spells.has) s.is) t.is
 
+  -- a text isn't spelled in two ways that no words are
+  pub spelled_apart : {A B : Type 0} (Is : List Word → A → Type 0) (As : List Word → B → Type 0) → ((ws : List Word) (a : A) (b : B) → Is ws a → As ws b → ⊥) → (text : List ℕ) (a : A) (b : B) → SpellsThis Is text a → SpellsThis As text b → ⊥
+  spelled_apart Is As apart text a b s t = apart t.words a b (subst (λ ws. Is ws a) (one_words text s.words t.words s.spells.has t.spells.has) s.is) t.is
+
   whole_cell_once : (ws : List Word) (c d : Cell) → IsWholeCell ws c → IsWholeCell ws d → c ≡ d
   whole_cell_once ws c d a b = (laws.cell ws c d [] [] a b tt tt).0
 

@@ -1,5 +1,5 @@
 // Laws over the definitions, each the contract of a function that does nothing.
-ghost use Rattle.pc_one_reading.specs.Laws.{FormsSayOneThing, InconsistencyIsBare, LinesHaveOneForm, TextsHaveOneReading, WhatIsReadIsForTheSheet, WhatIsReadSpeaksOfTheSheet};
+ghost use Rattle.pc_one_reading.specs.Laws.{FormsSayOneThing, LinesHaveOneForm, TextsHaveOneReading, WhatIsReadIsBare, WhatIsReadIsForTheSheet, WhatIsReadSpeaksOfTheSheet};
 
 use pc_elaborate::trees_have_one_outcome;
 use pc_formula::one_value;
@@ -19,12 +19,13 @@ pub fn certificates_have_one_reading()
 }
 
 /// What a text is read as in a sheet is a certificate for that sheet: its symbols are different, its literals are of these,
-/// and it speaks of the sheet alone: its claim, entries, axioms and literals are of cells, values, rules and nodes of the
-/// sheet. Beside a claim of inconsistency nothing is used and nothing has a value.
+/// and it speaks of the sheet alone: its claim, sets, entries, axioms and literals are of cells, values, rules and nodes of the
+/// sheet, and the sets' clauses are of its own sets. Beside a claim of inconsistency or on sets nothing is used and nothing has a
+/// value, and beside another claim than one on sets there are none.
 pub fn what_is_read_is_for_the_sheet()
     ensures read { WhatIsReadIsForTheSheet }
     ensures speaks { WhatIsReadSpeaksOfTheSheet }
-    ensures bare { InconsistencyIsBare }
+    ensures bare { WhatIsReadIsBare }
 {
     cells_are_numbered_in_order();
 }

@@ -6,7 +6,7 @@ pub returns-clause-read : goal.returns-clause-read
 returns-clause-read c = what_is_read c.cells_are_numbered_in_order.ensures
 
 pub returns-clause-bare : goal.returns-clause-bare
-returns-clause-bare c = bare_text
+returns-clause-bare c = bare_text c.cells_are_numbered_in_order.ensures
 
 pub returns-clause-speaks : goal.returns-clause-speaks
 returns-clause-speaks c = what_is_read_speaks c.cells_are_numbered_in_order.ensures
