@@ -11,7 +11,7 @@ use Rattle.pc_cert.specs.declared.cert.Cert.{Cert}
 use Rattle.pc_checker.specs.declared.scratch.Scratch.{Scratch}
 use Rattle.pc_checker.specs.declared.verdict.Verdict.{Verdict}
 use Rattle.pc_checker.specs.declared.verdict.Verdict.TheVariants.{WrongEnd, Accepted}
-use Rattle.pc_checker.specs.Made.{IsPreparedFor, IsMadeFor}
+use Rattle.pc_checker.specs.Made.{IsPreparedFor, IsMadeFor, own_blocks}
 use Rattle.pc_checker.specs.inside.Parts.{IsClaimVerdict, AreGoodBelow, IsFirstBad, EndsAmong, fault_at}
 use Rattle.pc_checker.specs.Verdicts.{ClaimStands, IsVerdict}
 use Rattle.pc_checker.proofs.CheckedLines.{no_line, first_at_fault, derivation, ends, fault_verdict}
@@ -33,7 +33,7 @@ module _ (sheet : Sheet) (c : Cert) (s : Scratch) (made : IsMadeFor sheet c s) (
       → IsFirstBad s.clauses axioms lines o → line ≡ get_or c.lines.items k line → v ≡ fault_at line → IsVerdict sheet (reading_of c) v
   at_fault lines axioms o k line v same_lines same_axioms some h at is =
       let bad = bad_answer lines axioms o (Some k) same_lines same_axioms some h in
-      let first = first_at_fault sheet (symbols_of c) p.more p.distinct s.clauses s.axioms.items c.lines.items p.count p.within made.read.parts p.each k bad.0 bad.1 bad.2 in
+      let first = first_at_fault sheet (own_blocks sheet c) (symbols_of c) p.more p.distinct s.clauses s.axioms.items c.lines.items p.count p.within made.read.parts p.each k bad.0 bad.1 bad.2 in
       let x = get_or c.lines.items k no_line in
       let same : line ≡ x = at ∙ get_or_default c.lines.items k line no_line bad.0 in
       subst (IsVerdict sheet (reading_of c)) (sym (is ∙ ap fault_at same)) (fault_verdict sheet (reading_of c) (symbols_of c) x.line x.part stands first)
@@ -51,8 +51,8 @@ module _ (sheet : Sheet) (c : Cert) (s : Scratch) (made : IsMadeFor sheet c s) (
       stands,
       record {
         clauses = _;
-        derivation = derivation sheet (symbols_of c) p.more p.distinct s.clauses s.axioms.items c.lines.items p.count p.within made.read.parts p.each good;
-        ends = (ends sheet (symbols_of c) p.more p.distinct s.clauses s.axioms.items c.lines.items p.count p.within made.read.parts p.each s.allowed.items _ p.allowed_within p.allowed).0
+        derivation = derivation sheet (own_blocks sheet c) (symbols_of c) p.more p.distinct s.clauses s.axioms.items c.lines.items p.count p.within made.read.parts p.each good;
+        ends = (ends sheet (own_blocks sheet c) (symbols_of c) p.more p.distinct s.clauses s.axioms.items c.lines.items p.count p.within made.read.parts p.each s.allowed.items _ p.allowed_within p.allowed).0
             (ends_right (is.0 good_end));
       },
     )
@@ -62,10 +62,10 @@ module _ (sheet : Sheet) (c : Cert) (s : Scratch) (made : IsMadeFor sheet c s) (
       stands,
       record {
         clauses = _;
-        derivation = derivation sheet (symbols_of c) p.more p.distinct s.clauses s.axioms.items c.lines.items p.count p.within made.read.parts p.each good;
+        derivation = derivation sheet (own_blocks sheet c) (symbols_of c) p.more p.distinct s.clauses s.axioms.items c.lines.items p.count p.within made.read.parts p.each good;
         elsewhere = λ h.
             iff_false is bad_end
             (subst (EndsAmong s.clauses) (sym same_allowed)
-            ((ends sheet (symbols_of c) p.more p.distinct s.clauses s.axioms.items c.lines.items p.count p.within made.read.parts p.each s.allowed.items _ p.allowed_within p.allowed).1 h));
+            ((ends sheet (own_blocks sheet c) (symbols_of c) p.more p.distinct s.clauses s.axioms.items c.lines.items p.count p.within made.read.parts p.each s.allowed.items _ p.allowed_within p.allowed).1 h));
       },
     )

@@ -1,5 +1,5 @@
 -- Steps of the tests of used entries and of values.
-use Rattle.std.proofs.Common.{◌≡◌, ◌≢◌, ℕ, suc, ◌+◌, ◌<◌, ◌≤◌, inl, inr, List, [], ◌∷◌, ◌++◌, map, take, length, get_or, All, Option, Some, slice_get, IsSomeAnd, refl, ap, sym, ◌∙◌, subst, arith}
+use Rattle.std.proofs.Common.{◌≡◌, ◌≢◌, ℕ, suc, ◌+◌, ◌<◌, ◌≤◌, inl, inr, List, [], ◌∷◌, ◌++◌, map, take, length, get_or, All, Option, None, Some, slice_get, IsSomeAnd, refl, ap, sym, ◌∙◌, subst, arith}
 use Rattle.std.proofs.lemmas.Bool.{cases_order}
 use Rattle.std.proofs.lemmas.Option.{slice_get-get_or, get_or_from_slice_get, slice_get_within}
 use Rattle.std.proofs.lemmas.List.{take_all, take_more, map-append, length-append, length-map, length-take-le, get_or_append_left, get_or_push, get_or-map}
@@ -14,7 +14,7 @@ use Rattle.pc_accept.specs.Accepts.{AreInCellOrder, value_of_entry}
 use Rattle.pc_cert.specs.declared.cert.Said.{Said}
 use Rattle.pc_cert.specs.Text.{entry_said}
 use Rattle.pc_cert.specs.Views.{said_of}
-use Rattle.pc_checker.specs.Verdicts.{Numbered, IsFirstWithout, IsFirstAstray}
+use Rattle.pc_checker.specs.Verdicts.{Numbered, IsFirstWithout, IsFirstAstray, FitsBut}
 use Rattle.pc_checker.proofs.ListLemmas.{cut_at, without_at}
 use Rattle.pc_lemmas.proofs.Options.{some_and}
 
@@ -57,6 +57,10 @@ pub each_fits : (sheet : Sheet) (a : List ValueId) → Fits sheet a → (k : ℕ
 each_fits sheet a fits k within =
     let d : NamedStatement = record { name = []; states = all_of no_statements } in
     subst (λ (o : Option NamedStatement). IsSomeAnd o (λ rule. Holds sheet.universe a [] rule.states)) (sym (slice_get-get_or sheet.rules k d within)) (fits k d within)
+
+pub fits_but : (sheet : Sheet) (left_out : Option ℕ) (a : List ValueId) → ((k : ℕ) → k < length sheet.rules → left_out ≢ Some k → RuleHolds sheet a k) → FitsBut sheet left_out a
+fits_but sheet None a each = fits_each sheet a (λ k l. each k l (λ e. absurd (cc)))
+fits_but sheet (Some r) a each = λ k l other. each k l (λ e. other (cc))
 
 -- ---- the cells' order
 

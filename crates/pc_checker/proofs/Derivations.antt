@@ -13,7 +13,7 @@ use Rattle.pc_lits.specs.Hints.{clauses_at}
 use Rattle.pc_sheet.specs.Sheet.{Sheet}
 use Rattle.pc_accept.specs.Literals.{Symbol, node, Literal, opposite}
 use Rattle.pc_accept.specs.Accepts as accepts
-use Rattle.pc_accept.specs.Accepts.{IsLineClause, EndsWithin}
+use Rattle.pc_accept.specs.Accepts.{IsLineClauseBeside, EndsWithin}
 use Rattle.pc_cert.specs.Written.{CertificatePart}
 use Rattle.pc_cert.specs.Text.{line_of, lines_from}
 use Rattle.pc_cert.specs.Views.{symbol_at, literal_of, AreSymbolsDistinct}
@@ -125,7 +125,8 @@ same_clauses cs ds i (h ∷ hs) same all =
     let rest = same_clauses cs ds i hs same (All-tail (λ h. h < i) h hs all) in
     cc
 
-pub same_line : (sheet : Sheet) (cs ds : List (List Literal)) (i : ℕ) (line : accepts.Line) (c : List Literal) → ((j : ℕ) → j < i → get_or cs j [] ≡ get_or ds j [])
-    → IsLineClause sheet cs i line c → IsLineClause sheet ds i line c
-same_line sheet cs ds i (accepts.taken x) c same h = h
-same_line sheet cs ds i (accepts.derived e hints) c same h = (h.0, h.1, subst (IsGoodStep opposite e) (same_clauses cs ds i hints same h.1) h.2)
+pub same_line : (sheet : Sheet) (blocks cs ds : List (List Literal)) (i : ℕ) (line : accepts.Line) (c : List Literal) → ((j : ℕ) → j < i → get_or cs j [] ≡ get_or ds j [])
+    → IsLineClauseBeside sheet blocks cs i line c → IsLineClauseBeside sheet blocks ds i line c
+same_line sheet blocks cs ds i (accepts.taken x) c same h = h
+same_line sheet blocks cs ds i (accepts.derived e hints) c same h = (h.0, h.1, subst (IsGoodStep opposite e) (same_clauses cs ds i hints same h.1) h.2)
+same_line sheet blocks cs ds i (accepts.blocked j) c same h = h

@@ -17,3 +17,6 @@ pub mod CheckedLines
 pub mod CheckVerdict
 pub mod Acceptance
 pub mod OneVerdict
+pub mod SetLemmas
+pub mod BlockLemmas
+pub mod ClaimOfSets

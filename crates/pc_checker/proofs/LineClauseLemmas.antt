@@ -8,7 +8,7 @@ use Rattle.pc_sheet.specs.Sheet.{Sheet}
 use Rattle.pc_accept.specs.Literals.{Symbol, Literal}
 use Rattle.pc_accept.specs.Axioms.{IsClauseOf}
 use Rattle.pc_cert.specs.declared.cert.CertPart.{CertPart}
-use Rattle.pc_cert.specs.declared.cert.CertPart.TheVariants.{Axiom, Step}
+use Rattle.pc_cert.specs.declared.cert.CertPart.TheVariants.{Axiom, Step, Block}
 use Rattle.pc_cert.specs.declared.cert.CertLine.{CertLine}
 use Rattle.pc_checker.specs.LineClauses.{AreStored, TakeSame, clauses_by}
 use Rattle.pc_checker.specs.Made.{IsPrepared}
@@ -48,25 +48,29 @@ clause_got stored places i place clause l is within found =
 
 -- ---- lines that take the same axiom
 
-same_prepared : (sheet : Sheet) (names : List Symbol) (clause : List Lit) (good : Bool) (p q : CertPart) → TakeSame p q → IsPrepared sheet names clause good p → IsPrepared sheet names clause good q
-same_prepared sheet names clause good (Axiom a) (Axiom b) same is = subst (λ x. MatchBool good (IsClauseOf sheet x (map (literal_of names) clause)) ((c : List Literal) → ¬ IsClauseOf sheet x c)) same is
-same_prepared sheet names clause good (Axiom a) (Step c hints) same is = absurd same
-same_prepared sheet names clause good (Step c hints) q same is = absurd same
+same_prepared : (sheet : Sheet) (blocks : List (List Literal)) (names : List Symbol) (clause : List Lit) (good : Bool) (p q : CertPart) → TakeSame p q → IsPrepared sheet blocks names clause good p → IsPrepared sheet blocks names clause good q
+same_prepared sheet blocks names clause good (Axiom a) (Axiom b) same is = subst (λ x. MatchBool good (IsClauseOf sheet x (map (literal_of names) clause)) ((c : List Literal) → ¬ IsClauseOf sheet x c)) same is
+same_prepared sheet blocks names clause good (Axiom a) (Step c hints) same is = absurd same
+same_prepared sheet blocks names clause good (Axiom a) (Block j) same is = absurd same
+same_prepared sheet blocks names clause good (Step c hints) q same is = absurd same
+same_prepared sheet blocks names clause good (Block i) (Axiom a) same is = absurd same
+same_prepared sheet blocks names clause good (Block i) (Step c hints) same is = absurd same
+same_prepared sheet blocks names clause good (Block i) (Block j) same is = subst (λ x. IsPrepared sheet blocks names clause good (Block x)) same is
 
 -- a line is prepared, by itself or as an earlier one
-pub place_prepared : (sheet : Sheet) (lines : List CertLine) (n : ℕ) (line : CertLine) (earlier : Option ℕ) (symbols old new : List Symbol) (before after : List (List Lit)) (marks : List Bool) (good : Bool) → line ≡ get_or lines n line
-    → ArePrepared sheet lines n symbols old before marks → IfSome earlier (λ j. (j < n) × ((d : CertLine) → TakeSame (get_or lines j d).part (get_or lines n d).part))
-    → IsPlacePrepared sheet line.part earlier marks old new before after good → IsLinePrepared sheet line.part old new before after good
-place_prepared sheet lines n line None symbols old new before after marks good is are same one = one
-place_prepared sheet lines n line (Some j) symbols old new before after marks good is are same one =
+pub place_prepared : (sheet : Sheet) (blocks : List (List Literal)) (lines : List CertLine) (n : ℕ) (line : CertLine) (earlier : Option ℕ) (symbols old new : List Symbol) (before after : List (List Lit)) (marks : List Bool) (good : Bool) → line ≡ get_or lines n line
+    → ArePrepared sheet blocks lines n symbols old before marks → IfSome earlier (λ j. (j < n) × ((d : CertLine) → TakeSame (get_or lines j d).part (get_or lines n d).part))
+    → IsPlacePrepared sheet blocks line.part earlier marks old new before after good → IsLinePrepared sheet blocks line.part old new before after good
+place_prepared sheet blocks lines n line None symbols old new before after marks good is are same one = one
+place_prepared sheet blocks lines n line (Some j) symbols old new before after marks good is are same one =
     let count = are.count in
     let clause = get_or before j [] in
     let part_of_line : CertLine → CertPart = λ x. x.part in
     let takes : TakeSame (get_or lines j line).part line.part = subst (TakeSame (get_or lines j line).part) (ap part_of_line (sym is)) (same.1 line) in
-    let stood : IsPrepared sheet old clause good line.part =
-    subst (λ b. IsPrepared sheet old clause b line.part) (sym one.2) (same_prepared sheet old clause (get_or marks j false) (get_or lines j line).part line.part takes (are.each j line same.0))
+    let stood : IsPrepared sheet blocks old clause good line.part =
+    subst (λ b. IsPrepared sheet blocks old clause b line.part) (sym one.2) (same_prepared sheet blocks old clause (get_or marks j false) (get_or lines j line).part line.part takes (are.each j line same.0))
     in
-    subst (λ names. IsLinePrepared sheet line.part old names before after good) (sym one.0) (record {
+    subst (λ names. IsLinePrepared sheet blocks line.part old names before after good) (sym one.0) (record {
       grows = ([], sym (append-nil old));
       clause = clause;
       pushed = one.1;

@@ -1,5 +1,5 @@
 -- Reads of different cells, by marks on the cells that were read.
-use Rattle.std.proofs.Common.{◌≡◌, ◌≢◌, ℕ, ◌+◌, ◌<◌, ◌↔◌, ⊎_elim, Bool, true, List, [], ◌∷◌, ◌++◌, take, length, get_or, set, All, Contains, Option, None, Some, slice_get, ap, sym, ◌∙◌, subst, arith}
+use Rattle.std.proofs.Common.{◌≡◌, ◌≢◌, ℕ, ◌+◌, ◌<◌, ◌≤◌, ◌↔◌, ⊎_elim, Bool, true, List, [], ◌∷◌, ◌++◌, take, length, get_or, set, All, Contains, Option, None, Some, slice_get, ap, sym, ◌∙◌, subst, arith}
 use Rattle.std.proofs.lemmas.Option.{slice_get_within}
 use Rattle.std.proofs.lemmas.Bool.{cases_eq}
 use Rattle.std.proofs.lemmas.List.{take_more, length-take-le, get_or-take, get_or_default, length-set, get_or-set_same, get_or-set_other}
@@ -25,7 +25,7 @@ IsRead reads cell = (r : Entry) × Contains reads r × (r.cell.0 ≡ cell)
 abbrev pub AreReadMarked : List Entry → List (Option Bool) → Type 0
 AreReadMarked reads marks = (cell : ℕ) → cell < length marks → (get_or marks cell None ≡ Some true) ↔ IsRead reads cell
 
-pub reads_within : (u : Universe) (reads : List Entry) (marks : List (Option Bool)) → length marks ≡ length (cell_sizes u) → All (IsEntryOf u) reads → All (λ r. r.cell.0 < length marks) reads
+pub reads_within : (u : Universe) (reads : List Entry) (marks : List (Option Bool)) → length (cell_sizes u) ≤ length marks → All (IsEntryOf u) reads → All (λ r. r.cell.0 < length marks) reads
 reads_within u reads marks room each =
     All-weaker (IsEntryOf u) (λ r. r.cell.0 < length marks)
     (λ r is. let found = some_and (slice_get (cell_sizes u) r.cell.0) (λ n. r.value.0 < n) is in omega (arith, slice_get_within (cell_sizes u) r.cell.0 found.0 found.1, room)) reads each

@@ -1,11 +1,11 @@
 -- What room is made of: symbols in their order, and lines one after the other.
-use Rattle.std.proofs.Common.{◌≡◌, ℕ, ◌+◌, ◌<◌, inl, inr, Bool, false, List, [], ◌∷◌, ◌++◌, map, take, length, get_or, All, Contains, refl, ap, sym, ◌∙◌, subst, arith}
+use Rattle.std.proofs.Common.{◌≡◌, ℕ, ◌+◌, ◌<◌, inl, inr, Bool, false, List, [], ◌∷◌, ◌++◌, map, take, length, get_or, All, Contains, Some, slice_get, refl, ap, sym, ◌∙◌, subst, arith}
 use Rattle.std.proofs.lemmas.Bool.{cases_order}
 use Rattle.std.proofs.lemmas.List.{map_more, take-map, length-map, length-append, length-take-le, get_or-take, get_or-map, get_or_default, get_or_append_left, get_or_push}
 use Rattle.std.proofs.lemmas.List.Elements.{All-weaker, All-push}
 use Rattle.pc_sheet.specs.Sheet.{Sheet}
 use Rattle.pc_lits.specs.declared.literal.Lit.{Lit}
-use Rattle.pc_accept.specs.Literals.{Symbol, node}
+use Rattle.pc_accept.specs.Literals.{Symbol, node, Literal}
 use Rattle.pc_accept.specs.Axioms.{IsClauseOf, negated_entry}
 use Rattle.pc_accept.specs.Accepts.{value_of_entry}
 use Rattle.pc_names.specs.Views.{axiom_of}
@@ -14,7 +14,7 @@ use Rattle.pc_cert.specs.Views.{said_of, symbol_of, symbol_at, AreSymbolsDistinc
 use Rattle.pc_cert.specs.declared.cert.Symbol.{Symbol as SymbolRead}
 use Rattle.pc_cert.specs.declared.cert.Said.{Said}
 use Rattle.pc_cert.specs.declared.cert.CertPart.{CertPart}
-use Rattle.pc_cert.specs.declared.cert.CertPart.TheVariants.{Axiom, Step}
+use Rattle.pc_cert.specs.declared.cert.CertPart.TheVariants.{Axiom, Step, Block}
 use Rattle.pc_cert.specs.declared.cert.CertLine.{CertLine}
 use Rattle.pc_cert.specs.ReadFor.{IsNamedIn, IsPartOver}
 use Rattle.pc_checker.specs.Made.{IsPrepared, value_said}
@@ -53,28 +53,31 @@ values_mapped (s ∷ values) = ap (λ vs. s.entry.value ∷ vs) (values_mapped v
 
 -- ---- lines
 
-prepared_still : (sheet : Sheet) (old new : List Symbol) (clause : List Lit) (good : Bool) (part : CertPart) → StartsWith old new → All (IsNamedIn old) clause → IsPrepared sheet old clause good part → IsPrepared sheet new clause good part
-prepared_still sheet old new clause good (Axiom a) g all is =
+prepared_still : (sheet : Sheet) (blocks : List (List Literal)) (old new : List Symbol) (clause : List Lit) (good : Bool) (part : CertPart) → StartsWith old new → All (IsNamedIn old) clause → IsPrepared sheet blocks old clause good part → IsPrepared sheet blocks new clause good part
+prepared_still sheet blocks old new clause good (Axiom a) g all is =
     match_along good _ _ _ _ (λ h. subst (IsClauseOf sheet (axiom_of a)) (names_still old new clause g all) h) (λ h. h) is
-prepared_still sheet old new clause good (Step c hints) g all is = is
+prepared_still sheet blocks old new clause good (Step c hints) g all is = is
+prepared_still sheet blocks old new clause good (Block j) g all is =
+    match_along good _ _ _ _ (λ h. subst (λ c. slice_get blocks j ≡ Some c) (names_still old new clause g all) h) (λ h. h) is
 
 part_over : (sheet : Sheet) (old new : List Symbol) (part : CertPart) → StartsWith old new → IsPartOver sheet old part → IsPartOver sheet new part
 part_over sheet old new (Axiom a) g over = over
 part_over sheet old new (Step c hints) g over = named_still old new c.items g over
+part_over sheet old new (Block j) g over = over
 
 -- a line's part speaks of the sheet and of the symbols so far
 pub line_over : (sheet : Sheet) (lines : List CertLine) (n : ℕ) (line : CertLine) (old new : List Symbol) → n < length lines → line ≡ get_or lines n line → StartsWith old new → All (λ l. IsPartOver sheet old l.part) lines
     → IsPartOver sheet new line.part
 line_over sheet lines n line old new within is g over = part_over sheet old new line.part g (subst (λ (l : CertLine). IsPartOver sheet old l.part) (sym is) (over n line within))
 
-pub prepared_more : (sheet : Sheet) (lines : List CertLine) (n : ℕ) (line : CertLine) (symbols old new : List Symbol) (before after : List (List Lit)) (marks more : List Bool) (good : Bool) → n < length lines
-    → line ≡ get_or lines n line → ArePrepared sheet lines n symbols old before marks → IsLinePrepared sheet line.part old new before after good → more ≡ marks ++ good ∷ []
-    → ArePrepared sheet lines (n + 1) symbols new after more
-prepared_more sheet lines n line symbols old new before after marks more good within is are one pushed =
+pub prepared_more : (sheet : Sheet) (blocks : List (List Literal)) (lines : List CertLine) (n : ℕ) (line : CertLine) (symbols old new : List Symbol) (before after : List (List Lit)) (marks more : List Bool) (good : Bool) → n < length lines
+    → line ≡ get_or lines n line → ArePrepared sheet blocks lines n symbols old before marks → IsLinePrepared sheet blocks line.part old new before after good → more ≡ marks ++ good ∷ []
+    → ArePrepared sheet blocks lines (n + 1) symbols new after more
+prepared_more sheet blocks lines n line symbols old new before after marks more good within is are one pushed =
     let count = are.count in
     let count_marks = are.marks in
-    subst (λ bs. ArePrepared sheet lines (n + 1) symbols new after bs) (sym pushed)
-    (subst (λ cs. ArePrepared sheet lines (n + 1) symbols new cs (marks ++ good ∷ [])) (sym one.pushed) (record {
+    subst (λ bs. ArePrepared sheet blocks lines (n + 1) symbols new after bs) (sym pushed)
+    (subst (λ cs. ArePrepared sheet blocks lines (n + 1) symbols new cs (marks ++ good ∷ [])) (sym one.pushed) (record {
       grows = grows_on symbols old new are.grows one.grows;
       count = omega (arith, length-append before (one.clause ∷ []));
       marks = omega (arith, length-append marks (good ∷ []));
@@ -85,27 +88,27 @@ prepared_more sheet lines n line symbols old new before after marks more good wi
             let mark : get_or (marks ++ good ∷ []) i false ≡ good = get_or_push marks good false i (count_marks ∙ sym same) in
             let here : line ≡ get_or lines i d = is ∙ get_or_default lines n line d within ∙ ap (λ j. get_or lines j d) (sym same) in
             let part_of_line : CertLine → CertPart = λ x. x.part in
-            subst (λ c. IsPrepared sheet new c (get_or (marks ++ good ∷ []) i false) (get_or lines i d).part) (sym clause)
-            (subst (λ b. IsPrepared sheet new one.clause b (get_or lines i d).part) (sym mark) (subst (IsPrepared sheet new one.clause good) (ap part_of_line here) one.prepared))
+            subst (λ c. IsPrepared sheet blocks new c (get_or (marks ++ good ∷ []) i false) (get_or lines i d).part) (sym clause)
+            (subst (λ b. IsPrepared sheet blocks new one.clause b (get_or lines i d).part) (sym mark) (subst (IsPrepared sheet blocks new one.clause good) (ap part_of_line here) one.prepared))
         | inr (inl less) ↦
             let clause : get_or (before ++ one.clause ∷ []) i [] ≡ get_or before i [] = get_or_append_left before (one.clause ∷ []) [] i (omega arith) in
             let mark : get_or (marks ++ good ∷ []) i false ≡ get_or marks i false = get_or_append_left marks (good ∷ []) false i (omega arith) in
-            subst (λ c. IsPrepared sheet new c (get_or (marks ++ good ∷ []) i false) (get_or lines i d).part) (sym clause)
-            (subst (λ b. IsPrepared sheet new (get_or before i []) b (get_or lines i d).part) (sym mark)
-            (prepared_still sheet old new (get_or before i []) (get_or marks i false) (get_or lines i d).part one.grows (are.within i [] (omega arith)) (are.each i d less)))
+            subst (λ c. IsPrepared sheet blocks new c (get_or (marks ++ good ∷ []) i false) (get_or lines i d).part) (sym clause)
+            (subst (λ b. IsPrepared sheet blocks new (get_or before i []) b (get_or lines i d).part) (sym mark)
+            (prepared_still sheet blocks old new (get_or before i []) (get_or marks i false) (get_or lines i d).part one.grows (are.within i [] (omega arith)) (are.each i d less)))
         | inr (inr greater) ↦ absurd (omega arith)
       ];
     }))
 
 -- lines that are prepared stay so where more symbols are numbered
-pub prepared_grown : (sheet : Sheet) (lines : List CertLine) (n : ℕ) (symbols old new : List Symbol) (clauses : List (List Lit)) (marks : List Bool) → StartsWith old new
-    → ArePrepared sheet lines n symbols old clauses marks → ArePrepared sheet lines n symbols new clauses marks
-prepared_grown sheet lines n symbols old new clauses marks g are =
+pub prepared_grown : (sheet : Sheet) (blocks : List (List Literal)) (lines : List CertLine) (n : ℕ) (symbols old new : List Symbol) (clauses : List (List Lit)) (marks : List Bool) → StartsWith old new
+    → ArePrepared sheet blocks lines n symbols old clauses marks → ArePrepared sheet blocks lines n symbols new clauses marks
+prepared_grown sheet blocks lines n symbols old new clauses marks g are =
     let count = are.count in
     record {
       grows = grows_on symbols old new are.grows g;
       count = are.count;
       marks = are.marks;
       within = All-weaker (All (IsNamedIn old)) (All (IsNamedIn new)) (λ c all. named_still old new c g all) clauses are.within;
-      each = λ i d l. prepared_still sheet old new (get_or clauses i []) (get_or marks i false) (get_or lines i d).part g (are.within i [] (omega arith)) (are.each i d l);
+      each = λ i d l. prepared_still sheet blocks old new (get_or clauses i []) (get_or marks i false) (get_or lines i d).part g (are.within i [] (omega arith)) (are.each i d l);
     }

@@ -10,7 +10,7 @@ use Rattle.pc_checker.specs.Verdicts.{IsVerdict}
 
 -- the verdict is that of acceptance exactly where the sheet accepts the certificate
 abbrev pub AcceptedIsAccepts : Type 0
-AcceptedIsAccepts = (sheet : Sheet) (r : CertificateReading) → IsBare r r.claim → IsVerdict sheet r Accepted ↔ Accepts sheet (certificate_read r)
+AcceptedIsAccepts = (sheet : Sheet) (r : CertificateReading) → IsBare sheet r r.claim → IsVerdict sheet r Accepted ↔ Accepts sheet (certificate_read r)
 
 -- a certificate has one verdict at most
 abbrev pub VerdictsAreOne : Type 0

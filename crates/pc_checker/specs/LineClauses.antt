@@ -3,7 +3,7 @@ use Rattle.std.specs.Prelude.{◌≡◌, ℕ, ◌<◌, List, [], map, length, sl
 use Rattle.pc_lits.specs.declared.literal.Lit.{Lit}
 use Rattle.pc_names.specs.Views.{axiom_of}
 use Rattle.pc_cert.specs.declared.cert.CertPart.{CertPart}
-use Rattle.pc_cert.specs.declared.cert.CertPart.TheVariants.{Axiom, Step}
+use Rattle.pc_cert.specs.declared.cert.CertPart.TheVariants.{Axiom, Step, Block}
 
 -- the stored clauses at these places
 abbrev pub clauses_by : List (List Lit) → List ℕ → List (List Lit)
@@ -13,8 +13,12 @@ clauses_by stored places = map (λ place. slice_index_or stored place []) places
 abbrev pub AreStored : List (List Lit) → List ℕ → Type 0
 AreStored stored places = All (λ place. place < length stored) places
 
--- both lines take the same axiom
+-- both lines take the same axiom, or the clause of the same set
 abbrev pub TakeSame : CertPart → CertPart → Type 0
 TakeSame (Axiom a) (Axiom b) = axiom_of a ≡ axiom_of b
 TakeSame (Axiom a) (Step clause hints) = ⊥
+TakeSame (Axiom a) (Block j) = ⊥
 TakeSame (Step clause hints) p = ⊥
+TakeSame (Block i) (Axiom a) = ⊥
+TakeSame (Block i) (Step clause hints) = ⊥
+TakeSame (Block i) (Block j) = i ≡ j

@@ -20,7 +20,14 @@ pub fn check(book: &Book, cert: &Cert, scratch: &mut Scratch) -> Verdict
     ensures verdict { IsVerdict book.now (reading_of cert.now) result }
     ensures kept { IsMadeFor book.now cert.now scratch.new }
 {
-    if let Some(verdict) = claim_verdict(book, cert, &scratch.entered, &scratch.assignment) {
+    if let Some(verdict) = claim_verdict(
+        book,
+        cert,
+        &scratch.entered,
+        &scratch.assignment,
+        &scratch.sets,
+        &mut scratch.pairs,
+    ) {
         return verdict;
     }
     let bad = first_bad(
@@ -46,5 +53,6 @@ fn fault_of(line: &CertLine) -> Verdict
     match line.part {
         CertPart::Axiom(_) => Verdict::BadAxiom { line: line.line },
         CertPart::Step { .. } => Verdict::BadStep { line: line.line },
+        CertPart::Block(_) => Verdict::BadAxiom { line: line.line },
     }
 }

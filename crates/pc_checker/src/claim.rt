@@ -1,60 +1,191 @@
-//! The tests of a claim on a target: its used entries and its assignment.
+//! The tests of what a certificate shows: its used entries and its assignment, or its sets.
 
-ghost use Rattle.std.specs.Prelude.{◌<◌, ◌≤◌, All, Contains, List, length, map};
+ghost use Rattle.std.specs.Prelude.{◌≡◌, ◌<◌, ◌≤◌, ◌↔◌, All, Contains, IsTrue, List, length, map};
 ghost use Rattle.pc_sheet.specs.Limits.{most_rules};
+ghost use Rattle.pc_sheet.specs.Entailment.{HasTarget};
 ghost use Rattle.pc_sheet.specs.declared.ids.Entry.{Entry as TheEntry};
-ghost use Rattle.pc_checker.specs.Entered.{ArePairsMarked, HasPlace};
-ghost use Rattle.pc_checker.specs.inside.Parts.{IsFirstLine, IsLineOfValues, IsRuleBroken, IsClaimVerdict, IsTargetVerdict};
-ghost use Rattle.pc_checker.specs.inside.Prepared.{IsClaimPrepared};
+ghost use Rattle.pc_checker.specs.Entered.{ArePairsMarked, HasEachPair, HasPlace};
+ghost use Rattle.pc_checker.specs.Made.{set_values};
+ghost use Rattle.pc_checker.specs.inside.Parts.{BarredBy, IsFirstLine, IsLineOfValues, IsRuleBroken, IsClaimVerdict, IsShownFault, IsOneSetFault, IsFirstSetFault, IsSetsFault};
+ghost use Rattle.pc_checker.specs.inside.Prepared.{AreSetsPrepared, IsClaimPrepared, IsShownPrepared};
 ghost use Rattle.pc_checker.specs.Verdicts.{IsHeld};
-ghost use Rattle.pc_cert.specs.Views.{reading_of, said_of};
+ghost use Rattle.pc_cert.specs.Views.{reading_of, said_of, set_of};
 
 use crate::entered::is_entered;
+use crate::sets::first_in_set;
 use crate::verdict::Verdict;
-use pc_cert::{Cert, Claim, Said};
+use pc_cert::{Cert, Claim, Said, SaidSet};
+use pc_lits::Values;
 use pc_logic::{Assignment, Book, eval, well_formed};
-use pc_sheet::ValueId;
+use pc_sheet::{Target, ValueId};
 
-/// The verdict, if the used entries or the assignment don't stand.
+// Used entries and an assignment: values as they are said, what a fault at their end is told by, and the values alone.
+#[derive(Clone, Copy)]
+struct Shown<'a> {
+    uses: &'a [Said],
+    values: &'a [Said],
+    after: u32,
+    assigned: &'a Assignment,
+}
+
+/// The verdict, if the used entries, the assignment or the sets don't stand.
 pub(crate) fn claim_verdict(
     book: &Book,
     cert: &Cert,
     entered: &[bool],
     values: &Assignment,
+    sets: &[Assignment],
+    marks: &mut Values,
 ) -> Option<Verdict>
-    requires { IsClaimPrepared book.now cert.now entered.now values.now }
-    ensures { IsClaimVerdict book.now (reading_of cert.now) result }
+    requires prepared { IsClaimPrepared book.now cert.now entered.now values.now sets.now }
+    requires marks { HasEachPair book.now marks.old }
+    ensures verdict { IsClaimVerdict book.now (reading_of cert.now) result }
+    ensures room { length marks.new ≡ length marks.old }
 {
     match cert.claim {
-        Claim::Implied(_) => fault_of_claim(book, cert, entered, values),
+        Claim::Implied(_) => fault_of_own(book, cert, entered, values, None),
         Claim::Inconsistent => None,
+        Claim::Repairs => fault_of_sets(book, &cert.sets, entered, sets, None, marks),
+        Claim::Not(target) => {
+            fault_of_sets(book, &cert.sets, entered, sets, Some(target), marks)
+        }
+        Claim::Against(rule) => fault_of_own(book, cert, entered, values, Some(rule)),
     }
 }
 
-// The first of the four tests that fails.
-fn fault_of_claim(
+// Of the certificate's own entries and assignment.
+fn fault_of_own(
     book: &Book,
     cert: &Cert,
     entered: &[bool],
     values: &Assignment,
+    left_out: Option<u32>,
 ) -> Option<Verdict>
-    requires { IsClaimPrepared book.now cert.now entered.now values.now }
-    ensures { IsTargetVerdict book.now (reading_of cert.now) result }
+    requires { IsShownPrepared book.now cert.now.uses.items cert.now.values.items entered.now values.now }
+    ensures { IsShownFault book.now left_out (map said_of cert.now.uses.items) (map said_of cert.now.values.items) cert.now.after result }
+{
+    let shown = Shown {
+        uses: &cert.uses,
+        values: &cert.values,
+        after: cert.after,
+        assigned: values,
+    };
+    fault_of(book, shown, entered, left_out)
+}
+
+// The first of the four tests that fails. A rule may be left out.
+fn fault_of(
+    book: &Book,
+    shown: Shown<'_>,
+    entered: &[bool],
+    left_out: Option<u32>,
+) -> Option<Verdict>
+    requires { IsShownPrepared book.now shown.uses.now shown.values.now entered.now shown.assigned.now }
+    ensures { IsShownFault book.now left_out (map said_of shown.entry.uses.now) (map said_of shown.entry.values.now) shown.entry.after result }
 {
     well_formed(book);
-    if let Some(line) = first_not_entered(entered, &cert.uses) {
+    if let Some(line) = first_not_entered(entered, shown.uses) {
         return Some(Verdict::UseNotEntered { line });
     }
-    if let Some(line) = fault_of_values(book.cells(), &cert.values, cert.after) {
+    if let Some(line) = fault_of_values(book.cells(), shown.values, shown.after) {
         return Some(Verdict::BadValues { line });
     }
-    if let Some(line) = first_not_held(values.values(), &cert.uses) {
+    if let Some(line) = first_not_held(shown.assigned.values(), shown.uses) {
         return Some(Verdict::UseNotHeld { line });
     }
-    if let Some(rule) = first_broken(book, values) {
+    if let Some(rule) = first_broken(book, shown.assigned, left_out) {
         return Some(Verdict::RuleBroken { rule });
     }
     None
+}
+
+// Set after set, and then the sets among one another. An assignment may not have the barred target.
+fn fault_of_sets(
+    book: &Book,
+    sets: &[SaidSet],
+    entered: &[bool],
+    assigned: &[Assignment],
+    barred: Option<Target>,
+    marks: &mut Values,
+) -> Option<Verdict>
+    requires prepared { AreSetsPrepared book.now sets.now entered.now assigned.now }
+    requires marks { HasEachPair book.now marks.old }
+    ensures fault { IsSetsFault book.now (BarredBy barred) (map set_of sets.now) result }
+    ensures room { length marks.new ≡ length marks.old }
+{
+    well_formed(book);
+    if let Some(verdict) = first_faulty_set(book, sets, entered, assigned, barred) {
+        return Some(verdict);
+    }
+    if let Some(line) = first_in_set(sets, marks) {
+        return Some(Verdict::SetInSet { line });
+    }
+    None
+}
+
+// The verdict on the first set that doesn't stand by itself.
+fn first_faulty_set(
+    book: &Book,
+    sets: &[SaidSet],
+    entered: &[bool],
+    assigned: &[Assignment],
+    barred: Option<Target>,
+) -> Option<Verdict>
+    requires { AreSetsPrepared book.now sets.now entered.now assigned.now }
+    ensures { IsFirstSetFault book.now (BarredBy barred) (map set_of sets.now) result }
+{
+    for (place, set) in sets.iter().enumerate() {
+        if let Some(verdict) = fault_of_set(book, set, entered, &assigned[place], barred) {
+            return Some(verdict);
+        }
+    }
+    None
+}
+
+// The verdict on a set that doesn't stand by itself.
+fn fault_of_set(
+    book: &Book,
+    set: &SaidSet,
+    entered: &[bool],
+    assigned: &Assignment,
+    barred: Option<Target>,
+) -> Option<Verdict>
+    requires { IsShownPrepared book.now set.now.uses.items set.now.values.items entered.now assigned.now }
+    ensures { IsOneSetFault book.now (BarredBy barred) (set_of set.now) result }
+{
+    let shown = Shown {
+        uses: &set.uses,
+        values: &set.values,
+        after: set.after,
+        assigned,
+    };
+    if let Some(verdict) = fault_of(book, shown, entered, None) {
+        return Some(verdict);
+    }
+    if is_barred(assigned.values(), barred) {
+        return Some(Verdict::HasValue { line: set.line });
+    }
+    None
+}
+
+// Whether the assignment has the barred target.
+fn is_barred(values: &[ValueId], barred: Option<Target>) -> bool
+    ensures { IsTrue result ↔ BarredBy barred values.now }
+{
+    match barred {
+        None => false,
+        Some(target) => has_target(values, target),
+    }
+}
+
+fn has_target(values: &[ValueId], target: Target) -> bool
+    ensures { IsTrue result ↔ HasTarget values.now target }
+{
+    let has = match values.get(usize::from(target.cell.0)) {
+        Some(value) => value.0 == target.value.0,
+        None => false,
+    };
+    has == target.holds
 }
 
 // The line of the first used entry that isn't entered.
@@ -99,14 +230,14 @@ fn first_not_held(values: &[ValueId], uses: &[Said]) -> Option<u32>
     None
 }
 
-// The first rule that the assignment makes false.
-fn first_broken(book: &Book, values: &Assignment) -> Option<u32>
+// The first rule that the assignment makes false, but for the one that is left out.
+fn first_broken(book: &Book, values: &Assignment, left_out: Option<u32>) -> Option<u32>
     requires { length book.now.rules ≤ most_rules }
-    ensures { IsRuleBroken book.now values.now result }
+    ensures { IsRuleBroken book.now left_out values.now result }
 {
     let count = book.rules().len();
     for rule in 0..count {
-        if !eval(book, rule, values) {
+        if left_out != Some(rule as u32) && !eval(book, rule, values) {
             return Some(rule as u32);
         }
     }

@@ -48,6 +48,7 @@ fn is_good(
     match part {
         CertPart::Axiom(_) => axioms[place],
         CertPart::Step { hints, .. } => is_step(place, hints, clauses, values),
+        CertPart::Block(_) => axioms[place],
     }
 }
 

@@ -29,8 +29,8 @@ fn mark_pairs(entries: &[Entry], marks: &mut [bool])
     }
 }
 
-// The place of a pair.
-fn place_of(entry: Entry) -> usize
+/// The place of a pair.
+pub(crate) fn place_of(entry: Entry) -> usize
     ensures { result ≡ pair_place entry }
 {
     usize::from(entry.cell.0) * MOST_VALUES + usize::from(entry.value.0)

@@ -14,6 +14,7 @@ mod line_clauses;
 mod node;
 mod room;
 mod scratch;
+mod sets;
 mod shared;
 mod taken;
 mod verdict;

@@ -1,4 +1,4 @@
-//! The clauses of a derivation's lines. Lines that take the same axiom share one clause, so that a certificate of many such
+//! The clauses of a derivation's lines. Lines that take the same axiom or set share one clause, so that a certificate of many such
 //! lines takes no more memory than the sheet and its own text call for.
 
 ghost use Rattle.std.specs.Prelude.{◌≡◌, ◌<◌, ◌∷◌, ◌++◌, [], IfOk, OnOk, Some, length, slice_get, slice_index_or};

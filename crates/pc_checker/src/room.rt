@@ -2,29 +2,34 @@
 
 ghost use Rattle.std.specs.Prelude.{◌≡◌, ◌<◌, [], IfOk, IfSome, OnOk, All, length, map};
 ghost use Rattle.pc_accept.specs.Axioms.{negated_entry};
-ghost use Rattle.pc_sheet.specs.Entailment.{cell_sizes};
 ghost use Rattle.pc_cert.specs.Text.{entry_said};
 ghost use Rattle.pc_cert.specs.Views.{reading_of, said_of, symbol_of, AreSymbolsDistinct};
 ghost use Rattle.pc_checker.specs.Drafts.{AreWritten};
-ghost use Rattle.pc_checker.specs.Made.{IsMadeFor, value_said};
-ghost use Rattle.pc_cert.specs.ReadFor.{IsPartOver, IsReadFor};
+ghost use Rattle.pc_checker.specs.Entered.{HasEachPair};
+ghost use Rattle.pc_checker.specs.Made.{IsMadeFor, blocks_said, set_values, value_said};
+ghost use Rattle.pc_cert.specs.ReadFor.{IsPartOver, IsReadFor, IsSetSaidOf};
 ghost use Rattle.pc_checker.specs.inside.Prepared.{ArePrepared, IsLinePrepared, IsPlacePrepared};
 ghost use Rattle.pc_checker.specs.Verdicts.{allowed_in};
+ghost use Rattle.pc_checker.specs.inside.Written.{IsBlockWritten};
 
 use crate::draft::ClauseDraft;
 use crate::entered::entered_pairs;
 use crate::line_clauses::LineClauses;
 use crate::scratch::Scratch;
+use crate::sets::write_outside;
 use crate::shared::Shared;
 use crate::taken::write_axiom;
-use pc_cert::{Cert, CertLine, CertPart, Claim, Numbering, Said, Symbol};
+use pc_cert::{Cert, CertLine, CertPart, Claim, Numbering, Said, SaidSet, Symbol};
 use pc_lits::Values;
-use pc_logic::{Assignment, Book};
+use pc_logic::{Assignment, Book, well_formed};
+use pc_sheet::MOST_VALUES;
 use std::alloc::{AllocError, Global};
 
-// A line's part, an earlier line that takes the same axiom, if there is one, and what was answered for the earlier lines.
+// A line's part, the certificate's sets, an earlier line that takes the same axiom or set, if there is one, and what was answered
+// for the earlier lines.
 #[derive(Clone, Copy)]
 struct Place<'a> {
+    sets: &'a [SaidSet],
     part: &'a CertPart,
     earlier: Option<usize>,
     axioms: &'a [bool],
@@ -42,6 +47,7 @@ pub fn room_for(alloc: Global, book: &Book, cert: &Cert) -> Result<Scratch, Allo
     prepare_lines(
         alloc,
         book,
+        &cert.sets,
         &cert.lines,
         &mut draft,
         &mut clauses,
@@ -53,14 +59,25 @@ pub fn room_for(alloc: Global, book: &Book, cert: &Cert) -> Result<Scratch, Allo
     let values = Values::new(alloc, draft.symbols())?;
     let entered = entered_pairs(alloc, book)?;
     let assignment = assignment_of(alloc, &cert.values)?;
+    let sets = assignments_of(alloc, &cert.sets)?;
+    let pairs = room_for_pairs(alloc, book)?;
     Ok(Scratch {
         entered,
         assignment,
+        sets,
+        pairs,
         clauses,
         axioms,
         allowed,
         values,
     })
+}
+
+// Room for a mark of each pair of a cell and a value.
+fn room_for_pairs(alloc: Global, book: &Book) -> Result<Values, AllocError>
+    ensures { IfOk result (HasEachPair book.now) }
+{
+    Values::new(alloc, (book.cells() * MOST_VALUES) as u32)
 }
 
 // Gives the certificate's symbols their places as numbers.
@@ -79,21 +96,24 @@ fn number_symbols(alloc: Global, symbols: &[Symbol]) -> Result<Numbering, AllocE
 fn prepare_lines(
     alloc: Global,
     book: &Book,
+    sets: &[SaidSet],
     lines: &[CertLine],
     draft: &mut ClauseDraft,
     clauses: &mut LineClauses,
     axioms: &mut Vec<bool>,
 ) -> Result<(), AllocError>
     requires over { All (λ l. IsPartOver book.now draft.old.symbols l.part) lines.now }
+    requires sets { All (IsSetSaidOf book.now) sets.now }
     requires no_clauses { clauses.old ≡ [] }
     requires no_marks { axioms.old.items ≡ [] }
-    ensures { OnOk result (ArePrepared book.now lines.now (length lines.now) draft.old.symbols draft.new.symbols clauses.new axioms.new.items) }
+    ensures { OnOk result (ArePrepared book.now (blocks_said book.now sets.now) lines.now (length lines.now) draft.old.symbols draft.new.symbols clauses.new axioms.new.items) }
 {
-    let mut marks = Values::new(alloc, book.cells() as u32)?;
+    let mut marks = room_for_pairs(alloc, book)?;
     let mut shared = Shared::new(alloc);
     for (place, line) in lines.iter().enumerate() {
         let earlier = shared.earlier(alloc, lines, place)?;
         let given = Place {
+            sets,
             part: &line.part,
             earlier,
             axioms: axioms.as_slice(),
@@ -114,13 +134,14 @@ fn prepare_place(
     marks: &mut Values,
 ) -> Result<bool, AllocError>
     requires over { IsPartOver book.now draft.old.symbols place.part.now }
-    requires marks { length marks.old ≡ length (cell_sizes book.now.universe) }
+    requires sets { All (IsSetSaidOf book.now) place.sets.now }
+    requires marks { HasEachPair book.now marks.old }
     requires earlier { IfSome place.earlier (λ j. (j < length clauses.old) × (j < length place.axioms.now)) }
     ensures room { length marks.new ≡ length marks.old }
-    ensures prepared { IfOk result (IsPlacePrepared book.now place.entry.part.now place.entry.earlier place.entry.axioms.now draft.old.symbols draft.new.symbols clauses.old clauses.new) }
+    ensures prepared { IfOk result (IsPlacePrepared book.now (blocks_said book.now place.entry.sets.now) place.entry.part.now place.entry.earlier place.entry.axioms.now draft.old.symbols draft.new.symbols clauses.old clauses.new) }
 {
     match place.earlier {
-        None => prepare_line(alloc, book, place.part, draft, clauses, marks),
+        None => prepare_line(alloc, book, place.sets, place.part, draft, clauses, marks),
         Some(first) => {
             clauses.repeat(first)?;
             Ok(place.axioms[first])
@@ -132,15 +153,17 @@ fn prepare_place(
 fn prepare_line(
     alloc: Global,
     book: &Book,
+    sets: &[SaidSet],
     part: &CertPart,
     draft: &mut ClauseDraft,
     clauses: &mut LineClauses,
     marks: &mut Values,
 ) -> Result<bool, AllocError>
     requires over { IsPartOver book.now draft.old.symbols part.now }
-    requires marks { length marks.old ≡ length (cell_sizes book.now.universe) }
+    requires sets { All (IsSetSaidOf book.now) sets.now }
+    requires marks { HasEachPair book.now marks.old }
     ensures room { length marks.new ≡ length marks.old }
-    ensures prepared { IfOk result (IsLinePrepared book.now part.now draft.old.symbols draft.new.symbols clauses.old clauses.new) }
+    ensures prepared { IfOk result (IsLinePrepared book.now (blocks_said book.now sets.now) part.now draft.old.symbols draft.new.symbols clauses.old clauses.new) }
 {
     match part {
         CertPart::Axiom(axiom) => {
@@ -153,7 +176,36 @@ fn prepare_line(
             clauses.push(clause)?;
             Ok(false)
         }
+        CertPart::Block(place) => {
+            draft.begin();
+            let good = write_block(alloc, book, sets, *place, draft, marks)?;
+            clauses.push(draft.literals())?;
+            Ok(good)
+        }
     }
+}
+
+// Writes the clause of the set of that place, and answers whether there is one.
+fn write_block(
+    alloc: Global,
+    book: &Book,
+    sets: &[SaidSet],
+    place: usize,
+    draft: &mut ClauseDraft,
+    marks: &mut Values,
+) -> Result<bool, AllocError>
+    requires blank { draft.old.clause ≡ [] }
+    requires sets { All (IsSetSaidOf book.now) sets.now }
+    requires marks { HasEachPair book.now marks.old }
+    ensures written { IfOk result (IsBlockWritten (blocks_said book.now sets.now) place draft.old draft.new) }
+    ensures room { length marks.new ≡ length marks.old }
+{
+    if place >= sets.len() {
+        return Ok(false);
+    }
+    well_formed(book);
+    write_outside(alloc, book.entries(), &sets[place].uses, draft, marks)?;
+    Ok(true)
 }
 
 // Writes the literals that the last clause may have.
@@ -166,7 +218,10 @@ fn write_allowed(alloc: Global, cert: &Cert, draft: &mut ClauseDraft) -> Result<
             draft.push_pair(alloc, target.cell, target.value, target.holds)?;
             Ok(())
         }
+        Claim::Against(_) => write_uses(alloc, &cert.uses, draft),
         Claim::Inconsistent => Ok(()),
+        Claim::Repairs => Ok(()),
+        Claim::Not(_) => Ok(()),
     }
 }
 
@@ -189,4 +244,16 @@ fn assignment_of(alloc: Global, values: &[Said]) -> Result<Assignment, AllocErro
         assigned.push(said.entry.value)?;
     }
     Ok(Assignment::new(assigned))
+}
+
+// The values of each set, one after the other.
+fn assignments_of(alloc: Global, sets: &[SaidSet]) -> Result<Vec<Assignment>, AllocError>
+    ensures { IfOk result (λ v. v.items ≡ map set_values sets.now) }
+{
+    let mut assigned = Vec::new(alloc);
+    for set in sets {
+        let values = assignment_of(alloc, &set.values)?;
+        assigned.push(values)?;
+    }
+    Ok(assigned)
 }

@@ -12,6 +12,10 @@ pub struct Scratch {
     pub(crate) entered: Vec<bool>,
     // The values of the certificate's `value` lines.
     pub(crate) assignment: Assignment,
+    // The values of the `value` lines of each set.
+    pub(crate) sets: Vec<Assignment>,
+    // Room to mark the entries of a set, by cell and value.
+    pub(crate) pairs: Values,
     // The clause of each line of the derivation.
     pub(crate) clauses: LineClauses,
     // Whether each line may be taken as an axiom.

@@ -1,4 +1,4 @@
-//! Which lines take an axiom that an earlier line took.
+//! Which lines take an axiom, or the clause of a set, that an earlier line took.
 
 ghost use Rattle.std.specs.Prelude.{◌≡◌, ◌<◌, IfOk, IfSome, IsTrue, length, slice_index_or};
 ghost use Rattle.pc_cert.specs.Keys.{IsKey};
@@ -10,7 +10,7 @@ use pc_cert::{CertLine, CertPart, Numbering};
 use pc_names::AxiomName;
 use std::alloc::{AllocError, Global};
 
-/// The axioms so far whose clauses may be long, found by hashing, with the first line of each.
+/// The axioms and sets so far whose clauses may be long, found by hashing, with the first line of each.
 #[derive(Drop)]
 pub(crate) struct Shared {
     names: Numbering,
@@ -58,7 +58,24 @@ impl Shared {
         }
     }
 
-    /// An earlier line that takes the same axiom as this one, if there is one whose clause is worth sharing.
+    /// The same of a part. Clauses of sets may be long.
+    fn first_with_part(
+        &mut self,
+        alloc: Global,
+        part: &CertPart,
+        line: usize,
+    ) -> Result<usize, AllocError> {
+        match part {
+            CertPart::Axiom(axiom) => self.first_taking(alloc, axiom, line),
+            CertPart::Step { .. } => Ok(line),
+            CertPart::Block(set) => match u32::try_from(*set) {
+                Ok(number) => self.first_with(alloc, &[0, number, 1], line),
+                Err(_) => Ok(line),
+            },
+        }
+    }
+
+    /// An earlier line that takes the same axiom or set as this one, if there is one whose clause is worth sharing.
     pub(crate) fn earlier(
         &mut self,
         alloc: Global,
@@ -68,10 +85,7 @@ impl Shared {
         requires { place < length lines.now }
         ensures { IfOk result (λ found. IfSome found (λ j. (j < place) × ((d : TheLine) → TakeSame (slice_index_or lines.now j d).part (slice_index_or lines.now place d).part))) }
     {
-        let CertPart::Axiom(axiom) = &lines[place].part else {
-            return Ok(None);
-        };
-        let first = self.first_taking(alloc, axiom, place)?;
+        let first = self.first_with_part(alloc, &lines[place].part, place)?;
         if first < place && take_same(&lines[first].part, &lines[place].part) {
             return Ok(Some(first));
         }
@@ -84,6 +98,7 @@ fn take_same(one: &CertPart, other: &CertPart) -> bool
 {
     match (one, other) {
         (CertPart::Axiom(a), CertPart::Axiom(b)) => is_same(a, b),
+        (CertPart::Block(i), CertPart::Block(j)) => i == j,
         _ => false,
     }
 }

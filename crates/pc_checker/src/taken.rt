@@ -1,6 +1,6 @@
 //! What may be taken as an axiom, and its clause.
 
-ghost use Rattle.std.specs.Prelude.{◌≡◌, ◌<◌, ◌↔◌, IfOk, IsTrue, All, Some, [], length};
+ghost use Rattle.std.specs.Prelude.{◌≡◌, ◌<◌, ◌≤◌, ◌↔◌, IfOk, IsTrue, All, Some, [], length};
 ghost use Rattle.pc_names.specs.Views.{axiom_of};
 ghost use Rattle.pc_accept.specs.Axioms.{axiom_atom};
 ghost use Rattle.pc_sheet.specs.Entailment.{HaveDistinctCells, cell_sizes};
@@ -30,7 +30,7 @@ pub(crate) fn write_axiom(
 ) -> Result<bool, AllocError>
     requires over { IsOverSheet book.now name.now }
     requires blank { draft.old.clause ≡ [] }
-    requires marks { length marks.old ≡ length (cell_sizes book.now.universe) }
+    requires marks { length (cell_sizes book.now.universe) ≤ length marks.old }
     ensures written { IfOk result (IsAxiomWritten book.now (axiom_of name.now) draft.old draft.new) }
     ensures room { length marks.new ≡ length marks.old }
 {
@@ -77,7 +77,7 @@ fn write_atom(
     requires atom { kind_at book.now path.now.rule path.now.steps.items ≡ Some NodeKind.Atom }
     requires reads { All (IsEntryOf book.now.universe) reads.now }
     requires blank { draft.old.clause ≡ [] }
-    requires marks { length marks.old ≡ length (cell_sizes book.now.universe) }
+    requires marks { length (cell_sizes book.now.universe) ≤ length marks.old }
     ensures written { IfOk result (IsAxiomWritten book.now (axiom_atom path.now.rule path.now.steps.items reads.now) draft.old draft.new) }
     ensures room { length marks.new ≡ length marks.old }
 {

@@ -11,6 +11,10 @@ pub enum Verdict {
     UseNotHeld { line: u32 },
     /// The assignment makes this rule false, the first such one.
     RuleBroken { rule: u32 },
+    /// The assignment of the set that begins here has the value that is said not to be implied.
+    HasValue { line: u32 },
+    /// The set that begins here lies within an earlier one, or an earlier one within it.
+    SetInSet { line: u32 },
     /// What was taken as an axiom isn't one.
     BadAxiom { line: u32 },
     /// The clause isn't a good step by its hints.

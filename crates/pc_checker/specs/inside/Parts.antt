@@ -1,7 +1,8 @@
 -- What the parts of the check answer.
-use Rattle.std.specs.Prelude.{◌≡◌, ◌↔◌, ℕ, ◌<◌, ◌≤◌, ◌-◌, ◌⊎◌, Bool, false, IsTrue, List, [], map, length, slice_index_or, All, Contains, Option, None, Some}
+use Rattle.std.specs.Prelude.{◌≡◌, ◌↔◌, ℕ, ◌<◌, ◌≤◌, ◌-◌, ◌⊎◌, Bool, false, IsTrue, List, [], map, length, slice_index_or, All, AllPairs, Contains, Option, None, Some}
 use Rattle.pc_sheet.specs.Sheet.{Sheet}
-use Rattle.pc_sheet.specs.Entailment.{Fits}
+use Rattle.pc_sheet.specs.Entailment.{HasTarget}
+use Rattle.pc_sheet.specs.declared.ids.Target.{Target}
 use Rattle.pc_sheet.specs.declared.ids.ValueId.{ValueId}
 use Rattle.pc_sheet.specs.declared.ids.Entry.{Entry}
 use Rattle.pc_lits.specs.declared.literal.Lit.{Lit}
@@ -11,12 +12,14 @@ use Rattle.pc_lits.specs.Hints.{clauses_at}
 use Rattle.pc_lits.specs.Values.{MakesTrue, IsInRange}
 use Rattle.pc_accept.specs.Accepts.{AreInCellOrder}
 use Rattle.pc_cert.specs.declared.cert.CertPart.{CertPart}
-use Rattle.pc_cert.specs.declared.cert.CertPart.TheVariants.{Axiom, Step}
+use Rattle.pc_cert.specs.declared.cert.CertPart.TheVariants.{Axiom, Step, Block}
 use Rattle.pc_cert.specs.declared.cert.CertLine.{CertLine}
-use Rattle.pc_cert.specs.Text.{CertificateReading, entry_said, place_meant}
+use Rattle.pc_cert.specs.declared.cert.SaidSet.{SaidSet}
+use Rattle.pc_cert.specs.Views.{set_of}
+use Rattle.pc_cert.specs.Text.{SetReading, CertificateReading, entry_said, place_meant}
 use Rattle.pc_checker.specs.declared.verdict.Verdict.{Verdict}
 use Rattle.pc_checker.specs.declared.verdict.Verdict.TheVariants.{BadAxiom, BadStep}
-use Rattle.pc_checker.specs.Verdicts.{Numbered, IsFirstWithout, IsFirstAstray, IsFirstBroken, IsOnTarget, Stands, ClaimStands, IsVerdict}
+use Rattle.pc_checker.specs.Verdicts.{Numbered, IsFirstWithout, IsFirstAstray, IsFirstBroken, FitsBut, Stands, IsFault, SetStands, IsSetFault, IsFirstInSet, AreApart, IsFaultOfSets, SetsStand, ClaimStands, IsVerdict}
 
 -- ---- the claim
 
@@ -32,20 +35,47 @@ IsLineOfValues cells values after (Some line) =
     ((x : Numbered Entry) × IsFirstAstray values x × (line ≡ x.0))
     ⊎ (AreInCellOrder (map entry_said values) × (length values < cells) × (line ≡ after))
 
--- the assignment fits; or the first rule that it makes false
-abbrev pub IsRuleBroken : Sheet → List ValueId → Option ℕ → Type 0
-IsRuleBroken sheet a None = Fits sheet a
-IsRuleBroken sheet a (Some rule) = IsFirstBroken sheet a rule
+-- the assignment fits, but for a rule that may be left out; or the first rule that it makes false
+abbrev pub IsRuleBroken : Sheet → Option ℕ → List ValueId → Option ℕ → Type 0
+IsRuleBroken sheet left_out a None = FitsBut sheet left_out a
+IsRuleBroken sheet left_out a (Some rule) = IsFirstBroken sheet left_out a rule
 
 -- what stands before the derivation passes; or its verdict
 abbrev pub IsClaimVerdict : Sheet → CertificateReading → Option Verdict → Type 0
 IsClaimVerdict sheet r None = ClaimStands sheet r r.claim
 IsClaimVerdict sheet r (Some v) = IsVerdict sheet r v
 
--- the same of a claim on a target
-abbrev pub IsTargetVerdict : Sheet → CertificateReading → Option Verdict → Type 0
-IsTargetVerdict sheet r None = Stands sheet r
-IsTargetVerdict sheet r (Some v) = IsOnTarget r.claim → IsVerdict sheet r v
+-- used entries and values stand; or the first test of them that fails
+abbrev pub IsShownFault : Sheet → Option ℕ → List (Numbered Entry) → List (Numbered Entry) → ℕ → Option Verdict → Type 0
+IsShownFault sheet left_out uses values after None = Stands sheet left_out uses values
+IsShownFault sheet left_out uses values after (Some v) = IsFault sheet left_out uses values after v
+
+-- the same of a set, of all sets one after the other, and of the sets among one another
+module _ (sheet : Sheet) (IsBarred : List ValueId → Type 0) where
+  abbrev pub IsOneSetFault : SetReading → Option Verdict → Type 0
+  IsOneSetFault s None = SetStands sheet IsBarred s
+  IsOneSetFault s (Some v) = (¬ SetStands sheet IsBarred s) × IsSetFault sheet IsBarred s v
+
+  abbrev pub IsFirstSetFault : List SetReading → Option Verdict → Type 0
+  IsFirstSetFault sets None = All (SetStands sheet IsBarred) sets
+  IsFirstSetFault sets (Some v) = (s : SetReading) × IsFirstWithout (SetStands sheet IsBarred) sets s × IsSetFault sheet IsBarred s v
+
+  abbrev pub IsSetsFault : List SetReading → Option Verdict → Type 0
+  IsSetsFault sets None = SetsStand sheet IsBarred sets
+  IsSetsFault sets (Some v) = IsFaultOfSets sheet IsBarred sets v
+
+-- the sets before this place are apart from the one there
+abbrev pub AreApartAt : List SaidSet → ℕ → Type 0
+AreApartAt sets place = (k : ℕ) (d : SaidSet) → k < place → AreApart (set_of (slice_index_or sets k d)) (set_of (slice_index_or sets place d))
+
+abbrev pub IsLineInSet : List SetReading → Option ℕ → Type 0
+IsLineInSet sets None = AllPairs AreApart sets
+IsLineInSet sets (Some line) = (s : SetReading) × IsFirstInSet sets s × (line ≡ s.line)
+
+-- what the assignments of sets may not have
+abbrev pub BarredBy : Option Target → List ValueId → Type 0
+BarredBy None a = ⊥
+BarredBy (Some t) a = HasTarget a t
 
 -- ---- the derivation, by the clauses in the scratch
 
@@ -62,6 +92,7 @@ IsStepBy clauses i numbers =
 abbrev pub IsGoodPart : List (List Lit) → List Bool → ℕ → CertPart → Type 0
 IsGoodPart clauses axioms i (Axiom a) = IsTrue (slice_index_or axioms i false)
 IsGoodPart clauses axioms i (Step c hints) = IsStepBy clauses i hints.items
+IsGoodPart clauses axioms i (Block j) = IsTrue (slice_index_or axioms i false)
 
 abbrev pub AreGoodBelow : List (List Lit) → List Bool → List CertLine → ℕ → Type 0
 AreGoodBelow clauses axioms lines n = (i : ℕ) (d : CertLine) → i < n → IsGoodPart clauses axioms i (slice_index_or lines i d).part
@@ -88,6 +119,7 @@ AreMarked sign lits values = (l : Lit) → IsInRange values l → l.sign ≡ sig
 abbrev pub fault_by : ℕ → CertPart → Verdict
 fault_by line (Axiom a) = BadAxiom line
 fault_by line (Step c hints) = BadStep line
+fault_by line (Block j) = BadAxiom line
 
 abbrev pub fault_at : CertLine → Verdict
 fault_at l = fault_by l.line l.part

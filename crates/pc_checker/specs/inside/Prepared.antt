@@ -1,44 +1,60 @@
 -- What is prepared of a certificate: its lines, one after the other, and what its claim is tested by.
-use Rattle.std.specs.Prelude.{◌≡◌, ℕ, ◌<◌, Bool, false, List, [], ◌∷◌, ◌++◌, length, slice_index_or, All, Option, None, Some}
+use Rattle.std.specs.Prelude.{◌≡◌, ℕ, ◌<◌, Bool, false, List, [], ◌∷◌, ◌++◌, map, length, slice_index_or, All, Option, None, Some}
 use Rattle.pc_sheet.specs.Sheet.{Sheet}
 use Rattle.pc_sheet.specs.declared.ids.ValueId.{ValueId}
 use Rattle.pc_lits.specs.declared.literal.Lit.{Lit}
-use Rattle.pc_accept.specs.Literals.{Symbol}
+use Rattle.pc_accept.specs.Literals.{Symbol, Literal}
 use Rattle.pc_cert.specs.declared.cert.Cert.{Cert}
 use Rattle.pc_cert.specs.declared.cert.CertPart.{CertPart}
 use Rattle.pc_cert.specs.declared.cert.CertLine.{CertLine}
-use Rattle.pc_cert.specs.ReadFor.{IsNamedIn, IsReadFor}
-use Rattle.pc_cert.specs.Views.{reading_of}
-use Rattle.pc_checker.specs.Made.{IsPrepared}
+use Rattle.pc_cert.specs.ReadFor.{IsNamedIn, IsSaidOf, IsSetSaidOf, IsReadFor}
+use Rattle.pc_cert.specs.declared.cert.SaidSet.{SaidSet}
+use Rattle.pc_cert.specs.declared.cert.Said.{Said}
+use Rattle.pc_cert.specs.Views.{said_of, reading_of}
+use Rattle.pc_checker.specs.Made.{IsPrepared, set_values}
 use Rattle.pc_cert.specs.Numbered.{StartsWith}
 use Rattle.pc_checker.specs.Entered.{AreEnteredPairs}
 use Rattle.pc_checker.specs.Verdicts.{values_in}
 
 -- one clause more is stored, which is prepared for the part
-pub record IsLinePrepared (sheet : Sheet) (part : CertPart) (old new : List Symbol) (before after : List (List Lit)) (good : Bool) : Type 0 where
+pub record IsLinePrepared (sheet : Sheet) (blocks : List (List Literal)) (part : CertPart) (old new : List Symbol) (before after : List (List Lit)) (good : Bool) : Type 0 where
   pub grows : StartsWith old new
   pub clause : List Lit
   pub pushed : after ≡ before ++ clause ∷ []
   pub within : All (IsNamedIn new) clause
-  pub prepared : IsPrepared sheet new clause good part
+  pub prepared : IsPrepared sheet blocks new clause good part
 
 -- the same of a line that may take the clause and the mark of an earlier one
-abbrev pub IsPlacePrepared : Sheet → CertPart → Option ℕ → List Bool → List Symbol → List Symbol → List (List Lit) → List (List Lit) → Bool → Type 0
-IsPlacePrepared sheet part None marks old new before after good = IsLinePrepared sheet part old new before after good
-IsPlacePrepared sheet part (Some j) marks old new before after good =
+abbrev pub IsPlacePrepared : Sheet → List (List Literal) → CertPart → Option ℕ → List Bool → List Symbol → List Symbol → List (List Lit) → List (List Lit) → Bool → Type 0
+IsPlacePrepared sheet blocks part None marks old new before after good = IsLinePrepared sheet blocks part old new before after good
+IsPlacePrepared sheet blocks part (Some j) marks old new before after good =
     (new ≡ old) × (after ≡ before ++ slice_index_or before j [] ∷ []) × (good ≡ slice_index_or marks j false)
 
 -- the first n lines are prepared
-pub record ArePrepared (sheet : Sheet) (lines : List CertLine) (n : ℕ) (symbols names : List Symbol) (clauses : List (List Lit)) (axioms : List Bool) : Type 0 where
+pub record ArePrepared (sheet : Sheet) (blocks : List (List Literal)) (lines : List CertLine) (n : ℕ) (symbols names : List Symbol) (clauses : List (List Lit)) (axioms : List Bool) : Type 0 where
   pub grows : StartsWith symbols names
   pub count : length clauses ≡ n
   pub marks : length axioms ≡ n
   pub within : All (All (IsNamedIn names)) clauses
-  pub each : (i : ℕ) (d : CertLine) → i < n → IsPrepared sheet names (slice_index_or clauses i []) (slice_index_or axioms i false) (slice_index_or lines i d).part
+  pub each : (i : ℕ) (d : CertLine) → i < n → IsPrepared sheet blocks names (slice_index_or clauses i []) (slice_index_or axioms i false) (slice_index_or lines i d).part
 
--- what the tests of a claim need: a certificate that was read for the sheet, the sheet's entries by cell and value, and the
--- assignment that the certificate gives
-pub record IsClaimPrepared (sheet : Sheet) (c : Cert) (entered_pairs : List Bool) (assigned : List ValueId) : Type 0 where
+-- what the tests of a claim need: a certificate that was read for the sheet, the sheet's entries by cell and value, and
+-- the assignments that the certificate and its sets give
+pub record IsClaimPrepared (sheet : Sheet) (c : Cert) (by_pair : List Bool) (assigned : List ValueId) (in_sets : List (List ValueId)) : Type 0 where
   pub read : IsReadFor sheet c
-  pub entered : AreEnteredPairs sheet entered_pairs
-  pub values : assigned ≡ values_in (reading_of c)
+  pub entered : AreEnteredPairs sheet by_pair
+  pub values : assigned ≡ values_in (reading_of c).values
+  pub sets : in_sets ≡ map set_values c.sets.items
+
+-- the same of sets by themselves
+pub record AreSetsPrepared (sheet : Sheet) (sets : List SaidSet) (by_pair : List Bool) (assigned : List (List ValueId)) : Type 0 where
+  pub each : All (IsSetSaidOf sheet) sets
+  pub entered : AreEnteredPairs sheet by_pair
+  pub values_are : assigned ≡ map set_values sets
+
+-- and of used entries and values
+pub record IsShownPrepared (sheet : Sheet) (uses values : List Said) (by_pair : List Bool) (assigned : List ValueId) : Type 0 where
+  pub uses_of : All (IsSaidOf sheet) uses
+  pub values_of : All (IsSaidOf sheet) values
+  pub entered : AreEnteredPairs sheet by_pair
+  pub values_are : assigned ≡ values_in (map said_of values)

@@ -1,5 +1,5 @@
 -- When an axiom's clause was written.
-use Rattle.std.specs.Prelude.{◌≡◌, ℕ, Bool, not, MatchBool, List, [], ◌∷◌, ◌++◌, Some}
+use Rattle.std.specs.Prelude.{◌≡◌, ℕ, Bool, not, MatchBool, List, [], ◌∷◌, ◌++◌, slice_get, Some}
 use Rattle.pc_sheet.specs.Sheet.{Sheet}
 use Rattle.pc_accept.specs.Literals.{Symbol, Literal}
 use Rattle.pc_accept.specs.Axioms.{Axiom, IsClauseOf, IsAtNumber, each_below}
@@ -27,6 +27,10 @@ IsRowWritten row = IsWritten (λ c. clause_of row ≡ Some c)
 -- the clause of the row of that number, from 1
 abbrev pub IsRowNumberWritten : List (List (Part Literal)) → ℕ → Draft → Draft → Bool → Type 0
 IsRowNumberWritten rows i = IsWritten (IsAtRow rows i)
+
+-- the clause of that place, from 0
+abbrev pub IsBlockWritten : List (List Literal) → ℕ → Draft → Draft → Bool → Type 0
+IsBlockWritten blocks j = IsWritten (λ c. slice_get blocks j ≡ Some c)
 
 -- each child's clause, in which the child has this sign and the node the other, and then one of all children, in which the
 -- node has this sign and each child the other

@@ -1,4 +1,5 @@
 use Rattle.std.proofs.Common.{◌∙◌, List, Bool, sym, subst}
+use Rattle.pc_checker.specs.Made.{blocks_said}
 use Rattle.pc_checker.specs.inside.Prepared.{IsLinePrepared, ArePrepared}
 use Rattle.pc_checker.proofs.LineClauseLemmas.{place_prepared}
 use Rattle.pc_checker.proofs.RoomLemmas.{line_over, prepared_more}
@@ -13,15 +14,15 @@ pub loop-place-preserved : goal.loop-place-preserved
 loop-place-preserved c =
     let l = c.loop-place in
     let line = c.index-lines-place.result in
-    let lent : ArePrepared c.args.book.now c.args.lines.now l.place c.args.draft.now.symbols l.draft.symbols l.clauses c.as_slice.result.now =
-    subst (λ (marks : List Bool). ArePrepared c.args.book.now c.args.lines.now l.place c.args.draft.now.symbols l.draft.symbols l.clauses marks) (sym c.as_slice.ensures.value) l.invariant.prepared
+    let lent : ArePrepared c.args.book.now (blocks_said c.args.book.now c.args.sets.now) c.args.lines.now l.place c.args.draft.now.symbols l.draft.symbols l.clauses c.as_slice.result.now =
+    subst (λ (marks : List Bool). ArePrepared c.args.book.now (blocks_said c.args.book.now c.args.sets.now) c.args.lines.now l.place c.args.draft.now.symbols l.draft.symbols l.clauses marks) (sym c.as_slice.ensures.value) l.invariant.prepared
     in
-    let one : IsLinePrepared c.args.book.now line.part l.draft.symbols c.prepare_place.new.draft.symbols l.clauses c.prepare_place.new.clauses c.in_ok-good.good =
-    place_prepared c.args.book.now c.args.lines.now l.place line c.in_ok-earlier.earlier c.args.draft.now.symbols l.draft.symbols c.prepare_place.new.draft.symbols l.clauses c.prepare_place.new.clauses c.as_slice.result.now c.in_ok-good.good c.index-lines-place.is
+    let one : IsLinePrepared c.args.book.now (blocks_said c.args.book.now c.args.sets.now) line.part l.draft.symbols c.prepare_place.new.draft.symbols l.clauses c.prepare_place.new.clauses c.in_ok-good.good =
+    place_prepared c.args.book.now (blocks_said c.args.book.now c.args.sets.now) c.args.lines.now l.place line c.in_ok-earlier.earlier c.args.draft.now.symbols l.draft.symbols c.prepare_place.new.draft.symbols l.clauses c.prepare_place.new.clauses c.as_slice.result.now c.in_ok-good.good c.index-lines-place.is
     lent c.in_ok-earlier.ensures c.in_ok-good.ensures.prepared
     in
     record {
-      prepared = prepared_more c.args.book.now c.args.lines.now l.place line c.args.draft.now.symbols l.draft.symbols c.prepare_place.new.draft.symbols l.clauses
+      prepared = prepared_more c.args.book.now (blocks_said c.args.book.now c.args.sets.now) c.args.lines.now l.place line c.args.draft.now.symbols l.draft.symbols c.prepare_place.new.draft.symbols l.clauses
           c.prepare_place.new.clauses l.axioms.items c.push.new.self.items c.in_ok-good.good c.loop-place-test.true c.index-lines-place.is l.invariant.prepared one c.in_ok-push.ensures.items;
       room = c.prepare_place.ensures.room ∙ l.invariant.room;
     }
