@@ -11,7 +11,7 @@ use Rattle.pc_sheet.specs.WellFormed.{IsEntryOf}
 use Rattle.pc_sheet.specs.declared.ids.ValueId.{ValueId}
 use Rattle.pc_sheet.specs.declared.ids.Entry.{Entry}
 use Rattle.pc_accept.specs.Accepts.{Line}
-use Rattle.pc_accept.specs.Writable.{IsLineOf, IsSymbolOf, AreLinesOf}
+use Rattle.pc_accept.specs.Writable.{IsLineBeside, IsSymbolOf, AreLinesBeside}
 use Rattle.pc_lits.specs.declared.literal.Lit.{Lit}
 use Rattle.pc_log.specs.declared.log.StepId.{StepId}
 use Rattle.pc_log.specs.declared.trimming.Span.{Span}
@@ -20,11 +20,11 @@ use Rattle.pc_log.specs.Spans.{IsSpanOf, lines_of_span}
 use Rattle.pc_log.specs.Trimmed.{moved}
 use Rattle.pc_log.proofs.SpanLemmas.{get_within, length_range}
 use Rattle.pc_names.specs.Listed.{NameLists}
-use Rattle.pc_reason.specs.Derivation.{AreLinesNamed, IsLineNamed, line_named, literal_named, entries_from}
+use Rattle.pc_reason.specs.Derivation.{IsLineNamedBeside, line_named, literal_named, entries_from}
 use Rattle.pc_writer.proofs.CellLemmas.{entered_cell}
 use Rattle.pc_cert_text.specs.CertificateText.{behind_blank, derivation_line_text, derivation_lines_text, number_text}
 use Rattle.pc_writer.specs.SheetText.{ended}
-use Rattle.pc_cert_text.specs.inside.Steps.{CanBeWritten, IsLiteralOf}
+use Rattle.pc_cert_text.specs.inside.Steps.{AreNamedAndOfSheet, CanBeWritten, IsLiteralOf}
 
 pub all_at : {A : Type 0} (P : A → Type 0) (xs : List A) (i : ℕ) (x : A) → All P xs → slice_get xs i ≡ Some x → P x
 all_at P xs i x all at = subst P (get_or_from_slice_get xs i x x at) (all i x (slice_get_within xs i x at))
@@ -94,20 +94,21 @@ module _ (sheet : Sheet) (names : NameLists) where
       (record { named = All-head (λ (m : Lit). m.variable.0 < length names.variables) l ls named; symbol = All-head (λ m. IsSymbolOf sheet m.what) (literal_named names l) (map (literal_named names) ls) written })
       (literals_of ls (All-tail (λ (m : Lit). m.variable.0 < length names.variables) l ls named) (All-tail (λ m. IsSymbolOf sheet m.what) (literal_named names l) (map (literal_named names) ls) written))
 
-  written_line : (first last place : ℕ) (line : LogLine) → IsLineNamed names (moved (λ h. h - first) line) → IsLineOf sheet place (line_named names (moved (λ h. h - first) line))
+  written_line : (sets first last place : ℕ) (line : LogLine) → sets < 10 ^ 18 → IsLineNamedBeside sets names (moved (λ h. h - first) line)
+      → IsLineBeside sheet sets place (line_named names (moved (λ h. h - first) line))
       → ((h : StepId) → Contains (hints_of line) h → (first ≤ h.0) × (h.0 ≤ last)) → last + 1 < 2 ^ 64 → CanBeWritten sheet names first line
-  written_line first last place (AxiomLine a) named written hints few = (named, written)
-  written_line first last place (BlockLine number clause) named written hints few = absurd named
-  written_line first last place (StepLine clause hs learned) named written hints few = (
+  written_line sets first last place (AxiomLine a) below named written hints few = (named, written)
+  written_line sets first last place (BlockLine number clause) below named written hints few = omega (arith, named, below)
+  written_line sets first last place (StepLine clause hs learned) below named written hints few = (
     literals_of clause named written.0,
     (λ k d below. (hints _ (Contains-get_or hs k d below)).0),
     (λ k d below. let high = (hints _ (Contains-get_or hs k d below)).1 in omega (arith, high, few)),
   )
 
-  written_at : (place : ℕ) (ls : List Line) → AreLinesOf sheet place ls → (i : ℕ) (l : Line) → slice_get ls i ≡ Some l → (k : ℕ) × IsLineOf sheet k l
-  written_at place [] are i l at = absurd (cc)
-  written_at place (m ∷ ls) are zero l at = (place, subst (IsLineOf sheet place) (let same : m ≡ l = cc in same) are.0)
-  written_at place (m ∷ ls) are (suc i) l at = written_at (place + 1) ls are.1 i l at
+  written_at : (sets place : ℕ) (ls : List Line) → AreLinesBeside sheet sets place ls → (i : ℕ) (l : Line) → slice_get ls i ≡ Some l → (k : ℕ) × IsLineBeside sheet sets k l
+  written_at sets place [] are i l at = absurd (cc)
+  written_at sets place (m ∷ ls) are zero l at = (place, subst (IsLineBeside sheet sets place) (let same : m ≡ l = cc in same) are.0)
+  written_at sets place (m ∷ ls) are (suc i) l at = written_at sets (place + 1) ls are.1 i l at
 
   module _ (log : List LogLine) (span : Span) (lies : IsSpanOf log span) where
     abbrev here : LogLine → LogLine
@@ -121,11 +122,12 @@ module _ (sheet : Sheet) (names : NameLists) where
     pub named_line_at : (k : ℕ) (line : LogLine) → span.first.0 + k ≤ span.last.0 → slice_get log (span.first.0 + k) ≡ Some line → slice_get (map (line_named names) (lines_of_span log span)) k ≡ Some (line_named names (here line))
     named_line_at k line within at = slice_get-map (line_named names) (lines_of_span log span) k ∙ ap (option_map (line_named names)) (line_at k line within at)
 
-    pub can_be_written : AreLinesNamed names (lines_of_span log span) → AreLinesOf sheet 0 (map (line_named names) (lines_of_span log span))
+    pub can_be_written : AreNamedAndOfSheet sheet names (lines_of_span log span)
         → (k : ℕ) (line : LogLine) → span.first.0 + k ≤ span.last.0 → span.last.0 + 1 < 2 ^ 64 → slice_get log (span.first.0 + k) ≡ Some line → CanBeWritten sheet names span.first.0 line
-    can_be_written named written k line within few at =
-        let own = written_at 0 (map (line_named names) (lines_of_span log span)) written k (line_named names (here line)) (named_line_at k line within at) in
-        written_line span.first.0 span.last.0 own.0 line (all_at (IsLineNamed names) (lines_of_span log span) k (here line) named (line_at k line within at)) own.1
+    can_be_written are k line within few at =
+        let own = written_at are.sets 0 (map (line_named names) (lines_of_span log span)) are.written k (line_named names (here line)) (named_line_at k line within at) in
+        written_line are.sets span.first.0 span.last.0 own.0 line are.few
+        (all_at (IsLineNamedBeside are.sets names) (lines_of_span log span) k (here line) are.named (line_at k line within at)) own.1
         (λ h there. lies.closed (span.first.0 + k) h.0 (omega arith) within (hints_of line, slice_get-map hints_of log (span.first.0 + k) ∙ ap (option_map hints_of) at, there)) few
 
     pub count_of_lines : length (map (line_named names) (lines_of_span log span)) ≡ span.last.0 + 1 - span.first.0

@@ -1,14 +1,15 @@
 -- The texts of worked certificates.
-use Rattle.std.specs.Prelude.{◌≡◌, ℕ, pos, negsuc, false, List, [], ◌∷◌, codes}
+use Rattle.std.specs.Prelude.{◌≡◌, ℕ, pos, negsuc, false, List, [], ◌∷◌, ◌++◌, codes}
 use Rattle.std.specs.List.{flat_map}
 use Rattle.pc_name.specs.declared.sign.Op.TheVariants.{Eq}
 use Rattle.pc_sheet.specs.Sheet.{listed, range, compare, implies, Sheet}
 use Rattle.pc_sheet.specs.declared.ids.ValueId.{ValueId}
-use Rattle.pc_laws.specs.Examples.{red, green, entry, equal_cells, colored, color, cell_side, color_side}
+use Rattle.pc_laws.specs.Examples.{red, green, entry, target, equal_cells, colored, color, cell_side, color_side}
 use Rattle.pc_accept.specs.Literals.{node, positive, negative}
 use Rattle.pc_accept.specs.Axioms.{axiom_some, axiom_one, axiom_rule, axiom_node, axiom_atom, pair_of}
-use Rattle.pc_accept.specs.Accepts.{implied, inconsistent, taken, derived, Certificate}
+use Rattle.pc_accept.specs.Accepts.{implied, inconsistent, repairs, unimplied, against, taken, derived, blocked, Certificate}
 use Rattle.pc_accept.specs.Examples.{claiming, both_red, steps_by}
+use Rattle.pc_accept.specs.SetExamples.{two_ends, red_set, green_set, neither, of_sets}
 use Rattle.pc_cert_text.specs.CertificateText.{certificate_text}
 use Rattle.pc_writer.specs.SheetText.{ended}
 
@@ -32,6 +33,7 @@ two_cells = record {
 abbrev pub by_nodes : Certificate
 by_nodes = record {
   claim = implied (record { cell = record { 0 = 1 }; value = green; holds = false });
+  sets = [];
   uses = entry 0 red ∷ [];
   values = both_red;
   lines =
@@ -58,10 +60,19 @@ with_arguments = record {
 abbrev pub not_both_of_a_cell : Certificate
 not_both_of_a_cell = record {
   claim = implied (record { cell = record { 0 = 0 }; value = green; holds = false });
+  sets = [];
   uses = entry 0 red ∷ [];
   values = entry 0 red ∷ entry 1 red ∷ entry 2 red ∷ entry 3 red ∷ entry 4 red ∷ entry 5 green ∷ [];
   lines = taken (axiom_one (record { 0 = 0 }) red green) ∷ derived (negative (pair_of (entry 0 red)) ∷ negative (pair_of (entry 0 green)) ∷ []) (0 ∷ []) ∷ [];
 }
+
+-- ---- sets
+
+-- the lines of both sets
+abbrev pub two_sets : List (List ℕ)
+two_sets =
+    codes "set" ∷ codes "use a = red" ∷ codes "value a = red" ∷ codes "value b = red" ∷ codes "value c = red"
+    ∷ codes "set" ∷ codes "use c = green" ∷ codes "value a = green" ∷ codes "value b = green" ∷ codes "value c = green" ∷ []
 
 pub record WorkedTexts : Type 0 where
   pub implied : certificate_text equal_cells (claiming (entry 0 red ∷ []) both_red (steps_by (2 ∷ 0 ∷ 1 ∷ [])))
@@ -82,5 +93,19 @@ pub record WorkedTexts : Type 0 where
       ∷ codes "value p(-1, red) = red" ∷ codes "value p(-1, green) = red" ∷ codes "value p(0, red) = red" ∷ codes "value p(0, green) = red" ∷ codes "value p(1, red) = red" ∷ codes "value p(1, green) = green"
       ∷ codes "1 one p(-1,red) red green" ∷ codes "2 step ~p(-1,red)=red ~p(-1,red)=green : 1" ∷ codes "end" ∷ []
       )
-  pub refuted : certificate_text equal_cells (record { claim = inconsistent; uses = []; values = []; lines = taken (axiom_rule 0) ∷ derived [] (0 ∷ []) ∷ [] })
+  pub refuted : certificate_text equal_cells (record { claim = inconsistent; sets = []; uses = []; values = []; lines = taken (axiom_rule 0) ∷ derived [] (0 ∷ []) ∷ [] })
       ≡ text_of_lines (codes "certificate 1" ∷ codes "claim inconsistent" ∷ codes "1 rule ab" ∷ codes "2 step : 1" ∷ codes "end" ∷ [])
+  -- sets are counted from 1, each with its uses and values
+  pub sets : certificate_text two_ends (of_sets repairs (red_set ∷ green_set ∷ []) neither)
+      ≡ text_of_lines (
+      codes "certificate 1" ∷ codes "claim repairs" ∷ (two_sets
+      ++ codes "1 rule ab" ∷ codes "2 rule bc" ∷ codes "3 block 1" ∷ codes "4 block 2" ∷ codes "5 atom @ab a=red b=green" ∷ codes "6 atom @bc b=red c=green"
+      ∷ codes "7 some b" ∷ codes "8 step : 3 4 1 5 7 2 6" ∷ codes "end" ∷ [])
+      )
+  pub denied : certificate_text two_ends (of_sets (unimplied (target 2 red)) (green_set ∷ []) (blocked 0 ∷ []))
+      ≡ text_of_lines (
+      codes "certificate 1" ∷ codes "claim not c = red" ∷ codes "set" ∷ codes "use c = green" ∷ codes "value a = green" ∷ codes "value b = green" ∷ codes "value c = green"
+      ∷ codes "1 block 1" ∷ codes "end" ∷ []
+      )
+  pub against_rule : certificate_text two_ends (record { claim = against 1; sets = []; uses = entry 0 red ∷ []; values = entry 0 red ∷ []; lines = taken (axiom_rule 1) ∷ [] })
+      ≡ text_of_lines (codes "certificate 1" ∷ codes "claim against bc" ∷ codes "use a = red" ∷ codes "value a = red" ∷ codes "1 rule bc" ∷ codes "end" ∷ [])

@@ -8,15 +8,17 @@
 
 mod axiom;
 mod certificate;
+mod claim;
 mod entries;
 mod law;
 mod line;
 mod literal;
 mod number;
 mod path;
+mod sets;
 mod tight;
 mod why;
 
-pub use certificate::{write_reason, write_refutation};
+pub use certificate::{write_against, write_reason, write_refutation, write_sets};
 pub use law::texts_are_worked;
 pub use why::write_why;

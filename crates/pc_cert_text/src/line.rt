@@ -1,16 +1,16 @@
 // The lines of a derivation.
 ghost use Rattle.std.specs.Prelude.{◌≡◌, ◌+◌, ◌-◌, ◌<◌, ◌≤◌, ◌^◌, ◌++◌, All, length, map};
 ghost use Rattle.std.specs.List.{flat_map};
+ghost use Rattle.pc_accept.specs.Accepts.{blocked};
 ghost use Rattle.pc_lits.specs.declared.literal.Lit.{Lit};
 ghost use Rattle.pc_log.specs.declared.log.StepId.{StepId};
 ghost use Rattle.pc_log.specs.Shown.{shown_line};
 ghost use Rattle.pc_log.specs.Spans.{IsSpanOf, lines_of_span};
-ghost use Rattle.pc_reason.specs.Derivation.{AreLinesNamed, line_named};
-ghost use Rattle.pc_accept.specs.Writable.{AreLinesOf};
+ghost use Rattle.pc_reason.specs.Derivation.{line_named};
 ghost use Rattle.pc_writer.specs.Writes.{Writes};
-ghost use Rattle.pc_cert_text.specs.CertificateText.{behind_blank, derivation_lines_text, number_text};
+ghost use Rattle.pc_cert_text.specs.CertificateText.{behind_blank, derivation_line_text, derivation_lines_text, number_text};
 ghost use Rattle.pc_writer.specs.SheetText.{ended};
-ghost use Rattle.pc_cert_text.specs.inside.Steps.{CanBeWritten, hint_text, IsLiteralOf, logged_text, spaced_literal_text, step_text};
+ghost use Rattle.pc_cert_text.specs.inside.Steps.{AreNamedAndOfSheet, CanBeWritten, hint_text, IsLiteralOf, logged_text, spaced_literal_text, step_text};
 
 use crate::axiom::write_axiom;
 use crate::literal::write_literal;
@@ -26,8 +26,7 @@ use pc_writer::write_text;
 /// Writes the lines of a proof, numbered from 1, their hints counted from the first of them.
 pub(crate) fn write_lines<O: Sink>(book: &Book, proof: Proof<'_>, out: &mut O) -> Result<(), Failed>
     requires span { IsSpanOf proof.log.now proof.span }
-    requires named { AreLinesNamed proof.names.now (lines_of_span proof.log.now proof.span) }
-    requires written { AreLinesOf book.now 0 (map (line_named proof.names.now) (lines_of_span proof.log.now proof.span)) }
+    requires lines { AreNamedAndOfSheet book.now proof.names.now (lines_of_span proof.log.now proof.span) }
     ensures { Writes O.given O.faults out.old out.new result (derivation_lines_text book.now 1 (map (line_named proof.entry.names.now) (lines_of_span proof.entry.log.now proof.entry.span))) }
 {
     let first = proof.span.first.0;
@@ -85,11 +84,20 @@ pub(crate) fn write_line<O: Sink>(
 {
     match line {
         Line::Axiom(number) => write_axiom(book, names.axiom(number), out),
-        Line::Block { .. } => unreachable!(),
+        Line::Block { number, .. } => write_block(book, number, out),
         Line::Step { clause, hints, .. } => {
             write_step_line(book, names, clause, hints, first, out)
         }
     }
+}
+
+// Writes the number of a set, counted from 1, whose clause the line has.
+fn write_block<O: Sink>(book: &Book, number: usize, out: &mut O) -> Result<(), Failed>
+    requires { number + 1 < 2 ^ 64 }
+    ensures { Writes O.given O.faults out.old out.new result (derivation_line_text book.now (blocked number)) }
+{
+    write_text(b"block ", out)?;
+    write_number((number + 1) as u64, out)
 }
 
 /// Writes a clause with its hints, which are counted from 1 at the place `first`.

@@ -1,5 +1,5 @@
 -- The text of a kept line.
-use Rattle.std.specs.Prelude.{ℕ, ◌+◌, ◌-◌, ◌<◌, ◌≤◌, ◌^◌, List, ◌++◌, codes, length, All}
+use Rattle.std.specs.Prelude.{ℕ, ◌+◌, ◌-◌, ◌<◌, ◌≤◌, ◌^◌, List, ◌++◌, codes, length, map, All}
 use Rattle.std.specs.List.{flat_map}
 use Rattle.pc_sheet.specs.Sheet.{Sheet}
 use Rattle.pc_lits.specs.declared.literal.Lit.{Lit}
@@ -7,9 +7,9 @@ use Rattle.pc_log.specs.declared.log.StepId.{StepId}
 use Rattle.pc_log.specs.Lines.{LogLine, AxiomLine, BlockLine, StepLine}
 use Rattle.pc_log.specs.Trimmed.{moved}
 use Rattle.pc_names.specs.Listed.{NameLists}
-use Rattle.pc_reason.specs.Derivation.{literal_named, symbol_named, axiom_named, line_named}
+use Rattle.pc_reason.specs.Derivation.{literal_named, symbol_named, axiom_named, line_named, AreLinesNamedBeside}
 use Rattle.pc_cert_text.specs.CertificateText.{behind_blank, literal_text, number_text, derivation_line_text}
-use Rattle.pc_accept.specs.Writable.{IsAxiomOf, IsSymbolOf}
+use Rattle.pc_accept.specs.Writable.{IsAxiomOf, IsSymbolOf, AreLinesBeside}
 
 -- its variable has a name, which is the sheet's
 pub record IsLiteralOf (sheet : Sheet) (names : NameLists) (l : Lit) : Type 0 where
@@ -17,11 +17,18 @@ pub record IsLiteralOf (sheet : Sheet) (names : NameLists) (l : Lit) : Type 0 wh
   pub symbol : IsSymbolOf sheet (symbol_named names l.variable.0)
 
 -- The line can be written, its hints counted from the place `first`: its axiom or variables have names, which are the
--- sheet's, and its hints are no earlier places. A block has no text.
+-- sheet's, its hints are no earlier places, and a block's number isn't too large.
 abbrev pub CanBeWritten : Sheet → NameLists → ℕ → LogLine → Type 0
 CanBeWritten sheet names first (AxiomLine a) = (a < length names.axioms) × IsAxiomOf sheet (axiom_named names a)
-CanBeWritten sheet names first (BlockLine number clause) = ⊥
+CanBeWritten sheet names first (BlockLine number clause) = number + 1 < 2 ^ 64
 CanBeWritten sheet names first (StepLine clause hints learned) = All (IsLiteralOf sheet names) clause × All (λ h. first ≤ h.0) hints × All (λ h. h.0 + 1 < 2 ^ 64) hints
+
+-- Beside some number of given sets, which isn't too large, the lines can be named, and what they are by name is the sheet's.
+pub record AreNamedAndOfSheet (sheet : Sheet) (names : NameLists) (lines : List LogLine) : Type 0 where
+  pub sets : ℕ
+  pub few : sets < 10 ^ 18
+  pub named : AreLinesNamedBeside sets names lines
+  pub written : AreLinesBeside sheet sets 0 (map (line_named names) lines)
 
 -- the text of the line, its hints counted from the place `first`
 abbrev pub logged_text : Sheet → NameLists → ℕ → LogLine → List ℕ

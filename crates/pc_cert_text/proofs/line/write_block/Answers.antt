@@ -1,0 +1,10 @@
+use Rattle.std.proofs.Common.{◌+◌}
+use Rattle.pc_writer.proofs.InTurn.{Writes-then, Writes-cut}
+use Rattle.pc_cert_text.specs.CertificateText.{number_text}
+use Rattle.pc_cert_text.proofs.line.write_block.Goals as goal
+
+pub returns-in_err-write_text : goal.returns-in_err-write_text
+returns-in_err-write_text g c = Writes-cut c.from_residual.result (number_text (c.args.number + 1)) c.from_residual.ensures.0 c.in_err-write_text.ensures
+
+pub returns : goal.returns
+returns g c = Writes-then c.in_ok-write_text.ensures c.write_number.ensures

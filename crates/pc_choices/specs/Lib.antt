@@ -1,0 +1,4 @@
+pub mod Choices
+pub mod FewSets
+pub mod RuleCertificates
+pub mod SetCertificates
