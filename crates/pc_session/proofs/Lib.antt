@@ -14,3 +14,4 @@ pub mod Asking
 pub mod LeftWorlds
 pub mod UsedTargets
 pub mod Lending
+pub mod Choosing

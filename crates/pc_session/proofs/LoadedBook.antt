@@ -14,14 +14,15 @@ use Rattle.pc_theory.specs.Books.{AreFound}
 use Rattle.pc_theory.specs.Theories.{rules_alone, IsTheory}
 use Rattle.pc_theory.specs.declared.spending.Spending.{Spending}
 use Rattle.pc_theory.proofs.OfRules.{consistent_by}
+use Rattle.pc_session.specs.inside.Chosen.{AreChosen}
 use Rattle.pc_session.specs.inside.Loaded.{IsLoaded}
 use Rattle.pc_session.specs.inside.Sessions.{HavePlaces}
 use Rattle.pc_session.specs.Views.{counts_of}
 use Rattle.pc_session.specs.declared.state.State.{State}
 
 pub is_loaded : (sheet : Sheet) (budget : ℕ) (changes : List TargetRow) (spending : Spending) (s : State) → s.book ≡ sheet → s.tally ≡ spending.tally → weight sheet ≤ 4000000
-    → AreFound sheet budget s.theory s.worlds.items changes spending → HavePlaces sheet s.cache.rows → ((t : Target) → row_of s.cache.rows t ≡ row_after changes t None) → IsLoaded sheet budget s
-is_loaded sheet budget changes spending s is tally light found places rows = record {
+    → AreFound sheet budget s.theory s.worlds.items changes spending → HavePlaces sheet s.cache.rows → ((t : Target) → row_of s.cache.rows t ≡ row_after changes t None) → AreChosen sheet s.chosen → IsLoaded sheet budget s
+is_loaded sheet budget changes spending s is tally light found places rows chosen = record {
   book = is;
   state = record {
     light = subst (λ x. weight x ≤ 4000000) (sym is) light;
@@ -30,6 +31,7 @@ is_loaded sheet budget changes spending s is tally light found places rows = rec
     places = subst (λ x. HavePlaces x s.cache.rows) (sym is) places;
     reasons = subst (λ x. IsJustifying x (row_of s.cache.rows)) (sym is) (λ t target. subst (IsRowFor sheet t) (sym (rows t)) (found.found.answered t target));
   };
+  chosen = subst (λ x. AreChosen x s.chosen) (sym is) chosen;
   light = light;
   consistent = consistent_by sheet s.theory.base found.found.base_is;
   spends = (spending, found.found.spends, found.found.limit, found.found.spare, ap counts_of (sym tally));

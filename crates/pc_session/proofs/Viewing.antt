@@ -10,8 +10,9 @@ use Rattle.pc_cache.specs.Rows.{Cached, TargetRow, bytes_of_rows, row_of}
 use Rattle.pc_theory.specs.Theories.{TheoryView}
 use Rattle.pc_session.specs.Answers.{IsUnchanged}
 use Rattle.pc_session.specs.Arena.{compacted}
+use Rattle.pc_session.specs.inside.Chosen.{AreChosen}
 use Rattle.pc_session.specs.inside.Sessions.{IsSession}
-use Rattle.pc_session.specs.inside.States.{viewed, IsEdited, IsLeftBy, IsState, IsSame, IsSameBut}
+use Rattle.pc_session.specs.inside.States.{viewed, IsEdited, IsKept, IsLeftBy, IsState, IsSame, IsSameBut}
 use Rattle.pc_session.specs.Views.{Counts, SessionView, counts_of, none_spent}
 use Rattle.pc_session.specs.declared.state.State.{State}
 
@@ -30,17 +31,17 @@ either (Ok x) ok err from_ok from_err = from_ok ok
 either (Err e) ok err from_ok from_err = from_err err
 
 pub same_itself : (s : State) → IsSame s s
-same_itself s = record { book = refl; theory = refl; worlds = refl; rows = refl; bytes = inl refl; tally = refl }
+same_itself s = record { book = refl; theory = refl; worlds = refl; rows = refl; bytes = inl refl; tally = refl; chosen = refl }
 
 -- a state whose derivations were to be compacted, and have or haven't been
 pub same_compacted : (s : State) (cache : Cached) → cache.rows ≡ s.cache.rows → cache.bytes ≡ compacted s.cache.rows s.cache.bytes → IsSame s (record s { cache = cache })
-same_compacted s cache rows bytes = record { book = refl; theory = refl; worlds = refl; rows = rows; bytes = inr bytes; tally = refl }
+same_compacted s cache rows bytes = record { book = refl; theory = refl; worlds = refl; rows = rows; bytes = inr bytes; tally = refl; chosen = refl }
 
 pub same_failed : (s : State) (cache : Cached) → cache ≡ s.cache → IsSame s (record s { cache = cache })
 same_failed s cache is =
     let rows_of : Cached → List TargetRow = λ x. x.rows in
     let bytes_of : Cached → ℕ = λ x. x.bytes in
-    record { book = refl; theory = refl; worlds = refl; rows = ap rows_of is; bytes = inl (ap bytes_of is); tally = refl }
+    record { book = refl; theory = refl; worlds = refl; rows = ap rows_of is; bytes = inl (ap bytes_of is); tally = refl; chosen = refl }
 
 -- the same state is as right as it was
 pub still_right : (old new : State) → IsSame old new → IsState old → IsState new
@@ -48,6 +49,17 @@ still_right old new same is =
     subst (λ rows. IsSession new.book new.theory new.worlds.items rows) (sym same.rows)
     (subst (λ ws. IsSession new.book new.theory ws old.cache.rows) (sym same.worlds)
     (subst (λ th. IsSession new.book th old.worlds.items old.cache.rows) (sym same.theory) (subst (λ b. IsSession b old.theory old.worlds.items old.cache.rows) (sym same.book) is)))
+
+pub still_kept : (old new : State) → IsSame old new → IsKept old → IsKept new
+still_kept old new same is = record {
+  state = still_right old new same is.state;
+  chosen = subst (λ ms. AreChosen new.book ms) (sym same.chosen) (subst (λ b. AreChosen b old.chosen) (sym same.book) is.chosen);
+}
+
+-- what holds after an answer, whichever it is
+pub kept_after : {T E A : Type 0} (r : Result T E) (old new : State) → OnOk r A → (A → IsState new) → OnOk r (AreChosen new.book new.chosen) → OnErr r (IsSame old new) → IsKept old → IsKept new
+kept_after (Ok x) old new ok right chosen err is = record { state = right ok; chosen = chosen }
+kept_after (Err e) old new ok right chosen err is = still_kept old new err is
 
 abbrev seen : ℕ → ℕ → Sheet → Tally → TheoryView → List TargetRow → SessionView
 seen budget bytes sheet tally theory rows = record { sheet = sheet; budget = budget; tally = counts_of tally; components = theory.components; rows = rows; bytes = bytes }

@@ -1,3 +1,4 @@
+pub mod Chosen
 pub mod Sessions
 pub mod States
 pub mod Done

@@ -5,6 +5,7 @@ ghost use Rattle.pc_edits.specs.Edits.{edited, IsTakenOf};
 ghost use Rattle.pc_sheet.specs.WellFormed.{IsEntryOf, IsWellFormed};
 ghost use Rattle.pc_session.specs.Arena.{compacted};
 ghost use Rattle.pc_session.specs.Causes.{IsEntryCause};
+ghost use Rattle.pc_session.specs.inside.Chosen.{AreChosen};
 ghost use Rattle.pc_session.specs.inside.Edits.{IsMade};
 ghost use Rattle.pc_session.specs.inside.States.{IsEdited, IsSame, IsState};
 ghost use Rattle.pc_session.specs.inside.Taken.{takes};
@@ -79,11 +80,13 @@ pub(crate) fn add(
 ) -> Result<(), EditRefused>
     requires state { IsState state.old }
     requires formed { IsWellFormed state.old.book }
+    requires chosen { AreChosen state.old.book state.old.chosen }
     requires entry { IsEntryOf state.old.book.universe entry }
     requires taken { IsTakenOf entry.cell (takes taken) }
     requires made { made ≡ edited state.old.book (takes taken) (entry ∷ []) }
     ensures done { OnOk result (IsEdited state.old entry.cell (takes taken) (entry ∷ []) budget state.new) }
     ensures theory { state.new.theory ≡ state.old.theory }
+    ensures chosen { OnOk result (AreChosen state.new.book state.new.chosen) }
     ensures bytes { OnOk result (state.new.cache.bytes ≤ compacted state.old.cache.rows state.old.cache.bytes + bytes_of_rows state.new.cache.rows) }
     ensures refused { IfErr result (IsEntryCause (edited state.old.book (takes taken) (entry ∷ [])) entry.cell budget) }
     ensures kept { OnErr result (IsSame state.old state.new) }

@@ -5,9 +5,11 @@ ghost use Rattle.pc_edits.specs.Edits.{IsEditOf};
 ghost use Rattle.pc_sheet.specs.WellFormed.{IsWellFormed};
 ghost use Rattle.pc_sheet.specs.declared.ids.CellId.{CellId};
 ghost use Rattle.pc_sheet.specs.declared.ids.Entry.{Entry};
+ghost use Rattle.pc_session.specs.inside.Chosen.{AreChosen};
 ghost use Rattle.pc_session.specs.inside.Edits.{IsMade};
 ghost use Rattle.pc_session.specs.inside.States.{IsEdited, IsState};
 
+use crate::chosen::choose;
 use crate::state::State;
 use pc_cache::Patch;
 use pc_edits::edited_reasons_are_right;
@@ -31,9 +33,11 @@ pub(crate) struct Edit {
 pub(crate) fn put_in_place(state: &mut State, edit: Edit) -> Result<(), AllocError>
     requires state { IsState state.old }
     requires formed { IsWellFormed state.old.book }
+    requires chosen { AreChosen state.old.book state.old.chosen }
     requires made { (c : CellId) × (gone : Entry → Bool) × (added : List Entry) × (limit : ℕ) × IsEditOf c gone added × IsMade state.old.book state.old.cache.rows c gone added limit edit }
     ensures done { OnOk result ((c : CellId) (gone : Entry → Bool) (added : List Entry) (limit : ℕ) → IsEditOf c gone added → IsMade state.old.book state.old.cache.rows c gone added limit edit → IsEdited state.old c gone added limit state.new) }
     ensures theory { state.new.theory ≡ state.old.theory }
+    ensures chosen { OnOk result (AreChosen state.new.book state.new.chosen) }
     ensures bytes { OnOk result (state.new.cache.bytes ≤ state.old.cache.bytes + bytes_of_rows state.new.cache.rows) }
     ensures kept { OnErr result (state.new ≡ state.old) }
 {
@@ -49,6 +53,7 @@ pub(crate) fn put_in_place(state: &mut State, edit: Edit) -> Result<(), AllocErr
     state.cache.apply(patch)?;
     state.worlds[part] = worlds;
     state.book = book;
+    choose(&mut state.chosen, &state.theory, &state.book, part);
     state.tally = spending.tally;
     Ok(())
 }

@@ -6,6 +6,7 @@ ghost use Rattle.pc_sheet.specs.WellFormed.{IsEntryOf};
 ghost use Rattle.pc_session.specs.Answers.{HasPlaceFor, StandsAlone};
 ghost use Rattle.pc_session.specs.Causes.{IsEntryCause};
 ghost use Rattle.pc_session.specs.Views.{counts_of, IsTallyOf};
+ghost use Rattle.pc_session.specs.inside.Chosen.{AreChosen};
 ghost use Rattle.pc_session.specs.inside.States.{IsLeftBy, IsSame, IsSameBut, IsState};
 
 use crate::adding::add;
@@ -37,9 +38,11 @@ pub(crate) fn enter(
     entry: Entry,
 ) -> Result<(), EditRefused>
     requires state { IsState state.old }
+    requires chosen { AreChosen state.old.book state.old.chosen }
     requires entry { IsEntryOf state.old.book.universe entry }
     ensures book { OnOk result (state.new.book ≡ entered state.old.book entry) }
     ensures theory { state.new.theory ≡ state.old.theory }
+    ensures chosen { OnOk result (AreChosen state.new.book state.new.chosen) }
     ensures left { OnOk result (IsLeftBy entry.cell (is_rival entry) state.old state.new) }
     ensures refused { IfErr result (IsEntryCause (entered state.old.book entry) entry.cell budget) }
     ensures kept { OnErr result (IsSame state.old state.new) }
@@ -67,10 +70,12 @@ pub(crate) fn also(
     entry: Entry,
 ) -> Result<(), EditRefused>
     requires state { IsState state.old }
+    requires chosen { AreChosen state.old.book state.old.chosen }
     requires entry { IsEntryOf state.old.book.universe entry }
     requires place { HasPlaceFor state.old.book.entries entry }
     ensures book { OnOk result (state.new.book ≡ also_entered state.old.book entry) }
     ensures theory { state.new.theory ≡ state.old.theory }
+    ensures chosen { OnOk result (AreChosen state.new.book state.new.chosen) }
     ensures left { OnOk result (IsLeftBy entry.cell takes_none state.old state.new) }
     ensures refused { IfErr result (IsEntryCause (also_entered state.old.book entry) entry.cell budget) }
     ensures kept { OnErr result (IsSame state.old state.new) }

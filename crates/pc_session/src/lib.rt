@@ -6,6 +6,7 @@
 #![tactic(auto)]
 
 mod adding;
+mod chosen;
 mod compaction;
 mod edit;
 mod entering;
@@ -20,6 +21,7 @@ mod state;
 mod taken;
 mod tallies;
 
+pub use pc_choices::Choices;
 pub use pc_reason::{Reason, Reasons, Refutation};
 pub use pc_theory::{PartSpending, Spending};
 pub use refused::{EditRefused, LoadRefused};

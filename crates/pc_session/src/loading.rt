@@ -6,6 +6,7 @@ ghost use Rattle.pc_session.specs.Causes.{IsLoadCause};
 ghost use Rattle.pc_session.specs.inside.Loaded.{IsLoaded};
 ghost use Rattle.pc_session.specs.inside.Sessions.{ArePlaced, HavePlaces};
 
+use crate::chosen::chosen_of;
 use crate::refused::LoadRefused;
 use crate::state::State;
 use pc_cache::{Cache, Patch};
@@ -40,11 +41,13 @@ pub(crate) fn load_book(alloc: Global, book: Book, budget: u64) -> Result<State,
             },
         ) => {
             let cache = kept(alloc, &book, patch)?;
+            let chosen = chosen_of(alloc, &book, &theory)?;
             let tally = spending.tally;
             Ok(State {
                 book,
                 theory,
                 worlds,
+                chosen,
                 cache,
                 tally,
             })

@@ -9,10 +9,12 @@ ghost use Rattle.pc_session.specs.Arena.{compacted};
 ghost use Rattle.pc_session.specs.Causes.{IsEntryCause, IsRemovalCause};
 ghost use Rattle.pc_session.specs.Views.{counts_of, IsTallyOf};
 ghost use Rattle.pc_session.specs.declared.refused.EditRefused.TheVariants.{NoEntry};
+ghost use Rattle.pc_session.specs.inside.Chosen.{AreChosen};
 ghost use Rattle.pc_session.specs.inside.Edits.{IsMade};
 ghost use Rattle.pc_session.specs.inside.States.{IsEdited, IsLeftBy, IsSame, IsSameBut, IsState};
 ghost use Rattle.pc_session.specs.inside.Taken.{takes};
 
+use crate::chosen::choose;
 use crate::compaction::compact_if_due;
 use crate::edit::{Edit, put_in_place};
 use crate::refused::{EditRefused, refused_by};
@@ -100,10 +102,12 @@ pub(crate) fn remove_searched(
 ) -> Result<(), EditRefused>
     requires state { IsState state.old }
     requires formed { IsWellFormed state.old.book }
+    requires chosen { AreChosen state.old.book state.old.chosen }
     requires cell { cell.0 < length (cell_sizes state.old.book.universe) }
     requires taken { IsTakenOf cell (takes taken) }
     ensures done { OnOk result (IsEdited state.old cell (takes taken) [] budget state.new) }
     ensures theory { state.new.theory ≡ state.old.theory }
+    ensures chosen { OnOk result (AreChosen state.new.book state.new.chosen) }
     ensures bytes { OnOk result (state.new.cache.bytes ≤ compacted state.old.cache.rows state.old.cache.bytes + bytes_of_rows state.new.cache.rows) }
     ensures refused { IfErr result (IsEntryCause (edited state.old.book (takes taken) []) cell budget) }
     ensures kept { OnErr result (IsSame state.old state.new) }
@@ -118,17 +122,20 @@ pub(crate) fn remove_searched(
 fn remove_in_place(state: &mut State, cell: CellId, taken: Taken)
     requires state { IsState state.old }
     requires formed { IsWellFormed state.old.book }
+    requires chosen { AreChosen state.old.book state.old.chosen }
     requires cell { cell.0 < length (cell_sizes state.old.book.universe) }
     requires taken { IsTakenOf cell (takes taken) }
     requires unused { AreUnused (takes taken) state.old.cache.rows }
     ensures book { state.new.book ≡ edited state.old.book (takes taken) [] }
     ensures state { IsState state.new }
     ensures theory { state.new.theory ≡ state.old.theory }
+    ensures chosen { AreChosen state.new.book state.new.chosen }
     ensures cache { state.new.cache ≡ state.old.cache }
 {
     edited_reasons_are_right();
     let part = state.theory.part_of(&state.book, cell);
     take_away(taken, &mut state.book, &mut state.worlds[part]);
+    choose(&mut state.chosen, &state.theory, &state.book, part);
 }
 
 /// Takes entries of the cell away, if it has such. Where no reason rests on one of them it takes no memory, searches nothing and
@@ -141,10 +148,12 @@ pub(crate) fn remove(
     taken: Taken,
 ) -> Result<(), EditRefused>
     requires state { IsState state.old }
+    requires chosen { AreChosen state.old.book state.old.chosen }
     requires taken { IsTakenOf cell (takes taken) }
     ensures none { HasNone (takes taken) state.old.book.entries → result ≡ Err NoEntry }
     ensures book { OnOk result (state.new.book ≡ edited state.old.book (takes taken) []) }
     ensures theory { state.new.theory ≡ state.old.theory }
+    ensures chosen { OnOk result (AreChosen state.new.book state.new.chosen) }
     ensures left { OnOk result (IsLeftBy cell (takes taken) state.old state.new) }
     ensures refused { IfErr result (IsRemovalCause (takes taken) state.old.book.entries (edited state.old.book (takes taken) []) cell budget) }
     ensures kept { OnErr result (IsSame state.old state.new) }

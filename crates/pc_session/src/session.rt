@@ -1,8 +1,10 @@
 //! Sessions.
 ghost use Rattle.std.specs.Prelude.{◌≡◌, ◌≤◌, ◌<◌, [], Contains, Err, IfErr, IfOk, None, Ok, OnErr, OnOk, Some, length, option_map};
+ghost use Rattle.pc_choices.specs.Choices.{AreCellsOf, AreSetsOf, chosen_parts, IsFitting};
 ghost use Rattle.pc_components.specs.View.{AreComponentsOf};
 ghost use Rattle.pc_cache.specs.Rows.{row_of};
 ghost use Rattle.pc_edits.specs.Edits.{HasNone, takes_none};
+ghost use Rattle.pc_ground.specs.Grounded.{grounded};
 ghost use Rattle.pc_logic.specs.Edits.{also_entered, entered, is_rival, is_same_entry, without_cell, without_entry};
 ghost use Rattle.pc_reason.specs.Reasons.{IsReasonFor, IsTargetOf, justification_of};
 ghost use Rattle.pc_search.specs.Parts.{IsBase};
@@ -27,12 +29,15 @@ use crate::removing::remove;
 use crate::state::State;
 use crate::taken::Taken;
 use crate::{entering, rules};
+use pc_choices::Choices;
 use pc_components::Components;
 use pc_edits::{clearing_edits, removing_edits};
+use pc_ground::Ground;
 use pc_lits::Tally;
 use pc_logic::{Assignment, Book};
 use pc_reason::{Reason, Reasons};
 use pc_sheet::{CellId, Entry, Rule, Target, ValueId};
+use pc_world_list::Worlds;
 use std::alloc::Global;
 use std::marker::Model;
 
@@ -47,7 +52,7 @@ pub struct Session {
 
 impl Model for Session {
     ghost use Rattle.pc_session.specs.Codes.{coded_session};
-    ghost use Rattle.pc_session.specs.inside.States.{viewed, IsState};
+    ghost use Rattle.pc_session.specs.inside.States.{viewed, IsKept};
     ghost use Rattle.pc_session.specs.Views.{SessionView};
 
     ghost Value = { SessionView };
@@ -56,7 +61,7 @@ impl Model for Session {
 
     ghost view = { λ s. viewed s.budget s.state };
 
-    ghost invariant = { λ s. IsState s.state };
+    ghost invariant = { λ s. IsKept s.state };
 }
 
 impl Session {
@@ -110,6 +115,20 @@ impl Session {
         ensures { IsBase self.now.sheet result.now }
     {
         self.state.theory.fitting()
+    }
+
+    /// The clauses of the rules, with the names of variables and axioms. It takes no memory.
+    pub fn ground(&self) -> &Ground
+        ensures { result.now ≡ grounded self.now.sheet }
+    {
+        self.state.theory.ground()
+    }
+
+    /// The budget of the edits. It takes no memory.
+    pub fn budget(&self) -> u64
+        ensures { result ≡ self.now.budget }
+    {
+        self.budget
     }
 
     /// How many bytes the lines count for in which derivations are kept: 16 each, 4 for each literal and 8 for each hint. It
@@ -271,5 +290,25 @@ impl Reasons for Session {
         self.state
             .cache
             .reason(self.state.theory.ground().names(), target)
+    }
+}
+
+impl Choices for Session {
+    fn fitting(&self) -> &Assignment {
+        self.state.theory.fitting()
+    }
+
+    fn parts(&self) -> usize {
+        self.state.chosen.len()
+    }
+
+    fn cells(&self, part: usize) -> &[CellId] {
+        let number = self.state.chosen.get(part);
+        self.state.theory.cells(&self.state.book, number)
+    }
+
+    fn sets(&self, part: usize) -> &Worlds {
+        let number = self.state.chosen.get(part);
+        &self.state.worlds[number]
     }
 }

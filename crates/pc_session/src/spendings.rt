@@ -1,16 +1,18 @@
 //! What a run has shown to be spent.
-ghost use Rattle.std.specs.Prelude.{◌≡◌, ◌∷◌, ◌++◌, [], OnOk, OnErr};
+ghost use Rattle.std.specs.Prelude.{◌≡◌, ◌∷◌, ◌++◌, [], None, OnOk, OnErr};
 ghost use Rattle.pc_theory.specs.Spendings.{IsLawful};
+ghost use Rattle.pc_theory.specs.WholeSpendings.{IsSpentWhole};
 ghost use Rattle.pc_session.specs.Views.{counts_of};
 
 use pc_lits::Tally;
+use pc_log::Log;
 use pc_logic::Book;
 use pc_sheet::CellId;
 use pc_theory::Spending;
 use std::alloc::{AllocError, Global};
 use std::marker::Model;
 
-// A book whose load or edit spent too much, the cell of an edit of an entry, and the tally.
+// A book whose load, edit or whole search spent too much, the cell of an edit of an entry, and the tally.
 #[derive(Drop)]
 struct Note {
     book: Book,
@@ -50,7 +52,8 @@ impl Spendings {
         }
     }
 
-    /// Adds the note of a lawful spending as the last one. Nothing else adds to the list, and without memory it stays as it is.
+    /// Adds the note of a lawful spending as the last one. Nothing but this and `note_whole` adds to the list, and without
+    /// memory it stays as it is.
     pub fn note(
         &mut self,
         book: &Book,
@@ -61,12 +64,27 @@ impl Spendings {
         ensures ok { OnOk result (self.new ≡ self.old ++ (record { sheet = book.now; cell = cell; tally = counts_of spending.now.tally }) ∷ []) }
         ensures err { OnErr result (self.new ≡ self.old) }
     {
+        self.add(book, cell, spending.tally)
+    }
+
+    /// Adds the note of a spending on the whole book as the last one: with these logs all that the limit allows was placed.
+    /// Without memory the list stays as it is.
+    pub fn note_whole(&mut self, book: &Book, logs: &[Log], tally: Tally) -> Result<(), AllocError>
+        requires { IsSpentWhole book.now logs.now tally }
+        ensures ok { OnOk result (self.new ≡ self.old ++ (record { sheet = book.now; cell = None; tally = counts_of tally }) ∷ []) }
+        ensures err { OnErr result (self.new ≡ self.old) }
+    {
+        let _logs = logs;
+        self.add(book, None, tally)
+    }
+
+    // Adds a note as the last one.
+    fn add(&mut self, book: &Book, cell: Option<CellId>, tally: Tally) -> Result<(), AllocError>
+        ensures ok { OnOk result (self.new ≡ self.old ++ (record { sheet = book.now; cell = cell; tally = counts_of tally }) ∷ []) }
+        ensures err { OnErr result (self.new ≡ self.old) }
+    {
         let book = book.copy(self.alloc)?;
-        self.notes.push(Note {
-            book,
-            cell,
-            tally: spending.tally,
-        })?;
+        self.notes.push(Note { book, cell, tally })?;
         Ok(())
     }
 }

@@ -41,7 +41,7 @@ use Rattle.pc_theory.specs.declared.stop.Halt.{Halt}
 use Rattle.pc_theory.specs.declared.stop.Halt.TheVariants.{Inconsistent, Spent, Memory}
 use Rattle.pc_theory.specs.Theories.{rules_alone, IsPartNumbered}
 use Rattle.pc_theory.specs.inside.Tasks.{IsReady, IsPartAt}
-use Rattle.pc_theory.specs.inside.Reading.{HasPairs}
+use Rattle.pc_theory.specs.Reading.{HasPairs}
 use Rattle.pc_theory.specs.Spendings.{placed_of}
 use Rattle.pc_theory.specs.inside.Spent.{IsSearchedLog, IsSearchedSpending, IsSearchedOn}
 use Rattle.pc_theory.specs.inside.Starting.{ArePlaces, IsStarted, AreStarted, HaltSays}

@@ -1,6 +1,5 @@
 pub mod Tasks
 pub mod Spent
 pub mod Searching
-pub mod Reading
 pub mod Calling
 pub mod Starting

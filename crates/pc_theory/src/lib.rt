@@ -19,6 +19,7 @@ mod totals;
 
 pub use book::{Disproof, Fault, Found, search_book};
 pub use edits::PartTargets;
+pub use reading::read_values;
 pub use spending::{PartSpending, Spending};
 pub use targets::targets_on;
 pub use theory::Theory;

@@ -8,7 +8,7 @@ ghost use Rattle.pc_components.specs.Used.{HasValues};
 ghost use Rattle.pc_components.specs.View.{number_of};
 ghost use Rattle.pc_parts.specs.Laws.{AgreeAt};
 ghost use Rattle.pc_solver.specs.Answers.{truth_in};
-ghost use Rattle.pc_theory.specs.inside.Reading.{HasPairs};
+ghost use Rattle.pc_theory.specs.Reading.{HasPairs};
 
 use pc_ground::Ground;
 use pc_logic::{Assignment, Book};
@@ -35,7 +35,7 @@ fn first_true(book: &Book, ground: &Ground, solver: &Solver<'_>, cell: CellId) -
 }
 
 /// Gives each of the cells the value whose pair is true.
-pub(crate) fn read_values(
+pub fn read_values(
     book: &Book,
     ground: &Ground,
     cells: &[CellId],

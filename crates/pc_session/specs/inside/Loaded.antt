@@ -7,6 +7,7 @@ use Rattle.pc_sheet.specs.Weight.{weight}
 use Rattle.pc_logic.specs.Edits.{without_rule}
 use Rattle.pc_session.specs.Answers.{Steps}
 use Rattle.pc_session.specs.Rules.{IsRuleAt}
+use Rattle.pc_session.specs.inside.Chosen.{AreChosen}
 use Rattle.pc_session.specs.inside.States.{IsState}
 use Rattle.pc_session.specs.Views.{counts_of, IsTallyOf}
 use Rattle.pc_session.specs.declared.state.State.{State}
@@ -15,6 +16,7 @@ use Rattle.pc_session.specs.declared.state.State.{State}
 pub record IsLoaded (sheet : Sheet) (limit : ℕ) (s : State) : Type 0 where
   pub book : s.book ≡ sheet
   pub state : IsState s
+  pub chosen : AreChosen s.book s.chosen
   pub light : weight sheet ≤ most_weight
   pub consistent : AreRulesConsistent sheet
   pub spends : IsTallyOf sheet None limit (counts_of s.tally)

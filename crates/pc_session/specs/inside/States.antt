@@ -5,6 +5,7 @@ use Rattle.pc_sheet.specs.declared.ids.CellId.{CellId}
 use Rattle.pc_sheet.specs.declared.ids.Entry.{Entry}
 use Rattle.pc_session.specs.Answers.{OthersStay, Stay, Steps}
 use Rattle.pc_session.specs.Arena.{IsBounded, IsLeft}
+use Rattle.pc_session.specs.inside.Chosen.{AreChosen}
 use Rattle.pc_session.specs.inside.Done.{IsDone}
 use Rattle.pc_session.specs.inside.Sessions.{IsSession}
 use Rattle.pc_session.specs.Views.{counts_of, none_spent, SessionView}
@@ -13,6 +14,11 @@ use Rattle.pc_session.specs.declared.state.State.{State}
 -- all that is kept is right
 abbrev pub IsState : State → Type 0
 IsState s = IsSession s.book s.theory s.worlds.items s.cache.rows
+
+-- ... with the marks of the parts that have entries
+pub record IsKept (s : State) : Type 0 where
+  pub state : IsState s
+  pub chosen : AreChosen s.book s.chosen
 
 -- the edit of the cell's entries has been put in place
 abbrev pub IsEdited : State → CellId → (Entry → Bool) → List Entry → ℕ → State → Type 0
@@ -34,6 +40,7 @@ pub record IsSame (old new : State) : Type 0 where
   pub rows : new.cache.rows ≡ old.cache.rows
   pub bytes : IsLeft old.cache.rows old.cache.bytes new.cache.bytes
   pub tally : new.tally ≡ old.tally
+  pub chosen : new.chosen ≡ old.chosen
 
 -- the sheet is this one, nothing was spent, and all else is as it was
 pub record IsSameBut (sheet : Sheet) (limit : ℕ) (old new : State) : Type 0 where

@@ -1,5 +1,7 @@
-use Rattle.std.proofs.Common.{◌<◌, length, arith, subst}
+use Rattle.std.proofs.Common.{◌<◌, length, arith, sym, subst}
 use Rattle.pc_sheet.specs.WellFormed.{IsWellFormed}
+use Rattle.pc_theory.specs.Theories.{rules_alone, IsPartNumbered, IsTheory}
+use Rattle.pc_session.proofs.Choosing.{chosen_after, mark_within}
 use Rattle.pc_session.proofs.Placing.{done, part_within, changes_placed}
 use Rattle.pc_session.proofs.edit.put_in_place.Goals as goal
 
@@ -23,3 +25,18 @@ returns-clause-bytes c =
     let m = c.requires.made in
     let few = m.5.is.changes_are.bytes c.apply.new.self.rows c.in_ok-apply.ensures.rows in
     omega (arith, c.in_ok-apply.ensures.bytes, few)
+
+pub choose-requires-clause-theory : goal.choose-requires-clause-theory
+choose-requires-clause-theory c = let s = c.args.state.now in let m = c.requires.made in subst (λ b. IsTheory (rules_alone b) s.theory) (sym m.5.book) c.requires.state.known
+
+pub choose-requires-clause-part : goal.choose-requires-clause-part
+choose-requires-clause-part c =
+    let s = c.args.state.now in let e = c.requires.made.5.is in mark_within s.book s.theory c.requires.state.known s.chosen c.requires.chosen c.args.edit.part e.part e.numbered
+
+pub returns-clause-chosen : goal.returns-clause-chosen
+returns-clause-chosen c =
+    let s = c.args.state.now in
+    let m = c.requires.made in
+    let e = m.5.is in
+    let at = subst (λ b. IsPartNumbered (rules_alone b) c.args.edit.part e.part) (sym m.5.book) e.numbered in
+    chosen_after s.book s.theory c.requires.state.known m.0 m.1 m.2 m.4 c.args.edit.part e.part e.numbered e.has s.chosen c.choose.new.chosen c.requires.chosen c.args.edit.book m.5.book (c.choose.ensures e.part at)

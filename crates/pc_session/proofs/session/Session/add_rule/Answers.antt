@@ -7,7 +7,7 @@ use Rattle.pc_sheet.specs.MaximalSets.{AreRulesConsistent}
 use Rattle.pc_sheet.specs.WellFormed.{IsWellFormedRule}
 use Rattle.pc_session.specs.Rules.{IsAddCause, IsNewName}
 use Rattle.pc_session.specs.Views.{IsTallyOf, SessionView, counts_of}
-use Rattle.pc_session.proofs.Viewing.{either, still_right, still_seen}
+use Rattle.pc_session.proofs.Viewing.{kept_after, still_seen}
 use Rattle.pc_session.proofs.session.Session.add_rule.Goals as goal
 
 pub add_rule-requires-clause-rule : goal.add_rule-requires-clause-rule
@@ -22,7 +22,7 @@ add_rule-requires-clause-few c =
 
 pub invariant_of-self : goal.invariant_of-self
 invariant_of-self c =
-    either c.add_rule.result c.add_rule.ensures.loaded c.add_rule.ensures.kept (λ l. l.state) (λ kept. still_right c.self.inside.state c.add_rule.new.state kept c.self.invariant)
+    kept_after c.add_rule.result c.self.inside.state c.add_rule.new.state c.add_rule.ensures.loaded (λ l. l.state) (on_ok_weaker c.add_rule.result (λ l. l.chosen) c.add_rule.ensures.loaded) c.add_rule.ensures.kept c.self.invariant
 
 pub returns-clause-unchanged : goal.returns-clause-unchanged
 returns-clause-unchanged c =

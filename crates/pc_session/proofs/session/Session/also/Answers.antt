@@ -11,7 +11,7 @@ use Rattle.pc_session.specs.Arena.{IsBounded}
 use Rattle.pc_session.specs.Causes.{IsEntryCause}
 use Rattle.pc_session.specs.inside.States.{viewed}
 use Rattle.pc_session.specs.Views.{IsTallyOf, SessionView, counts_of, none_spent}
-use Rattle.pc_session.proofs.Viewing.{but_seen, either, still_right, still_seen}
+use Rattle.pc_session.proofs.Viewing.{but_seen, kept_after, still_seen}
 use Rattle.pc_session.proofs.session.Session.also.Goals as goal
 
 pub also-requires-clause-entry : goal.also-requires-clause-entry
@@ -27,7 +27,7 @@ also-requires-clause-place c =
     subst P (sym c.self.view_is) c.requires.place
 
 pub invariant_of-self : goal.invariant_of-self
-invariant_of-self c = either c.also.result c.also.ensures.left c.also.ensures.kept (λ left. left.state) (λ kept. still_right c.self.inside.state c.also.new.state kept c.self.invariant)
+invariant_of-self c = kept_after c.also.result c.self.inside.state c.also.new.state c.also.ensures.left (λ left. left.state) c.also.ensures.chosen c.also.ensures.kept c.self.invariant
 
 pub returns-clause-unchanged : goal.returns-clause-unchanged
 returns-clause-unchanged c = on_err_weaker c.also.result (still_seen c.self.inside.budget c.self.inside.state c.also.new.state _ c.self.view_is) c.also.ensures.kept

@@ -14,7 +14,7 @@ use Rattle.pc_session.specs.Views.{IsTallyOf, SessionView, counts_of, none_spent
 use Rattle.pc_session.specs.declared.refused.EditRefused.TheVariants.{NoEntry}
 use Rattle.pc_session.proofs.Resting.{spare_unused}
 use Rattle.pc_session.proofs.TakenEntries.{has_not_none, of_that_cell}
-use Rattle.pc_session.proofs.Viewing.{but_seen, either, still_right, still_seen}
+use Rattle.pc_session.proofs.Viewing.{but_seen, kept_after, still_seen}
 use Rattle.pc_session.proofs.session.Session.clear.Goals as goal
 
 pub remove-requires-clause-taken : goal.remove-requires-clause-taken
@@ -23,7 +23,7 @@ remove-requires-clause-taken c =
     (c.clearing_edits.ensures o.book c.args.cell).takes
 
 pub invariant_of-self : goal.invariant_of-self
-invariant_of-self c = either c.remove.result c.remove.ensures.left c.remove.ensures.kept (λ left. left.state) (λ kept. still_right c.self.inside.state c.remove.new.state kept c.self.invariant)
+invariant_of-self c = kept_after c.remove.result c.self.inside.state c.remove.new.state c.remove.ensures.left (λ left. left.state) c.remove.ensures.chosen c.remove.ensures.kept c.self.invariant
 
 pub returns-clause-unchanged : goal.returns-clause-unchanged
 returns-clause-unchanged c = on_err_weaker c.remove.result (still_seen c.self.inside.budget c.self.inside.state c.remove.new.state _ c.self.view_is) c.remove.ensures.kept
@@ -74,7 +74,7 @@ pub returns-clause-spare : goal.returns-clause-spare
 returns-clause-spare c =
     let o = c.self.inside.state in
     let P : SessionView → Type 0 = λ v. (f : Entry) → Contains v.sheet.entries f → f.cell ≡ c.args.cell → AreSpare v.sheet (is_of_cell c.args.cell) → c.remove.result ≡ Ok tt in
-    subst P c.self.view_is (λ f there of_cell spare. (c.remove.ensures.unused (has_not_none (is_of_cell c.args.cell) o.book.entries f there (of_that_cell c.args.cell f of_cell)) (spare_unused o.book o.cache.rows (is_of_cell c.args.cell) c.self.invariant.places c.self.invariant.reasons spare)).0)
+    subst P c.self.view_is (λ f there of_cell spare. (c.remove.ensures.unused (has_not_none (is_of_cell c.args.cell) o.book.entries f there (of_that_cell c.args.cell f of_cell)) (spare_unused o.book o.cache.rows (is_of_cell c.args.cell) c.self.invariant.state.places c.self.invariant.state.reasons spare)).0)
 
 pub returns-clause-stays : goal.returns-clause-stays
 returns-clause-stays c =

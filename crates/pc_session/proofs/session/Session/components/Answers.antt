@@ -10,4 +10,4 @@ returns-clause-exact c = let P : SessionView → Type 0 = λ v. c.components.res
 pub returns-clause-are : goal.returns-clause-are
 returns-clause-are c =
     let P : SessionView → Type 0 = λ v. AreComponentsOf (rules_alone v.sheet) c.components.result.now in
-    subst P c.self.view_is (subst (AreComponentsOf (rules_alone c.self.inside.state.book)) (sym c.components.ensures) c.self.invariant.known.components)
+    subst P c.self.view_is (subst (AreComponentsOf (rules_alone c.self.inside.state.book)) (sym c.components.ensures) c.self.invariant.state.known.components)

@@ -2,12 +2,12 @@ use Rattle.std.proofs.Common.{◌≡◌, IfErr, None, OnOk, refl, sym, subst}
 use Rattle.std.proofs.lemmas.Result.{on_ok_weaker, on_err_weaker}
 use Rattle.pc_session.specs.Rules.{IsDropCause, IsDropped, IsNewName}
 use Rattle.pc_session.specs.Views.{IsTallyOf, SessionView, counts_of}
-use Rattle.pc_session.proofs.Viewing.{either, still_right, still_seen}
+use Rattle.pc_session.proofs.Viewing.{kept_after, still_seen}
 use Rattle.pc_session.proofs.session.Session.drop_rule.Goals as goal
 
 pub invariant_of-self : goal.invariant_of-self
 invariant_of-self c =
-    either c.drop_rule.result c.drop_rule.ensures.loaded c.drop_rule.ensures.kept (λ l. l.2.state) (λ kept. still_right c.self.inside.state c.drop_rule.new.state kept c.self.invariant)
+    kept_after c.drop_rule.result c.self.inside.state c.drop_rule.new.state c.drop_rule.ensures.loaded (λ l. l.2.state) (on_ok_weaker c.drop_rule.result (λ l. l.2.chosen) c.drop_rule.ensures.loaded) c.drop_rule.ensures.kept c.self.invariant
 
 pub returns-clause-unchanged : goal.returns-clause-unchanged
 returns-clause-unchanged c =

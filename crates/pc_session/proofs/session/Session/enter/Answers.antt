@@ -10,7 +10,7 @@ use Rattle.pc_session.specs.Arena.{IsBounded}
 use Rattle.pc_session.specs.Causes.{IsEntryCause}
 use Rattle.pc_session.specs.inside.States.{viewed}
 use Rattle.pc_session.specs.Views.{IsTallyOf, SessionView, counts_of, none_spent}
-use Rattle.pc_session.proofs.Viewing.{but_seen, either, still_right, still_seen}
+use Rattle.pc_session.proofs.Viewing.{but_seen, kept_after, still_seen}
 use Rattle.pc_session.proofs.session.Session.enter.Goals as goal
 
 pub enter-requires-clause-entry : goal.enter-requires-clause-entry
@@ -20,7 +20,7 @@ enter-requires-clause-entry c =
     subst P (sym c.self.view_is) c.requires
 
 pub invariant_of-self : goal.invariant_of-self
-invariant_of-self c = either c.enter.result c.enter.ensures.left c.enter.ensures.kept (λ left. left.state) (λ kept. still_right c.self.inside.state c.enter.new.state kept c.self.invariant)
+invariant_of-self c = kept_after c.enter.result c.self.inside.state c.enter.new.state c.enter.ensures.left (λ left. left.state) c.enter.ensures.chosen c.enter.ensures.kept c.self.invariant
 
 pub returns-clause-unchanged : goal.returns-clause-unchanged
 returns-clause-unchanged c = on_err_weaker c.enter.result (still_seen c.self.inside.budget c.self.inside.state c.enter.new.state _ c.self.view_is) c.enter.ensures.kept

@@ -8,4 +8,4 @@ pub returns : goal.returns
 returns c =
     let s = c.self.inside.state in
     let P : SessionView → Type 0 = λ v. IsBase v.sheet c.fitting.result.now in
-    subst P c.self.view_is (subst (IsBase s.book) (sym c.fitting.ensures) (base_here s.book s.theory.base c.self.invariant.known.base))
+    subst P c.self.view_is (subst (IsBase s.book) (sym c.fitting.ensures) (base_here s.book s.theory.base c.self.invariant.state.known.base))

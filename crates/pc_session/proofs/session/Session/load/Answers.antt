@@ -1,7 +1,7 @@
 use Rattle.pc_session.proofs.session.Session.load.Goals as goal
 
 pub invariant_of-result : goal.invariant_of-result
-invariant_of-result c = c.in_ok-state.ensures.loaded.state
+invariant_of-result c = record { state = c.in_ok-state.ensures.loaded.state; chosen = c.in_ok-state.ensures.loaded.chosen }
 
 pub returns-clause-sheet : goal.returns-clause-sheet
 returns-clause-sheet c = c.in_ok-state.ensures.loaded.book

@@ -15,8 +15,8 @@ returns-clause-right c =
     let P : SessionView → Type 0 = λ v. IsReasonFor v.sheet c.args.target c.reason.result in
     let Q : SessionView → Type 0 = λ v. IsTargetOf v.sheet.universe c.args.target in
     subst P c.self.view_is
-    (reason_right s.book s.cache.rows c.names.result.now c.args.target c.reason.result c.self.invariant.reasons (subst Q (sym c.self.view_is) c.requires)
-    (names_are s.book s.theory.ground c.names.result.now (c.names.ensures ∙ ap names c.ground.ensures) c.self.invariant.known.ground) c.reason.ensures.row c.reason.ensures.lent)
+    (reason_right s.book s.cache.rows c.names.result.now c.args.target c.reason.result c.self.invariant.state.reasons (subst Q (sym c.self.view_is) c.requires)
+    (names_are s.book s.theory.ground c.names.result.now (c.names.ensures ∙ ap names c.ground.ensures) c.self.invariant.state.known.ground) c.reason.ensures.row c.reason.ensures.lent)
 
 pub returns-clause-kept : goal.returns-clause-kept
 returns-clause-kept c =
