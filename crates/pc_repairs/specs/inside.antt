@@ -1,0 +1,5 @@
+pub mod Ages
+pub mod Asking
+pub mod Joining
+pub mod Tasks
+pub mod Walks

@@ -1,0 +1,181 @@
+//! Assignments of a book's maximal sets that lack a target.
+
+ghost use Rattle.std.specs.Prelude.{◌≡◌, ◌↔◌, ◌<◌, ◌^◌, [], IfErr, IfOk, IsTrue, All, length, true};
+ghost use Rattle.pc_sheet.specs.Entailment.{HasTarget, IsAssignment};
+ghost use Rattle.pc_ground.specs.Grounded.{grounded};
+ghost use Rattle.pc_reason.specs.Reasons.{IsTargetOf};
+ghost use Rattle.pc_ground.specs.Variables.{variable_count};
+ghost use Rattle.pc_solver.specs.Spending.{SpendsIn, StopSays};
+ghost use Rattle.pc_world_list.specs.Worlds.{AreExact, set_at};
+ghost use Rattle.pc_repairs.specs.Lacking.{LackSays};
+ghost use Rattle.pc_repairs.specs.Searches.{IsWholeSearch};
+ghost use Rattle.pc_repairs.specs.inside.Asking.{AddsLacking, AllSay, IsAsked};
+ghost use Rattle.pc_repairs.specs.inside.Tasks.{IsTask};
+
+use crate::asking::ask;
+use crate::task::{Numbers, Task};
+use pc_ground::Ground;
+use pc_laws::implied_is_by_maximal_set;
+use pc_lits::Tally;
+use pc_log::Log;
+use pc_logic::{Assignment, Book, well_formed};
+use pc_sheet::Target;
+use pc_solver::{Solver, Stop};
+use pc_world_list::Worlds;
+use std::alloc::Global;
+
+// What a search for such assignments works on: the solver, the assignment that it found last, and the sets with theirs.
+#[derive(Drop)]
+struct Search<'g> {
+    solver: Solver<'g>,
+    shown: Assignment,
+    found: Worlds,
+}
+
+// Whether the assignment gives the target's cell its value.
+fn has_target(shown: &Assignment, target: Target) -> bool
+    requires { target.holds ≡ true }
+    ensures { IsTrue result ↔ HasTarget shown.now target }
+{
+    shown.values().get(usize::from(target.cell.0)).copied() == Some(target.value)
+}
+
+// Whether no set's assignment has the target.
+fn all_lack(sets: &Worlds, target: Target) -> bool
+    requires { target.holds ≡ true }
+    ensures { IsTrue result → All (λ w. ¬ HasTarget w.shown target) sets.now }
+{
+    for place in 0..sets.len() {
+        if has_target(sets.shown(place), target) {
+            return false;
+        }
+    }
+    true
+}
+
+// Adds the set at this place with an assignment that lacks the target, if there is one. Its own one may do.
+fn add_lacking(
+    task: Task<'_>,
+    sets: &Worlds,
+    place: usize,
+    target: Target,
+    search: &mut Search<'_>,
+    log: &mut Log,
+    tally: &mut Tally,
+) -> Result<bool, Stop>
+    requires task { IsTask task.book.now task.ground.now task.axioms.now task.variables.now task.cells.now }
+    requires exact { AreExact task.book.now sets.now }
+    requires place { place < length sets.now }
+    requires target { IsTargetOf task.book.now.universe target }
+    requires holds { target.holds ≡ true }
+    requires asked { IsAsked task.book.now [] search.old.solver log.old }
+    requires shown { IsAssignment task.book.now.universe search.old.shown }
+    requires few_learned { tally.old.learned < 2 ^ 126 }
+    requires few_calls { tally.old.calls < 2 ^ 126 }
+    ensures asked { IsAsked task.entry.book.now [] search.new.solver log.new }
+    ensures shown { IsAssignment task.entry.book.now.universe search.new.shown }
+    ensures spends { SpendsIn (variable_count task.entry.book.now) 1 tally.old tally.new log.old log.new }
+    ensures adds { IfOk result (AddsLacking task.entry.book.now (set_at sets.now place) target search.old.found search.new.found) }
+    ensures stop { IfErr result (StopSays tally.new) }
+{
+    if !has_target(sets.shown(place), target) {
+        search.found.push(sets.entries(place), sets.shown(place))?;
+        return Ok(true);
+    }
+    let set = sets.entries(place);
+    if !ask(
+        task,
+        set,
+        target,
+        &mut search.solver,
+        &mut search.shown,
+        log,
+        tally,
+    )? {
+        return Ok(false);
+    }
+    search.found.push(set, &search.shown)?;
+    Ok(true)
+}
+
+// Adds each set with an assignment that lacks the target, until one has none.
+fn add_all(
+    task: Task<'_>,
+    sets: &Worlds,
+    target: Target,
+    search: &mut Search<'_>,
+    log: &mut Log,
+    tally: &mut Tally,
+) -> Result<bool, Stop>
+    requires task { IsTask task.book.now task.ground.now task.axioms.now task.variables.now task.cells.now }
+    requires exact { AreExact task.book.now sets.now }
+    requires target { IsTargetOf task.book.now.universe target }
+    requires holds { target.holds ≡ true }
+    requires asked { IsAsked task.book.now [] search.old.solver log.old }
+    requires shown { IsAssignment task.book.now.universe search.old.shown }
+    requires none { search.old.found ≡ [] }
+    requires few_learned { tally.old.learned < 2 ^ 120 }
+    requires few_calls { tally.old.calls < 2 ^ 120 }
+    ensures asked { IsAsked task.entry.book.now [] search.new.solver log.new }
+    ensures spends { SpendsIn (variable_count task.entry.book.now) (length sets.now) tally.old tally.new log.old log.new }
+    ensures says { IfOk result (AllSay task.entry.book.now sets.now target search.new.found) }
+    ensures stop { IfErr result (StopSays tally.new) }
+{
+    tally.recall_limit();
+    for place in 0..sets.len() {
+        if !add_lacking(task, sets, place, target, search, log, tally)? {
+            return Ok(false);
+        }
+    }
+    Ok(true)
+}
+
+/// The book's maximal sets in their order, each with an assignment that fits and has it, and gives the target's cell another
+/// value; `None` exactly where some set entails the target, which says that its cell has a value. An assignment that a set
+/// has already may do, so that there is a call of a solver for each other set alone. The log is empty before. Whatever is
+/// answered, tally and log have what was done.
+pub fn lacking(
+    alloc: Global,
+    book: &Book,
+    ground: &Ground,
+    sets: &Worlds,
+    target: Target,
+    log: &mut Log,
+    tally: &mut Tally,
+) -> Result<Option<Worlds>, Stop>
+    requires ground { ground.now ≡ grounded book.now }
+    requires exact { AreExact book.now sets.now }
+    requires target { IsTargetOf book.now.universe target }
+    requires holds { target.holds ≡ true }
+    requires new_log { log.old ≡ [] }
+    requires few_learned { tally.old.learned < 2 ^ 120 }
+    requires few_calls { tally.old.calls < 2 ^ 120 }
+    ensures says { IfOk result (LackSays book.now sets.now target) }
+    ensures stop { IfErr result (StopSays tally.new) }
+    ensures search { IsWholeSearch book.now [] (length sets.now) tally.old tally.new log.new }
+{
+    implied_is_by_maximal_set();
+    well_formed(book);
+    if all_lack(sets, target) {
+        return Ok(Some(sets.copy()?));
+    }
+    let numbers = Numbers::of(alloc, book, ground)?;
+    let task = Task {
+        alloc,
+        book,
+        ground,
+        axioms: &numbers.axioms,
+        variables: &numbers.variables,
+        cells: &numbers.cells,
+    };
+    let mut search = Search {
+        solver: task.solver()?,
+        shown: Assignment::first(alloc, book)?,
+        found: Worlds::new(alloc),
+    };
+    if !add_all(task, sets, target, &mut search, log, tally)? {
+        return Ok(None);
+    }
+    let Search { found, .. } = search;
+    Ok(Some(found))
+}
