@@ -1,3 +1,4 @@
 pub mod Refusals
 pub mod Endings
 pub mod Files
+pub mod Inputs

@@ -3,7 +3,7 @@ use Rattle.std.specs.Prelude.{ℕ, List, [], ◌++◌, codes, decimal}
 use Rattle.std.specs.declared.option.Option.{Option}
 use Rattle.std.specs.declared.option.Option.TheVariants.{Some, None}
 use Rattle.pc_refusals.specs.declared.refusal.Refusal.{Refusal}
-use Rattle.pc_refusals.specs.declared.refusal.Refusal.TheVariants.{NotUtf8, Syntax, NoBegin, WrongVersion, UnknownName, DuplicateName, WrongArity, WrongSort, NotAValue, EmptySort, Limit, TooLarge, Inconsistent, Spent, NoEntry, DuplicateRule, NoRule, TooDeep}
+use Rattle.pc_refusals.specs.declared.refusal.Refusal.TheVariants.{NotUtf8, Syntax, NoBegin, WrongVersion, UnknownName, DuplicateName, WrongArity, WrongSort, NotAValue, EmptySort, Limit, TooManySets, TooLarge, Inconsistent, Spent, NoEntry, DuplicateRule, NoRule, TooDeep}
 use Rattle.pc_refusals.specs.declared.refusal.Counts.{Counts}
 use Rattle.pc_sheet.specs.declared.limits.Limited.{Limited}
 use Rattle.pc_sheet.specs.declared.limits.Limited.TheVariants.{Sorts, Values, Number, Tables, Families, Arity, Cells, Rows, Rules, Count, Depth, Reads, Entries, Budget}
@@ -24,6 +24,7 @@ words_of WrongSort = codes "8 wrong-sort"
 words_of NotAValue = codes "9 not-a-value"
 words_of EmptySort = codes "10 empty-sort"
 words_of (Limit limited) = codes "11 limit"
+words_of TooManySets = codes "11 limit"
 words_of TooLarge = codes "12 too-large"
 words_of Inconsistent = codes "13 inconsistent"
 words_of (Spent counts) = codes "14 spent"
@@ -53,9 +54,10 @@ limit_word_of Budget = codes "budget"
 abbrev pub counts_text : Counts → List ℕ
 counts_text counts = codes " placed=" ++ (decimal counts.placed ++ (codes " learned=" ++ (decimal counts.learned ++ (codes " calls=" ++ decimal counts.calls))))
 
--- what is told further: the word of a limit, or what was spent
+-- what is told further: what a limit is put on, or what was spent
 abbrev pub further_text : Refusal → List ℕ
 further_text (Limit limited) = codes " " ++ limit_word_of limited
+further_text TooManySets = codes " sets"
 further_text (Spent counts) = counts_text counts
 further_text refusal = []
 

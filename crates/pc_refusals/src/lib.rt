@@ -1,14 +1,16 @@
-//! Why sheets and commands are refused, how a run ends, and how both are told; and a sheet's text from a file.
+//! Why sheets and commands are refused, how a run ends, and how both are told; a sheet's text from a file, and all of an input.
 //!
 //! They stand apart from the loop of a run, since a certificate's check and the generated sheet's run tell the same.
 #![tactic(auto)]
 
 mod file;
+mod input;
 mod refusal;
 mod status;
 mod tell;
 
 pub use file::{SheetStop, take_file};
+pub use input::{InputStop, take_all};
 pub use refusal::{
     COMMAND_REFUSED, Counts, LoadFault, Refusal, SHEET_REFUSED, SheetRefusal, write_refusal,
 };

@@ -50,6 +50,8 @@ pub enum Refusal {
     EmptySort,
     /// A limit is passed.
     Limit(Limited),
+    /// There are more maximal sets than a certificate may have.
+    TooManySets,
     /// The sheet weighs too much, or would with that rule.
     TooLarge,
     /// No assignment makes every rule true, or would with that rule.
@@ -99,6 +101,7 @@ impl Refusal {
             Refusal::NotAValue => b"9 not-a-value",
             Refusal::EmptySort => b"10 empty-sort",
             Refusal::Limit(_) => b"11 limit",
+            Refusal::TooManySets => b"11 limit",
             Refusal::TooLarge => b"12 too-large",
             Refusal::Inconsistent => b"13 inconsistent",
             Refusal::Spent(_) => b"14 spent",
@@ -175,6 +178,7 @@ fn write_further<O: Sink>(refusal: Refusal, out: &mut O) -> Result<(), Failed>
 {
     match refusal {
         Refusal::Limit(limited) => write_limit(limited, out),
+        Refusal::TooManySets => write_text(b" sets", out),
         Refusal::Spent(counts) => write_counts(counts, out),
         _ => Ok(()),
     }

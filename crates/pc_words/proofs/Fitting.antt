@@ -6,7 +6,7 @@ use Rattle.std.proofs.lemmas.Slice.Eq.{bytes_eq-Decides}
 use Rattle.std.proofs.lemmas.Str.Parse.{digit_from_value}
 use Rattle.std.specs.Prelude.{if◌then◌else◌, option_and_then}
 use Rattle.std.specs.Str.{bytes_eq}
-use Rattle.pc_words.specs.Words.{Mode, replays, edits, checks, demonstrates, Request, IsFileName, IsNumber, AreOfMode, AreOption, FitWithBudget, FitsWords, FitNothing}
+use Rattle.pc_words.specs.Words.{Mode, replays, edits, checks, merges, posts, demonstrates, Request, IsFileName, IsNumber, AreOfMode, AreOption, FitWithBudget, FitsWords, FitNothing}
 use Rattle.pc_words.specs.inside.Parts.{is_option, is_attached, plain_parts, valued_parts, option_parts, option_place, parts_of, request_from, request_for}
 use Rattle.pc_words.proofs.Modes.{plain_sound, plain_complete}
 
@@ -85,6 +85,8 @@ pub plain_words : (ws : List (List ℕ)) (m : Mode) → AreOfMode ws m → AllPl
 plain_words ws replays is = subst AllPlain (sym is) (refl, tt)
 plain_words ws (edits file) is = subst AllPlain (sym is.0) (refl, (plain_file file is.1, tt))
 plain_words ws (checks file) is = subst AllPlain (sym is.0) (refl, (plain_file file is.1, tt))
+plain_words ws (merges file) is = subst AllPlain (sym is.0) (refl, (plain_file file is.1, tt))
+plain_words ws (posts file) is = subst AllPlain (sym is.0) (refl, (plain_file file is.1, tt))
 plain_words ws (demonstrates n) is = subst AllPlain (sym is.1) (refl, (plain_number 3 256 is.0 n is.2, tt))
 
 place_none : (ws : List (List ℕ)) → AllPlain ws → option_place ws ≡ length ws

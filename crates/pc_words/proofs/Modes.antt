@@ -4,8 +4,8 @@ use Rattle.std.proofs.lemmas.Bool.Decides.{nat_tests}
 use Rattle.std.proofs.lemmas.Slice.Eq.{bytes_eq-Decides}
 use Rattle.std.specs.Prelude.{if◌then◌else◌, option_map, option_and_then}
 use Rattle.std.specs.Str.{bytes_eq}
-use Rattle.pc_words.specs.Words.{Mode, replays, edits, checks, demonstrates, Request, usual_budget, IsFileName, IsNumber, AreOfMode, TakesBudget}
-use Rattle.pc_words.specs.inside.Parts.{is_file_name, number_of, plain_parts, lone_mode, demo_of, mode_with, takes_budget, with_budget, request_from}
+use Rattle.pc_words.specs.Words.{Mode, replays, edits, checks, merges, posts, demonstrates, Request, usual_budget, IsFileName, IsNumber, AreOfMode, TakesBudget}
+use Rattle.pc_words.specs.inside.Parts.{is_file_name, file_mode, number_of, plain_parts, lone_mode, demo_of, mode_with, takes_budget, with_budget, request_from}
 use Rattle.pc_words.proofs.Numbers.{number_sound, number_complete}
 
 -- ---- single words
@@ -39,7 +39,7 @@ demo_sound word m h = by (number_of 3 256 word) refl h
 
 -- the mode of a file, where the word names one
 of_file : (mode word : List ℕ) (make : List ℕ → Mode) (m : Mode) → (IsFileName word → AreOfMode (mode ∷ word ∷ []) (make word))
-    → (if is_file_name word then Some (make word) else None) ≡ Some m → AreOfMode (mode ∷ word ∷ []) m
+    → file_mode make word ≡ Some m → AreOfMode (mode ∷ word ∷ []) m
 of_file mode word make m are h = by (is_file_name word) refl h
   where
     by : (b : Bool) → is_file_name word ≡ b → (if b then Some (make word) else None) ≡ Some m → AreOfMode (mode ∷ word ∷ []) m
@@ -50,15 +50,17 @@ pair : (mode word text : List ℕ) → mode ≡ text → (mode ∷ word ∷ []) 
 pair mode word text e = ap (λ w. w ∷ word ∷ []) e
 
 with_sound : (mode word : List ℕ) (m : Mode) → mode_with mode word ≡ Some m → AreOfMode (mode ∷ word ∷ []) m
-with_sound mode word m h = by (bytes_eq mode (codes "edit")) refl (bytes_eq mode (codes "check")) refl (bytes_eq mode (codes "demo")) refl h
+with_sound mode word m h = by (bytes_eq mode (codes "edit")) refl (bytes_eq mode (codes "check")) refl (bytes_eq mode (codes "merge")) refl (bytes_eq mode (codes "posts")) refl (bytes_eq mode (codes "demo")) refl h
   where
-    by : (b : Bool) → bytes_eq mode (codes "edit") ≡ b → (c : Bool) → bytes_eq mode (codes "check") ≡ c → (d : Bool) → bytes_eq mode (codes "demo") ≡ d
-        → (if b then (if is_file_name word then Some (edits word) else None) else if c then (if is_file_name word then Some (checks word) else None) else if d then demo_of word else None) ≡ Some m
+    by : (b : Bool) → bytes_eq mode (codes "edit") ≡ b → (c : Bool) → bytes_eq mode (codes "check") ≡ c → (d : Bool) → bytes_eq mode (codes "merge") ≡ d → (e : Bool) → bytes_eq mode (codes "posts") ≡ e → (f : Bool) → bytes_eq mode (codes "demo") ≡ f
+        → (if b then file_mode edits word else if c then file_mode checks word else if d then file_mode merges word else if e then file_mode posts word else if f then demo_of word else None) ≡ Some m
         → AreOfMode (mode ∷ word ∷ []) m
-    by true e c f d g h = of_file mode word edits m (λ is. (pair mode word (codes "edit") (same mode (codes "edit") e), is)) h
-    by false e true f d g h = of_file mode word checks m (λ is. (pair mode word (codes "check") (same mode (codes "check") f), is)) h
-    by false e false f true g h = subst (λ t. AreOfMode (t ∷ word ∷ []) m) (sym (same mode (codes "demo") g)) (demo_sound word m h)
-    by false e false f false g h = absurd (cc)
+    by true b c p d q e r f s h = of_file mode word edits m (λ is. (pair mode word (codes "edit") (same mode (codes "edit") b), is)) h
+    by false b true p d q e r f s h = of_file mode word checks m (λ is. (pair mode word (codes "check") (same mode (codes "check") p), is)) h
+    by false b false p true q e r f s h = of_file mode word merges m (λ is. (pair mode word (codes "merge") (same mode (codes "merge") q), is)) h
+    by false b false p false q true r f s h = of_file mode word posts m (λ is. (pair mode word (codes "posts") (same mode (codes "posts") r), is)) h
+    by false b false p false q false r true s h = subst (λ t. AreOfMode (t ∷ word ∷ []) m) (sym (same mode (codes "demo") s)) (demo_sound word m h)
+    by false b false p false q false r false s h = absurd (cc)
 
 -- ---- budgets
 
@@ -71,12 +73,16 @@ takes_sound : (m : Mode) → takes_budget m ≡ true → TakesBudget m
 takes_sound replays h = tt
 takes_sound (edits file) h = tt
 takes_sound (checks file) h = absurd (cc)
+takes_sound (merges file) h = absurd (cc)
+takes_sound (posts file) h = tt
 takes_sound (demonstrates n) h = tt
 
 takes_complete : (m : Mode) → TakesBudget m → takes_budget m ≡ true
 takes_complete replays h = refl
 takes_complete (edits file) h = refl
 takes_complete (checks file) h = absurd h
+takes_complete (merges file) h = absurd h
+takes_complete (posts file) h = refl
 takes_complete (demonstrates n) h = refl
 
 pub record Told (m : Mode) (number : Option (List ℕ)) (r : Request) : Type 0 where
@@ -116,6 +122,8 @@ found : (ws : List (List ℕ)) (budget : Option (List ℕ)) (m : Mode) → AreOf
 found ws budget replays is = rw is refl
 found ws budget (edits file) is = rw (is.0, file_complete file is.1) refl
 found ws budget (checks file) is = rw (is.0, file_complete file is.1) refl
+found ws budget (merges file) is = rw (is.0, file_complete file is.1) refl
+found ws budget (posts file) is = rw (is.0, file_complete file is.1) refl
 found ws budget (demonstrates n) is = rw (is.1, number_complete 3 256 is.0 n is.2) refl
 
 pub plain_complete : (ws : List (List ℕ)) (budget : Option (List ℕ)) (r : Request) → AreOfMode ws r.mode → IsBudgetOf budget r → option_and_then request_from (plain_parts ws budget) ≡ Some r

@@ -1,6 +1,6 @@
 -- Worked words: what they ask for, or that they fit nothing.
 use Rattle.std.specs.Prelude.{ℕ, List, [], ◌∷◌, codes}
-use Rattle.pc_words.specs.Words.{Mode, replays, edits, checks, demonstrates, usual_budget, FitsWords, FitNothing}
+use Rattle.pc_words.specs.Words.{Mode, replays, edits, checks, merges, posts, demonstrates, usual_budget, FitsWords, FitNothing}
 
 abbrev ask : List (List ℕ) → Mode → ℕ → Type 0
 ask words mode budget = FitsWords words (record { mode = mode; budget = budget })
@@ -10,6 +10,9 @@ pub record FitWorked : Type 0 where
   pub replay : ask (codes "replay" ∷ []) replays usual_budget
   pub edit : ask (codes "edit" ∷ codes "k.sheet" ∷ []) (edits (codes "k.sheet")) usual_budget
   pub check : ask (codes "check" ∷ codes "k.sheet" ∷ []) (checks (codes "k.sheet")) usual_budget
+  pub merge : ask (codes "merge" ∷ codes "a.journal" ∷ []) (merges (codes "a.journal")) usual_budget
+  pub posts_on : ask (codes "posts" ∷ codes "k.sheet" ∷ []) (posts (codes "k.sheet")) usual_budget
+  pub budget_of_posts : ask (codes "posts" ∷ codes "k.sheet" ∷ codes "--budget=7" ∷ []) (posts (codes "k.sheet")) 7
   pub demo : ask (codes "demo" ∷ codes "200" ∷ []) (demonstrates 200) usual_budget
   pub zeros : ask (codes "demo" ∷ codes "007" ∷ []) (demonstrates 7) usual_budget
   pub most_blocks : ask (codes "demo" ∷ codes "256" ∷ []) (demonstrates 256) usual_budget
@@ -32,6 +35,9 @@ pub record NothingWorked : Type 0 where
   pub zero : FitNothing (codes "demo" ∷ codes "0" ∷ [])
   pub four_digits : FitNothing (codes "demo" ∷ codes "0003" ∷ [])
   pub budget_of_check : FitNothing (codes "check" ∷ codes "f" ∷ codes "--budget" ∷ codes "9" ∷ [])
+  pub budget_of_merge : FitNothing (codes "merge" ∷ codes "f" ∷ codes "--budget=9" ∷ [])
+  pub merge_of_none : FitNothing (codes "merge" ∷ [])
+  pub posts_of_dashed : FitNothing (codes "posts" ∷ codes "-f" ∷ [])
   pub budget_twice : FitNothing (codes "--budget=9" ∷ codes "replay" ∷ codes "--budget=9" ∷ [])
   pub no_budget : FitNothing (codes "replay" ∷ codes "--budget" ∷ [])
   pub empty_budget : FitNothing (codes "replay" ∷ codes "--budget=" ∷ [])

@@ -23,18 +23,23 @@ pub data Mode : Type 0 where
   replays : Mode
   edits : List ℕ → Mode
   checks : List ℕ → Mode
+  merges : List ℕ → Mode
+  posts : List ℕ → Mode
   demonstrates : ℕ → Mode
 
--- the words of a mode: `replay`, `edit FILE`, `check FILE`, or `demo N` with N from 1 to 256
+-- the words of a mode: `replay`, `edit FILE`, `check FILE`, `merge FILE`, `posts FILE`, or `demo N` with N from 1 to 256
 abbrev pub AreOfMode : List (List ℕ) → Mode → Type 0
 AreOfMode words replays = words ≡ codes "replay" ∷ []
 AreOfMode words (edits file) = (words ≡ codes "edit" ∷ file ∷ []) × IsFileName file
 AreOfMode words (checks file) = (words ≡ codes "check" ∷ file ∷ []) × IsFileName file
+AreOfMode words (merges file) = (words ≡ codes "merge" ∷ file ∷ []) × IsFileName file
+AreOfMode words (posts file) = (words ≡ codes "posts" ∷ file ∷ []) × IsFileName file
 AreOfMode words (demonstrates n) = (digits : List ℕ) × (words ≡ codes "demo" ∷ digits ∷ []) × IsNumber 3 256 digits n
 
--- the option goes with every mode but `check`
+-- the option goes with every mode but `check` and `merge`
 abbrev pub TakesBudget : Mode → Type 0
 TakesBudget (checks file) = ⊥
+TakesBudget (merges file) = ⊥
 TakesBudget mode = Unit {0}
 
 -- ---- the option

@@ -9,6 +9,10 @@ pub enum Mode<'a> {
     Edit(&'a str),
     /// To check the certificate of the input for the sheet of this file.
     Check(&'a str),
+    /// To merge the journal of this file with that of the input.
+    Merge(&'a str),
+    /// To run the posts of the input's journal on the sheet of this file.
+    Posts(&'a str),
     /// To run the generated sheet of this many blocks, from 1 to 256.
     Demo(u32),
 }

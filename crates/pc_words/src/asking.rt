@@ -1,7 +1,7 @@
 // What the parts of words ask for. Nothing here takes memory.
-ghost use Rattle.std.specs.Prelude.{◌≡◌, option_map};
+ghost use Rattle.std.specs.Prelude.{◌≡◌, if◌then◌else◌, None, Some, option_map};
 ghost use Rattle.pc_words.specs.View.{mode_of, request_of};
-ghost use Rattle.pc_words.specs.inside.Parts.{demo_of, lone_mode, mode_from, mode_with, request_from, takes_budget, with_budget, with_number};
+ghost use Rattle.pc_words.specs.inside.Parts.{demo_of, is_file_name, lone_mode, mode_from, mode_with, request_from, takes_budget, with_budget, with_number};
 ghost use Rattle.pc_words.specs.inside.Seen.{seen};
 
 use crate::asked::{Mode, Request};
@@ -40,27 +40,24 @@ fn demo_of(word: &str) -> Option<Mode<'static>>
     }
 }
 
+// The mode, where the word names a file.
+fn if_file<'a>(word: &str, mode: Mode<'a>) -> Option<Mode<'a>>
+    ensures { option_map mode_of result ≡ (if is_file_name word.now then Some (mode_of mode.entry) else None) }
+{
+    if is_file_name(word) { Some(mode) } else { None }
+}
+
 fn mode_with<'a>(mode: &str, word: &'a str) -> Option<Mode<'a>>
     ensures { option_map mode_of result ≡ mode_with mode.now word.now }
 {
-    if mode == "edit" {
-        return if is_file_name(word) {
-            Some(Mode::Edit(word))
-        } else {
-            None
-        };
+    match mode {
+        "edit" => if_file(word, Mode::Edit(word)),
+        "check" => if_file(word, Mode::Check(word)),
+        "merge" => if_file(word, Mode::Merge(word)),
+        "posts" => if_file(word, Mode::Posts(word)),
+        "demo" => demo_of(word),
+        _ => None,
     }
-    if mode == "check" {
-        return if is_file_name(word) {
-            Some(Mode::Check(word))
-        } else {
-            None
-        };
-    }
-    if mode == "demo" {
-        return demo_of(word);
-    }
-    None
 }
 
 // The mode that a word stands for, alone or with another word behind it.
@@ -78,6 +75,8 @@ fn takes_budget(mode: &Mode<'_>) -> bool
 {
     match *mode {
         Mode::Check(_) => false,
+        Mode::Merge(_) => false,
+        Mode::Posts(_) => true,
         Mode::Replay => true,
         Mode::Edit(_) => true,
         Mode::Demo(_) => true,

@@ -20,8 +20,8 @@ fn fit(words: &[String]) -> bool
     }
 }
 
-/// What the words behind the program's own name ask for: `replay`, `edit FILE`, `check FILE`, or `demo N` with N from 1 to 256,
-/// and at any place, but not with `check`, at most once `--budget K` or `--budget=K` with K from 1 to 1,000,000,000,000.
+/// What the words behind the program's own name ask for: `replay`, `edit FILE`, `check FILE`, `merge FILE`, `posts FILE`, or
+/// `demo N` with N from 1 to 256, and at any place, but not with `check` and `merge`, at most once `--budget K` or `--budget=K` with K from 1 to 1,000,000,000,000.
 /// Without the option the budget is 100,000,000.
 ///
 /// FILE isn't empty and doesn't start with `-`, N has at most three digits and K at most 13. `Usage` comes exactly where the

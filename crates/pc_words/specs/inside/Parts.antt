@@ -3,7 +3,7 @@ use Rattle.std.specs.Prelude.{ℕ, Bool, true, false, ◌==◌, ◌&&◌, List, 
 use Rattle.std.specs.Str.{all_ascii_digits, bytes_eq}
 use Rattle.std.specs.Str.Parse.{digits_value}
 use Rattle.std.specs.List.{position_or_len, starts_with}
-use Rattle.pc_words.specs.Words.{Mode, replays, edits, checks, demonstrates, Request, usual_budget}
+use Rattle.pc_words.specs.Words.{Mode, replays, edits, checks, merges, posts, demonstrates, Request, usual_budget}
 
 -- ---- single words
 
@@ -65,6 +65,10 @@ parts_of words = option_parts (take (option_place words) words) (drop (option_pl
 
 -- ---- what the parts ask for
 
+-- the mode of a file, where the word names one
+abbrev pub file_mode : (List ℕ → Mode) → List ℕ → Option Mode
+file_mode mode word = if is_file_name word then Some (mode word) else None
+
 abbrev pub lone_mode : List ℕ → Option Mode
 lone_mode mode = if bytes_eq mode (codes "replay") then Some replays else None
 
@@ -73,8 +77,10 @@ demo_of word = option_map demonstrates (number_of 3 256 word)
 
 abbrev pub mode_with : List ℕ → List ℕ → Option Mode
 mode_with mode word =
-    if bytes_eq mode (codes "edit") then (if is_file_name word then Some (edits word) else None)
-    else if bytes_eq mode (codes "check") then (if is_file_name word then Some (checks word) else None)
+    if bytes_eq mode (codes "edit") then file_mode edits word
+    else if bytes_eq mode (codes "check") then file_mode checks word
+    else if bytes_eq mode (codes "merge") then file_mode merges word
+    else if bytes_eq mode (codes "posts") then file_mode posts word
     else if bytes_eq mode (codes "demo") then demo_of word
     else None
 
@@ -84,6 +90,7 @@ mode_from mode (Some word) = mode_with mode word
 
 abbrev pub takes_budget : Mode → Bool
 takes_budget (checks file) = false
+takes_budget (merges file) = false
 takes_budget mode = true
 
 abbrev pub with_number : Mode → List ℕ → Option Request

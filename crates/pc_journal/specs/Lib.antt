@@ -1,0 +1,4 @@
+pub mod Told
+pub mod Course
+pub mod Examples
+pub mod inside
