@@ -6,7 +6,7 @@ use Rattle.pc_writer.specs.SheetText.{ended}
 use Rattle.pc_sortcheck.specs.Declaring.{ReadsAs}
 use Rattle.pc_canonical.specs.Declared.{TextsReadBack}
 use Rattle.pc_display.specs.OneDisplay.{HasOneText, SheetHasOneDisplay}
-use Rattle.pc_spreadsheet.specs.Judgement.{State, Starts, SheetVerdict, opens, rejects, PageKind, lines_page, grid_page, json_page, text_page, why_page}
+use Rattle.pc_spreadsheet.specs.Judgement.{State, Starts, SheetVerdict, opens, rejects, PageKind, lines_page, grid_page, json_page, text_page, why_page, repairs_page, proof_page, whynot_page}
 use Rattle.pc_spreadsheet.specs.Pages.{PageSays}
 use Rattle.pc_spreadsheet.specs.Laws.{TextsHaveOneVerdict}
 use Rattle.pc_afresh.specs.Afresh.{IsOpen, StartsAreOpen, TranscriptsKeepOpen, DumpsStartAgain, IsDisplay, SaysOnly, DisplayTheSame, LoadedAfreshShowsTheSame, RunsLoadAfresh}
@@ -40,7 +40,7 @@ only_text Is one sheet formed =
     (found.0, λ other. (found.2 other, λ same. subst (Is sheet) (sym same) found.1))
 
 module _ (one : SheetHasOneDisplay) where
-  one_page : (sheet : Sheet) (kind : PageKind) → IsWellFormed sheet → IsDisplay kind → (text : List ℕ) × SaysOnly kind sheet text
+  pub one_page : (sheet : Sheet) (kind : PageKind) → IsWellFormed sheet → IsDisplay kind → (text : List ℕ) × SaysOnly kind sheet text
   one_page sheet lines_page formed form = only_text (PageSays lines_page) one.shown sheet formed
   one_page sheet grid_page formed form = only_text (PageSays grid_page) one.grid sheet formed
   one_page sheet json_page formed form =
@@ -53,8 +53,11 @@ module _ (one : SheetHasOneDisplay) where
       )
   one_page sheet text_page formed form = absurd form
   one_page sheet (why_page t) formed form = absurd form
+  one_page sheet repairs_page formed form = absurd form
+  one_page sheet proof_page formed form = absurd form
+  one_page sheet (whynot_page t) formed form = absurd form
 
-  same_display : (sheet other : Sheet) → IsWellFormed sheet → other ≡ sheet → DisplayTheSame sheet other
+  pub same_display : (sheet other : Sheet) → IsWellFormed sheet → other ≡ sheet → DisplayTheSame sheet other
   same_display sheet other formed same kind form =
       let page = one_page sheet kind formed form in
       (page.0, page.1, subst (λ s. SaysOnly kind s page.0) (sym same) page.1)

@@ -3,7 +3,7 @@ use Rattle.std.proofs.Common.{◌≡◌, Option, Some, None, sym, ap, ◌∙◌}
 use Rattle.pc_elaborate.specs.declared.fault.SortFault.{SortFault}
 use Rattle.pc_elaborate.specs.declared.fault.SortFault.TheVariants as fault
 use Rattle.pc_refusals.specs.declared.refusal.Refusal.{Refusal}
-use Rattle.pc_refusals.specs.declared.refusal.Refusal.TheVariants.{NotUtf8, Syntax, NoBegin, WrongVersion, UnknownName, DuplicateName, WrongArity, WrongSort, NotAValue, EmptySort, Limit, TooLarge, Inconsistent, Spent, NoEntry, DuplicateRule, NoRule, TooDeep}
+use Rattle.pc_refusals.specs.declared.refusal.Refusal.TheVariants.{NotUtf8, Syntax, NoBegin, WrongVersion, UnknownName, DuplicateName, WrongArity, WrongSort, NotAValue, EmptySort, Limit, TooLarge, Inconsistent, Spent, NoEntry, DuplicateRule, NoRule, TooManySets, TooDeep}
 use Rattle.pc_load.specs.Refusals.{IsSortRefusal}
 
 abbrev refusal_of : SortFault → Option Refusal
@@ -34,6 +34,7 @@ told e (Spent counts) is = absurd is
 told e NoEntry is = absurd is
 told e DuplicateRule is = absurd is
 told e NoRule is = absurd is
+told e TooManySets is = absurd is
 told e TooDeep is = absurd is
 
 pub some_is : (q r : Refusal) → Some q ≡ Some r → q ≡ r

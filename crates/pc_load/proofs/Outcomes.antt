@@ -10,7 +10,7 @@ use Rattle.pc_sortcheck.specs.Declaring.{IsSheetOf}
 use Rattle.pc_sortcheck.specs.DeclarationFaults.{IsSheetFault}
 use Rattle.pc_sortcheck.proofs.SheetOutcomes.{only_sheet, only_fault}
 use Rattle.pc_refusals.specs.declared.refusal.Refusal.{Refusal}
-use Rattle.pc_refusals.specs.declared.refusal.Refusal.TheVariants.{NotUtf8, Syntax, NoBegin, WrongVersion, UnknownName, DuplicateName, WrongArity, WrongSort, NotAValue, EmptySort, Limit, TooLarge, Inconsistent, Spent, NoEntry, DuplicateRule, NoRule, TooDeep}
+use Rattle.pc_refusals.specs.declared.refusal.Refusal.TheVariants.{NotUtf8, Syntax, NoBegin, WrongVersion, UnknownName, DuplicateName, WrongArity, WrongSort, NotAValue, EmptySort, Limit, TooLarge, Inconsistent, Spent, NoEntry, DuplicateRule, NoRule, TooManySets, TooDeep}
 use Rattle.pc_refusals.specs.declared.refusal.SheetRefusal.{SheetRefusal}
 use Rattle.pc_load.specs.Refusals.{IsSortRefusal, IsRefusalFor}
 use Rattle.pc_load.specs.Outcome.{HasSortFault, IsFaultAt, Outcome, reads, fails, IsOutcome}
@@ -92,6 +92,7 @@ given_fault text (Spent counts) (Some line) has = at_sort text line (Spent count
 given_fault text NoEntry (Some line) has = at_sort text line NoEntry has
 given_fault text DuplicateRule (Some line) has = at_sort text line DuplicateRule has
 given_fault text NoRule (Some line) has = at_sort text line NoRule has
+given_fault text TooManySets (Some line) has = at_sort text line TooManySets has
 given_fault text NoBegin None has = record { reading = no_begin; is = has; given = refl }
 given_fault text NotUtf8 None has = absurd has
 given_fault text Syntax None has = absurd has
@@ -110,6 +111,7 @@ given_fault text (Spent counts) None has = absurd has
 given_fault text NoEntry None has = absurd has
 given_fault text DuplicateRule None has = absurd has
 given_fault text NoRule None has = absurd has
+given_fault text TooManySets None has = absurd has
 
 given : (text : List ℕ) (outcome : Outcome) → IsOutcome text outcome → Given text outcome
 given text (reads found) is = record { reading = sheet is.declared; is = is.is; given = by_sheet found is.gives }

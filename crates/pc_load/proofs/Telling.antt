@@ -4,7 +4,7 @@ use Rattle.pc_elaborate.specs.declared.fault.SortFault.{SortFault}
 use Rattle.pc_elaborate.specs.declared.fault.SortFault.TheVariants as sort_fault
 use Rattle.pc_elaborate.specs.Told.{IsFaultOf}
 use Rattle.pc_refusals.specs.declared.refusal.Refusal.{Refusal}
-use Rattle.pc_refusals.specs.declared.refusal.Refusal.TheVariants.{NotUtf8, Syntax, NoBegin, WrongVersion, UnknownName, DuplicateName, WrongArity, WrongSort, NotAValue, EmptySort, Limit, TooLarge, Inconsistent, Spent, NoEntry, DuplicateRule, NoRule, TooDeep}
+use Rattle.pc_refusals.specs.declared.refusal.Refusal.TheVariants.{NotUtf8, Syntax, NoBegin, WrongVersion, UnknownName, DuplicateName, WrongArity, WrongSort, NotAValue, EmptySort, Limit, TooLarge, Inconsistent, Spent, NoEntry, DuplicateRule, NoRule, TooManySets, TooDeep}
 use Rattle.pc_load.specs.Refusals.{IsSortRefusal}
 use Rattle.pc_load.specs.Outcome.{HasSortFault, IsFaultAt}
 
@@ -27,6 +27,7 @@ fails Fails e (Spent counts) tells is = absurd tells
 fails Fails e NoEntry tells is = absurd tells
 fails Fails e DuplicateRule tells is = absurd tells
 fails Fails e NoRule tells is = absurd tells
+fails Fails e TooManySets tells is = absurd tells
 fails Fails e TooDeep tells is = absurd tells
 
 -- the text has the refusal of its fault
@@ -48,6 +49,7 @@ is_fault text line e (Spent counts) tells is = absurd tells
 is_fault text line e NoEntry tells is = absurd tells
 is_fault text line e DuplicateRule tells is = absurd tells
 is_fault text line e NoRule tells is = absurd tells
+is_fault text line e TooManySets tells is = absurd tells
 is_fault text line e TooDeep tells is = absurd tells
 
 pub of_fault : (Fails : SortFault → Type 0) (e : SortFault) → Fails e → IsFaultOf Fails e

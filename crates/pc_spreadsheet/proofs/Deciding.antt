@@ -16,8 +16,8 @@ use Rattle.pc_transcript.specs.Answer.{Answer, silent, IsToldBehind, IsAnswer, C
 use Rattle.pc_sheet.specs.Sheet.{Sheet}
 use Rattle.pc_spreadsheet.specs.Judgement.{State, for_utf8, for_depth, for_syntax, for_asked}
 use Rattle.pc_spreadsheet.specs.Pages.{IsPage, CanShow, IsCertificateAgainst, kind_of}
-use Rattle.pc_spreadsheet.specs.Allowed.{Notes, Allows, RefusesLine, as_judged, as_contradiction, as_spent}
-use Rattle.pc_spreadsheet.specs.Commands.{Told, MayWantMemory, Obeys, RefusesAsked, judged, contradicted, spent, reply_to}
+use Rattle.pc_spreadsheet.specs.Allowed.{Notes, Allows, RefusesLine, as_judged, as_contradiction, as_spent, as_proof_spent}
+use Rattle.pc_spreadsheet.specs.Commands.{Told, MayWantMemory, Obeys, RefusesAsked, judged, contradicted, spent, proof_spent, reply_to}
 
 -- ---- lines that are no command
 
@@ -90,6 +90,7 @@ refused_line old new line a why proof more reading (judged is none same) follows
 refused_line old new line a why proof more reading (contradicted r makes is shows same) follows =
     as_contradiction r (a, reading, makes) (subst (λ (p : Option Sheet). IsToldBehind IsCertificateAgainst p more) shows follows) is same
 refused_line old new line a why proof more reading (spent counts spends is none same) follows = as_spent counts (a, reading, spends) is (no_more proof more none follows) same
+refused_line old new line a why proof more reading (proof_spent counts spends is none same) follows = as_proof_spent counts (a, reading, spends) is (no_more proof more none follows) same
 
 pub obeyed_line : (old new : State × Notes) (line : List ℕ) (a : Asked) (reply : Told) (answer : Answer) → IsCommandReading line (asks a) → ((r : CommandReading) → IsCommandReading line r → r ≡ asks a)
     → Obeys old a reply new → IsAnswer IsPage IsCertificateAgainst new.0 reply answer → Allows old line answer new

@@ -6,6 +6,7 @@ pub mod Editing
 pub mod Formed
 pub mod Loading
 pub mod Places
+pub mod Proving
 pub mod Questions
 pub mod Rules
 pub mod SheetVerdicts

@@ -1,10 +1,12 @@
 -- That a command line has one verdict at most.
 use Rattle.std.proofs.Common.{◌≡◌, ℕ, Bool, ◌<◌, List, [], length, Contains, Option, Some, None, refl, sym, ap, ap₂, subst, arith, inl, inr, ◌∙◌}
 use Rattle.pc_syntax.specs.Fault.{Fault, not_utf8, too_deep, syntax, wrong_version}
-use Rattle.pc_syntax.specs.Tree.{Cell, Value, Formula, Asked, enter, also, asks_enter, asks_also, asks_clear, asks_clear_one, asks_rule, asks_drop, asks_budget, asks_show, asks_grid, asks_json, asks_why, asks_dump}
+use Rattle.pc_syntax.specs.Tree.{Cell, Value, Formula, Asked, enter, also, asks_enter, asks_also, asks_clear, asks_clear_one, asks_rule, asks_drop, asks_budget, asks_show, asks_grid, asks_json, asks_why, asks_dump, asks_repairs, asks_prove_repairs, asks_whynot}
 use Rattle.pc_syntax.specs.Command.{CommandReading, no_command, asks, at_fault, IsCommandReading}
 use Rattle.pc_sheet.specs.Sheet.{Sheet, Statement, some_of, no_statements, NamedStatement, with_rule}
 use Rattle.pc_sheet.specs.MaximalSets.{AreRulesConsistent}
+use Rattle.pc_laws.proofs.Different.{exact_as_long}
+use Rattle.pc_choices.specs.FewSets.{HasFewSets, HasManySets}
 use Rattle.pc_sheet.specs.Weight.{weight}
 use Rattle.pc_sheet.specs.WellFormed.{IsWellFormed}
 use Rattle.pc_sheet.specs.declared.ids.CellId.{CellId}
@@ -23,7 +25,7 @@ use Rattle.pc_refusals.specs.declared.refusal.Refusal.{Refusal}
 use Rattle.pc_refusals.specs.declared.refusal.Refusal.TheVariants.{NotUtf8, Syntax, TooDeep}
 use Rattle.pc_load.specs.Refusals.{IsSortRefusal}
 use Rattle.pc_load.proofs.OneRefusal.{one_refusal, some_is}
-use Rattle.pc_spreadsheet.specs.Judgement.{State, IsLight, Task, enters, enters_beside, clears, removes, adds, drops, shows, why_page, HasEntryOf, IsRuleOf, IsTaskOf, entering, entering_beside, clearing, removing, adding, dropping, budgeting, asking, showing, showing_grid, showing_json, dumping, IsAskedFault, IsRefusalOf, by_fault, without_entry, without_that, of_old_name, of_no_rule, too_large, MakesContradiction, contradicting, IsRefused, for_utf8, for_depth, for_syntax, for_asked, Verdict, nothing, does, refuses, contradicts, IsVerdictOn}
+use Rattle.pc_spreadsheet.specs.Judgement.{State, IsLight, Task, enters, enters_beside, clears, removes, adds, drops, shows, why_page, whynot_page, HasEntryOf, IsRuleOf, IsTaskOf, entering, entering_beside, clearing, removing, adding, dropping, budgeting, asking, showing, showing_grid, showing_json, dumping, listing, proving, doubting, IsAskedFault, IsRefusalOf, by_fault, without_entry, without_that, of_old_name, of_no_rule, too_large, too_many_sets, too_many_for, MakesContradiction, contradicting, IsRefused, for_utf8, for_depth, for_syntax, for_asked, Verdict, nothing, does, refuses, contradicts, IsVerdictOn}
 use Rattle.pc_spreadsheet.specs.Judgement as judgement
 use Rattle.pc_spreadsheet.proofs.Places.{not_new, one_place}
 use Rattle.pc_spreadsheet.specs.Laws.{LinesHaveOneVerdict}
@@ -44,6 +46,10 @@ no_rule = record { name = []; states = some_of no_statements }
 abbrev asked_why : Entry → Bool → Task
 asked_why e holds = shows (why_page (record { cell = e.cell; value = e.value; holds = holds }))
 
+-- the page that says why it doesn't follow that the cell has the value
+abbrev asked_whynot : Entry → Bool → Task
+asked_whynot e holds = shows (whynot_page (record { cell = e.cell; value = e.value; holds = holds }))
+
 abbrev pair_of : CellId → SortId → CellId × SortId
 pair_of cell sort = (cell, sort)
 
@@ -55,6 +61,10 @@ test_same : {Passes : Type 0} {fault : SortFault} (e f : SortFault) → test Pas
 test_same e f (inl x) (inl y) = x.1 ∙ sym y.1
 test_same e f (inl x) (inr y) = absurd y.1
 test_same e f (inr x) y = absurd x.1
+
+-- there are few maximal sets or many
+few_or_many : (sheet : Sheet) → HasFewSets sheet → HasManySets sheet → ⊥
+few_or_many sheet few many = absurd (omega (arith, exact_as_long _ few.0 many.0 few.1 many.1, few.2, many.2))
 
 module _ (sheet : Sheet) (one : HaveOneOutcome sheet.universe) (formed : IsWellFormed sheet) where
   pair_is : (c : Cell) (k l : CellId) (s t : SortId) → IsCell sheet.universe c k s → IsCell sheet.universe c l t → pair_of k s ≡ pair_of l t
@@ -132,6 +142,9 @@ module _ (sheet : Sheet) (one : HaveOneOutcome sheet.universe) (formed : IsWellF
   fault_same asks_grid e f x y = absurd x
   fault_same asks_json e f x y = absurd x
   fault_same asks_dump e f x y = absurd x
+  fault_same asks_repairs e f x y = absurd x
+  fault_same asks_prove_repairs e f x y = absurd x
+  fault_same (asks_whynot c v) e f x y = entry_same c v e f x y
 
   task_never : {a : Asked} {task : Task} → IsTaskOf sheet a task → (e : SortFault) → ¬ IsAskedFault sheet a e
   task_never (entering {c = c} {v = v} d named) e = entry_never c v d named e
@@ -146,6 +159,9 @@ module _ (sheet : Sheet) (one : HaveOneOutcome sheet.universe) (formed : IsWellF
   task_never showing_grid e = λ fails. fails
   task_never showing_json e = λ fails. fails
   task_never dumping e = λ fails. fails
+  task_never listing e = λ fails. fails
+  task_never (proving few) e = λ fails. fails
+  task_never (doubting {c = c} {v = v} t named holds few) e = entry_never c v (judgement.entry_of_target t) named e
 
   contradiction_never : {a : Asked} {r : NamedStatement} → MakesContradiction sheet a r → (e : SortFault) → ¬ IsAskedFault sheet a e
   contradiction_never (contradicting {n = n} {f = f} r new light never) e = rule_of_never n f r new.0 e
@@ -165,6 +181,10 @@ module _ (sheet : Sheet) (one : HaveOneOutcome sheet.universe) (formed : IsWellF
   task_is showing_grid showing_grid = refl
   task_is showing_json showing_json = refl
   task_is dumping dumping = refl
+  task_is listing listing = refl
+  task_is (proving few) (proving few') = refl
+  task_is (doubting {c = c} {v = v} t x holds few) (doubting u y holding few') =
+      ap₂ asked_whynot (entry_is c v (judgement.entry_of_target t) (judgement.entry_of_target u) x y) (holds ∙ sym holding)
 
   -- two refusals are one
   refusal_is : {a : Asked} {q r : Refusal} → IsRefusalOf sheet a q → IsRefusalOf sheet a r → q ≡ r
@@ -174,6 +194,8 @@ module _ (sheet : Sheet) (one : HaveOneOutcome sheet.universe) (formed : IsWellF
   refusal_is (by_fault e fails tells) (of_old_name {n = n} {f = f} r is has) = absurd (rule_of_never n f r is e fails)
   refusal_is (by_fault e fails tells) (of_no_rule lacks) = absurd fails
   refusal_is (by_fault e fails tells) (too_large {n = n} {f = f} r new heavy) = absurd (rule_of_never n f r new.0 e fails)
+  refusal_is (by_fault e fails tells) (too_many_sets many) = absurd fails
+  refusal_is (by_fault e fails tells) (too_many_for {c = c} {v = v} d named many) = absurd (entry_never c v d named e fails)
   refusal_is (without_entry {c = c} k named lacks) (by_fault e fails tells) = absurd (cell_never c k named.0 named.1 e fails)
   refusal_is (without_entry k named lacks) (without_entry l named' lacks') = refl
   refusal_is (without_that {c = c} {v = v} d named lacks) (by_fault e fails tells) = absurd (entry_never c v d named e fails)
@@ -186,6 +208,10 @@ module _ (sheet : Sheet) (one : HaveOneOutcome sheet.universe) (formed : IsWellF
   refusal_is (too_large {n = n} {f = f} r new heavy) (by_fault e fails tells) = absurd (rule_of_never n f r new.0 e fails)
   refusal_is (too_large r new heavy) (of_old_name q is has) = absurd (has new.1)
   refusal_is (too_large r new heavy) (too_large q new' heavy') = refl
+  refusal_is (too_many_sets many) (by_fault e fails tells) = absurd fails
+  refusal_is (too_many_sets many) (too_many_sets many') = refl
+  refusal_is (too_many_for {c = c} {v = v} d named many) (by_fault e fails tells) = absurd (entry_never c v d named e fails)
+  refusal_is (too_many_for d named many) (too_many_for e named' many') = refl
 
   -- what can be done isn't refused
   task_or_refusal : {a : Asked} {t : Task} {q : Refusal} → IsTaskOf sheet a t → IsRefusalOf sheet a q → ⊥
@@ -195,6 +221,8 @@ module _ (sheet : Sheet) (one : HaveOneOutcome sheet.universe) (formed : IsWellF
   task_or_refusal (adding r new light consistent) (of_old_name q is has) = has new.1
   task_or_refusal (adding {n = n} {f = f} r new light consistent) (too_large q new' heavy) = light_or_heavy n f q r new'.0 new.0 heavy light
   task_or_refusal (dropping {n = n} place at) (of_no_rule lacks) = not_new sheet.rules n place no_rule at lacks
+  task_or_refusal (proving few) (too_many_sets many) = few_or_many sheet few many
+  task_or_refusal (doubting t named holds few) (too_many_for e named' many) = few_or_many sheet few many
 
   -- a contradiction is neither
   task_or_contradiction : {a : Asked} {t : Task} {r : NamedStatement} → IsTaskOf sheet a t → MakesContradiction sheet a r → ⊥
@@ -211,6 +239,9 @@ module _ (sheet : Sheet) (one : HaveOneOutcome sheet.universe) (formed : IsWellF
   task_or_contradiction showing_grid makes = elim makes [ ]
   task_or_contradiction showing_json makes = elim makes [ ]
   task_or_contradiction dumping makes = elim makes [ ]
+  task_or_contradiction listing makes = elim makes [ ]
+  task_or_contradiction (proving few) makes = elim makes [ ]
+  task_or_contradiction (doubting t named holds few) makes = elim makes [ ]
 
   refusal_or_contradiction : {a : Asked} {q : Refusal} {r : NamedStatement} → IsRefusalOf sheet a q → MakesContradiction sheet a r → ⊥
   refusal_or_contradiction (by_fault e fails tells) makes = contradiction_never makes e fails
@@ -219,6 +250,8 @@ module _ (sheet : Sheet) (one : HaveOneOutcome sheet.universe) (formed : IsWellF
   refusal_or_contradiction (without_entry k named lacks) makes = elim makes [ ]
   refusal_or_contradiction (without_that e named lacks) makes = elim makes [ ]
   refusal_or_contradiction (of_no_rule lacks) makes = elim makes [ ]
+  refusal_or_contradiction (too_many_sets many) makes = elim makes [ ]
+  refusal_or_contradiction (too_many_for e named many) makes = elim makes [ ]
 
   contradiction_is : {a : Asked} {q r : NamedStatement} → MakesContradiction sheet a q → MakesContradiction sheet a r → q ≡ r
   contradiction_is (contradicting {n = n} {f = f} q new light never) (contradicting r new' light' never') = statement_is n f q r new.0 new'.0

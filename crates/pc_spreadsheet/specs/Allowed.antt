@@ -1,16 +1,21 @@
 -- What may answer a sheet and a command line, and what is noted on the way.
-use Rattle.std.specs.Prelude.{◌≡◌, ℕ, List, [], ◌∷◌, ◌++◌, Option, Some, None, Contains}
-use Rattle.pc_syntax.specs.Tree.{Asked, asks_enter, asks_also, asks_clear, asks_clear_one, asks_rule, asks_drop, Cell, Value, Formula}
+use Rattle.std.specs.Prelude.{◌≡◌, ℕ, ◌+◌, ◌≤◌, true, List, [], ◌∷◌, ◌++◌, length, Option, Some, None, Contains}
+use Rattle.pc_syntax.specs.Tree.{Asked, asks_enter, asks_also, asks_clear, asks_clear_one, asks_rule, asks_drop, asks_prove_repairs, asks_whynot, Cell, Value, Formula}
 use Rattle.pc_syntax.specs.Command.{IsCommandReading, asks, TakesNoMemory}
 use Rattle.pc_sheet.specs.Sheet.{Sheet, NamedStatement, with_rule}
+use Rattle.pc_sheet.specs.Entailment.{IsImplied}
 use Rattle.pc_sheet.specs.WellFormed.{is_of_cell}
 use Rattle.pc_sheet.specs.declared.ids.CellId.{CellId}
 use Rattle.pc_sheet.specs.declared.ids.Entry.{Entry}
+use Rattle.pc_sheet.specs.declared.ids.Target.{Target}
 use Rattle.pc_logic.specs.Edits.{is_same_entry, entered, also_entered, without_entry, without_cell, without_rule, HasRoomFor}
 use Rattle.pc_elaborate.specs.Elaboration.{IsEntryNamed, IsCellNamed}
 use Rattle.pc_sortcheck.specs.Declaring.{ReadsAs}
 use Rattle.pc_lits.specs.declared.tally.Tally.{Tally}
+use Rattle.pc_log.specs.Lines.{LogLine}
+use Rattle.pc_choices.specs.FewSets.{AreMaximalSets, HasFewSets}
 use Rattle.pc_theory.specs.Spendings.{IsLawful}
+use Rattle.pc_theory.specs.WholeSpendings.{IsSpentWhole}
 use Rattle.pc_theory.specs.declared.spending.Spending.{Spending}
 use Rattle.pc_session.specs.Answers.{AreSpare, StandsAlone}
 use Rattle.pc_session.specs.NoteViews.{NoteView}
@@ -22,7 +27,7 @@ use Rattle.pc_refusals.specs.declared.refusal.SheetRefusal.{SheetRefusal}
 use Rattle.pc_refusals.specs.declared.refusal.Refusal.{Refusal}
 use Rattle.pc_refusals.specs.declared.refusal.Refusal.TheVariants.{TooLarge, Inconsistent, Spent}
 use Rattle.pc_transcript.specs.Answer.{Answer, silent, accepted, shown, refused, no_memory}
-use Rattle.pc_spreadsheet.specs.Judgement.{State, IsLight, IsTooLarge, IsContradictory, of_whole, Task, shows, PageKind, HasEntryOf, IsNewRule, AsksNothing, IsTask, IsEdit, state_after, IsRefused, IsContradiction}
+use Rattle.pc_spreadsheet.specs.Judgement.{State, IsLight, IsTooLarge, IsContradictory, of_whole, Task, shows, entry_of_target, PageKind, HasEntryOf, IsNewRule, AsksNothing, IsTask, IsEdit, state_after, IsRefused, IsContradiction}
 use Rattle.pc_spreadsheet.specs.Pages.{PageSays, IsCertificateAgainst}
 
 -- ---- what is spent
@@ -42,6 +47,17 @@ pub record IsLawfullySpent (budget : ℕ) (sheet : Sheet) (cell : Option CellId)
   pub lawful : IsLawful sheet cell budget spending
   pub counts_are : counts ≡ told_counts_of spending.tally
   pub noted : new ≡ old ++ record { sheet = sheet; cell = cell; tally = session.counts_of spending.tally } ∷ []
+
+-- Searches of the whole sheet, with at most one call more than it has maximal sets, lawfully spend the budget. That is told by these counts,
+-- and noted as the last of the notes, without a cell.
+pub record IsWholeSpent (budget : ℕ) (sheet : Sheet) (counts : Counts) (old new : Notes) : Type 0 where
+  pub logs : List (List LogLine)
+  pub tally : Tally
+  pub spent : IsSpentWhole sheet logs tally
+  pub limited : tally.limit ≡ budget
+  pub few_calls : (sets : List (List Entry)) → AreMaximalSets sheet sets → tally.calls ≤ length sets + 1
+  pub counts_are : counts ≡ told_counts_of tally
+  pub noted : new ≡ old ++ record { sheet = sheet; cell = None; tally = session.counts_of tally } ∷ []
 
 -- ---- sheets
 
@@ -78,15 +94,30 @@ pub record SpendsFor (state : State) (asked : Asked) (counts : Counts) (old new 
 abbrev pub LineSpends : State → List ℕ → Counts → Notes → Notes → Type 0
 LineSpends state line counts old new = (a : Asked) × IsCommandReading line (asks a) × SpendsFor state a counts old new
 
+-- The command asks for a certificate of the maximal sets, which aren't too many for one: that they are all that there are; or that a target
+-- isn't implied, which it isn't.
+pub data NeedsProof (sheet : Sheet) : Asked → Type 0 where
+  to_prove : HasFewSets sheet → NeedsProof sheet asks_prove_repairs
+  to_doubt : {c : Cell} {v : Value} (t : Target) → IsEntryNamed sheet.universe c v (entry_of_target t) → t.holds ≡ true → HasFewSets sheet → ¬ IsImplied sheet t → NeedsProof sheet (asks_whynot c v)
+
+-- the command's certificate needs searches that spend too much, which is told by these counts and noted
+abbrev pub ProofSpends : State → Asked → Counts → Notes → Notes → Type 0
+ProofSpends state asked counts old new = NeedsProof state.sheet asked × IsWholeSpent state.budget state.sheet counts old new
+
+-- the same of the command that a line asks
+abbrev pub LineProofSpends : State → List ℕ → Counts → Notes → Notes → Type 0
+LineProofSpends state line counts old new = (a : Asked) × IsCommandReading line (asks a) × ProofSpends state a counts old new
+
 -- The line is refused so, with what is told after that: as it is judged; as a contradiction, with a certificate for the sheet with that
--- rule; or since its search spends too much.
+-- rule; or since its search, or that for its certificate, spends too much.
 pub data RefusesLine (old : State × Notes) (line : List ℕ) (why : Refusal) (more : List ℕ) (new : State × Notes) : Type 0 where
   as_judged : IsRefused old.0 line why → more ≡ [] → new ≡ old → RefusesLine old line why more new
   as_contradiction : (r : NamedStatement) → IsContradiction old.0 line r → IsCertificateAgainst (with_rule old.0.sheet r) more → why ≡ Inconsistent → new ≡ old → RefusesLine old line why more new
   as_spent : (counts : Counts) → LineSpends old.0 line counts old.1 new.1 → why ≡ Spent counts → more ≡ [] → new.0 ≡ old.0 → RefusesLine old line why more new
+  as_proof_spent : (counts : Counts) → LineProofSpends old.0 line counts old.1 new.1 → why ≡ Spent counts → more ≡ [] → new.0 ≡ old.0 → RefusesLine old line why more new
 
 -- In the state, the line may have this answer, and the next state and notes follow. Any line but one that takes none may want memory instead,
--- and an edit that needs a search may spend too much instead.
+-- and an edit that needs a search, or a certificate of maximal sets, may spend too much instead.
 abbrev pub Allows : State × Notes → List ℕ → Answer → State × Notes → Type 0
 Allows old line silent new = AsksNothing line × (new ≡ old)
 Allows old line accepted new = (task : Task) × IsTask old.0 line task × IsEdit task × (new ≡ (state_after old.0 task, old.1))

@@ -1,7 +1,7 @@
 -- Which texts are sheets, why others are refused, and what a command line asks in a state.
-use Rattle.std.specs.Prelude.{◌≡◌, ℕ, Bool, ◌<◌, ◌≤◌, ◌⊎◌, List, [], length, Any, Contains}
+use Rattle.std.specs.Prelude.{◌≡◌, ℕ, Bool, true, ◌<◌, ◌≤◌, ◌⊎◌, List, [], length, Any, Contains}
 use Rattle.std.specs.declared.option.Option.TheVariants.{None}
-use Rattle.pc_syntax.specs.Tree.{enter, also, Asked, asks_enter, asks_also, asks_clear, asks_clear_one, asks_rule, asks_drop, asks_budget, asks_show, asks_grid, asks_json, asks_why, asks_dump, Cell, Value, Formula}
+use Rattle.pc_syntax.specs.Tree.{enter, also, Asked, asks_enter, asks_also, asks_clear, asks_clear_one, asks_rule, asks_drop, asks_budget, asks_show, asks_grid, asks_json, asks_why, asks_dump, asks_repairs, asks_prove_repairs, asks_whynot, Cell, Value, Formula}
 use Rattle.pc_syntax.specs.Fault.{not_utf8, too_deep, syntax}
 use Rattle.pc_syntax.specs.Command.{IsCommandReading, no_command, asks, at_fault}
 use Rattle.pc_sheet.specs.Limits.{most_rules, most_weight}
@@ -20,12 +20,13 @@ use Rattle.pc_sheet.specs.declared.limits.Limited.TheVariants as limited
 use Rattle.pc_elaborate.specs.Elaboration.{IsEntryNamed, IsCellNamed, IsStatement}
 use Rattle.pc_elaborate.specs.FormulaFaults.{IsCellFault}
 use Rattle.pc_elaborate.specs.Tests.{no_test, test}
+use Rattle.pc_choices.specs.FewSets.{HasFewSets, HasManySets}
 use Rattle.pc_sortcheck.specs.Declaring.{ReadsAs}
 use Rattle.pc_sortcheck.specs.DeclarationFaults.{HasRoomForEntry, IsDeclarationFault, IsRuleFault}
 use Rattle.pc_session.specs.Rules.{IsNewName, IsRuleAt}
 use Rattle.pc_refusals.specs.declared.refusal.SheetRefusal.{SheetRefusal}
 use Rattle.pc_refusals.specs.declared.refusal.Refusal.{Refusal}
-use Rattle.pc_refusals.specs.declared.refusal.Refusal.TheVariants.{NotUtf8, Syntax, TooLarge, Inconsistent, NoEntry, DuplicateRule, NoRule, TooDeep}
+use Rattle.pc_refusals.specs.declared.refusal.Refusal.TheVariants.{NotUtf8, Syntax, TooManySets, TooLarge, Inconsistent, NoEntry, DuplicateRule, NoRule, TooDeep}
 use Rattle.pc_load.specs.Refusals.{IsSortRefusal}
 use Rattle.pc_load.specs.Outcome.{HasFault}
 
@@ -79,14 +80,18 @@ IsSheetVerdict budget text (rejects why) = IsRejected text why
 
 -- ---- what a command asks
 
--- The kinds of page that a sheet can be shown as: the display line by line, as a table and as JSON; a text that reads back as the sheet; and
--- why a target is implied, or that it isn't.
+-- The kinds of page that a sheet can be shown as: the display line by line, as a table and as JSON; a text that reads back as the sheet;
+-- why a target is implied, or that it isn't; the maximal sets of each part; a certificate that they are all that there are; and why a target
+-- isn't implied, or that it is.
 pub data PageKind : Type 0 where
   lines_page : PageKind
   grid_page : PageKind
   json_page : PageKind
   text_page : PageKind
   why_page : Target → PageKind
+  repairs_page : PageKind
+  proof_page : PageKind
+  whynot_page : Target → PageKind
 
 -- an edit of the sheet, a budget, or a page
 pub data Task : Type 0 where
@@ -133,6 +138,9 @@ pub data IsTaskOf (sheet : Sheet) : Asked → Task → Type 0 where
   showing_grid : IsTaskOf sheet asks_grid (shows grid_page)
   showing_json : IsTaskOf sheet asks_json (shows json_page)
   dumping : IsTaskOf sheet asks_dump (shows text_page)
+  listing : IsTaskOf sheet asks_repairs (shows repairs_page)
+  proving : HasFewSets sheet → IsTaskOf sheet asks_prove_repairs (shows proof_page)
+  doubting : {c : Cell} {v : Value} (t : Target) → IsEntryNamed sheet.universe c v (entry_of_target t) → t.holds ≡ true → HasFewSets sheet → IsTaskOf sheet (asks_whynot c v) (shows (whynot_page t))
 
 -- the task is an edit of the state, and no page
 abbrev pub IsEdit : Task → Type 0
@@ -158,13 +166,15 @@ IsAskedFault sheet (asks_enter c v) = IsDeclarationFault sheet (enter c v)
 IsAskedFault sheet (asks_also c v) = IsDeclarationFault sheet (also c v)
 IsAskedFault sheet (asks_clear_one c v) = IsDeclarationFault sheet (enter c v)
 IsAskedFault sheet (asks_why c v holds) = IsDeclarationFault sheet (enter c v)
+IsAskedFault sheet (asks_whynot c v) = IsDeclarationFault sheet (enter c v)
 IsAskedFault sheet (asks_clear c) = IsCellFault sheet.universe c
 IsAskedFault sheet (asks_rule n f) = IsRuleFault sheet f no_test
 IsAskedFault sheet (asks_budget n) = test (IsBudget n) (fault.Limit limited.Budget) no_test
 IsAskedFault sheet asked = no_test
 
 -- The command is refused so: for its names, sorts and limits first; to clear a cell without an entry, or an entry that doesn't stand; to add a
--- rule of a name that a rule has, to drop a rule that isn't there; or to add a rule with which the sheet is too large.
+-- rule of a name that a rule has, to drop a rule that isn't there; to add a rule with which the sheet is too large; or to tell a certificate
+-- of more maximal sets than one may have.
 pub data IsRefusalOf (sheet : Sheet) : Asked → Refusal → Type 0 where
   by_fault : {a : Asked} {why : Refusal} (e : SortFault) → IsAskedFault sheet a e → IsSortRefusal e why → IsRefusalOf sheet a why
   without_entry : {c : Cell} (k : CellId) → IsCellNamed sheet.universe c k → ¬ HasEntryOf sheet k → IsRefusalOf sheet (asks_clear c) NoEntry
@@ -172,6 +182,8 @@ pub data IsRefusalOf (sheet : Sheet) : Asked → Refusal → Type 0 where
   of_old_name : {n : List ℕ} {f : Formula} (r : NamedStatement) → IsRuleOf sheet n f r → ¬ IsNewName sheet.rules n → IsRefusalOf sheet (asks_rule n f) DuplicateRule
   of_no_rule : {n : List ℕ} → IsNewName sheet.rules n → IsRefusalOf sheet (asks_drop n) NoRule
   too_large : {n : List ℕ} {f : Formula} (r : NamedStatement) → IsNewRule sheet n f r → most_weight < weight (with_rule sheet r) → IsRefusalOf sheet (asks_rule n f) TooLarge
+  too_many_sets : HasManySets sheet → IsRefusalOf sheet asks_prove_repairs TooManySets
+  too_many_for : {c : Cell} {v : Value} (e : Entry) → IsEntryNamed sheet.universe c v e → HasManySets sheet → IsRefusalOf sheet (asks_whynot c v) TooManySets
 
 -- The command asks to add this rule, with which the sheet isn't too large and no assignment makes every rule true.
 pub data MakesContradiction (sheet : Sheet) : Asked → NamedStatement → Type 0 where

@@ -1,26 +1,52 @@
 -- What the pages of a state say.
-use Rattle.std.specs.Prelude.{◌≡◌, ℕ, List, codes, string_bytes}
+use Rattle.std.specs.Prelude.{◌≡◌, ℕ, List, AllPairs, codes, map, string_bytes}
 use Rattle.pc_sheet.specs.Sheet.{Sheet}
 use Rattle.pc_sheet.specs.Entailment.{IsImplied}
 use Rattle.pc_sheet.specs.declared.ids.Target.{Target}
 use Rattle.pc_reason.specs.Reasons.{IsTargetOf}
 use Rattle.pc_reason.specs.Refutations.{IsAgainst}
-use Rattle.pc_accept.specs.Accepts.{Certificate}
+use Rattle.pc_accept.specs.Accepts.{Claim, repairs, unimplied, Certificate}
+use Rattle.pc_accept.specs.Sets.{GivenSet}
+use Rattle.pc_sheet.specs.declared.ids.Entry.{Entry}
+use Rattle.pc_ground.specs.Naming.{names_of}
+use Rattle.pc_world_list.specs.Worlds.{set_of}
+use Rattle.pc_choices.specs.FewSets.{AreMaximalSets}
+use Rattle.pc_choices.specs.SetCertificates.{IsOnSets, SetParts, AreCertified}
+use Rattle.pc_choices.specs.declared.set_proof.SetsClaim.{SetsClaim}
+use Rattle.pc_choices.specs.declared.set_proof.SetsClaim.TheVariants.{Repairs, Lacking}
+use Rattle.pc_repairs.specs.Listed.{ComesFirst, IsListed}
 use Rattle.pc_writer.specs.SheetText.{sheet_text, ended}
 use Rattle.pc_display.specs.Show.{IsShown}
 use Rattle.pc_display.specs.Grid.{IsGrid}
 use Rattle.pc_display.specs.Json.{IsJson}
 use Rattle.pc_cert_text.specs.CertificateText.{certificate_text}
 use Rattle.pc_cert_text.specs.Why.{IsFor}
-use Rattle.pc_spreadsheet.specs.Judgement.{State, PageKind, lines_page, grid_page, json_page, text_page, why_page}
+use Rattle.pc_spreadsheet.specs.Judgement.{State, PageKind, lines_page, grid_page, json_page, text_page, why_page, repairs_page, proof_page, whynot_page}
 use Rattle.pc_spreadsheet.specs.declared.page.Page.{Page}
-use Rattle.pc_spreadsheet.specs.declared.page.Page.TheVariants.{Display, Grid, Json, SheetText, Why}
+use Rattle.pc_spreadsheet.specs.declared.page.Page.TheVariants.{Display, Grid, Json, SheetText, Why, Listed, Proof, Implied, Unimplied}
 
 -- Why a target is implied: a certificate that the sheet accepts, whose uses are the least support, oldest first; and `not implied` exactly
 -- where it isn't.
 pub data IsWhy (sheet : Sheet) (t : Target) (text : List ℕ) : Type 0 where
   certified : (c : Certificate) → IsFor sheet t c → text ≡ certificate_text sheet c → IsWhy sheet t text
   not_implied : ¬ IsImplied sheet t → text ≡ ended (codes "not implied") → IsWhy sheet t text
+
+abbrev pub uses_of : GivenSet → List Entry
+uses_of s = s.uses
+
+-- The text is a certificate on sets of this claim that the sheet accepts, and its sets are the maximal sets in their order, each with its
+-- oldest entry first.
+pub record IsCertificateOnSets (sheet : Sheet) (claim : Claim) (text : List ℕ) : Type 0 where
+  pub certificate : Certificate
+  pub accepted : IsOnSets sheet claim certificate
+  pub sets : AreMaximalSets sheet (map uses_of certificate.sets)
+  pub order : AllPairs (ComesFirst sheet.entries) (map uses_of certificate.sets)
+  pub text_is : text ≡ certificate_text sheet certificate
+
+-- Why a target isn't implied: a certificate that it isn't; and `implied` exactly where it is.
+pub data IsWhyNot (sheet : Sheet) (t : Target) (text : List ℕ) : Type 0 where
+  shown_unimplied : ¬ IsImplied sheet t → IsCertificateOnSets sheet (unimplied t) text → IsWhyNot sheet t text
+  implied : IsImplied sheet t → text ≡ ended (codes "implied") → IsWhyNot sheet t text
 
 -- the display as JSON, and a line feed
 abbrev pub IsJsonLine : Sheet → List ℕ → Type 0
@@ -33,6 +59,9 @@ PageSays grid_page sheet text = IsGrid sheet text
 PageSays json_page sheet text = IsJsonLine sheet text
 PageSays text_page sheet text = text ≡ sheet_text sheet
 PageSays (why_page t) sheet text = IsWhy sheet t text
+PageSays repairs_page sheet text = IsListed sheet text
+PageSays proof_page sheet text = IsCertificateOnSets sheet repairs text
+PageSays (whynot_page t) sheet text = IsWhyNot sheet t text
 
 -- the kind of a page as it is handed on
 abbrev pub kind_of : Page → PageKind
@@ -41,14 +70,27 @@ kind_of Grid = grid_page
 kind_of (Json text) = json_page
 kind_of SheetText = text_page
 kind_of (Why t) = why_page t
+kind_of (Listed text) = repairs_page
+kind_of (Proof proof) = proof_page
+kind_of (Implied t) = whynot_page t
+kind_of (Unimplied t proof) = whynot_page t
 
 abbrev pub IsPage : Page → State → List ℕ → Type 0
 IsPage page state text = PageSays (kind_of page) state.sheet text
 
--- the text that a page carries is the sheet's display as JSON, and a target is one of the sheet's
+-- the parts of a certificate of this claim, with the sheet's names, whose sets are the maximal ones in their order
+abbrev pub Certifies : Sheet → SetsClaim → SetParts → Type 0
+Certifies sheet claim parts = (parts.claim ≡ claim) × AreCertified sheet (names_of sheet) parts × AreMaximalSets sheet (map set_of parts.worlds) × AllPairs (ComesFirst sheet.entries) (map set_of parts.worlds)
+
+-- What a page carries is the sheet's: a text is its display as JSON or lists its maximal sets, a target is one of its own, and a
+-- certificate is of its maximal sets; and whether a target is implied is as the page says.
 abbrev pub CanShow : Page → State → Type 0
 CanShow (Json text) state = IsJson state.sheet (string_bytes text)
 CanShow (Why t) state = IsTargetOf state.sheet.universe t
+CanShow (Listed text) state = IsListed state.sheet text.items
+CanShow (Proof proof) state = Certifies state.sheet Repairs proof
+CanShow (Implied t) state = IsImplied state.sheet t
+CanShow (Unimplied t proof) state = (¬ IsImplied state.sheet t) × Certifies state.sheet (Lacking t) proof
 CanShow page state = Unit {0}
 
 -- the text is a certificate of the sheet's inconsistency that the sheet accepts

@@ -9,6 +9,7 @@ use crate::edits::{add_rule, clear, drop_rule, enter, enter_beside, remove};
 use crate::page::Page;
 use crate::pages::has_displays;
 use crate::refusal::refuse;
+use crate::repairs::{list_repairs, prove_repairs, why_not};
 use crate::spending::Told;
 use pc_display::json;
 use pc_logic::Book;
@@ -81,5 +82,8 @@ pub(crate) fn obey(
         Command::Budget(number) => set_budget(session, *number),
         Command::Grid => Reply::Shown(Page::Grid),
         Command::Json => show_json(alloc, session),
+        Command::Repairs => list_repairs(alloc, session),
+        Command::ProveRepairs => prove_repairs(alloc, session, notes),
+        Command::WhyNot(cell, value) => why_not(alloc, session, cell, value, notes),
     }
 }

@@ -14,9 +14,11 @@ mod made;
 pub mod page;
 mod pages;
 mod refusal;
+mod repairs;
 mod spending;
 mod spreadsheet;
 mod summary;
+mod text;
 
 pub use law::{
     lines_have_one_verdict, sheets_have_one_summary, states_are_well_formed, texts_have_one_verdict,

@@ -1,5 +1,6 @@
 //! What a spreadsheet can be shown as.
 
+use pc_choices::SetProof;
 use pc_sheet::Target;
 
 /// What a spreadsheet can be shown as.
@@ -15,4 +16,12 @@ pub enum Page {
     SheetText,
     /// Why the target is implied, or that it isn't.
     Why(Target),
+    /// Which entries could be kept together, part by part, as text.
+    Listed(Vec<u8>),
+    /// A certificate that the maximal sets are all that there are.
+    Proof(SetProof),
+    /// That the target is implied.
+    Implied(Target),
+    /// A certificate of the maximal sets by which the target isn't implied.
+    Unimplied(Target, SetProof),
 }

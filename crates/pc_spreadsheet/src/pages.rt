@@ -1,16 +1,25 @@
 //! The pages of a spreadsheet, written.
-ghost use Rattle.std.specs.Prelude.{ℕ, List, string_bytes};
+ghost use Rattle.std.specs.Prelude.{ℕ, AllPairs, List, map, string_bytes};
+ghost use Rattle.pc_ground.specs.Naming.{names_of};
+ghost use Rattle.pc_repairs.specs.Listed.{ComesFirst};
+ghost use Rattle.pc_world_list.specs.Worlds.{set_of};
+ghost use Rattle.pc_choices.specs.FewSets.{AreMaximalSets};
+ghost use Rattle.pc_choices.specs.SetCertificates.{AreCertified, claim_on_sets};
+ghost use Rattle.pc_choices.specs.declared.set_proof.SetsClaim.TheVariants.{Lacking, Repairs};
+ghost use Rattle.pc_accept.specs.Accepts.{repairs};
+ghost use Rattle.pc_sheet.specs.Entailment.{IsImplied};
 ghost use Rattle.pc_reason.specs.Reasons.{IsTargetOf};
 ghost use Rattle.pc_writer.specs.Writes.{Writes};
 ghost use Rattle.pc_spreadsheet.specs.Commands.{state_of};
-ghost use Rattle.pc_spreadsheet.specs.Pages.{CanShow, IsCertificateAgainst, IsPage, IsWhy};
+ghost use Rattle.pc_spreadsheet.specs.Pages.{CanShow, Certifies, IsCertificateAgainst, IsCertificateOnSets, IsPage, IsWhy, IsWhyNot};
 ghost use Rattle.pc_writer.specs.SheetText.{ended};
 ghost use Rattle.pc_display.specs.Show.{IsShown};
 ghost use Rattle.pc_display.specs.Grid.{IsGrid};
 ghost use Rattle.pc_display.specs.Json.{IsJson};
 
 use crate::page::Page;
-use pc_cert_text::{write_refutation, write_why};
+use pc_cert_text::{write_refutation, write_sets, write_why};
+use pc_choices::SetProof;
 use pc_display::{grid, sheet_has_one_display, show};
 use pc_logic::Book;
 use pc_port::{Failed, Sink};
@@ -64,6 +73,38 @@ fn explain<O: Sink>(session: &Session, target: Target, out: &mut O) -> Result<()
     }
 }
 
+// Writes a certificate of the book's maximal sets.
+fn write_proof<O: Sink>(session: &Session, proof: &SetProof, out: &mut O) -> Result<(), Failed>
+    requires certified { AreCertified session.now.sheet (names_of session.now.sheet) proof.now }
+    requires sets { AreMaximalSets session.now.sheet (map set_of proof.now.worlds) }
+    requires order { AllPairs (ComesFirst session.now.sheet.entries) (map set_of proof.now.worlds) }
+    ensures { (text : List ℕ) × IsCertificateOnSets session.now.sheet (claim_on_sets proof.now.claim) text × Writes O.given O.faults out.old out.new result text }
+{
+    write_sets(session.book(), session.ground().names(), proof, out)
+}
+
+// Writes the certificate that the maximal sets are all that there are.
+fn write_repairs<O: Sink>(session: &Session, proof: &SetProof, out: &mut O) -> Result<(), Failed>
+    requires { Certifies session.now.sheet Repairs proof.now }
+    ensures { (text : List ℕ) × IsCertificateOnSets session.now.sheet repairs text × Writes O.given O.faults out.old out.new result text }
+{
+    write_proof(session, proof, out)
+}
+
+// Writes the certificate of a target that isn't implied.
+fn write_unimplied<O: Sink>(
+    session: &Session,
+    target: Target,
+    proof: &SetProof,
+    out: &mut O,
+) -> Result<(), Failed>
+    requires unimplied { ¬ IsImplied session.now.sheet target }
+    requires certified { Certifies session.now.sheet (Lacking target) proof.now }
+    ensures { (text : List ℕ) × IsWhyNot session.now.sheet target text × Writes O.given O.faults out.old out.new result text }
+{
+    write_proof(session, proof, out)
+}
+
 /// Writes a page.
 pub(crate) fn write_page<O: Sink>(session: &Session, page: &Page, out: &mut O) -> Result<(), Failed>
     requires { CanShow page.now (state_of session.now) }
@@ -75,6 +116,10 @@ pub(crate) fn write_page<O: Sink>(session: &Session, page: &Page, out: &mut O) -
         Page::Json(text) => write_line(text, out),
         Page::SheetText => write_sheet(session.book(), out),
         Page::Why(target) => explain(session, *target, out),
+        Page::Listed(text) => write_text(text.as_slice(), out),
+        Page::Proof(proof) => write_repairs(session, proof, out),
+        Page::Implied(_) => write_text(b"implied\n", out),
+        Page::Unimplied(target, proof) => write_unimplied(session, *target, proof, out),
     }
 }
 

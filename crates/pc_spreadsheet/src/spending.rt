@@ -1,11 +1,14 @@
 //! What searches spend: how it is told and noted.
 ghost use Rattle.std.specs.Prelude.{◌≡◌};
 ghost use Rattle.pc_theory.specs.Spendings.{IsLawful};
+ghost use Rattle.pc_theory.specs.WholeSpendings.{IsSpentWhole};
 ghost use Rattle.pc_spreadsheet.specs.Allowed.{told_counts_of};
 ghost use Rattle.pc_spreadsheet.specs.Commands.{NotesSpent, parted};
+ghost use Rattle.pc_spreadsheet.specs.inside.Repairs.{NotesWhole};
 
 use crate::page::Page;
 use pc_lits::Tally;
+use pc_log::Log;
 use pc_logic::Book;
 use pc_reason::Refutation;
 use pc_refusals::{Counts, Refusal};
@@ -42,6 +45,17 @@ pub(crate) fn parted(refused: EditRefused) -> Result<Spending, Told>
         }
         EditRefused::Spent(spending) => Ok(spending),
         EditRefused::Memory => Err(Reply::Memory),
+    }
+}
+
+/// Notes what searches of the whole book have spent, and tells it.
+pub(crate) fn note_whole(book: &Book, logs: &[Log], tally: Tally, notes: &mut Spendings) -> Told
+    requires { IsSpentWhole book.now logs.now tally }
+    ensures { NotesWhole book.now tally notes.old notes.new result }
+{
+    match notes.note_whole(book, logs, tally) {
+        Ok(()) => Reply::Refused(Refusal::Spent(counts_of(tally)), None),
+        Err(AllocError) => Reply::Memory,
     }
 }
 

@@ -11,7 +11,7 @@ use Rattle.pc_syntax.specs.declared.tree.Command.{Command}
 use Rattle.pc_syntax.specs.declared.tree.CommandFault.{CommandFault}
 use Rattle.pc_syntax.specs.declared.tree.CommandFault.TheVariants as command_fault
 use Rattle.pc_syntax.specs.Spelling.{IsNothing, IsSpelled}
-use Rattle.pc_syntax.specs.Tree.{Asked, asked_of, asks_enter, asks_also, asks_clear, asks_clear_one, asks_rule, asks_drop, asks_budget, asks_show, asks_grid, asks_json, asks_why, asks_dump}
+use Rattle.pc_syntax.specs.Tree.{Asked, asked_of, asks_enter, asks_also, asks_clear, asks_clear_one, asks_rule, asks_drop, asks_budget, asks_show, asks_grid, asks_json, asks_why, asks_dump, asks_repairs, asks_prove_repairs, asks_whynot}
 use Rattle.pc_syntax.specs.Command.{command_keyword, FollowsCommand, IsCommand, HasCommand, no_words, some_words, CommandReading, no_command, asks, IsCommandReading, empty_command, spelled_command, faulty_command, TakesNoMemory}
 use Rattle.pc_syntax.specs.Told.{Spells, SpellsNone, IsLone, command_fault_of, IsCommandTold, TellsCommand}
 use Rattle.pc_syntax.specs.Sized.{too_many, IsSizedReading, IsNestedReading}
@@ -42,6 +42,9 @@ is_a_name asks_grid = refl
 is_a_name asks_json = refl
 is_a_name (asks_why c v h) = refl
 is_a_name asks_dump = refl
+is_a_name asks_repairs = refl
+is_a_name asks_prove_repairs = refl
+is_a_name (asks_whynot c v) = refl
 
 spells_one : (text : List ℕ) (a : Asked) → IsOneName text (command_keyword a) → Spells text (λ ws. ws ≡ name (command_keyword a) ∷ [])
 spells_one text a one = record {

@@ -7,7 +7,7 @@ use Rattle.pc_formula.specs.Word.{Word, sign}
 use Rattle.pc_formula.specs.Tree.{Formula, Cell, Value}
 use Rattle.pc_formula.specs.Value.{DerivesCell}
 use Rattle.pc_formula.specs.Equation.{IsEquation}
-use Rattle.pc_syntax.specs.Tree.{Asked, asks_enter, asks_also, asks_clear, asks_clear_one, asks_rule, asks_drop, asks_budget, asks_show, asks_grid, asks_json, asks_why, asks_dump}
+use Rattle.pc_syntax.specs.Tree.{Asked, asks_enter, asks_also, asks_clear, asks_clear_one, asks_rule, asks_drop, asks_budget, asks_show, asks_grid, asks_json, asks_why, asks_dump, asks_repairs, asks_prove_repairs, asks_whynot}
 use Rattle.pc_syntax.specs.Spelling.{IsTooDeep}
 use Rattle.pc_syntax.specs.Fault.{Fault, IsAtFault}
 use Rattle.pc_syntax.specs.Command.{command_keyword, FollowsCommand, IsCommand, HasCommand, no_words, some_words, CommandReading, asks, at_fault, IsCommandReading, empty_command, spelled_command, faulty_command}
@@ -32,6 +32,9 @@ data Start : Type 0 where
   of_json : Start
   of_why : Start
   of_dump : Start
+  of_repairs : Start
+  of_prove : Start
+  of_whynot : Start
   of_none : Start
 
 start : List ℕ → Start
@@ -46,7 +49,10 @@ start text =
     else (if bytes_eq text (codes "grid") then of_grid
     else (if bytes_eq text (codes "json") then of_json
     else (if bytes_eq text (codes "why") then of_why
-    else (if bytes_eq text (codes "dump") then of_dump else of_none))))))))))
+    else (if bytes_eq text (codes "dump") then of_dump
+    else (if bytes_eq text (codes "repairs") then of_repairs
+    else (if bytes_eq text (codes "prove") then of_prove
+    else (if bytes_eq text (codes "whynot") then of_whynot else of_none)))))))))))))
 
 start_of : Asked → Start
 start_of (asks_enter c v) = of_enter
@@ -61,6 +67,9 @@ start_of asks_grid = of_grid
 start_of asks_json = of_json
 start_of (asks_why c v h) = of_why
 start_of asks_dump = of_dump
+start_of asks_repairs = of_repairs
+start_of asks_prove_repairs = of_prove
+start_of (asks_whynot c v) = of_whynot
 
 start_is : (a : Asked) → start (command_keyword a) ≡ start_of a
 unfolding start start_of
@@ -76,6 +85,9 @@ start_is asks_grid = refl
 start_is asks_json = refl
 start_is (asks_why c v h) = refl
 start_is asks_dump = refl
+start_is asks_repairs = refl
+start_is asks_prove_repairs = refl
+start_is (asks_whynot c v) = refl
 
 data Shape : Start → Asked → Type 0 where
   an_enter : (c : Cell) (v : Value) → Shape of_enter (asks_enter c v)
@@ -90,6 +102,9 @@ data Shape : Start → Asked → Type 0 where
   a_json : Shape of_json asks_json
   a_why : (c : Cell) (v : Value) (h : Bool) → Shape of_why (asks_why c v h)
   a_dump : Shape of_dump asks_dump
+  a_repairs : Shape of_repairs asks_repairs
+  a_prove : Shape of_prove asks_prove_repairs
+  a_whynot : (c : Cell) (v : Value) → Shape of_whynot (asks_whynot c v)
 
 shape : (a : Asked) → Shape (start_of a) a
 unfolding start_of
@@ -105,6 +120,9 @@ shape asks_grid = a_grid
 shape asks_json = a_json
 shape (asks_why c v h) = a_why c v h
 shape asks_dump = a_dump
+shape asks_repairs = a_repairs
+shape asks_prove_repairs = a_prove
+shape (asks_whynot c v) = a_whynot c v
 
 -- a command is one of those that its first word says
 shape_of : (a : Asked) (text : List ℕ) (t : Start) → start text ≡ t → command_keyword a ≡ text → Shape t a
@@ -135,6 +153,9 @@ one_shape t a b ws (a_why c v h) (a_why d w i) p q =
     let both = equation_once ws c d v w h i p q in
     ap (λ m. asks_why m v h) both.0 ∙ ap (λ u. asks_why d u h) both.1 ∙ ap (λ s. asks_why d w s) both.2
 one_shape t a b ws a_dump a_dump p q = refl
+one_shape t a b ws a_repairs a_repairs p q = refl
+one_shape t a b ws a_prove a_prove p q = refl
+one_shape t a b ws (a_whynot c v) (a_whynot d w) p q = let both = equation_once ws c d v w true true p q in ap (λ m. asks_whynot m v) both.0 ∙ ap (λ u. asks_whynot d u) both.1
 
 pub one_command : (ws : List Word) (a b : Asked) → IsCommand ws a → IsCommand ws b → a ≡ b
 one_command ws a b p q =

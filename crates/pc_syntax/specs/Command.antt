@@ -7,7 +7,7 @@ use Rattle.pc_formula.specs.Value.{DerivesNumber, DerivesCell}
 use Rattle.pc_formula.specs.Equation.{equality, IsEquation}
 use Rattle.pc_syntax.specs.Spelling.{IsNothing, IsSpelled}
 use Rattle.pc_syntax.specs.Fault.{Fault, IsAtFault}
-use Rattle.pc_syntax.specs.Tree.{Asked, asks_enter, asks_also, asks_clear, asks_clear_one, asks_rule, asks_drop, asks_budget, asks_show, asks_grid, asks_json, asks_why, asks_dump}
+use Rattle.pc_syntax.specs.Tree.{Asked, asks_enter, asks_also, asks_clear, asks_clear_one, asks_rule, asks_drop, asks_budget, asks_show, asks_grid, asks_json, asks_why, asks_dump, asks_repairs, asks_prove_repairs, asks_whynot}
 use Rattle.pc_syntax.specs.Clause.{IsRule}
 
 -- the word that starts a command; `clear` starts two, which differ by what stands behind it
@@ -24,6 +24,9 @@ command_keyword asks_grid = codes "grid"
 command_keyword asks_json = codes "json"
 command_keyword (asks_why c v holds) = codes "why"
 command_keyword asks_dump = codes "dump"
+command_keyword asks_repairs = codes "repairs"
+command_keyword asks_prove_repairs = codes "prove"
+command_keyword (asks_whynot c v) = codes "whynot"
 
 -- what stands behind the word
 abbrev pub FollowsCommand : Asked → List Word → Type 0
@@ -39,6 +42,9 @@ FollowsCommand asks_grid ws = ws ≡ []
 FollowsCommand asks_json ws = ws ≡ []
 FollowsCommand (asks_why c v holds) ws = IsEquation ws (equality holds) c v
 FollowsCommand asks_dump ws = ws ≡ []
+FollowsCommand asks_repairs ws = ws ≡ []
+FollowsCommand asks_prove_repairs ws = ws ≡ name (codes "repairs") ∷ []
+FollowsCommand (asks_whynot c v) ws = IsEquation ws Equal c v
 
 -- the words are a command, all of them
 pub record IsCommand (ws : List Word) (a : Asked) : Type 0 where
@@ -77,4 +83,5 @@ IsAlone asks_show = Unit {0}
 IsAlone asks_grid = Unit {0}
 IsAlone asks_json = Unit {0}
 IsAlone asks_dump = Unit {0}
+IsAlone asks_repairs = Unit {0}
 IsAlone a = ⊥

@@ -33,6 +33,9 @@ pub data Asked : Type 0 where
   asks_json : Asked
   asks_why : Cell → Value → Bool → Asked
   asks_dump : Asked
+  asks_repairs : Asked
+  asks_prove_repairs : Asked
+  asks_whynot : Cell → Value → Asked
 
 -- what a declaration's tree stands for
 abbrev pub declared_of : Declaration → Declared
@@ -59,6 +62,9 @@ asked_of asks.Grid = asks_grid
 asked_of asks.Json = asks_json
 asked_of (asks.Why c v holds) = asks_why (cell_of c) (value_of v) holds
 asked_of asks.Dump = asks_dump
+asked_of asks.Repairs = asks_repairs
+asked_of asks.ProveRepairs = asks_prove_repairs
+asked_of (asks.WhyNot c v) = asks_whynot (cell_of c) (value_of v)
 
 -- the numbered declarations of a sheet's tree
 abbrev pub sheet_of : SheetTree → List (ℕ × Declared)

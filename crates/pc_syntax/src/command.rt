@@ -116,6 +116,13 @@ fn command_of(alloc: Global, start: &str, words: &mut Words<'_>) -> Result<Comma
         let (cell, value, holds) = read_question(alloc, words)?;
         return Ok(Command::Why { cell, value, holds });
     }
+    if is_word(start, "prove") {
+        return proving(words);
+    }
+    if is_word(start, "whynot") {
+        let (cell, value) = read_equation(alloc, words)?;
+        return Ok(Command::WhyNot(cell, value));
+    }
     Err(Refusal::Syntax)
 }
 
@@ -135,6 +142,21 @@ fn clearing(alloc: Global, words: &mut Words<'_>) -> Result<Command, Refusal>
     Ok(Command::ClearOne(cell, value))
 }
 
+// Reads the word `repairs`, and the end.
+fn proving(words: &mut Words<'_>) -> Result<Command, Refusal>
+    ensures told { IfOk result (λ c. Asks (codes "prove") (asked_of c) words.old) }
+    ensures none { result ≡ Err Refusal.Syntax → (a : Asked) → Asks (codes "prove") a words.old → ⊥ }
+{
+    let Some(word) = words.take_name() else {
+        return Err(Refusal::Syntax);
+    };
+    if !is_word(word, "repairs") {
+        return Err(Refusal::Syntax);
+    }
+    read_end(words)?;
+    Ok(Command::ProveRepairs)
+}
+
 // The command that is this one word.
 fn one_word(start: &str) -> Option<Command>
     ensures { MatchOption result ((a : Asked) → IsAlone a → command_keyword a ≡ start.now → ⊥) (λ c. IsAlone (asked_of c) × (command_keyword (asked_of c) ≡ start.now)) }
@@ -150,6 +172,9 @@ fn one_word(start: &str) -> Option<Command>
     }
     if is_word(start, "dump") {
         return Some(Command::Dump);
+    }
+    if is_word(start, "repairs") {
+        return Some(Command::Repairs);
     }
     None
 }

@@ -63,6 +63,9 @@ pub enum Command {
         holds: bool,
     },
     Dump,
+    Repairs,
+    ProveRepairs,
+    WhyNot(CellTree, ValueTree),
 }
 
 /// A rule as it is written.

@@ -1,4 +1,19 @@
+use Rattle.std.proofs.Common.{refl}
+use Rattle.pc_writer.proofs.InTurn.{Writes-same}
+use Rattle.pc_spreadsheet.specs.Pages.{implied}
 use Rattle.pc_spreadsheet.proofs.pages.write_page.Goals as goal
 
 pub returns-in-Why : goal.returns-in-Why
 returns-in-Why g c = rw c.in-Why.is c.explain.ensures
+
+pub returns-in-Proof : goal.returns-in-Proof
+returns-in-Proof g c = rw c.in-Proof.is c.write_repairs.ensures
+
+pub returns-in-Unimplied : goal.returns-in-Unimplied
+returns-in-Unimplied g c = rw c.in-Unimplied.is c.write_unimplied.ensures
+
+pub returns-in-Implied : goal.returns-in-Implied
+returns-in-Implied g c = rw c.in-Implied.is (_, implied (rw c.in-Implied.is at c.requires) refl, c.write_text-in-Implied.ensures)
+
+pub returns-in-Listed : goal.returns-in-Listed
+returns-in-Listed g c = rw c.in-Listed.is (c.in-Listed.text.items, rw c.in-Listed.is at c.requires, Writes-same c.as_slice.ensures.value c.write_text.ensures)
