@@ -8,11 +8,11 @@ use Rattle.pc_sortcheck.specs.Laws.{SheetsAreWellFormed}
 use Rattle.pc_refusals.specs.declared.refusal.Refusal.{Refusal}
 use Rattle.pc_refusals.specs.declared.refusal.SheetRefusal.{SheetRefusal}
 use Rattle.pc_transcript.specs.Answer.{Answer, silent, accepted, shown, refused, no_memory}
-use Rattle.pc_spreadsheet.specs.Judgement.{State, Task, IsTaskOf, entering, entering_beside, clearing, removing, adding, dropping, budgeting, asking, showing, showing_grid, showing_json, dumping, state_after, enters, enters_beside, clears, removes, adds, drops, budgets, shows, IsEdit, Verdict, nothing, does, refuses, contradicts, IsVerdictOn, opens, rejects, IsRejected}
-use Rattle.pc_spreadsheet.specs.Allowed.{Notes, Allows, RefusesLine, as_judged, as_contradiction, as_spent, RefusesText, for_fault, for_weight, for_rules, for_search}
+use Rattle.pc_spreadsheet.specs.Judgement.{State, Task, IsTaskOf, entering, entering_beside, clearing, removing, adding, dropping, budgeting, asking, showing, showing_grid, showing_json, dumping, listing, proving, doubting, state_after, enters, enters_beside, clears, removes, adds, drops, budgets, shows, IsEdit, Verdict, nothing, does, refuses, contradicts, IsVerdictOn, opens, rejects, IsRejected}
+use Rattle.pc_spreadsheet.specs.Allowed.{Notes, Allows, RefusesLine, as_judged, as_contradiction, as_spent, as_proof_spent, RefusesText, for_fault, for_weight, for_rules, for_search}
 use Rattle.pc_spreadsheet.specs.Laws.{LinesHaveOneVerdict, TextsHaveOneVerdict, AnswersKeepForm}
 use Rattle.pc_complete.specs.Complete.{HasEnough, IsDone, Tells, IsAsJudged, LinesAreAnsweredInFull, TranscriptsAreInFull, HasEnoughFor, TextsAreRefusedInFull, TextsOfEnoughAreOpened}
-use Rattle.pc_complete.proofs.Spending.{not_spent, search_formed}
+use Rattle.pc_complete.proofs.Spending.{not_spent, proof_not_spent, search_formed}
 
 -- ---- lines
 
@@ -43,7 +43,10 @@ module _ (one : LinesHaveOneVerdict) (ordered : CellsAreNumberedInOrder) (old ne
   refusal why more (as_contradiction r this certificate why_is same) = told_by (refused why more) (contradicts r) this (more, certificate, ap (λ (w : Refusal). refused w more) why_is) (notes_stay old new same)
   refusal why more (as_spent counts spends why_is none same) =
       let s = spends.2 in
-      absurd (not_spent s.made (search_formed ordered old.0.sheet spends.0 s.cell s.made formed s.needs) s.cell old.0.budget some (enough spends.0 s.cell s.made spends.1 s.needs) s.spent.spending s.spent.lawful)
+      absurd (not_spent s.made (search_formed ordered old.0.sheet spends.0 s.cell s.made formed s.needs) s.cell old.0.budget some (enough.to_edit spends.0 s.cell s.made spends.1 s.needs) s.spent.spending s.spent.lawful)
+  refusal why more (as_proof_spent counts spends why_is none same) =
+      let s = spends.2 in
+      absurd (proof_not_spent old.0.sheet formed old.0.budget some (enough.to_prove spends.0 spends.1 s.0) counts old.1 new.1 s.1)
 
   answered : (answer : Answer) → Allows old line answer new → IsAsJudged old verdict answer new
   answered silent (this, same) = told_by silent nothing this refl (notes_stay old new same)
@@ -74,6 +77,9 @@ budget_stays state asked task some showing = some
 budget_stays state asked task some showing_grid = some
 budget_stays state asked task some showing_json = some
 budget_stays state asked task some dumping = some
+budget_stays state asked task some listing = some
+budget_stays state asked task some (proving few) = some
+budget_stays state asked task some (doubting t named holds few) = some
 
 same_budget : (old new : State) → 1 ≤ old.budget → new ≡ old → 1 ≤ new.budget
 same_budget old new some same = subst (λ (s : State). 1 ≤ s.budget) (sym same) some
@@ -88,6 +94,7 @@ keeps_budget old new line (shown text) some is = same_pair old new some is.3
 keeps_budget old new line (refused why more) some (as_judged is none same) = same_pair old new some same
 keeps_budget old new line (refused why more) some (as_contradiction r is against why_is same) = same_pair old new some same
 keeps_budget old new line (refused why more) some (as_spent counts spends why_is none same) = same_budget old.0 new.0 some same
+keeps_budget old new line (refused why more) some (as_proof_spent counts spends why_is none same) = same_budget old.0 new.0 some same
 keeps_budget old new line no_memory some is = same_pair old new some is.1
 
 pub transcripts_in_full : LinesAreAnsweredInFull → AnswersKeepForm → TranscriptsAreInFull

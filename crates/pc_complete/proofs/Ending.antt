@@ -2,7 +2,7 @@
 use Rattle.std.proofs.Common.{◌≡◌, ◌≢◌, ℕ, ◌⊎◌, Bool, true, false, inl, inr, List, [], ◌∷◌, ◌++◌, refl, sym, ◌∙◌, ap, subst, append_assoc}
 use Rattle.std.specs.List.{list_any}
 use Rattle.std.specs.Io.KnownBytes.{IsAtEnd}
-use Rattle.pc_words.specs.Words.{Mode, replays, edits, checks, demonstrates, Request, FitsWords}
+use Rattle.pc_words.specs.Words.{Mode, replays, edits, checks, merges, posts, demonstrates, Request, FitsWords}
 use Rattle.pc_words.specs.Laws.{WordsFitOneRequest}
 use Rattle.pc_refusals.specs.declared.refusal.SheetRefusal.{SheetRefusal}
 use Rattle.pc_refusals.specs.declared.status.Status.{Status}
@@ -152,6 +152,8 @@ mode_goes : (mode : Mode) (budget : ℕ) (notes : Notes) → IsOfCommands mode �
 mode_goes replays budget notes of events stage notes' c = replay_goes (Starts budget) (RefusesText budget) Allows notes events stage notes' c
 mode_goes (edits file) budget notes of events stage notes' c = edit_goes (Starts budget) (RefusesText budget) Allows file notes events stage notes' c
 mode_goes (checks file) budget notes of events stage notes' c = absurd of
+mode_goes (merges file) budget notes of events stage notes' c = absurd of
+mode_goes (posts file) budget notes of events stage notes' c = absurd of
 mode_goes (demonstrates blocks) budget notes of events stage notes' c = absurd of
 
 module _ (one : WordsFitOneRequest) (words : List (List ℕ)) (request : Request) (fits : FitsWords words request) (notes : Notes) where
@@ -174,6 +176,8 @@ words_cause one words replays budget notes fits of most status notes' a b ran =
 words_cause one words (edits file) budget notes fits of most status notes' a b ran =
     has_causes (asked.Course words notes) (by_words one words record { mode = edits file; budget = budget } fits notes (tt, tt) (edit_calmly (Starts budget) (RefusesText budget) Allows file notes)) most status notes' a b ran
 words_cause one words (checks file) budget notes fits of most status notes' a b ran = absurd of
+words_cause one words (merges file) budget notes fits of most status notes' a b ran = absurd of
+words_cause one words (posts file) budget notes fits of most status notes' a b ran = absurd of
 words_cause one words (demonstrates blocks) budget notes fits of most status notes' a b ran = absurd of
 
 pub faultless_runs_end : WordsFitOneRequest → FaultlessRunsAreAnswered

@@ -1,7 +1,7 @@
 -- What a run says, with its answers and refusals in full.
 use Rattle.std.proofs.Common.{ℕ, ◌≤◌, inl, inr, List, [], ◌∷◌, sym, subst, arith}
 use Rattle.pc_lines.specs.Lines as a_line
-use Rattle.pc_words.specs.Words.{Mode, replays, edits, checks, demonstrates, Request, FitsWords}
+use Rattle.pc_words.specs.Words.{Mode, replays, edits, checks, merges, posts, demonstrates, Request, FitsWords}
 use Rattle.pc_sheet.specs.WellFormed.{IsWellFormed}
 use Rattle.pc_refusals.specs.declared.status.Status.{Status}
 use Rattle.pc_course.specs.Events.{Outside, Event}
@@ -10,6 +10,9 @@ use Rattle.pc_course.specs.Runs.{Comes, on_course, past_limit, without_memory, R
 use Rattle.pc_transcript.specs.Transcript.{Transcript, Legal}
 use Rattle.pc_transcript.specs.Course as course
 use Rattle.pc_transcript.specs.Course.{AnswersLines, awaits_line, awaits_end, has_answer, has_all, FromSheet, is_refused, answers, FromInput, awaits_sheet, keeps_sheet, has_sheet, Replay, needs_room, from_input, Edit, awaits_file, has_file}
+use Rattle.pc_collab.specs.Journal.{Post}
+use Rattle.pc_journal.specs.Course as journal
+use Rattle.pc_journal.specs.Course.{AnswersHeld, PostText, Posts}
 use Rattle.pc_spreadsheet.specs.Judgement.{State, Starts}
 use Rattle.pc_spreadsheet.specs.Allowed.{Notes, Allows, RefusesText}
 use Rattle.pc_spreadsheet.specs.Laws.{StartsAreWellFormed, AnswersKeepForm}
@@ -59,6 +62,19 @@ module _ (lines : LinesAreAnsweredInFull) (transcripts : TranscriptsAreInFull) (
       has_answer t mid line taken answer (transcripts start mid t formed some legal) whole count line_taken (lines mid end (a_line.line_text_of line) answer there.0 there.1 allowed) is
   lines_to start end events stage formed some (has_all t legal each all count is) = has_all t (transcripts start end t formed some legal) each all count is
 
+  held_to : (start end : State × Notes) (held : List (List ℕ)) (events : List Event) (stage : Stage) → IsWellFormed start.0.sheet → 1 ≤ start.0.budget → AnswersHeld Allows start held events stage end → AnswersHeld AllowsInFull start held events stage end
+  held_to start end held events stage formed some (journal.has_answer t mid line rest answer legal holds allowed is) =
+      let there = reached start mid t formed some legal in
+      journal.has_answer t mid line rest answer (transcripts start mid t formed some legal) holds (lines mid end (a_line.line_text_of line) answer there.0 there.1 allowed) is
+  held_to start end held events stage formed some (journal.has_all t legal are is) = journal.has_all t (transcripts start end t formed some legal) are is
+
+  posts_to : (start : State × Notes) → IsWellFormed start.0.sheet → 1 ≤ start.0.budget → (old new : State × Notes) (events : List Event) (stage : Stage)
+      → journal.FromInput (journal.AnswersPosts Allows start) old events stage new → journal.FromInput (journal.AnswersPosts AllowsInFull start) old events stage new
+  posts_to start formed some old new events stage (journal.awaits_journal is) = journal.awaits_journal is
+  posts_to start formed some old new events stage (journal.needs_memory taken few is) = journal.needs_memory taken few is
+  posts_to start formed some old new events stage (journal.is_refused text line fault small at_fault is) = journal.is_refused text line fault small at_fault is
+  posts_to start formed some old new events stage (journal.has_journal text a more small reads h is) = journal.has_journal text a more small reads (held_to start new (journal.lines_of_posts a) more stage formed some h) is
+
   module _ (texts : TextsAreRefusedInFull) (first : StartsAreWellFormed) (budget : ℕ) (some : 1 ≤ budget) where
     sheet_to : (text : List ℕ) (notes notes' : Notes) (events : List Event) (stage : Stage) → FromSheet (Starts budget) (RefusesText budget) Allows text notes events stage notes' → FromSheet (Starts budget) (RefusesInFull budget) AllowsInFull text notes events stage notes'
     sheet_to text notes notes' events stage (course.needs_memory is) = course.needs_memory is
@@ -80,10 +96,23 @@ module _ (lines : LinesAreAnsweredInFull) (transcripts : TranscriptsAreInFull) (
     edit_to file notes notes' events stage (awaits_file is) = awaits_file is
     edit_to file notes notes' events stage (has_file text more small h is) = has_file text more small (sheet_to text notes notes' more stage h) is
 
+    post_text_to : (text : List ℕ) (notes notes' : Notes) (events : List Event) (stage : Stage) → PostText (Starts budget) (RefusesText budget) Allows notes text events stage notes' → PostText (Starts budget) (RefusesInFull budget) AllowsInFull notes text events stage notes'
+    post_text_to text notes notes' events stage (journal.needs_sheet_memory is) = journal.needs_sheet_memory is
+    post_text_to text notes notes' events stage (journal.sheet_is_refused why more refuses is) = journal.sheet_is_refused why more (texts budget text why more notes notes' some refuses) is
+    post_text_to text notes notes' events stage (journal.has_sheet start end is h) =
+        journal.has_sheet start end is (posts_to (start, notes) (first budget text start is) (subst (λ n. 1 ≤ n) (sym is.budget) some) (start, notes) (end, notes') events stage h)
+
+    post_file_to : (file : List ℕ) (notes notes' : Notes) (events : List Event) (stage : Stage) → Posts (Starts budget) (RefusesText budget) Allows file notes events stage notes' → Posts (Starts budget) (RefusesInFull budget) AllowsInFull file notes events stage notes'
+    post_file_to file notes notes' events stage (journal.needs_file_memory is) = journal.needs_file_memory is
+    post_file_to file notes notes' events stage (journal.awaits_file is) = journal.awaits_file is
+    post_file_to file notes notes' events stage (journal.has_file text more small h is) = journal.has_file text more small (post_text_to text notes notes' more stage h) is
+
     mode_to : (mode : Mode) (notes notes' : Notes) (events : List Event) (stage : Stage) → CourseIn mode budget notes events stage notes' → CourseInFull mode budget notes events stage notes'
     mode_to replays notes notes' events stage h = replay_to notes notes' events stage h
     mode_to (edits file) notes notes' events stage h = edit_to file notes notes' events stage h
     mode_to (checks file) notes notes' events stage h = h
+    mode_to (merges file) notes notes' events stage h = h
+    mode_to (posts file) notes notes' events stage h = post_file_to file notes notes' events stage h
     mode_to (demonstrates blocks) notes notes' events stage h = h
 
   module _ (texts : TextsAreRefusedInFull) (first : StartsAreWellFormed) (words : List (List ℕ)) (notes : Notes) where

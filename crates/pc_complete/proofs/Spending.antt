@@ -1,5 +1,5 @@
 -- A budget that is lawfully spent is too little; and so is that of each spent answer of a session's calls.
-use Rattle.std.proofs.Common.{ℕ, ◌<◌, ◌≤◌, inl, inr, List, Option, None, Some, arith, not}
+use Rattle.std.proofs.Common.{ℕ, ◌+◌, ◌*◌, ◌^◌, ◌<◌, ◌≤◌, inl, inr, List, Option, None, Some, length, arith, not, sym, subst}
 use Rattle.pc_syntax.specs.Tree.{Asked}
 use Rattle.pc_sheet.specs.Cells.{CellsAreNumberedInOrder}
 use Rattle.pc_sheet.specs.Sheet.{Sheet, with_rule}
@@ -16,12 +16,15 @@ use Rattle.pc_theory.specs.declared.spending.Spending.{Spending}
 use Rattle.pc_enough.specs.Enough.{enough_for_all}
 use Rattle.pc_enough.proofs.Summed.{spendings_of_less}
 use Rattle.pc_enough.proofs.Whole.{parts_need_no_more}
+use Rattle.pc_enough.proofs.OfWhole.{never_spent_whole}
+use Rattle.pc_ground.specs.Variables.{variable_count}
+use Rattle.pc_refusals.specs.declared.refusal.Counts.{Counts}
 use Rattle.pc_session.specs.Answers.{HasPlaceFor}
 use Rattle.pc_session.specs.Rules.{IsRuleAt}
 use Rattle.pc_session.proofs.RuleEdits.{formed_with_rule}
-use Rattle.pc_spreadsheet.specs.Allowed.{NeedsSearch, to_enter, to_enter_beside, to_clear, to_remove, to_add, to_drop}
+use Rattle.pc_spreadsheet.specs.Allowed.{Notes, IsWholeSpent, NeedsSearch, to_enter, to_enter_beside, to_clear, to_remove, to_add, to_drop}
 use Rattle.pc_spreadsheet.proofs.Rules.{formed_with}
-use Rattle.pc_complete.specs.Enough.{IsEnough, IsTooLittle, CallsSpendTooLittle}
+use Rattle.pc_complete.specs.Enough.{IsEnough, IsEnoughToProve, IsTooLittle, CallsSpendTooLittle}
 
 -- ---- lawful spendings
 
@@ -43,6 +46,12 @@ not_enough sheet touched budget little (inr within) = let less = little.for_whol
 
 pub not_spent : (sheet : Sheet) → IsWellFormed sheet → (touched : Option CellId) (budget : ℕ) → 1 ≤ budget → IsEnough sheet touched budget → (s : Spending) → IsLawful sheet touched budget s → ⊥
 not_spent sheet formed touched budget some enough s lawful = not_enough sheet touched budget (too_little sheet formed touched budget some s lawful) enough
+
+-- searches of the whole sheet
+pub proof_not_spent : (sheet : Sheet) → IsWellFormed sheet → (budget : ℕ) → 1 ≤ budget → IsEnoughToProve sheet budget → (counts : Counts) (old new : Notes) → IsWholeSpent budget sheet counts old new → ⊥
+proof_not_spent sheet formed budget some enough counts old new s =
+    never_spent_whole sheet formed (length enough.0 + 1) s.logs s.tally (s.few_calls enough.0 enough.1) (subst (λ l. 1 ≤ l) (sym s.limited) some)
+    (subst (λ l. variable_count sheet * (3 ^ (variable_count sheet + 1) + (length enough.0 + 1)) ≤ l) (sym s.limited) enough.2) s.spent
 
 -- ---- the sheets that edits make
 

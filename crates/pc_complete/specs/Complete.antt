@@ -11,15 +11,17 @@ use Rattle.pc_refusals.specs.declared.refusal.Refusal.TheVariants.{Inconsistent}
 use Rattle.pc_transcript.specs.Answer.{Answer, silent, accepted, shown, refused, no_memory}
 use Rattle.pc_transcript.specs.Transcript.{Transcript, Legal}
 use Rattle.pc_spreadsheet.specs.Judgement.{State, IsLight, Task, shows, Verdict, nothing, does, refuses, contradicts, IsVerdictOn, Starts, IsRejected}
-use Rattle.pc_spreadsheet.specs.Allowed.{Notes, NeedsSearch, Allows, RefusesText}
+use Rattle.pc_spreadsheet.specs.Allowed.{Notes, NeedsSearch, NeedsProof, Allows, RefusesText}
 use Rattle.pc_spreadsheet.specs.Pages.{PageSays, IsCertificateAgainst}
-use Rattle.pc_complete.specs.Enough.{IsEnough}
+use Rattle.pc_complete.specs.Enough.{IsEnough, IsEnoughToProve}
 
 -- ---- lines
 
--- the budget is enough for the line's search, if it needs one
-abbrev pub HasEnough : State → List ℕ → Type 0
-HasEnough state line = (a : Asked) (cell : Option CellId) (made : Sheet) → IsCommandReading line (asks a) → NeedsSearch state.sheet a cell made → IsEnough made cell state.budget
+-- The budget is enough for what the line needs: for the search of an edit, and for searches of the whole sheet for a certificate of its
+-- maximal sets. A line needs one of them at most.
+pub record HasEnough (state : State) (line : List ℕ) : Type 0 where
+  pub to_edit : (a : Asked) (cell : Option CellId) (made : Sheet) → IsCommandReading line (asks a) → NeedsSearch state.sheet a cell made → IsEnough made cell state.budget
+  pub to_prove : (a : Asked) → IsCommandReading line (asks a) → NeedsProof state.sheet a → IsEnoughToProve state.sheet state.budget
 
 -- `ok`, or the page
 abbrev pub IsDone : State → Task → Answer → Type 0

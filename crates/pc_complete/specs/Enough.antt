@@ -1,11 +1,13 @@
 -- When a budget is enough for a search, and what a session's calls spend.
-use Rattle.std.specs.Prelude.{ℕ, ◌<◌, ◌≤◌, ◌⊎◌, List, Option, Some, None, length}
+use Rattle.std.specs.Prelude.{ℕ, ◌+◌, ◌*◌, ◌^◌, ◌<◌, ◌≤◌, ◌⊎◌, List, Option, Some, None, length}
 use Rattle.pc_sheet.specs.Limits.{most_rules}
 use Rattle.pc_sheet.specs.Sheet.{Sheet, NamedStatement, with_rule}
 use Rattle.pc_sheet.specs.WellFormed.{IsWellFormed, IsWellFormedRule, IsEntryOf, is_of_cell}
 use Rattle.pc_sheet.specs.declared.ids.CellId.{CellId}
 use Rattle.pc_sheet.specs.declared.ids.Entry.{Entry}
 use Rattle.pc_logic.specs.Edits.{is_same_entry, entered, also_entered, without_entry, without_cell, without_rule}
+use Rattle.pc_ground.specs.Variables.{variable_count}
+use Rattle.pc_choices.specs.FewSets.{AreMaximalSets}
 use Rattle.pc_components.specs.View.{Kept, AreComponentsOf}
 use Rattle.pc_theory.specs.Theories.{rules_alone}
 use Rattle.pc_theory.specs.declared.spending.Spending.{Spending}
@@ -19,6 +21,10 @@ use Rattle.pc_session.specs.declared.refused.EditRefused.TheVariants as edit_ref
 -- for the parts of the sheet that an edit of this cell touches, or for all parts, in some way to keep them; or for the whole sheet
 abbrev pub IsEnough : Sheet → Option CellId → ℕ → Type 0
 IsEnough sheet touched budget = ((kept : Kept) × AreComponentsOf (rules_alone sheet) kept × (enough_for sheet touched kept ≤ budget)) ⊎ (enough_for_all sheet ≤ budget)
+
+-- for the searches of the whole sheet of which a certificate of its maximal sets is made: at most one call more than there are of these
+abbrev pub IsEnoughToProve : Sheet → ℕ → Type 0
+IsEnoughToProve sheet budget = (sets : List (List Entry)) × AreMaximalSets sheet sets × (variable_count sheet * (3 ^ (variable_count sheet + 1) + (length sets + 1)) ≤ budget)
 
 -- less than enough for the touched parts, however they are kept, and less than enough for the whole sheet
 pub record IsTooLittle (sheet : Sheet) (touched : Option CellId) (budget : ℕ) : Type 0 where

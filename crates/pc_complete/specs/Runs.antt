@@ -3,7 +3,7 @@ use Rattle.std.specs.Prelude.{◌≡◌, ◌≢◌, ℕ, ◌⊎◌, List, [], So
 use Rattle.std.specs.Io.KnownBytes.{IsAtEnd}
 use Rattle.pc_port.specs.Port.{Rose}
 use Rattle.pc_port.specs.Shelf.{Files, file_named}
-use Rattle.pc_words.specs.Words.{Mode, replays, edits, checks, demonstrates, Request, FitsWords, FitNothing}
+use Rattle.pc_words.specs.Words.{Mode, replays, edits, checks, merges, posts, demonstrates, Request, FitsWords, FitNothing}
 use Rattle.pc_refusals.specs.declared.status.Status.{Status}
 use Rattle.pc_refusals.specs.declared.status.Status.TheVariants.{Done, SomeRefused, SheetRefused, Memory, TooLong, Usage}
 use Rattle.pc_refusals.specs.Endings.{memory_text}
@@ -11,6 +11,7 @@ use Rattle.pc_course.specs.Events.{Outside, Event}
 use Rattle.pc_course.specs.Stages.{Stage, needs, ends_with}
 use Rattle.pc_course.specs.Runs.{Ran}
 use Rattle.pc_transcript.specs.Course.{Replay, Edit}
+use Rattle.pc_journal.specs.Course.{Posts}
 use Rattle.pc_spreadsheet.specs.Judgement.{State, Starts}
 use Rattle.pc_spreadsheet.specs.Allowed.{Notes}
 use Rattle.pc_replay.specs.Course.{usage_text, CourseIn, IsMostAhead, Runs}
@@ -20,6 +21,7 @@ use Rattle.pc_complete.specs.Complete.{AllowsInFull, RefusesInFull, HasEnoughFor
 abbrev pub CourseInFull : Mode → ℕ → Notes → (List Event → Stage → Notes → Type 0)
 CourseInFull replays budget notes = Replay (Starts budget) (RefusesInFull budget) AllowsInFull notes
 CourseInFull (edits file) budget notes = Edit (Starts budget) (RefusesInFull budget) AllowsInFull file notes
+CourseInFull (posts file) budget notes = Posts (Starts budget) (RefusesInFull budget) AllowsInFull file notes
 CourseInFull mode budget notes = CourseIn mode budget notes
 
 -- the words don't fit; or memory is needed to read words that do; or it goes as they ask, so told
@@ -38,11 +40,13 @@ RunsAreInFull = (words : List (List ℕ)) (status : Status) (notes notes' : Note
 
 -- ---- how runs of commands end
 
--- the modes that answer command lines
+-- the modes that answer command lines of the input
 abbrev pub IsOfCommands : Mode → Type 0
 IsOfCommands replays = Unit {0}
 IsOfCommands (edits file) = Unit {0}
 IsOfCommands (checks file) = ⊥
+IsOfCommands (merges file) = ⊥
+IsOfCommands (posts file) = ⊥
 IsOfCommands (demonstrates blocks) = ⊥
 
 -- no count of faults has risen, and none stands at its greatest value

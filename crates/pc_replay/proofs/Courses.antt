@@ -12,7 +12,8 @@ use Rattle.pc_course.specs.Runs.{nothing, Comes, on_course, without_memory, Ran}
 use Rattle.pc_course.proofs.RunLemmas.{tells_last, run-more}
 use Rattle.pc_judge.specs.Course.{CheckOf}
 use Rattle.pc_spreadsheet.specs.Allowed.{Notes}
-use Rattle.pc_words.specs.Words.{checks}
+use Rattle.pc_words.specs.Words.{checks, merges}
+use Rattle.pc_journal.specs.Course.{Merge}
 use Rattle.pc_replay.specs.Course.{usage_text, CourseIn, Course, without_fit, needs_memory, as_asked, most_ahead, IsMostAhead, Runs}
 
 -- a check notes nothing
@@ -20,6 +21,16 @@ pub checks_for : (file : List ℕ) (budget : ℕ) (status : Status) (notes : Not
 checks_for file budget status notes a b r = record {
   events = r.events;
   run = run-more (CheckOf file) (CourseIn (checks file) budget notes) [] (λ (u : Unit {0}). notes) (λ events stage u c. (c, refl)) r.events status tt r.run;
+  spare = r.spare;
+  is_spare = r.is_spare;
+  happened = r.happened;
+}
+
+-- nor does a merge
+pub merges_for : (file : List ℕ) (budget : ℕ) (status : Status) (notes : Notes) (a b : Outside) → Ran (Merge file) 0 status tt a b → Ran (CourseIn (merges file) budget notes) 0 status notes a b
+merges_for file budget status notes a b r = record {
+  events = r.events;
+  run = run-more (Merge file) (CourseIn (merges file) budget notes) [] (λ (u : Unit {0}). notes) (λ events stage u c. (c, refl)) r.events status tt r.run;
   spare = r.spare;
   is_spare = r.is_spare;
   happened = r.happened;

@@ -1,6 +1,6 @@
 -- What a run does, by its words.
 use Rattle.std.specs.Prelude.{◌≡◌, ℕ, ◌≤◌, List, [], codes}
-use Rattle.pc_words.specs.Words.{Mode, replays, edits, checks, demonstrates, Request, FitsWords, FitNothing}
+use Rattle.pc_words.specs.Words.{Mode, replays, edits, checks, merges, posts, demonstrates, Request, FitsWords, FitNothing}
 use Rattle.pc_port.specs.declared.TheConstants.{CHUNK}
 use Rattle.pc_refusals.specs.declared.status.Status.{Status}
 use Rattle.pc_refusals.specs.declared.status.Status.TheVariants.{Usage}
@@ -11,18 +11,21 @@ use Rattle.pc_course.specs.Stages.{Stage, needs, ends_with}
 use Rattle.pc_course.specs.Runs.{Ran}
 use Rattle.pc_transcript.specs.Course.{Replay, Edit}
 use Rattle.pc_judge.specs.Course.{Check}
+use Rattle.pc_journal.specs.Course.{Merge, Posts}
 use Rattle.pc_demo.specs.Course.{Demo}
 use Rattle.pc_spreadsheet.specs.Judgement.{Starts}
 use Rattle.pc_spreadsheet.specs.Allowed.{Notes, Allows, RefusesText}
 
 abbrev pub usage_text : List ℕ
-usage_text = ended (codes "usage: predicalc replay / edit FILE / check FILE / demo N [--budget K]")
+usage_text = ended (codes "usage: predicalc replay / edit FILE / check FILE / merge FILE / posts FILE / demo N [--budget K]")
 
 -- the course in a mode
 abbrev pub CourseIn : Mode → ℕ → Notes → (List Event → Stage → Notes → Type 0)
 CourseIn replays budget notes = Replay (Starts budget) (RefusesText budget) Allows notes
 CourseIn (edits file) budget notes = Edit (Starts budget) (RefusesText budget) Allows file notes
 CourseIn (checks file) budget notes = λ events stage notes'. Check file events stage × (notes' ≡ notes)
+CourseIn (merges file) budget notes = λ events stage notes'. Merge file events stage tt × (notes' ≡ notes)
+CourseIn (posts file) budget notes = Posts (Starts budget) (RefusesText budget) Allows file notes
 CourseIn (demonstrates blocks) budget notes = Demo blocks budget notes
 
 -- the words don't fit; or memory is needed to read words that do; or it goes as they ask

@@ -5,7 +5,7 @@ use Rattle.std.proofs.KnownBytes.{Consumes-nil}
 use Rattle.pc_sheet.specs.Sheet.{Sheet}
 use Rattle.pc_sortcheck.specs.Declaring.{ReadsAs}
 use Rattle.pc_cert.specs.declared.TheConstants.{CERT_LIMIT}
-use Rattle.pc_words.specs.Words.{Mode, replays, edits, checks, demonstrates, Request, FitsWords}
+use Rattle.pc_words.specs.Words.{Mode, replays, edits, checks, merges, posts, demonstrates, Request, FitsWords}
 use Rattle.pc_refusals.specs.declared.TheConstants.{SHEET_LIMIT}
 use Rattle.pc_refusals.specs.declared.status.Status.{Status}
 use Rattle.pc_refusals.specs.declared.status.Status.TheVariants.{CertRefused}
@@ -20,7 +20,7 @@ use Rattle.pc_spreadsheet.specs.Judgement.{Starts}
 use Rattle.pc_spreadsheet.specs.Allowed.{Notes, Allows, RefusesText}
 use Rattle.pc_replay.specs.Course.{CourseIn, Course, without_fit, needs_memory, as_asked, most_ahead}
 use Rattle.pc_run_laws.specs.ByStatus.{CertificatesAreRefused}
-use Rattle.pc_run_laws.proofs.Ends.{EndsIn, HasCommon, replay_in, edit_in, demo_in}
+use Rattle.pc_run_laws.proofs.Ends.{EndsIn, HasCommon, replay_in, edit_in, merge_in, posts_in, demo_in}
 
 -- ---- the courses
 
@@ -90,6 +90,8 @@ mode_at : (mode : Mode) (budget : ℕ) (notes notes' : Notes) (events : List Eve
 mode_at replays budget notes notes' events stage h = otherwise replays notes notes' events stage (replay_in IsOther common (Starts budget) (RefusesText budget) Allows notes events stage notes' h)
 mode_at (edits file) budget notes notes' events stage h = otherwise (edits file) notes notes' events stage (edit_in IsOther common (Starts budget) (RefusesText budget) Allows file notes events stage notes' h)
 mode_at (checks file) budget notes notes' events stage h = check_at file notes notes' events stage h.1 h.0
+mode_at (merges file) budget notes notes' events stage h = otherwise (merges file) notes notes' events stage (merge_in IsOther common file events stage tt h.0)
+mode_at (posts file) budget notes notes' events stage h = otherwise (posts file) notes notes' events stage (posts_in IsOther common (Starts budget) (RefusesText budget) Allows file notes events stage notes' h)
 mode_at (demonstrates blocks) budget notes notes' events stage h = otherwise (demonstrates blocks) notes notes' events stage (demo_in IsOther common blocks budget notes events stage notes' h)
 
 -- ---- the run

@@ -1,9 +1,9 @@
 -- In which statuses the courses of the modes end.
 use Rattle.std.proofs.Common.{ℕ, Bool, true, false, List}
 use Rattle.std.specs.List.{list_any}
-use Rattle.pc_words.specs.Words.{Mode, replays, edits, checks, demonstrates}
+use Rattle.pc_words.specs.Words.{Mode, replays, edits, checks, merges, posts, demonstrates}
 use Rattle.pc_checker.specs.declared.verdict.Verdict.{Verdict}
-use Rattle.pc_checker.specs.declared.verdict.Verdict.TheVariants.{UseNotEntered, BadValues, UseNotHeld, RuleBroken, BadAxiom, BadStep, WrongEnd, Accepted}
+use Rattle.pc_checker.specs.declared.verdict.Verdict.TheVariants.{UseNotEntered, BadValues, UseNotHeld, RuleBroken, HasValue, SetInSet, BadAxiom, BadStep, WrongEnd, Accepted}
 use Rattle.pc_refusals.specs.declared.refusal.SheetRefusal.{SheetRefusal}
 use Rattle.pc_refusals.specs.declared.status.Status.{Status}
 use Rattle.pc_refusals.specs.declared.status.Status.TheVariants.{Done, SomeRefused, SheetRefused, Memory, CertRefused}
@@ -18,6 +18,9 @@ use Rattle.pc_judge.specs.declared.told.Told.TheVariants as told
 use Rattle.pc_judge.specs.Judged.{status_of_told}
 use Rattle.pc_judge.specs.Course as check
 use Rattle.pc_judge.specs.Course.{Check}
+use Rattle.pc_collab.specs.Journal.{Post}
+use Rattle.pc_journal.specs.Course as journal
+use Rattle.pc_journal.specs.Course.{AnswersHeld, MergeBoth, MergeText, Merge, PostText, Posts}
 use Rattle.pc_demo.specs.Course as demo
 use Rattle.pc_demo.specs.Course.{Demo}
 use Rattle.pc_spreadsheet.specs.Judgement.{Starts}
@@ -71,6 +74,46 @@ module _ (P : Status → Type 0) (common : HasCommon P) where
     edit_in file notes events stage notes' (awaits_file is) = tt
     edit_in file notes events stage notes' (has_file text more small from is) = sheet_in text notes more stage notes' from
 
+  -- ---- journals
+
+  journal_in : {N : Type 0} (Rest : List Post → List Event → Stage → N → Type 0) → ((a : List Post) (events : List Event) (stage : Stage) (notes : N) → Rest a events stage notes → EndsIn P stage)
+      → (notes : N) (events : List Event) (stage : Stage) (notes' : N) → journal.FromInput Rest notes events stage notes' → EndsIn P stage
+  journal_in Rest so notes events stage notes' (journal.awaits_journal is) = tt
+  journal_in Rest so notes events stage notes' (journal.needs_memory some few is) = tt
+  journal_in Rest so notes events stage notes' (journal.is_refused text line fault small first is) = common.sheet_refused
+  journal_in Rest so notes events stage notes' (journal.has_journal text a more small reads h is) = so a more stage notes' h
+
+  both_in : (a b : List Post) (events : List Event) (stage : Stage) (notes : Unit {0}) → MergeBoth a b events stage notes → EndsIn P stage
+  both_in a b events stage notes (journal.needs_memory_for_both is) = tt
+  both_in a b events stage notes (journal.differs author number differ is) = common.sheet_refused
+  both_in a b events stage notes (journal.is_merged merged merge is) = common.done
+
+  merge_text_in : (text : List ℕ) (events : List Event) (stage : Stage) (notes : Unit {0}) → MergeText text events stage notes → EndsIn P stage
+  merge_text_in text events stage notes (journal.needs_memory_for_text is) = tt
+  merge_text_in text events stage notes (journal.text_is_refused line fault first is) = common.sheet_refused
+  merge_text_in text events stage notes (journal.text_is_journal a reads h) = journal_in (MergeBoth a) (both_in a) tt events stage tt h
+
+  pub merge_in : (file : List ℕ) (events : List Event) (stage : Stage) (notes : Unit {0}) → Merge file events stage notes → EndsIn P stage
+  merge_in file events stage notes (journal.needs_file_memory is) = tt
+  merge_in file events stage notes (journal.awaits_file is) = tt
+  merge_in file events stage notes (journal.has_file text more small h is) = merge_text_in text more stage notes h
+
+  held_in : {S : Type 0} (A : S → List ℕ → Answer → S → Type 0) (start : S) (held : List (List ℕ)) (events : List Event) (stage : Stage) (end : S) → AnswersHeld A start held events stage end → EndsIn P stage
+  held_in A start held events stage end (journal.has_answer t mid line rest answer legal holds allowed is) = tt
+  held_in A start held events stage end (journal.has_all t legal are is) = worse_in (list_any (λ pair. is_no_memory pair.1) t) (list_any (λ pair. was_refused pair.1) t)
+
+  module _ {S N : Type 0} (IsSheet : List ℕ → S → Type 0) (Refuses : List ℕ → SheetRefusal → List ℕ → N → N → Type 0) (A : S × N → List ℕ → Answer → S × N → Type 0) where
+    post_text_in : (text : List ℕ) (notes : N) (events : List Event) (stage : Stage) (notes' : N) → PostText IsSheet Refuses A notes text events stage notes' → EndsIn P stage
+    post_text_in text notes events stage notes' (journal.needs_sheet_memory is) = tt
+    post_text_in text notes events stage notes' (journal.sheet_is_refused why more has is) = common.sheet_refused
+    post_text_in text notes events stage notes' (journal.has_sheet start end is h) =
+        journal_in (journal.AnswersPosts A (start, notes)) (λ a. held_in A (start, notes) (journal.lines_of_posts a)) (start, notes) events stage (end, notes') h
+
+    pub posts_in : (file : List ℕ) (notes : N) (events : List Event) (stage : Stage) (notes' : N) → Posts IsSheet Refuses A file notes events stage notes' → EndsIn P stage
+    posts_in file notes events stage notes' (journal.needs_file_memory is) = tt
+    posts_in file notes events stage notes' (journal.awaits_file is) = tt
+    posts_in file notes events stage notes' (journal.has_file text more small h is) = post_text_in text notes more stage notes' h
+
   pub demo_in : (blocks budget : ℕ) (notes : Notes) (events : List Event) (stage : Stage) (notes' : Notes) → Demo blocks budget notes events stage notes' → EndsIn P stage
   demo_in blocks budget notes events stage notes' (demo.needs_memory none) = tt
   demo_in blocks budget notes events stage notes' (demo.is_refused why more refuses none) = common.sheet_refused
@@ -84,6 +127,8 @@ module _ (P : Status → Type 0) (common : HasCommon P) where
     verdict_in (BadValues line) = cert_refused
     verdict_in (UseNotHeld line) = cert_refused
     verdict_in (RuleBroken rule) = cert_refused
+    verdict_in (HasValue line) = cert_refused
+    verdict_in (SetInSet line) = cert_refused
     verdict_in (BadAxiom line) = cert_refused
     verdict_in (BadStep line) = cert_refused
     verdict_in WrongEnd = cert_refused
@@ -107,4 +152,6 @@ module _ (P : Status → Type 0) (common : HasCommon P) where
     mode_in replays budget notes notes' events stage h = replay_in (Starts budget) (RefusesText budget) Allows notes events stage notes' h
     mode_in (edits file) budget notes notes' events stage h = edit_in (Starts budget) (RefusesText budget) Allows file notes events stage notes' h
     mode_in (checks file) budget notes notes' events stage h = check_in file events stage h.0
+    mode_in (merges file) budget notes notes' events stage h = merge_in file events stage tt h.0
+    mode_in (posts file) budget notes notes' events stage h = posts_in (Starts budget) (RefusesText budget) Allows file notes events stage notes' h
     mode_in (demonstrates blocks) budget notes notes' events stage h = demo_in blocks budget notes events stage notes' h

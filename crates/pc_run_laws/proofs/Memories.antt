@@ -1,9 +1,9 @@
 -- Where runs want memory.
-use Rattle.std.proofs.Common.{◌≡◌, ◌≢◌, ◌⊎◌, ℕ, Bool, true, false, List, [], ◌∷◌, ◌++◌, refl, ◌∙◌, ap, subst, inl, inr}
+use Rattle.std.proofs.Common.{◌≡◌, ◌≢◌, ◌⊎◌, ℕ, Bool, true, false, List, [], ◌∷◌, ◌++◌, refl, sym, ◌∙◌, ap, subst, inl, inr}
 use Rattle.std.specs.List.{list_any}
 use Rattle.pc_checker.specs.declared.verdict.Verdict.{Verdict}
-use Rattle.pc_checker.specs.declared.verdict.Verdict.TheVariants.{UseNotEntered, BadValues, UseNotHeld, RuleBroken, BadAxiom, BadStep, WrongEnd, Accepted}
-use Rattle.pc_words.specs.Words.{Mode, replays, edits, checks, demonstrates, Request, FitsWords, FitNothing}
+use Rattle.pc_checker.specs.declared.verdict.Verdict.TheVariants.{UseNotEntered, BadValues, UseNotHeld, RuleBroken, HasValue, SetInSet, BadAxiom, BadStep, WrongEnd, Accepted}
+use Rattle.pc_words.specs.Words.{Mode, replays, edits, checks, merges, posts, demonstrates, Request, FitsWords, FitNothing}
 use Rattle.pc_refusals.specs.declared.status.Status.{Status}
 use Rattle.pc_refusals.specs.declared.status.Status.TheVariants.{Memory}
 use Rattle.pc_refusals.specs.Endings.{memory_text, sheet_memory_text}
@@ -19,13 +19,16 @@ use Rattle.pc_judge.specs.declared.told.Told.TheVariants as is_told
 use Rattle.pc_judge.specs.Judged.{status_of_told}
 use Rattle.pc_judge.specs.Course as check
 use Rattle.pc_judge.specs.Course.{Check}
+use Rattle.pc_collab.specs.Journal.{Post}
+use Rattle.pc_journal.specs.Course as journal
+use Rattle.pc_journal.specs.Course.{AnswersHeld, MergeBoth, MergeText, Merge, PostText, Posts}
 use Rattle.pc_demo.specs.Course as demo
 use Rattle.pc_demo.specs.Course.{Demo}
 use Rattle.pc_spreadsheet.specs.Judgement.{State, Starts}
 use Rattle.pc_spreadsheet.specs.Allowed.{Notes, Allows, RefusesText}
 use Rattle.pc_replay.specs.Course as asked
 use Rattle.pc_replay.specs.Course.{CourseIn, Course, without_fit, as_asked, Runs}
-use Rattle.pc_run_laws.specs.ByStatus.{WantsMemory, at_words, at_sheet, at_certificate, at_line, at_clear, MemoryIsWanted}
+use Rattle.pc_run_laws.specs.ByStatus.{TakesJournal, WantsMemory, at_words, at_sheet, at_certificate, at_journal, at_line, at_clear, MemoryIsWanted}
 
 -- ---- the courses
 
@@ -91,6 +94,8 @@ verdict_other (UseNotEntered line) = λ e. absurd (cc e)
 verdict_other (BadValues line) = λ e. absurd (cc e)
 verdict_other (UseNotHeld line) = λ e. absurd (cc e)
 verdict_other (RuleBroken rule) = λ e. absurd (cc e)
+verdict_other (HasValue line) = λ e. absurd (cc e)
+verdict_other (SetInSet line) = λ e. absurd (cc e)
 verdict_other (BadAxiom line) = λ e. absurd (cc e)
 verdict_other (BadStep line) = λ e. absurd (cc e)
 verdict_other WrongEnd = λ e. absurd (cc e)
@@ -118,6 +123,52 @@ check_at file events stage (check.awaits_certificate text sheet small reads is) 
 check_at file events stage (check.needs_memory text sheet some small reads few is) = inr refl
 check_at file events stage (check.is_judged text sheet certificate what small reads few judged is) = told_other what
 
+-- where a journal is taken, memory is needed for the sheet or for a journal
+abbrev JournalAt : Notes → Notes → Stage → Type 0
+JournalAt notes notes' (takes intake) = Unit {0}
+JournalAt notes notes' (needs line) = (line ≡ sheet_memory_text) ⊎ (line ≡ memory_text)
+JournalAt notes notes' (tells piece) = Unit {0}
+JournalAt notes notes' (ends_with line status) = status ≢ Memory
+JournalAt notes notes' (ends status) = status ≡ Memory → AtLine notes notes'
+
+journal_by : {N : Type 0} (of : N → Notes) (Rest : List Post → List Event → Stage → N → Type 0) (first : Notes) → ((a : List Post) (events : List Event) (stage : Stage) (notes : N) → Rest a events stage notes → JournalAt first (of notes) stage)
+    → (notes notes' : N) (events : List Event) (stage : Stage) → journal.FromInput Rest notes events stage notes' → JournalAt first (of notes') stage
+journal_by of Rest first so notes notes' events stage (journal.awaits_journal is) = tt
+journal_by of Rest first so notes notes' events stage (journal.needs_memory some few is) = inr refl
+journal_by of Rest first so notes notes' events stage (journal.is_refused text line fault small at_fault is) = λ e. absurd (cc e)
+journal_by of Rest first so notes notes' events stage (journal.has_journal text a more small reads h is) = so a more stage notes' h
+
+both_at : (notes : Notes) (a b : List Post) (events : List Event) (stage : Stage) (u : Unit {0}) → MergeBoth a b events stage u → JournalAt notes notes stage
+both_at notes a b events stage u (journal.needs_memory_for_both is) = inr refl
+both_at notes a b events stage u (journal.differs author number differ is) = λ e. absurd (cc e)
+both_at notes a b events stage u (journal.is_merged merged merge is) = λ e. absurd (cc e)
+
+merge_text_at : (notes : Notes) (text : List ℕ) (events : List Event) (stage : Stage) (u : Unit {0}) → MergeText text events stage u → JournalAt notes notes stage
+merge_text_at notes text events stage u (journal.needs_memory_for_text is) = inr refl
+merge_text_at notes text events stage u (journal.text_is_refused line fault first is) = λ e. absurd (cc e)
+merge_text_at notes text events stage u (journal.text_is_journal a reads h) = journal_by (λ (x : Unit {0}). notes) (MergeBoth a) notes (both_at notes a) tt tt events stage h
+
+merge_at : (notes : Notes) (file : List ℕ) (events : List Event) (stage : Stage) (u : Unit {0}) → Merge file events stage u → JournalAt notes notes stage
+merge_at notes file events stage u (journal.needs_file_memory is) = inr refl
+merge_at notes file events stage u (journal.awaits_file is) = tt
+merge_at notes file events stage u (journal.has_file text more small h is) = merge_text_at notes text more stage u h
+
+held_at : (old : State × Notes) (held : List (List ℕ)) (events : List Event) (stage : Stage) (new : State × Notes) → AnswersHeld Allows old held events stage new → JournalAt old.1 new.1 stage
+held_at old held events stage new (journal.has_answer t mid line rest answer legal holds allowed is) = tt
+held_at old held events stage new (journal.has_all t legal are is) = at_some old.1 new.1 old.0 new.0 t legal
+
+module _ (budget : ℕ) where
+  post_text_at : (text : List ℕ) (notes notes' : Notes) (events : List Event) (stage : Stage) → PostText (Starts budget) (RefusesText budget) Allows notes text events stage notes' → JournalAt notes notes' stage
+  post_text_at text notes notes' events stage (journal.needs_sheet_memory is) = inl refl
+  post_text_at text notes notes' events stage (journal.sheet_is_refused why more has is) = λ e. absurd (cc e)
+  post_text_at text notes notes' events stage (journal.has_sheet start end is h) =
+      journal_by (λ (pair : State × Notes). pair.1) (journal.AnswersPosts Allows (start, notes)) notes (λ a. held_at (start, notes) (journal.lines_of_posts a)) (start, notes) (end, notes') events stage h
+
+  posts_at : (file : List ℕ) (notes notes' : Notes) (events : List Event) (stage : Stage) → Posts (Starts budget) (RefusesText budget) Allows file notes events stage notes' → JournalAt notes notes' stage
+  posts_at file notes notes' events stage (journal.needs_file_memory is) = inl refl
+  posts_at file notes notes' events stage (journal.awaits_file is) = tt
+  posts_at file notes notes' events stage (journal.has_file text more small h is) = post_text_at text notes notes' more stage h
+
 -- ---- a run in a mode
 
 module _ (words : List (List ℕ)) (notes : Notes) where
@@ -133,6 +184,10 @@ module _ (words : List (List ℕ)) (notes : Notes) where
     sheet_wants : (notes' : Notes) (events earlier : List Event) (line : List ℕ) → CourseIn request.mode request.budget notes earlier (needs line) notes' → line ≡ sheet_memory_text → events ≡ earlier ++ told line ∷ [] → WantsMemory words notes notes' events
     sheet_wants notes' events earlier line h same is =
         at_sheet request earlier fits (subst (λ (l : List ℕ). CourseIn request.mode request.budget notes earlier (needs l) notes') same h) (is ∙ ap (λ (l : List ℕ). earlier ++ told l ∷ []) same)
+
+    journal_wants : (notes' : Notes) (events earlier : List Event) (line : List ℕ) → TakesJournal request.mode → CourseIn request.mode request.budget notes earlier (needs line) notes' → line ≡ memory_text → events ≡ earlier ++ told line ∷ [] → WantsMemory words notes notes' events
+    journal_wants notes' events earlier line of h same is =
+        at_journal request earlier fits of (subst (λ (l : List ℕ). CourseIn request.mode request.budget notes earlier (needs l) notes') same h) (is ∙ ap (λ (l : List ℕ). earlier ++ told l ∷ []) same)
 
     cert_wants : (file : List ℕ) (notes' : Notes) (events earlier : List Event) (line : List ℕ) → request.mode ≡ checks file → notes' ≡ notes → Check file earlier (needs line) → line ≡ memory_text → events ≡ earlier ++ told line ∷ [] → WantsMemory words notes notes' events
     cert_wants file notes' events earlier line mode none h same is =
@@ -163,10 +218,23 @@ module _ (words : List (List ℕ)) (notes : Notes) where
   of_check file budget fits notes' earlier (ends_with line status) h at = λ events e is. absurd (at e)
   of_check file budget fits notes' earlier (ends status) h at = λ e. absurd (at e)
 
+  of_journal : (request : Request) → FitsWords words request → TakesJournal request.mode → (notes' : Notes) (earlier : List Event) (stage : Stage) → CourseIn request.mode request.budget notes earlier stage notes' → JournalAt notes notes' stage → WantsAt notes' earlier stage
+  of_journal request fits of notes' earlier (takes intake) h at = tt
+  of_journal request fits of notes' earlier (needs line) h at = λ events is. elim at [
+    | inl same ↦ sheet_wants request fits notes' events earlier line h same is
+    | inr same ↦ journal_wants request fits notes' events earlier line of h same is
+  ]
+  of_journal request fits of notes' earlier (tells piece) h at = tt
+  of_journal request fits of notes' earlier (ends_with line status) h at = λ events e is. absurd (at e)
+  of_journal request fits of notes' earlier (ends status) h at = λ e. line_wants request fits notes' earlier status h e (at e)
+
   mode_wants : (mode : Mode) (budget : ℕ) → FitsWords words (record { mode = mode; budget = budget }) → (notes' : Notes) (earlier : List Event) (stage : Stage) → CourseIn mode budget notes earlier stage notes' → WantsAt notes' earlier stage
   mode_wants replays budget fits notes' earlier stage h = of_lines (record { mode = replays; budget = budget }) fits notes' earlier stage h (replay_at budget notes notes' earlier stage h)
   mode_wants (edits file) budget fits notes' earlier stage h = of_lines (record { mode = edits file; budget = budget }) fits notes' earlier stage h (edit_at budget file notes notes' earlier stage h)
   mode_wants (checks file) budget fits notes' earlier stage h = of_check file budget fits notes' earlier stage h (check_at file earlier stage h.0)
+  mode_wants (merges file) budget fits notes' earlier stage h =
+      of_journal (record { mode = merges file; budget = budget }) fits tt notes' earlier stage h (subst (λ (x : Notes). JournalAt notes x stage) (sym h.1) (merge_at notes file earlier stage tt h.0))
+  mode_wants (posts file) budget fits notes' earlier stage h = of_journal (record { mode = posts file; budget = budget }) fits tt notes' earlier stage h (posts_at budget file notes notes' earlier stage h)
   mode_wants (demonstrates blocks) budget fits notes' earlier stage h = of_lines (record { mode = demonstrates blocks; budget = budget }) fits notes' earlier stage h (demo_at blocks budget notes notes' earlier stage h)
 
   -- ---- the run

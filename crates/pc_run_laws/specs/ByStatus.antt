@@ -5,7 +5,7 @@ use Rattle.std.specs.Io.KnownBytes.{Consumes, Appends}
 use Rattle.pc_sheet.specs.Sheet.{Sheet}
 use Rattle.pc_sortcheck.specs.Declaring.{ReadsAs}
 use Rattle.pc_cert.specs.declared.TheConstants.{CERT_LIMIT}
-use Rattle.pc_words.specs.Words.{checks, Request, FitsWords, FitNothing}
+use Rattle.pc_words.specs.Words.{Mode, checks, merges, posts, Request, FitsWords, FitNothing}
 use Rattle.pc_refusals.specs.declared.TheConstants.{SHEET_LIMIT}
 use Rattle.pc_refusals.specs.declared.status.Status.{Status}
 use Rattle.pc_refusals.specs.declared.status.Status.TheVariants.{Usage, WriteFault, Memory, CertRefused}
@@ -66,12 +66,20 @@ CertificatesAreRefused = (words : List (List ℕ)) (status : Status) (notes note
 
 -- ---- memory that is wanting
 
+-- the modes that take a journal
+abbrev pub TakesJournal : Mode → Type 0
+TakesJournal (merges file) = Unit {0}
+TakesJournal (posts file) = Unit {0}
+TakesJournal mode = ⊥
+
 -- Memory was wanted to read words that fit, and nothing but this happened; or, in the mode that they ask for, at the sheet; or, in a check, at
--- the certificate; or at a line, where all lines of the mode's course were answered, to the end of the input or to the last line told.
+-- the certificate; or, in a mode that takes one, at a journal or the merge; or at a line, where all lines of the mode's course were answered, to
+-- the end of the input or to the last line told.
 pub data WantsMemory (words : List (List ℕ)) (notes notes' : Notes) (events : List Event) : Type 0 where
   at_words : ¬ FitNothing words → events ≡ told memory_text ∷ [] → notes' ≡ notes → WantsMemory words notes notes' events
   at_sheet : (request : Request) (earlier : List Event) → FitsWords words request → CourseIn request.mode request.budget notes earlier (needs sheet_memory_text) notes' → events ≡ earlier ++ told sheet_memory_text ∷ [] → WantsMemory words notes notes' events
   at_certificate : (request : Request) (file : List ℕ) (earlier : List Event) → FitsWords words request → request.mode ≡ checks file → Check file earlier (needs memory_text) → events ≡ earlier ++ told memory_text ∷ [] → notes' ≡ notes → WantsMemory words notes notes' events
+  at_journal : (request : Request) (earlier : List Event) → FitsWords words request → TakesJournal request.mode → CourseIn request.mode request.budget notes earlier (needs memory_text) notes' → events ≡ earlier ++ told memory_text ∷ [] → WantsMemory words notes notes' events
   at_line : (request : Request) (start end : State) (t : Transcript) → FitsWords words request → CourseIn request.mode request.budget notes events (ends Memory) notes' → Legal Allows (start, notes) t (end, notes') → list_any (λ pair. is_no_memory pair.1) t ≡ true → WantsMemory words notes notes' events
   at_clear : (request : Request) (earlier : List Event) (line : List ℕ) (start end : State) (t : Transcript) → FitsWords words request → CourseIn request.mode request.budget notes earlier (ends_with line Memory) notes' → events ≡ earlier ++ told line ∷ [] → Legal Allows (start, notes) t (end, notes') → list_any (λ pair. is_no_memory pair.1) t ≡ true → WantsMemory words notes notes' events
 
