@@ -21,6 +21,9 @@ replay; server.sheet server.commands; server.display
 replay; shop.sheet shop.commands; shop.display
 replay; timetable.sheet timetable.commands; timetable.display
 replay; trip.sheet trip.commands; trip.display
+replay; tutorial_configurator.sheet tutorial_configurator.commands; tutorial_configurator.display
+replay; tutorial_roster.sheet tutorial_roster.commands; tutorial_roster.display
+replay; tutorial_timetable.sheet tutorial_timetable.commands; tutorial_timetable.display
 check weekend.sheet; weekend.certificate; weekend.display
 ";
 

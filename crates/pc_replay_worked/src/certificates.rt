@@ -361,7 +361,7 @@ const REFUTATION: &str =
     "certificate 1\nclaim inconsistent\n1 rule ab\n2 rule bc\n3 rule bad\n4 atom @ab a=red b=green\n5 atom @bc b=red c=green\n6 atom @bad a=red c=red\n7 some b\n8 some c\n9 step ~a=red : 1 4 7 2 5 8 3 6\n10 atom @ab a=green b=red\n11 atom @bc b=green c=red\n12 atom @bad a=green c=green\n13 some a\n14 step : 9 13 1 10 7 2 11 8 3 12\nend\n";
 
 const USAGE: &str =
-    "Usage\nusage: predicalc replay / edit FILE / check FILE / demo N [--budget K]\n";
+    "Usage\nusage: predicalc replay / edit FILE / check FILE / merge FILE / posts FILE / demo N [--budget K]\n";
 
 // How a check of these words over the file ends.
 fn is_ended(alloc: Global, words: &str, sheet: &str, want: &str) -> Result<bool, AllocError> {

@@ -1,6 +1,7 @@
 // What no clause says: that checks end well with ample memory, and what is printed.
-use pc_judge::{check_file, take_all};
+use pc_judge::check_file;
 use pc_port::{MemoryShelf, MemorySink, MemorySource};
+use pc_refusals::take_all;
 use std::alloc::{AllocError, Global};
 use std::test::Fail;
 
@@ -138,12 +139,12 @@ fn faults(rt: HostRuntime) -> Result<(), Fail> {
     Ok(())
 }
 
-// More bytes than one read gives.
+// More bytes than one read gives, and just as many as there may be.
 #[test]
 fn takes_all(rt: HostRuntime) -> Result<(), Fail> {
     let alloc = rt.alloc();
     let bytes = vec![in alloc; 7u8; 9999]?;
     let mut input = MemorySource::new(bytes, 5000, Vec::new(alloc));
-    assert!(rt; take_all(alloc, &mut input).is_ok());
+    assert!(rt; take_all(alloc, 9999, &mut input).is_ok());
     Ok(())
 }

@@ -10,15 +10,21 @@ mod counting;
 #[cfg(test)]
 mod devices;
 #[cfg(test)]
+mod journals;
+#[cfg(test)]
 mod judging;
 #[cfg(test)]
 mod modes;
 #[cfg(test)]
 mod numbered_clauses;
 #[cfg(test)]
+mod repairs;
+#[cfg(test)]
 mod roster;
 #[cfg(test)]
 mod runs;
+#[cfg(test)]
+mod set_certificates;
 #[cfg(test)]
 mod several;
 #[cfg(test)]

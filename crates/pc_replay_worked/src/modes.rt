@@ -4,7 +4,8 @@ use crate::sheets::{EQUAL, run_with};
 use std::alloc::{AllocError, Global};
 use std::test::Fail;
 
-const USAGE: &str = "usage: predicalc replay / edit FILE / check FILE / demo N [--budget K]|";
+const USAGE: &str =
+    "usage: predicalc replay / edit FILE / check FILE / merge FILE / posts FILE / demo N [--budget K]|";
 
 // Words, parted by spaces, an input, and how the run ends where the shelf's one file `k.sheet` has three equal cells: its
 // status, and what is printed, or a front of it that ends in `=`. The sign `|` ends a line, and `@` stands for the usage line.

@@ -6,9 +6,10 @@ use crate::edits::loaded;
 use pc_components::Components;
 use pc_log::Line;
 use pc_logic::Book;
-use pc_session::{Reason, Reasons, Session};
+use pc_session::{Choices, Reason, Reasons, Session};
 use pc_sheet::{CellId, Entry, Target, ValueId};
-use pc_trying::least_by_trying;
+use pc_trying::{least_by_trying, maximal_sets_by_trying};
+use pc_world_list::Worlds;
 use std::alloc::{AllocError, Global};
 
 // Adds that a cell has a value, and that it hasn't.
@@ -96,6 +97,61 @@ pub fn is_as_tried(alloc: Global, session: &Session) -> Result<bool, AllocError>
         }
     }
     Ok(true)
+}
+
+// Whether each of the entries is on one of the cells.
+fn are_on(entries: &[Entry], cells: &[CellId]) -> bool {
+    for entry in entries {
+        if !cells.contains(&entry.cell) {
+            return false;
+        }
+    }
+    true
+}
+
+// Whether each of the entries is among the others.
+fn are_among(entries: &[Entry], others: &[Entry]) -> bool {
+    for entry in entries {
+        if !others.contains(entry) {
+            return false;
+        }
+    }
+    true
+}
+
+// Whether the entries lie within one of the sets.
+fn lie_in_some(entries: &[Entry], sets: &[Vec<Entry>]) -> bool {
+    for set in sets {
+        if are_among(entries, set) {
+            return true;
+        }
+    }
+    false
+}
+
+// Whether the sets of a part are on its cells, and lie within sets of the whole.
+fn are_of_part(sets: &Worlds, cells: &[CellId], all: &[Vec<Entry>]) -> bool {
+    for place in 0..sets.len() {
+        let set = sets.entries(place);
+        if !are_on(set, cells) || !lie_in_some(set, all) {
+            return false;
+        }
+    }
+    true
+}
+
+/// Whether the sets that a session lends part by part are those that trying finds: each lies within one of the whole's, and
+/// there are as many ways to choose one of each part as the whole has.
+pub fn choices_are_as_tried(alloc: Global, session: &Session) -> Result<bool, AllocError> {
+    let tried = maximal_sets_by_trying(alloc, session.book())?;
+    let mut ways = 1usize;
+    for part in 0..session.parts() {
+        if !are_of_part(session.sets(part), session.cells(part), &tried) {
+            return Ok(false);
+        }
+        ways = ways.wrapping_mul(session.sets(part).len());
+    }
+    Ok(ways == tried.len())
 }
 
 // Adds a line of a derivation, its hints counted from the derivation's first line.

@@ -1,5 +1,7 @@
 use crate::edits::{edit, load_told, loads_within, session_of};
-use crate::rows::{is_as_loaded, is_as_tried, parts_text, reasons_text, whole_text};
+use crate::rows::{
+    choices_are_as_tried, is_as_loaded, is_as_tried, parts_text, reasons_text, whole_text,
+};
 use pc_session::Session;
 use std::alloc::{AllocError, Global};
 use std::test::Fail;
@@ -148,9 +150,10 @@ fn kept(alloc: Global, session: &Session, keep: &str) -> Result<String, AllocErr
     }
 }
 
-// Whether the reasons are those that a load and trying find.
+// Whether the reasons are those that a load and trying find, and the sets of the parts those that trying finds.
 fn is_right(alloc: Global, session: &Session) -> Result<bool, AllocError> {
-    Ok(is_as_loaded(alloc, session)? && is_as_tried(alloc, session)?)
+    let choices = choices_are_as_tried(alloc, session)?;
+    Ok(choices && is_as_loaded(alloc, session)? && is_as_tried(alloc, session)?)
 }
 
 // Whether an edit ends as a row says, leaves what the row says, and comes to what a load and trying come to.

@@ -79,6 +79,10 @@ json => Json
 dump => Dump
 why a = b => Why { cell: CellTree { name: Name { text: "a" }, args: [] }, value: Name(Name { text: "b" }), holds: true }
 why a(c) != 2 => Why { cell: CellTree { name: Name { text: "a" }, args: [Name(Name { text: "c" })] }, value: Number(2), holds: false }
+repairs => Repairs
+prove repairs => ProveRepairs
+whynot a(c) = 2 => WhyNot(CellTree { name: Name { text: "a" }, args: [Name(Name { text: "c" })] }, Number(2))
+whynot prove = repairs => WhyNot(CellTree { name: Name { text: "prove" }, args: [] }, Name(Name { text: "repairs" }))
 rule r : @!a = b => TooDeep
 show @! => TooDeep
 show @ => Syntax
@@ -119,6 +123,14 @@ drop 1
 budget a
 budget -1
 why a < 1
+repairs a
+prove
+prove repair
+prove repairs repairs
+prove a = red
+whynot a
+whynot a != red
+whynot a = red b
 show show
 show ; now
 Show

@@ -14,6 +14,9 @@ edit --budget 1 k.sheet => edit k.sheet, 1
 edit k.sheet --budget=1000000000000 => edit k.sheet, 1000000000000
 edit replay => edit replay, 100000000
 check grün => check grün, 100000000
+merge a.journal => merge a.journal, 100000000
+posts k.sheet => posts k.sheet, 100000000
+posts --budget 7 k.sheet => posts k.sheet, 7
 demo 1 => demo 1, 100000000
 demo 200 => demo 200, 100000000
 demo 256 --budget 9 => demo 256, 9
@@ -33,6 +36,10 @@ const USAGE: &str = "\
 |check
 |check f --budget 9
 |--budget=9 check f
+|merge
+|merge f --budget 9
+|merge -f
+|posts
 |demo
 |demo 0
 |demo 257
@@ -69,6 +76,8 @@ fn told(alloc: Global, request: &Request) -> Result<String, AllocError> {
         Mode::Replay => format!(in alloc; "replay, {budget}"),
         Mode::Edit(file) => format!(in alloc; "edit {file}, {budget}"),
         Mode::Check(file) => format!(in alloc; "check {file}, {budget}"),
+        Mode::Merge(file) => format!(in alloc; "merge {file}, {budget}"),
+        Mode::Posts(file) => format!(in alloc; "posts {file}, {budget}"),
         Mode::Demo(blocks) => format!(in alloc; "demo {blocks}, {budget}"),
     }
 }

@@ -12,3 +12,4 @@ pub mod TrailsHold
 pub mod LogsHold
 pub mod SpendingsHold
 pub mod LogSpendings
+pub mod WholeSpendingsHold

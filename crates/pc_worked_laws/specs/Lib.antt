@@ -8,3 +8,4 @@ pub mod Rows
 pub mod Trails
 pub mod Logs
 pub mod Spendings
+pub mod WholeSpendings

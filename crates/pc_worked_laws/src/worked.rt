@@ -9,6 +9,7 @@ ghost use Rattle.pc_worked_laws.specs.Several.{WorkedViews, WorkedEdits, WorkedL
 ghost use Rattle.pc_worked_laws.specs.Trails.{WorkedSettled, WorkedFirstPoint};
 ghost use Rattle.pc_worked_laws.specs.Logs.{WorkedNewClauses, WorkedLawfulLogs, WorkedListingLogs};
 ghost use Rattle.pc_worked_laws.specs.Spendings.{WorkedSpendings, WorkedLogSpendings};
+ghost use Rattle.pc_worked_laws.specs.WholeSpendings.{WorkedWholeSpendings};
 
 /// The newest entry on which two supports differ decides which one is less.
 pub fn newest_decides()
@@ -67,4 +68,9 @@ pub fn logs_are_worked()
 pub fn spendings_are_worked()
     ensures counts { WorkedSpendings }
     ensures logs { WorkedLogSpendings }
+{}
+
+/// What searches of a whole small sheet may say that they have spent, and what they may not.
+pub fn whole_spendings_are_worked()
+    ensures { WorkedWholeSpendings }
 {}
