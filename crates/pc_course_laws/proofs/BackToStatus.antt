@@ -135,7 +135,7 @@ takes_sheet text taken a b is happened = elim is.ends [
   }
 ]
 
-sheet_is_quiet : (text : List ℕ) (taken : List Event) → IsSheetTaken text taken → told_in taken ≡ []
+pub sheet_is_quiet : (text : List ℕ) (taken : List Event) → IsSheetTaken text taken → told_in taken ≡ []
 sheet_is_quiet text taken is = elim is.ends [
   | inl w ↦ ap told_in w.2
   | inr w ↦ ap told_in w.1

@@ -17,17 +17,17 @@ use Rattle.pc_course_laws.proofs.FlatLemmas.{happened-split}
 
 -- ---- events without a fault
 
-abbrev IsCalm : Event → Type 0
+abbrev pub IsCalm : Event → Type 0
 IsCalm input_failed = ⊥
 IsCalm (shelf_failed name) = ⊥
 IsCalm output_failed = ⊥
 IsCalm event = Unit {0}
 
-abbrev AreCalm : List Event → Type 0
+abbrev pub AreCalm : List Event → Type 0
 AreCalm [] = Unit {0}
 AreCalm (event ∷ events) = IsCalm event × AreCalm events
 
-calm-append : (xs ys : List Event) → AreCalm xs → AreCalm ys → AreCalm (xs ++ ys)
+pub calm-append : (xs ys : List Event) → AreCalm xs → AreCalm ys → AreCalm (xs ++ ys)
 calm-append [] ys first second = second
 calm-append (x ∷ xs) ys first second = (first.0, calm-append xs ys first.1 second)
 
@@ -98,16 +98,16 @@ passes_calmly (sheet_file file) output_failed passes = absurd passes
 
 -- ---- courses without a fault
 
-abbrev IsFine : Status → Type 0
+abbrev pub IsFine : Status → Type 0
 IsFine status = (status ≢ ReadFault) × (status ≢ WriteFault)
 
-abbrev EndsFine : Stage → Type 0
+abbrev pub EndsFine : Stage → Type 0
 EndsFine (ends status) = IsFine status
 EndsFine (ends_with line status) = IsFine status
 EndsFine stage = Unit {0}
 
 module _ {N : Type 0} (Course : List Event → Stage → N → Type 0) (obeys : (events : List Event) (stage : Stage) (notes : N) → Course events stage notes → AreCalm events × EndsFine stage) where
-  comes_calmly : (events : List Event) (stage : Stage) (notes : N) → Comes Course events stage notes → AreCalm events × EndsFine stage
+  pub comes_calmly : (events : List Event) (stage : Stage) (notes : N) → Comes Course events stage notes → AreCalm events × EndsFine stage
   comes_calmly events stage notes (on_course c) = obeys events stage notes c
   comes_calmly events stage notes (past_limit before intake event c passes is) = (subst AreCalm (sym is) (calm-append before (event ∷ []) (obeys before (takes intake) notes c).0 (passes_calmly intake event passes, tt)), ((λ e. absurd (cc e)), (λ e. absurd (cc e))))
   comes_calmly events stage notes (without_memory line c) = ((obeys events (needs line) notes c).0, ((λ e. absurd (cc e)), (λ e. absurd (cc e))))
@@ -185,7 +185,7 @@ lines_calm : (t : Transcript) → AreCalm (events_of t)
 lines_calm [] = tt
 lines_calm (pair ∷ more) = (tt, (tt, lines_calm more))
 
-worse_fine : (no_memory refused : Bool) → IsFine (worse_of no_memory refused)
+pub worse_fine : (no_memory refused : Bool) → IsFine (worse_of no_memory refused)
 worse_fine true refused = ((λ e. absurd (cc e)), (λ e. absurd (cc e)))
 worse_fine false true = ((λ e. absurd (cc e)), (λ e. absurd (cc e)))
 worse_fine false false = ((λ e. absurd (cc e)), (λ e. absurd (cc e)))
@@ -202,7 +202,7 @@ sheet_calm text taken is = elim is.ends [
   | inr w ↦ subst AreCalm (sym w.1) (tt, tt)
 ]
 
-answers_calmly : {S : Type 0} (Allows : S → List ℕ → Answer → S → Type 0) (start : S) (events : List Event) (stage : Stage) (end : S) → AnswersLines Allows start events stage end → AreCalm events × EndsFine stage
+pub answers_calmly : {S : Type 0} (Allows : S → List ℕ → Answer → S → Type 0) (start : S) (events : List Event) (stage : Stage) (end : S) → AnswersLines Allows start events stage end → AreCalm events × EndsFine stage
 answers_calmly Allows start events stage end (awaits_line t legal whole few is) = (subst AreCalm (sym is) (lines_calm t), tt)
 answers_calmly Allows start events stage end (awaits_end t legal whole full is) = (subst AreCalm (sym is) (lines_calm t), tt)
 answers_calmly Allows start events stage end (has_answer t mid line taken answer legal whole few of_line allowed is) = (subst AreCalm (sym is) (calm-append (events_of t) taken (lines_calm t) (line_calm line taken of_line)), tt)

@@ -49,7 +49,7 @@ asked_together [] a b happened = ap (λ (o : Outside). o.asked) happened ∙ sym
 asked_together (event ∷ events) a b happened =
     asked_together events happened.0 b happened.2 ∙ ap (λ (xs : List (List ℕ)). xs ++ asked_in events) (asks event a happened.0 happened.1) ∙ append_assoc a.asked (asked_of event) (asked_in events)
 
-asks_nothing : (events : List Event) (a b : Outside) → asked_in events ≡ [] → Happened events a b → b.asked ≡ a.asked
+pub asks_nothing : (events : List Event) (a b : Outside) → asked_in events ≡ [] → Happened events a b → b.asked ≡ a.asked
 asks_nothing events a b none happened = asked_together events a b happened ∙ ap (λ (xs : List (List ℕ)). a.asked ++ xs) none ∙ append-nil a.asked
 
 asked_of_lines : (t : Transcript) → asked_in (events_of t) ≡ []
@@ -69,7 +69,7 @@ spare_asks : (events spare : List Event) (mid b : Outside) → IsSpare CHUNK eve
 spare_asks events spare mid b nothing happened = ap (λ (o : Outside). o.asked) happened
 spare_asks events spare mid b (ahead held few other some) happened = ap (λ (o : Outside). o.asked) happened.2 ∙ ap (λ (o : Outside). o.asked) happened.1.0
 
-has_took-split : (xs ys : List Event) → HasTook (xs ++ ys) → HasTook xs ⊎ HasTook ys
+pub has_took-split : (xs ys : List Event) → HasTook (xs ++ ys) → HasTook xs ⊎ HasTook ys
 has_took-split [] ys some = inr some
 has_took-split (x ∷ xs) ys some = elim some [
   | inl w ↦ inl (inl w)
@@ -79,14 +79,14 @@ has_took-split (x ∷ xs) ys some = elim some [
   ]
 ]
 
-gave_alone : (name text : List ℕ) → HasTook (gave name text ∷ []) → ⊥
+pub gave_alone : (name text : List ℕ) → HasTook (gave name text ∷ []) → ⊥
 gave_alone name text some = elim some [
   | inl w ↦ w
   | inr w ↦ w
 ]
 
 -- what passes the limit of a file is that it was given
-is_gave : (file : List ℕ) (event : Event) → PassesLimit (sheet_file file) event → (text : List ℕ) × (event ≡ gave file text) × (SHEET_LIMIT < length text)
+pub is_gave : (file : List ℕ) (event : Event) → PassesLimit (sheet_file file) event → (text : List ℕ) × (event ≡ gave file text) × (SHEET_LIMIT < length text)
 is_gave file (took bytes) passes = absurd passes
 is_gave file (took_rest bytes) passes = absurd passes
 is_gave file (gave name text) passes = (text, ap (λ (n : List ℕ). gave n text) passes.0, passes.1)

@@ -1,12 +1,13 @@
 -- Runs of command lines, over a state that is a number: `count` adds one and may want memory, `drop` is refused.
-use Rattle.std.specs.Prelude.{◌≡◌, ℕ, ◌+◌, List, [], ◌++◌, codes}
+use Rattle.std.specs.Prelude.{◌≡◌, ℕ, ◌+◌, ◌<◌, List, [], ◌∷◌, ◌++◌, length, codes}
 use Rattle.std.specs.declared.option.Option.TheVariants.{Some, None}
 use Rattle.pc_lines.specs.Lines.{IsLongStart}
 use Rattle.pc_refusals.specs.declared.refusal.Refusal.TheVariants.{NoRule}
+use Rattle.pc_refusals.specs.declared.status.Status.{Status}
 use Rattle.pc_refusals.specs.declared.status.Status.TheVariants.{SomeRefused, ReadFault, WriteFault, Memory, TooLong}
-use Rattle.pc_course.specs.Events.{Outside, Event}
+use Rattle.pc_course.specs.Events.{Outside, Event, took, told, input_failed, output_failed}
 use Rattle.pc_course.specs.Stages.{needs}
-use Rattle.pc_course.specs.Runs.{Ran}
+use Rattle.pc_course.specs.Runs.{IsSpare, Run, Ran}
 use Rattle.pc_transcript.specs.declared.TheConstants.{LINE_LIMIT}
 use Rattle.pc_transcript.specs.Answer.{Answer, silent, accepted, shown, refused, no_memory}
 use Rattle.pc_transcript.specs.Course.{AnswersLines}
@@ -36,3 +37,17 @@ pub record WorkedRuns : Type 0 where
   pub wants_memory : Ran (AnswersLines Counts 0) 0 Memory 1 (before_it (codes "count\ncount\n") 0 [] 0) (before_it [] 0 (codes "refused 15 memory\nok\n") 0)
   -- want of memory never ends the answering of lines
   pub goes_on : (start end : ℕ) (events : List Event) (line : List ℕ) → ¬ AnswersLines Counts start events (needs line) end
+
+-- events that are of no run, each but for one of them
+pub record WrongRuns : Type 0 where
+  -- a read fails where the line before was taken and not answered
+  pub unanswered : (status : Status) (end : ℕ) → ¬ Run (AnswersLines Counts 0) (took (codes "count\n") ∷ took (codes "cou") ∷ input_failed ∷ []) status end
+  -- a failed write is tried again
+  pub tried_again : (status : Status) (end : ℕ) → ¬ Run (AnswersLines Counts 0) (took (codes "count\n") ∷ told (codes "o") ∷ output_failed ∷ told (codes "ok\n") ∷ []) status end
+  -- two are counted where one answer was cut off
+  pub counted_twice : (status : Status) → ¬ Run (AnswersLines Counts 0) (took (codes "count\n") ∷ told (codes "o") ∷ output_failed ∷ []) status 2
+  -- more is read ahead than may be, or by two reads
+  pub too_far : (most : ℕ) (events : List Event) (held : List ℕ) → most < length held → ¬ IsSpare most events (took held ∷ [])
+  pub read_twice : (most : ℕ) (events : List Event) (one two : List ℕ) → ¬ IsSpare most events (took one ∷ took two ∷ [])
+  -- it is read on where nothing was told since
+  pub read_on : (most : ℕ) (line held : List ℕ) → ¬ IsSpare most (took line ∷ []) (took held ∷ [])
