@@ -1,4 +1,13 @@
 pub mod Ends
+pub mod Saying
+pub mod Sentences
 pub mod Usages
 pub mod Certificates
 pub mod Memories
+pub mod Calm
+pub mod Demonstrating
+pub mod Checking
+pub mod Deciding
+pub mod Outcomes
+pub mod Cutting
+pub mod OneMore

@@ -1,6 +1,5 @@
 -- What a run's status says of its words, of what happened, and of what was noted.
-use Rattle.std.specs.Prelude.{◌≡◌, ℕ, ◌≤◌, ◌⊎◌, true, List, [], ◌∷◌, ◌++◌, length}
-use Rattle.std.specs.List.{list_any}
+use Rattle.std.specs.Prelude.{◌≡◌, ℕ, ◌≤◌, ◌⊎◌, List, [], ◌∷◌, ◌++◌, length}
 use Rattle.std.specs.Io.KnownBytes.{Consumes, Appends}
 use Rattle.pc_sheet.specs.Sheet.{Sheet}
 use Rattle.pc_sortcheck.specs.Declaring.{ReadsAs}
@@ -11,15 +10,13 @@ use Rattle.pc_refusals.specs.declared.status.Status.{Status}
 use Rattle.pc_refusals.specs.declared.status.Status.TheVariants.{Usage, WriteFault, Memory, CertRefused}
 use Rattle.pc_refusals.specs.Endings.{memory_text, sheet_memory_text}
 use Rattle.pc_course.specs.Events.{Outside, Event, took_rest, gave, told, Happened}
-use Rattle.pc_course.specs.Stages.{needs, ends_with, ends}
-use Rattle.pc_transcript.specs.Answer.{is_no_memory}
-use Rattle.pc_transcript.specs.Transcript.{Transcript, Legal}
+use Rattle.pc_course.specs.Stages.{needs}
 use Rattle.pc_judge.specs.declared.told.Told.{Told}
 use Rattle.pc_judge.specs.Judged.{IsJudged, judged_text, status_of_told}
 use Rattle.pc_judge.specs.Course.{Check}
-use Rattle.pc_spreadsheet.specs.Judgement.{State}
-use Rattle.pc_spreadsheet.specs.Allowed.{Notes, Allows}
+use Rattle.pc_spreadsheet.specs.Allowed.{Notes}
 use Rattle.pc_replay.specs.Course.{usage_text, CourseIn, Runs}
+use Rattle.pc_run_laws.specs.Statuses.{HasWanting}
 
 -- ---- words that don't fit
 
@@ -73,15 +70,13 @@ TakesJournal (posts file) = Unit {0}
 TakesJournal mode = ⊥
 
 -- Memory was wanted to read words that fit, and nothing but this happened; or, in the mode that they ask for, at the sheet; or, in a check, at
--- the certificate; or, in a mode that takes one, at a journal or the merge; or at a line, where all lines of the mode's course were answered, to
--- the end of the input or to the last line told.
+-- the certificate; or, in a mode that takes one, at a journal or the merge; or at a line of those that were answered, which are all of the mode.
 pub data WantsMemory (words : List (List ℕ)) (notes notes' : Notes) (events : List Event) : Type 0 where
   at_words : ¬ FitNothing words → events ≡ told memory_text ∷ [] → notes' ≡ notes → WantsMemory words notes notes' events
   at_sheet : (request : Request) (earlier : List Event) → FitsWords words request → CourseIn request.mode request.budget notes earlier (needs sheet_memory_text) notes' → events ≡ earlier ++ told sheet_memory_text ∷ [] → WantsMemory words notes notes' events
   at_certificate : (request : Request) (file : List ℕ) (earlier : List Event) → FitsWords words request → request.mode ≡ checks file → Check file earlier (needs memory_text) → events ≡ earlier ++ told memory_text ∷ [] → notes' ≡ notes → WantsMemory words notes notes' events
   at_journal : (request : Request) (earlier : List Event) → FitsWords words request → TakesJournal request.mode → CourseIn request.mode request.budget notes earlier (needs memory_text) notes' → events ≡ earlier ++ told memory_text ∷ [] → WantsMemory words notes notes' events
-  at_line : (request : Request) (start end : State) (t : Transcript) → FitsWords words request → CourseIn request.mode request.budget notes events (ends Memory) notes' → Legal Allows (start, notes) t (end, notes') → list_any (λ pair. is_no_memory pair.1) t ≡ true → WantsMemory words notes notes' events
-  at_clear : (request : Request) (earlier : List Event) (line : List ℕ) (start end : State) (t : Transcript) → FitsWords words request → CourseIn request.mode request.budget notes earlier (ends_with line Memory) notes' → events ≡ earlier ++ told line ∷ [] → Legal Allows (start, notes) t (end, notes') → list_any (λ pair. is_no_memory pair.1) t ≡ true → WantsMemory words notes notes' events
+  at_line : HasWanting words notes notes' events → WantsMemory words notes notes' events
 
 abbrev pub MemoryIsWanted : Type 0
 MemoryIsWanted = (words : List (List ℕ)) (status : Status) (notes notes' : Notes) (before after : Outside) (runs : Runs words status notes notes' before after) → status ≡ Memory → WantsMemory words notes notes' runs.2.events

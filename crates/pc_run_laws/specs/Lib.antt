@@ -1,1 +1,4 @@
+pub mod Statuses
 pub mod ByStatus
+pub mod Checks
+pub mod Demonstrations

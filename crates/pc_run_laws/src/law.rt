@@ -14,8 +14,8 @@ pub fn certificates_are_refused_in_checks()
     ensures { CertificatesAreRefused }
 {}
 
-/// A run ends in `Memory` only where memory was wanted at its words, at the sheet or at the certificate; or where the course
-/// of the mode that they ask for ends so, as it does where a line wanted memory.
+/// A run ends in `Memory` only where memory was wanted at its words, at the sheet, at the certificate or at a journal; or at
+/// a line of those that it answered, which are all of its mode.
 pub fn memory_is_told_where_wanted()
     ensures { MemoryIsWanted }
 {}
