@@ -3,4 +3,8 @@ pub mod Completing
 pub mod Running
 pub mod Ending
 pub mod Opening
+pub mod OnePart
+pub mod Replaying
+pub mod Posting
+pub mod Counting
 pub mod Worked

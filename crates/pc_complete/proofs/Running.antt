@@ -10,7 +10,6 @@ use Rattle.pc_course.specs.Runs.{Comes, on_course, past_limit, without_memory, R
 use Rattle.pc_transcript.specs.Transcript.{Transcript, Legal}
 use Rattle.pc_transcript.specs.Course as course
 use Rattle.pc_transcript.specs.Course.{AnswersLines, awaits_line, awaits_end, has_answer, has_all, FromSheet, is_refused, answers, FromInput, awaits_sheet, keeps_sheet, has_sheet, Replay, needs_room, from_input, Edit, awaits_file, has_file}
-use Rattle.pc_collab.specs.Journal.{Post}
 use Rattle.pc_journal.specs.Course as journal
 use Rattle.pc_journal.specs.Course.{AnswersHeld, PostText, Posts}
 use Rattle.pc_spreadsheet.specs.Judgement.{State, Starts}

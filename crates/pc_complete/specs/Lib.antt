@@ -1,4 +1,6 @@
 pub mod Enough
 pub mod Complete
 pub mod Runs
+pub mod Inputs
+pub mod Counts
 pub mod Worked
