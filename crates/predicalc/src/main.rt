@@ -2,7 +2,7 @@
 #![tactic(auto)]
 
 use pc_port::{Failed, RealShelf, RealSink, RealSource, Sink};
-use pc_replay::{Spendings, Status, run};
+use pc_theorem::{Spendings, Status, run};
 use std::alloc::AllocError;
 use std::process::ExitCode;
 use std::{env, io};

@@ -1,0 +1,8 @@
+mod Claimed
+mod Worth
+mod Answered
+mod Happenings
+mod Ends
+mod Told
+mod Whole
+mod Broken

@@ -1,0 +1,525 @@
+-- Runs over told devices, by how their courses end.
+use Rattle.std.proofs.Common.{◌≡◌, ℕ, Bool, true, false, ◌||◌, List, [], ◌∷◌, ◌++◌, map, codes, Some, refl, sym, ◌∙◌, ap, subst, inl, inr, append_assoc, append-nil}
+use Rattle.std.specs.List.{flat_map, list_any}
+use Rattle.std.proofs.lemmas.List.Concat.{flat_map-append}
+use Rattle.pc_port.specs.Shelf.{file_named}
+use Rattle.pc_lines.specs.Lines.{lines_of, line_text_of}
+use Rattle.pc_sheet.specs.Sheet.{Sheet}
+use Rattle.pc_collab.specs.Reading.{IsTextOf}
+use Rattle.pc_collab.specs.ReadBack.{ReadsBack}
+use Rattle.pc_accept.specs.Accepts.{repairs}
+use Rattle.pc_accept.specs.Laws.{CertificatesAreSound}
+use Rattle.pc_writer.specs.SheetText.{ended}
+use Rattle.pc_display.specs.Show.{IsShown}
+use Rattle.pc_display.specs.Grid.{IsGrid}
+use Rattle.pc_display.specs.OneDisplay.{SheetHasOneDisplay}
+use Rattle.pc_sortcheck.specs.Declaring.{ReadsAs}
+use Rattle.pc_sortcheck.specs.Laws.{SheetsAreWellFormed}
+use Rattle.pc_cert.specs.Text.{certificate_read}
+use Rattle.pc_cert_back.specs.ReadBack.{CertificatesReadBack}
+use Rattle.pc_one_reading.specs.Laws.{LinesHaveOneForm, FormsSayOneThing, WhatIsReadIsBare}
+use Rattle.pc_refusals.specs.declared.status.Status.{Status}
+use Rattle.pc_refusals.specs.declared.status.Status.TheVariants.{Done, SheetRefused, CertRefused}
+use Rattle.pc_course.specs.Events.{Event, took_rest, gave, told, Happened}
+use Rattle.pc_course.specs.Stages.{ends, ends_with}
+use Rattle.pc_course_laws.specs.Flat.{taken_in, told_in, taken_of, EventsAddUp}
+use Rattle.pc_transcript.specs.SheetPart.{IsSheetPart}
+use Rattle.pc_transcript.specs.Answer.{Answer, no_memory, is_no_memory, answer_text}
+use Rattle.pc_transcript.specs.Transcript.{Transcript, Legal, input_of, output_of, worse_of}
+use Rattle.pc_transcript.specs.Transcript as transcript
+use Rattle.pc_transcript.specs.Course.{events_of}
+use Rattle.pc_checker.specs.declared.verdict.Verdict.TheVariants as verdict
+use Rattle.pc_words.specs.Words.{replays, edits, checks, merges, posts, demonstrates}
+use Rattle.pc_judge.specs.declared.told.Told.{Told}
+use Rattle.pc_judge.specs.declared.told.Told.TheVariants as told_so
+use Rattle.pc_judge.specs.Judged.{IsJudged, judged_text, status_of_told}
+use Rattle.pc_judge.specs.Laws.{IsAcceptedText, AcceptedTextIsAccepts, JudgementsAreOne}
+use Rattle.pc_journal.specs.Course.{lines_of_posts, answers_told}
+use Rattle.pc_spreadsheet.specs.Judgement.{State, Task, shows, PageKind, lines_page, grid_page, json_page, text_page, why_page, repairs_page, proof_page, whynot_page, IsTask}
+use Rattle.pc_spreadsheet.specs.Allowed.{Notes, Allows}
+use Rattle.pc_spreadsheet.specs.Pages.{uses_of}
+use Rattle.pc_spreadsheet.specs.Laws.{LinesHaveOneVerdict}
+use Rattle.pc_replay.specs.Course.{CourseIn}
+use Rattle.pc_afresh.specs.Afresh.{IsOpen, StartsAreOpen, AnswersKeepOpen, TranscriptsKeepOpen, DumpsStartAgain}
+use Rattle.pc_theorem.specs.Theorem as page
+use Rattle.pc_theorem.specs.Theorem.{Course, IsProved, IsChecked, IsDeclined, IsMerged, HasNoMerge, AreAccepted, StandsBehind, Answers, IsSession, IsSessionOf, EndedWell, state_after_all}
+use Rattle.pc_theorem.specs.Laws.{GoesIn, ChecksAreWorthIt, MergesAreWorthIt, SessionsAreWorthIt, SavedSheetsShowTheSame}
+use Rattle.pc_theorem.proofs.Claimed.{certificate_claims}
+use Rattle.pc_theorem.proofs.Worth.{is_so}
+use Rattle.pc_theorem.proofs.Happenings.{none_behind, given_file, taken_all, printed_is, told-append, IsFull, Finishes, quietly, telling, finishes}
+use Rattle.pc_theorem.proofs.Ends.{Judges, check_at, Merges, merges_both, without_first, without_both, merge_at, AnswersAll, Replays, replay_at, Edits, edit_at, Posted, posts_at}
+use Rattle.pc_theorem.proofs.Answered.{CommandsHaveOneReading, course_of, NeverWants, edits_exist, edits_are, one_list, page_answers, page_or_refusal, edit_answers, nothing_answers, otherwise_refused, the_text, the_json, explains, proves_by_sets, doubts, doubts_a_value}
+
+-- ---- a transcript as it is printed
+
+taken_of_lines : (t : Transcript) → taken_in (events_of t) ≡ input_of t
+taken_of_lines [] = refl
+taken_of_lines (pair ∷ more) = ap (λ (xs : List ℕ). pair.0 ++ xs) (taken_of_lines more)
+
+told_of_lines : (t : Transcript) → told_in (events_of t) ≡ output_of t
+told_of_lines [] = refl
+told_of_lines (pair ∷ more) = ap (λ (xs : List ℕ). answer_text pair.1 ++ xs) (told_of_lines more)
+
+told_of_answers : (t : Transcript) → told_in (answers_told t) ≡ output_of t
+told_of_answers [] = refl
+told_of_answers (pair ∷ more) = ap (λ (xs : List ℕ). answer_text pair.1 ++ xs) (told_of_answers more)
+
+lines_kept : (t : Transcript) → map (λ (p : List ℕ × List ℕ). p.0) (course_of t) ≡ transcript.lines t
+lines_kept [] = refl
+lines_kept (pair ∷ more) = ap (λ xs. pair.0 ∷ xs) (lines_kept more)
+
+texts_kept : (t : Transcript) → flat_map (λ (p : List ℕ × List ℕ). p.1) (course_of t) ≡ output_of t
+texts_kept [] = refl
+texts_kept (pair ∷ more) = ap (λ xs. answer_text pair.1 ++ xs) (texts_kept more)
+
+or_none : (b c : Bool) → (b || c) ≡ false → (b ≡ false) × (c ≡ false)
+or_none true c is = absurd (cc)
+or_none false c is = (refl, is)
+
+no_want : (answer : Answer) → is_no_memory answer ≡ false → answer ≡ no_memory → ⊥
+no_want answer is same = absurd (cc (is, ap is_no_memory same))
+
+never_wants : (t : Transcript) → list_any (λ pair. is_no_memory pair.1) t ≡ false → NeverWants t
+never_wants [] is = tt
+never_wants (pair ∷ more) is =
+    let parts = or_none (is_no_memory pair.1) (list_any (λ pair. is_no_memory pair.1) more) is in
+    (no_want pair.1 parts.0, never_wants more parts.1)
+
+not_wanted : (b c : Bool) (status : Status) → EndedWell status → status ≡ worse_of b c → b ≡ false
+not_wanted false c status well is = refl
+not_wanted true c status (inl well) is = absurd (cc)
+not_wanted true c status (inr well) is = absurd (cc)
+
+-- ---- a line of it
+
+record Parted (t : Transcript) (before : Course) (line text : List ℕ) : Type 0 where
+  earlier : Transcript
+  answer : Answer
+  later : Transcript
+  is : t ≡ earlier ++ (line, answer) ∷ later
+  course : course_of earlier ≡ before
+  says : answer_text answer ≡ text
+
+abbrev line_of : List ℕ × List ℕ → List ℕ
+line_of p = p.0
+
+head_is : {X : Type 0} (x y : X) (xs ys : List X) → x ∷ xs ≡ y ∷ ys → x ≡ y
+head_is x y xs ys e = cc
+
+tail_is : {X : Type 0} (x y : X) (xs ys : List X) → x ∷ xs ≡ y ∷ ys → xs ≡ ys
+tail_is x y xs ys e = cc
+
+no_cons : {X : Type 0} (x : X) (xs : List X) → [] ≡ x ∷ xs → ⊥
+no_cons x xs e = absurd (cc)
+
+parted : (t : Transcript) (before : Course) (line text : List ℕ) (more : Course) → course_of t ≡ before ++ (line, text) ∷ more → Parted t before line text
+parted [] [] line text more e = absurd (no_cons (line, text) more e)
+parted [] (b ∷ bs) line text more e = absurd (no_cons b (bs ++ (line, text) ∷ more) e)
+parted (pair ∷ ts) [] line text more e =
+    let same = head_is (pair.0, answer_text pair.1) (line, text) (course_of ts) more e in
+    record { earlier = []; answer = pair.1; later = ts; is = ap (λ l. (l, pair.1) ∷ ts) (ap (λ (p : List ℕ × List ℕ). p.0) same); course = refl; says = ap (λ (p : List ℕ × List ℕ). p.1) same }
+parted (pair ∷ ts) (b ∷ bs) line text more e =
+    let r = parted ts bs line text more (tail_is (pair.0, answer_text pair.1) b (course_of ts) (bs ++ (line, text) ∷ more) e) in
+    record {
+      earlier = pair ∷ r.earlier;
+      answer = r.answer;
+      later = r.later;
+      is = ap (λ xs. pair ∷ xs) r.is;
+      course = ap (λ xs. (pair.0, answer_text pair.1) ∷ xs) r.course ∙ ap (λ p. p ∷ bs) (head_is (pair.0, answer_text pair.1) b (course_of ts) (bs ++ (line, text) ∷ more) e);
+      says = r.says;
+    }
+
+-- the state in which it is answered, and the next one
+record Reached (old : State × Notes) (earlier : Transcript) (line : List ℕ) (answer : Answer) : Type 0 where
+  mid : State × Notes
+  before : Legal Allows old earlier mid
+  next : State × Notes
+  allowed : Allows mid (line_text_of line) answer next
+
+reached : (old new : State × Notes) (earlier : Transcript) (line : List ℕ) (answer : Answer) (later : Transcript) → Legal Allows old (earlier ++ (line, answer) ∷ later) new → Reached old earlier line answer
+reached old new [] line answer later legal = record { mid = old; before = refl; next = legal.0; allowed = legal.1 }
+reached old new (pair ∷ ts) line answer later legal =
+    let r = reached legal.0 new ts line answer later legal.2 in
+    record { mid = r.mid; before = (legal.0, legal.1, r.before); next = r.next; allowed = r.allowed }
+
+never_before : (earlier : Transcript) (line : List ℕ) (answer : Answer) (later : Transcript) → NeverWants (earlier ++ (line, answer) ∷ later) → NeverWants earlier × (answer ≡ no_memory → ⊥)
+never_before [] line answer later never = (tt, never.0)
+never_before (pair ∷ ts) line answer later never = let r = never_before ts line answer later never.1 in ((never.0, r.0), r.1)
+
+-- ---- sessions
+
+module _ (one : LinesHaveOneVerdict) (read : CommandsHaveOneReading) (first : StartsAreOpen) (keep : AnswersKeepOpen) (keep_all : TranscriptsKeepOpen) (again : DumpsStartAgain) (one_display : SheetHasOneDisplay) (back : CertificatesReadBack) (one_form : LinesHaveOneForm) (one_thing : FormsSayOneThing) (bare : WhatIsReadIsBare) where
+  answers : (old new : State × Notes) (line : List ℕ) (answer : Answer) → IsOpen old.0.sheet → Allows old (line_text_of line) answer new → (answer ≡ no_memory → ⊥) → Answers old.0 line (answer_text answer)
+  answers old new line answer is allowed some =
+      let a_page = λ (kind : PageKind) (asked : IsTask old.0 (line_text_of line) (shows kind)). page_answers one read old new (line_text_of line) kind answer is asked in
+      let page_or = λ (kind : PageKind) (asked : IsTask old.0 (line_text_of line) (shows kind)). page_or_refusal one read old new (line_text_of line) kind answer is asked allowed some in
+      record {
+        shown = λ asked. the_text IsShown one_display.shown old.0.sheet (answer_text answer) is (a_page lines_page asked tt allowed some);
+        in_table = λ asked. the_text IsGrid one_display.grid old.0.sheet (answer_text answer) is (a_page grid_page asked tt allowed some);
+        in_json = λ asked. the_json one_display.json old.0.sheet (answer_text answer) is (a_page json_page asked tt allowed some);
+        listed = λ asked. a_page repairs_page asked tt allowed some;
+        explained = λ t asked. explains back one_form one_thing bare old.0.sheet t (answer_text answer) is (a_page (why_page t) asked tt allowed some);
+        proved = λ asked. elim (page_or proof_page asked) [
+          | inl on ↦ inl (proves_by_sets back one_form one_thing bare old.0.sheet repairs (answer_text answer) is tt tt on)
+          | inr refusal ↦ inr refusal
+        ];
+        doubted = λ t asked. elim (page_or (whynot_page t) asked) [
+          | inl on ↦ inl (doubts back one_form one_thing bare old.0.sheet t (answer_text answer) is (doubts_a_value old.0.sheet asked.0 t asked.2) on)
+          | inr refusal ↦ inr refusal
+        ];
+        saved = λ asked. again old.0.sheet (answer_text answer) is (a_page text_page asked tt allowed some);
+        edited = λ edit asked edits. edit_answers one read old new (line_text_of line) edit answer is asked edits allowed some;
+        quiet = λ none. nothing_answers one read old new (line_text_of line) answer is none allowed some;
+        otherwise = λ something never. otherwise_refused one read old new (line_text_of line) answer something never allowed some;
+      }
+
+  module _ (old new : State × Notes) (t : Transcript) (is : IsOpen old.0.sheet) (legal : Legal Allows old t new) (never : NeverWants t) where
+    accepted_before : (before : Course) (line text : List ℕ) → StandsBehind (course_of t) before line text → (done : List Task) × AreAccepted old.0 before done
+    accepted_before before line text stands =
+        let p = parted t before line text stands.more stands.is in
+        let r = reached old new p.earlier line p.answer p.later (subst (λ x. Legal Allows old x new) p.is legal) in
+        let quiet = never_before p.earlier line p.answer p.later (subst NeverWants p.is never) in
+        let found = edits_exist one read keep old r.mid p.earlier is r.before quiet.0 in
+        (found.0, subst (λ c. AreAccepted old.0 c found.0) p.course found.1)
+
+    list_before : (before : Course) (line text : List ℕ) (done other : List Task) → StandsBehind (course_of t) before line text → AreAccepted old.0 before done → AreAccepted old.0 before other → other ≡ done
+    list_before before line text done other stands first second =
+        let p = parted t before line text stands.more stands.is in
+        let r = reached old new p.earlier line p.answer p.later (subst (λ x. Legal Allows old x new) p.is legal) in
+        let quiet = never_before p.earlier line p.answer p.later (subst NeverWants p.is never) in
+        one_list one read keep old r.mid p.earlier done other is r.before quiet.0 (subst (λ c. AreAccepted old.0 c done) (sym p.course) first) (subst (λ c. AreAccepted old.0 c other) (sym p.course) second)
+
+    answered_behind : (before : Course) (line text : List ℕ) (done : List Task) → StandsBehind (course_of t) before line text → AreAccepted old.0 before done → Answers (state_after_all old.0 done) line text
+    answered_behind before line text done stands accepted =
+        let p = parted t before line text stands.more stands.is in
+        let r = reached old new p.earlier line p.answer p.later (subst (λ x. Legal Allows old x new) p.is legal) in
+        let quiet = never_before p.earlier line p.answer p.later (subst NeverWants p.is never) in
+        let state = edits_are one read keep old r.mid p.earlier done is r.before quiet.0 (subst (λ c. AreAccepted old.0 c done) (sym p.course) accepted) in
+        let told = answers r.mid r.next line p.answer (keep_all old r.mid p.earlier is r.before) r.allowed quiet.1 in
+        subst (λ s. Answers s line text) (sym state) (subst (λ x. Answers r.mid.0 line x) p.says told)
+
+  -- ---- whole sessions
+
+  session : (budget : ℕ) (notes noted : Notes) (text output : List ℕ) (status : Status) (all : AnswersAll budget notes text status noted) (commands : List (List ℕ)) → transcript.lines all.transcript ≡ commands → output ≡ output_of all.transcript → EndedWell status
+      → IsSession budget text commands output
+  session budget notes noted text output status all commands lines_are printed_so well =
+      let is = first budget text all.start all.starts in
+      let never = never_wants all.transcript (not_wanted _ _ status well all.status_is) in
+      record {
+        start = all.start;
+        starts = all.starts;
+        course = course_of all.transcript;
+        lines_are = lines_kept all.transcript ∙ lines_are;
+        texts_are = texts_kept all.transcript ∙ sym printed_so;
+        accepted = accepted_before (all.start, notes) (all.end, noted) all.transcript is all.legal never;
+        one_list = list_before (all.start, notes) (all.end, noted) all.transcript is all.legal never;
+        answered = answered_behind (all.start, notes) (all.end, noted) all.transcript is all.legal never;
+      }
+
+  module _ (sums : EventsAddUp) where
+    -- with `replay` the sheet and the commands are in the input
+    replayed : (run : page.Run) (budget : ℕ) (g : GoesIn run replays budget) → Replays budget g.notes g.ran.events run.status g.noted → EndedWell run.status → IsSessionOf run replays budget
+    replayed run budget g r well = record {
+      text = r.text;
+      commands = lines_of (input_of t);
+      given = (input_of t, input_is, part, refl);
+      session = session budget g.notes g.noted r.text run.printed run.status r.rest.all (lines_of (input_of t)) r.rest.lines_are printed_so well;
+    }
+      where
+        t : Transcript
+        t = r.rest.all.transcript
+
+        -- what was taken and what was told
+        all_events : g.ran.events ≡ (r.taken ++ events_of t) ++ took_rest [] ∷ []
+        all_events = r.events_are ∙ ap (λ es. r.taken ++ es) r.rest.events_are ∙ sym (append_assoc r.taken (events_of t) (took_rest [] ∷ []))
+
+        happened : Happened ((r.taken ++ events_of t) ++ took_rest [] ∷ g.ran.spare) g.before g.after
+        happened = subst (λ es. Happened es g.before g.after) (ap (λ es. es ++ g.ran.spare) all_events ∙ append_assoc (r.taken ++ events_of t) (took_rest [] ∷ []) g.ran.spare) g.ran.happened
+
+        taken_front : taken_in r.taken ≡ r.text
+        taken_front = elim r.is_taken.ends [
+          | inl w ↦ ap taken_in w.2 ∙ append-nil r.text
+          | inr w ↦ ap taken_in w.1 ∙ append-nil r.text
+        ]
+
+        told_front : told_in r.taken ≡ []
+        told_front = elim r.is_taken.ends [
+          | inl w ↦ ap told_in w.2
+          | inr w ↦ ap told_in w.1
+        ]
+
+        input_is : run.input ≡ r.text ++ input_of t
+        input_is =
+            taken_all sums (r.taken ++ events_of t) g.ran.spare run.input [] g.before g.after happened g.told.input_is ∙ append-nil (taken_in (r.taken ++ events_of t)) ∙ flat_map-append taken_of r.taken (events_of t)
+            ∙ ap (λ xs. xs ++ taken_in (events_of t)) taken_front ∙ ap (λ xs. r.text ++ xs) (taken_of_lines t)
+
+        part : IsSheetPart r.text (Some (input_of t))
+        part = elim r.is_taken.ends [
+          | inl w ↦ record { earlier = r.is_taken.earlier; last = r.is_taken.last; is = r.is_taken.is; others = r.is_taken.others; ends = inl (w.0, w.1) }
+          | inr w ↦
+              let first_of = subst (λ es. Happened (es ++ g.ran.spare) g.before g.after) (r.events_are ∙ ap (λ es. es ++ r.more) w.1) g.ran.happened in
+              let whole = taken_all sums [] (r.more ++ g.ran.spare) run.input r.text g.before g.after first_of g.told.input_is in
+              record { earlier = r.is_taken.earlier; last = r.is_taken.last; is = r.is_taken.is; others = r.is_taken.others; ends = inr (w.0, none_behind r.text (input_of t) (sym whole ∙ input_is)) }
+        ]
+
+        printed_so : run.printed ≡ output_of t
+        printed_so =
+            printed_is sums g.words run.status g.before g.after run g.told g.most g.ran.events g.ran.spare g.ran.is_spare g.ran.happened ∙ ap told_in all_events ∙ told-append (r.taken ++ events_of t) (took_rest [] ∷ [])
+            ∙ append-nil (told_in (r.taken ++ events_of t)) ∙ told-append r.taken (events_of t) ∙ ap (λ xs. xs ++ told_in (events_of t)) told_front ∙ told_of_lines t
+
+    -- with `edit FILE` the sheet is the file, and the commands are the input
+    edited : (run : page.Run) (file : List ℕ) (budget : ℕ) (g : GoesIn run (edits file) budget) → Edits budget g.notes file g.ran.events run.status g.noted → EndedWell run.status → IsSessionOf run (edits file) budget
+    edited run file budget g r well = record {
+      text = r.text;
+      commands = lines_of run.input;
+      given = (found, refl);
+      session = session budget g.notes g.noted r.text run.printed run.status r.rest.all (lines_of run.input) (r.rest.lines_are ∙ ap lines_of (sym input_is)) printed_so well;
+    }
+      where
+        t : Transcript
+        t = r.rest.all.transcript
+
+        all_events : g.ran.events ≡ gave file r.text ∷ events_of t ++ took_rest [] ∷ []
+        all_events = r.events_are ∙ ap (λ es. gave file r.text ∷ es) r.rest.events_are
+
+        happened : Happened ((gave file r.text ∷ events_of t) ++ took_rest [] ∷ g.ran.spare) g.before g.after
+        happened = subst (λ es. Happened es g.before g.after) (ap (λ es. es ++ g.ran.spare) all_events ∙ append_assoc (gave file r.text ∷ events_of t) (took_rest [] ∷ []) g.ran.spare) g.ran.happened
+
+        found : file_named file run.files ≡ Some r.text
+        found = given_file file r.text (events_of t ++ took_rest [] ∷ g.ran.spare) run.files g.before g.after happened g.told.files_are
+
+        input_is : run.input ≡ input_of t
+        input_is =
+            taken_all sums (gave file r.text ∷ events_of t) g.ran.spare run.input [] g.before g.after happened g.told.input_is ∙ append-nil (taken_in (events_of t)) ∙ taken_of_lines t
+
+        printed_so : run.printed ≡ output_of t
+        printed_so =
+            printed_is sums g.words run.status g.before g.after run g.told g.most g.ran.events g.ran.spare g.ran.is_spare g.ran.happened ∙ ap told_in all_events ∙ told-append (events_of t) (took_rest [] ∷ [])
+            ∙ append-nil (told_in (events_of t)) ∙ told_of_lines t
+
+    -- with `posts FILE` the sheet is the file, and the commands are the posts of the input's journal
+    posted : (run : page.Run) (file : List ℕ) (budget : ℕ) (g : GoesIn run (posts file) budget) → Posted budget g.notes file g.ran.events run.status g.noted → EndedWell run.status → IsSessionOf run (posts file) budget
+    posted run file budget g r well = record {
+      text = r.text;
+      commands = lines_of_posts r.posts;
+      given = (found, (r.posts, subst (λ i. IsTextOf i r.posts) (sym input_is) r.reads, refl));
+      session = session budget g.notes g.noted r.text run.printed run.status r.all (lines_of_posts r.posts) r.lines_are printed_so well;
+    }
+      where
+        happened : Happened (gave file r.text ∷ took_rest r.input ∷ (answers_told r.all.transcript ++ g.ran.spare)) g.before g.after
+        happened = subst (λ es. Happened (es ++ g.ran.spare) g.before g.after) r.events_are g.ran.happened
+
+        found : file_named file run.files ≡ Some r.text
+        found = given_file file r.text (took_rest r.input ∷ (answers_told r.all.transcript ++ g.ran.spare)) run.files g.before g.after happened g.told.files_are
+
+        input_is : run.input ≡ r.input
+        input_is = taken_all sums (gave file r.text ∷ []) (answers_told r.all.transcript ++ g.ran.spare) run.input r.input g.before g.after happened g.told.input_is
+
+        printed_so : run.printed ≡ output_of r.all.transcript
+        printed_so =
+            printed_is sums g.words run.status g.before g.after run g.told g.most g.ran.events g.ran.spare g.ran.is_spare g.ran.happened ∙ ap told_in r.events_are ∙ told_of_answers r.all.transcript
+
+    not_refused : (status : Status) → EndedWell status → status ≡ SheetRefused → ⊥
+    not_refused status (inl well) is = absurd (cc (well, is))
+    not_refused status (inr well) is = absurd (cc (well, is))
+
+    well_is_full : (status : Status) → EndedWell status → IsFull status
+    well_is_full status (inl well) = subst IsFull (sym well) tt
+    well_is_full status (inr well) = subst IsFull (sym well) tt
+
+    pub sessions_are_worth_it : SessionsAreWorthIt
+    sessions_are_worth_it run replays budget g answering well =
+        by (finishes (CourseIn replays budget g.notes) g.ran.events run.status g.noted (well_is_full run.status well) g.ran.run)
+      where
+        by : Finishes (CourseIn replays budget g.notes) g.ran.events run.status g.noted → IsSessionOf run replays budget
+        by (quietly h) = replayed run budget g (replay_at budget g.notes g.ran.events (ends run.status) g.noted h) well
+        by (telling before line h is) = absurd (not_refused run.status well (replay_at budget g.notes before (ends_with line run.status) g.noted h))
+    sessions_are_worth_it run (edits file) budget g answering well =
+        by (finishes (CourseIn (edits file) budget g.notes) g.ran.events run.status g.noted (well_is_full run.status well) g.ran.run)
+      where
+        by : Finishes (CourseIn (edits file) budget g.notes) g.ran.events run.status g.noted → IsSessionOf run (edits file) budget
+        by (quietly h) = edited run file budget g (edit_at budget g.notes file g.ran.events (ends run.status) g.noted h) well
+        by (telling before line h is) = absurd (not_refused run.status well (edit_at budget g.notes file before (ends_with line run.status) g.noted h))
+    sessions_are_worth_it run (posts file) budget g answering well =
+        by (finishes (CourseIn (posts file) budget g.notes) g.ran.events run.status g.noted (well_is_full run.status well) g.ran.run)
+      where
+        by : Finishes (CourseIn (posts file) budget g.notes) g.ran.events run.status g.noted → IsSessionOf run (posts file) budget
+        by (quietly h) = posted run file budget g (posts_at budget g.notes file g.ran.events (ends run.status) g.noted h) well
+        by (telling before line h is) = absurd (not_refused run.status well (posts_at budget g.notes file before (ends_with line run.status) g.noted h))
+    sessions_are_worth_it run (checks file) budget g answering well = absurd answering
+    sessions_are_worth_it run (merges file) budget g answering well = absurd answering
+    sessions_are_worth_it run (demonstrates blocks) budget g answering well = absurd answering
+
+-- ---- checks
+
+module _ (sums : EventsAddUp) (formed : SheetsAreWellFormed) (sound : CertificatesAreSound) (accepts : AcceptedTextIsAccepts) (one_verdict : JudgementsAreOne) (one_form : LinesHaveOneForm) (one_thing : FormsSayOneThing) where
+  proved : (sheet : Sheet) (bytes text : List ℕ) → ReadsAs bytes sheet → IsAcceptedText sheet text → IsProved sheet text
+  proved sheet bytes text reads is =
+      let c = certificate_read is.0 in
+      let well = formed bytes sheet reads in
+      record {
+        claim = c.claim;
+        uses = c.uses;
+        sets = map uses_of c.sets;
+        claims = certificate_claims one_form one_thing sheet well text is.0 c is.1 refl;
+        worth = is_so sheet well.entries.distinct c c.claim is.2 (sound sheet c is.2);
+      }
+
+  -- the one thing that is told where a check ends well
+  done_is_accepted : (sheet : Sheet) (text : List ℕ) (t : Told) → Done ≡ status_of_told t → IsJudged sheet text t → IsAcceptedText sheet text × (judged_text sheet t ≡ ended (codes "accepted"))
+  done_is_accepted sheet text (told_so.Verdict verdict.Accepted) is judged = ((accepts sheet text).0 judged, refl)
+  done_is_accepted sheet text (told_so.Verdict v) is judged = absurd (cc)
+  done_is_accepted sheet text (told_so.Syntax line) is judged = absurd (cc)
+  done_is_accepted sheet text (told_so.UnknownName line) is judged = absurd (cc)
+
+  -- what is told of a text that is accepted is that it is
+  refused_is_not_accepted : (sheet : Sheet) (bytes text : List ℕ) (t : Told) → ReadsAs bytes sheet → CertRefused ≡ status_of_told t → IsJudged sheet text t → ¬ IsAcceptedText sheet text
+  refused_is_not_accepted sheet bytes text t reads status judged accepted =
+      let same = one_verdict sheet (formed bytes sheet reads) text t (told_so.Verdict verdict.Accepted) judged ((accepts sheet text).1 accepted) in
+      done_is_other (status ∙ ap status_of_told same)
+    where
+      done_is_other : CertRefused ≡ Done → ⊥
+      done_is_other e = absurd (cc)
+
+  module _ (run : page.Run) (file : List ℕ) (budget : ℕ) (g : GoesIn run (checks file) budget) where
+    -- a check whose certificate was judged
+    record Judged : Type 0 where
+      before : List Event
+      line : List ℕ
+      events_are : g.ran.events ≡ before ++ told line ∷ []
+      judges : Judges file before line run.status
+
+    module _ (j : Judged) where
+      all_events : g.ran.events ≡ gave file j.judges.text ∷ took_rest j.judges.certificate ∷ told j.line ∷ []
+      all_events = j.events_are ∙ ap (λ es. es ++ told j.line ∷ []) j.judges.events_are
+
+      happened : Happened (gave file j.judges.text ∷ took_rest j.judges.certificate ∷ told j.line ∷ g.ran.spare) g.before g.after
+      happened = subst (λ es. Happened (es ++ g.ran.spare) g.before g.after) all_events g.ran.happened
+
+      found : file_named file run.files ≡ Some j.judges.text
+      found = given_file file j.judges.text (took_rest j.judges.certificate ∷ told j.line ∷ g.ran.spare) run.files g.before g.after happened g.told.files_are
+
+      input_is : run.input ≡ j.judges.certificate
+      input_is = taken_all sums (gave file j.judges.text ∷ []) (told j.line ∷ g.ran.spare) run.input j.judges.certificate g.before g.after happened g.told.input_is
+
+      printed_so : run.printed ≡ judged_text j.judges.sheet j.judges.what
+      printed_so =
+          printed_is sums g.words run.status g.before g.after run g.told g.most g.ran.events g.ran.spare g.ran.is_spare g.ran.happened ∙ ap told_in all_events ∙ append-nil j.line ∙ j.judges.line_is
+
+      checked : run.status ≡ Done → IsChecked run.files file run.input run.printed
+      checked done =
+          let r = j.judges in
+          let is = done_is_accepted r.sheet r.certificate r.what (sym done ∙ r.status_is) r.judged in
+          let accepted = subst (λ x. IsAcceptedText r.sheet x) (sym input_is) is.0 in
+          record { bytes = r.text; found = found; sheet = r.sheet; reads = r.reads; accepted = accepted; proved = proved r.sheet r.text run.input r.reads accepted; told = printed_so ∙ is.1 }
+
+      declined : run.status ≡ CertRefused → IsDeclined run.files file run.input
+      declined refused =
+          let r = j.judges in
+          record {
+            bytes = r.text;
+            found = found;
+            sheet = r.sheet;
+            reads = r.reads;
+            refused = subst (λ x. ¬ IsAcceptedText r.sheet x) (sym input_is) (refused_is_not_accepted r.sheet r.text r.certificate r.what r.reads (sym refused ∙ r.status_is) r.judged);
+          }
+
+    judged : IsFull run.status → (run.status ≡ SheetRefused → ⊥) → Judged
+    judged full other = by (finishes (CourseIn (checks file) budget g.notes) g.ran.events run.status g.noted full g.ran.run)
+      where
+        by : Finishes (CourseIn (checks file) budget g.notes) g.ran.events run.status g.noted → Judged
+        by (quietly h) = absurd (check_at file g.ran.events (ends run.status) h.0)
+        by (telling before line h is) = elim (check_at file before (ends_with line run.status) h.0) [
+          | inl refused ↦ absurd (other refused)
+          | inr judges ↦ record { before = before; line = line; events_are = is; judges = judges }
+        ]
+
+  pub checks_are_worth_it : ChecksAreWorthIt
+  checks_are_worth_it run file budget g = record {
+    accepted = λ done. checked run file budget g (judged run file budget g (subst IsFull (sym done) tt) (λ is. absurd (cc (done, is)))) done;
+    declined = λ refused. declined run file budget g (judged run file budget g (subst IsFull (sym refused) tt) (λ is. absurd (cc (refused, is)))) refused;
+  }
+
+-- ---- merges
+
+module _ (sums : EventsAddUp) (back : ReadsBack) where
+  module _ (run : page.Run) (file : List ℕ) (budget : ℕ) (g : GoesIn run (merges file) budget) where
+    record Ended : Type 0 where
+      before : List Event
+      line : List ℕ
+      events_are : g.ran.events ≡ before ++ told line ∷ []
+      merge : Merges file before line run.status
+
+    ended_so : IsFull run.status → Ended
+    ended_so full = by (finishes (CourseIn (merges file) budget g.notes) g.ran.events run.status g.noted full g.ran.run)
+      where
+        by : Finishes (CourseIn (merges file) budget g.notes) g.ran.events run.status g.noted → Ended
+        by (quietly h) = absurd (merge_at back file g.ran.events (ends run.status) tt h.0)
+        by (telling before line h is) = record { before = before; line = line; events_are = is; merge = merge_at back file before (ends_with line run.status) tt h.0 }
+
+    -- where both were taken
+    module _ (e : Ended) (text input : List ℕ) (events_are : e.before ≡ gave file text ∷ took_rest input ∷ []) where
+      both_events : g.ran.events ≡ gave file text ∷ took_rest input ∷ told e.line ∷ []
+      both_events = e.events_are ∙ ap (λ es. es ++ told e.line ∷ []) events_are
+
+      both_happened : Happened (gave file text ∷ took_rest input ∷ told e.line ∷ g.ran.spare) g.before g.after
+      both_happened = subst (λ es. Happened (es ++ g.ran.spare) g.before g.after) both_events g.ran.happened
+
+      file_is : file_named file run.files ≡ Some text
+      file_is = given_file file text (took_rest input ∷ told e.line ∷ g.ran.spare) run.files g.before g.after both_happened g.told.files_are
+
+      rest_is : run.input ≡ input
+      rest_is = taken_all sums (gave file text ∷ []) (told e.line ∷ g.ran.spare) run.input input g.before g.after both_happened g.told.input_is
+
+      line_is : run.printed ≡ e.line
+      line_is =
+          printed_is sums g.words run.status g.before g.after run g.told g.most g.ran.events g.ran.spare g.ran.is_spare g.ran.happened ∙ ap told_in both_events ∙ append-nil e.line
+
+    merged : run.status ≡ Done → Ended → IsMerged run.files file run.input run.printed
+    merged done e = by e.merge
+      where
+        by : Merges file e.before e.line run.status → IsMerged run.files file run.input run.printed
+        by (merges_both text input a b reads other is made) = record {
+          bytes = text;
+          found = file_is e text input is;
+          one = a;
+          other = b;
+          reads_one = reads;
+          reads_other = subst (λ x. IsTextOf x b) (sym (rest_is e text input is)) other;
+          merged = made.merged;
+          merge = made.merge;
+          told = line_is e text input is ∙ made.line_is;
+        }
+        by (without_first text more refused is none) = absurd (cc (done, refused))
+        by (without_both text input refused is none) = absurd (cc (done, refused))
+
+    unmerged : run.status ≡ SheetRefused → Ended → HasNoMerge run.files file run.input
+    unmerged refused e = by e.merge
+      where
+        by : Merges file e.before e.line run.status → HasNoMerge run.files file run.input
+        by (merges_both text input a b reads other is made) = absurd (cc (refused, made.done))
+        by (without_first text more same is none) = record {
+          bytes = text;
+          found = given_file file text ((more ++ told e.line ∷ []) ++ g.ran.spare) run.files g.before g.after (subst (λ es. Happened (es ++ g.ran.spare) g.before g.after) (e.events_are ∙ ap (λ es. es ++ told e.line ∷ []) is) g.ran.happened) g.told.files_are;
+          none = λ a b made reads other merge. none a reads;
+        }
+        by (without_both text input same is none) = record {
+          bytes = text;
+          found = file_is e text input is;
+          none = λ a b made reads other merge. none a b made reads (subst (λ x. IsTextOf x b) (rest_is e text input is) other) merge;
+        }
+
+  pub merges_are_worth_it : MergesAreWorthIt
+  merges_are_worth_it run file budget g = record {
+    merged = λ done. merged run file budget g done (ended_so run file budget g (subst IsFull (sym done) tt));
+    declined = λ refused. unmerged run file budget g refused (ended_so run file budget g (subst IsFull (sym refused) tt));
+  }
+
+-- ---- a saved sheet
+
+pub saved_sheets_show_the_same : SavedSheetsShowTheSame
+saved_sheets_show_the_same budget budget' text saved output output' commands commands' one two done shown shown' dumps shows_one shows_two =
+    let first = (one.answered dumps.before dumps.line saved done dumps.stands dumps.accepted).saved dumps.asks in
+    let display = (one.answered shows_one.before shows_one.line shown done shows_one.stands shows_one.accepted).shown shows_one.asks in
+    let later = (two.answered shows_two.before shows_two.line shown' [] shows_two.stands shows_two.accepted).shown shows_two.asks in
+    display.only shown' (subst (λ s. IsShown s shown') (first.only budget' two.start two.starts) later.is)

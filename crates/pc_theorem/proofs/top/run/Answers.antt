@@ -1,0 +1,4 @@
+use Rattle.pc_theorem.proofs.top.run.Goals as goal
+
+pub returns-clause-word : goal.returns-clause-word
+returns-clause-word g c = c.runs_keep_their_word.ensures _ _ _ _ _ _ c.run.ensures.runs

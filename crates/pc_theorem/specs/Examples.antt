@@ -1,0 +1,28 @@
+-- Runs that would not keep their word.
+use Rattle.std.specs.Prelude.{ℕ, List, [], ◌∷◌, codes, Some}
+use Rattle.pc_port.specs.Shelf.{Files}
+use Rattle.pc_writer.specs.SheetText.{ended}
+use Rattle.pc_refusals.specs.declared.status.Status.{Status}
+use Rattle.pc_refusals.specs.declared.status.Status.TheVariants.{Done}
+use Rattle.pc_course.specs.Events.{Outside}
+use Rattle.pc_theorem.specs.Theorem.{KeepsItsWord}
+
+-- what is outside where the shelf keeps these files, the input has this left, and the output was given this
+abbrev pub outside_of : Files → List ℕ → List ℕ → Outside
+outside_of files input output = record { kept = Some files; asked = []; shelf_faults = 0; input = Some input; input_faults = 0; output = Some output; output_faults = 0 }
+
+-- from such an outside, where nothing was given to the output, a run with these words that printed this
+abbrev pub Keeps : List (List ℕ) → Files → List ℕ → List ℕ → Status → Type 0
+Keeps words files input printed status = KeepsItsWord words status (outside_of files input []) (outside_of files [] printed)
+
+-- the words `merge f`
+abbrev pub merge_words : List (List ℕ)
+merge_words = codes "merge" ∷ codes "f" ∷ []
+
+pub record BrokenWords : Type 0 where
+  -- a certificate is accepted for a file that isn't there
+  pub no_file : ¬ Keeps (codes "check" ∷ codes "f" ∷ []) [] [] (ended (codes "accepted")) Done
+  -- an input without a sheet is a session
+  pub no_sheet : ¬ Keeps (codes "replay" ∷ []) [] [] [] Done
+  -- a post is lost
+  pub lost_post : ¬ Keeps merge_words ((codes "f", codes "post 1 1 7 : show\n") ∷ []) [] [] Done

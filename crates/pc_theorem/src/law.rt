@@ -1,0 +1,72 @@
+// The laws of the page, each the contract of a function that does nothing.
+ghost use Rattle.pc_theorem.specs.Examples.{BrokenWords};
+ghost use Rattle.pc_theorem.specs.Laws.{ChecksAreWorthIt, MergesAreWorthIt, RunsKeepTheirWord, SavedSheetsShowTheSame, SessionsAreWorthIt};
+
+use pc_accept::certificates_are_sound;
+use pc_afresh::{dumps_start_again, states_stay_open, transcripts_stay_open};
+use pc_cert_back::texts_read_back;
+use pc_collab::journals_read_back;
+use pc_course_laws::events_add_up;
+use pc_display::sheet_has_one_display;
+use pc_judge::{judgements_are_one, told_accepted_is_accepts};
+use pc_one_reading::{certificates_have_one_reading, what_is_read_is_for_the_sheet};
+use pc_sortcheck::sheets_are_well_formed;
+use pc_spreadsheet::lines_have_one_verdict;
+use pc_syntax::one_reading;
+use pc_words::words_fit_one_request;
+
+/// Where `check FILE` accepts, what the certificate claims of the file's sheet is so; where it refuses, it isn't accepted.
+pub fn checks_are_worth_it()
+    ensures { ChecksAreWorthIt }
+{
+    events_add_up();
+    sheets_are_well_formed();
+    certificates_are_sound();
+    told_accepted_is_accepts();
+    judgements_are_one();
+    certificates_have_one_reading();
+}
+
+/// Where `merge FILE` ends well, it printed the merge of two journals; where it refuses, they aren't journals that have one.
+pub fn merges_are_worth_it()
+    ensures { MergesAreWorthIt }
+{
+    events_add_up();
+    journals_read_back();
+}
+
+/// With `replay`, `edit FILE` and `posts FILE` each line is answered by the sheet after the edits that were accepted before it.
+pub fn sessions_are_worth_it()
+    ensures { SessionsAreWorthIt }
+{
+    events_add_up();
+    lines_have_one_verdict();
+    one_reading();
+    states_stay_open();
+    transcripts_stay_open();
+    dumps_start_again();
+    sheet_has_one_display();
+    texts_read_back();
+    certificates_have_one_reading();
+    what_is_read_is_for_the_sheet();
+}
+
+/// A session that begins with what another one printed for `dump` shows what that one showed.
+pub fn saved_sheets_show_the_same()
+    ensures { SavedSheetsShowTheSame }
+{}
+
+/// Whatever a run was asked for, it keeps its word.
+pub fn runs_keep_their_word()
+    ensures { RunsKeepTheirWord }
+{
+    words_fit_one_request();
+    checks_are_worth_it();
+    merges_are_worth_it();
+    sessions_are_worth_it();
+}
+
+/// Runs that would not keep their word: the page says something.
+pub fn broken_words()
+    ensures { BrokenWords }
+{}

@@ -1,0 +1,15 @@
+//! What a run of the program is worth, in the words of sheets alone.
+//!
+//! `specs/Theorem.antt` is the page to read. What `run` says of itself (`pc_replay`) speaks of events, limits, refusals and what
+//! is spent; here it is shown to give the page.
+#![tactic(auto)]
+
+mod law;
+mod top;
+
+pub use law::{
+    broken_words, checks_are_worth_it, merges_are_worth_it, runs_keep_their_word,
+    saved_sheets_show_the_same, sessions_are_worth_it,
+};
+pub use pc_replay::{Spendings, Status};
+pub use top::run;
