@@ -260,8 +260,8 @@ enter a = red
 begin
 ===
 sheet 1
-sort pigeon = 1 .. 4
-sort hole = 1 .. 3
+sort pigeon = 1 .. 7
+sort hole = 1 .. 6
 cell nest(pigeon) : hole
 rule apart : forall x:pigeon . forall y:pigeon . x = y | nest(x) != nest(y)
 begin
@@ -270,8 +270,8 @@ sheet refused 13 inconsistent
 --- certificate 1
 claim inconsistent
 --- sheet 1
-sort pigeon = 1 .. 4
-sort hole = 1 .. 3
+sort pigeon = 1 .. 7
+sort hole = 1 .. 6
 cell nest(pigeon) : hole
 rule apart : forall x:pigeon . forall y:pigeon . x = y | nest(x) != nest(y)
 begin

@@ -118,6 +118,24 @@ fn reads_that_fail(rt: HostRuntime) -> Result<(), Fail> {
     Ok(())
 }
 
+// Whether the answers to lines that came together stand, where the read behind them fails.
+fn is_cut_behind_answers(alloc: Global) -> Result<bool, AllocError> {
+    let mut bytes = EQUAL.as_bytes().to_vec(alloc)?;
+    bytes.extend_from_slice(b"enter a = red\nshow\nclear a\n")?;
+    let mut input = MemorySource::new(bytes, 4096, vec![in alloc; 2]?);
+    let mut out = MemorySink::new(alloc, 4096, Vec::new(alloc))?;
+    let ended = status_of(alloc, "replay", &mut input, &mut out)?;
+    let told =
+        "ok\na : red\n  = red because a = red\nb : -\n  = red because a = red\nc : -\n  = red because a = red\nok\n";
+    Ok(ended == Status::ReadFault && out.bytes() == told.as_bytes())
+}
+
+#[test]
+fn a_read_that_fails_behind_answers(rt: HostRuntime) -> Result<(), Fail> {
+    assert!(rt; is_cut_behind_answers(rt.alloc())?);
+    Ok(())
+}
+
 // Each answer is one write.
 #[test]
 fn writes_that_fail(rt: HostRuntime) -> Result<(), Fail> {

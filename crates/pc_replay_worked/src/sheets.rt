@@ -31,7 +31,7 @@ pub(crate) fn run_with(
     let words = parted(alloc, words)?;
     let mut shelf = shelf_of(alloc, sheet)?;
     let mut input = MemorySource::new(input.to_vec(alloc)?, 100, Vec::new(alloc));
-    let mut out = MemorySink::new(alloc, 65_536, Vec::new(alloc))?;
+    let mut out = MemorySink::new(alloc, 262_144, Vec::new(alloc))?;
     let mut spent = Spendings::new(alloc);
     let status = run(alloc, &words, &mut input, &mut shelf, &mut out, &mut spent);
     Ok((status, out))
@@ -634,8 +634,8 @@ fn commands_at_fault(rt: HostRuntime) -> Result<(), Fail> {
 }
 
 // Pigeons that don't fit, under budgets that are spent before that shows, one before anything is learned and one after; a sheet
-// that is loaded within so many propagations, and edits of it that aren't, until the budget is raised; a rule that is too large
-// for any.
+// whose budget is enough for any search of it; the same, and edits of it under a budget that isn't, until it is raised; a rule that
+// is too large for any.
 const BUDGETS: &str = "\
 replay --budget 50
 sheet 1
@@ -656,6 +656,21 @@ rule apart : forall x:pigeon . forall y:pigeon . x = y | nest(x) != nest(y)
 begin
 --- SheetRefused
 sheet refused 14 spent placed=5000 learned=372 calls=1
+===
+replay --budget 157688
+sheet 1
+sort color = red green
+cell a : color
+cell b : color
+cell c : color
+rule ab : a = b
+rule bc : b = c
+begin
+show
+--- Done
+a : -
+b : -
+c : -
 ===
 replay --budget=157688
 sheet 1
