@@ -65,7 +65,7 @@ number_is n k (i, low, is) =
     let at : k ≡ i = sym is ∙ get_or-range_with_len 0 n i k below ∙ zero-add i in
     omega (arith, at, below)
 
-own_in : (sheet : Sheet) → All (λ v. v.0 < variable_count sheet) (all_variables sheet)
+pub own_in : (sheet : Sheet) → All (λ v. v.0 < variable_count sheet) (all_variables sheet)
 own_in sheet = all_from (λ (v : Var). v.0 < variable_count sheet) (all_variables sheet)
     (λ v c.
     let n = contains_mapped variable_of (range_with_len 0 (variable_count sheet)) v c in
@@ -88,7 +88,7 @@ in_cell_order vs = record { cells = λ k d below. omega (arith, cell_at 0 vs k d
 abbrev IsWithinSizes : List ℕ → Entry → Type 0
 IsWithinSizes sizes e = IsSomeAnd (slice_get sizes e.cell.0) (λ n. e.value.0 < n)
 
-entered_from : (front ns : List ℕ) (c : ℕ) (vs : List ValueId) → c ≡ length front → AreWithin ns vs → All (IsWithinSizes (front ++ ns)) (entries_from c vs)
+pub entered_from : (front ns : List ℕ) (c : ℕ) (vs : List ValueId) → c ≡ length front → AreWithin ns vs → All (IsWithinSizes (front ++ ns)) (entries_from c vs)
 entered_from front ns c [] place within = All-nil (IsWithinSizes (front ++ ns))
 entered_from front [] c (v ∷ vs) place within = absurd within
 entered_from front (n ∷ ns) c (v ∷ vs) place within =

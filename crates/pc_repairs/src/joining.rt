@@ -15,7 +15,7 @@ ghost use Rattle.pc_repairs.specs.inside.Ages.{AreApart};
 ghost use Rattle.pc_repairs.specs.inside.Joining.{all_laid, had_by, IsCapped, IsSized, is_had, joined_by, laid_by_world, laid_over, many_sets, world_had};
 
 use crate::ordering::in_order;
-use crate::part_sets::{PartSets, part_sets};
+use crate::part_sets::{PartSets, sets_by_part};
 use pc_choices::Choices;
 use pc_logic::{Assignment, Entry, well_formed};
 use pc_sheet::{CellId, ValueId};
@@ -105,7 +105,7 @@ fn lay_part(
 
 // An assignment for each way to choose one set of each part, the first part's slowest: the parts' cells take their values from
 // those of the sets, and the others from the assignment that fits.
-fn join_parts(
+pub fn join_parts(
     alloc: Global,
     fitting: &Assignment,
     parts: &[PartSets<'_>],
@@ -125,7 +125,7 @@ fn join_parts(
 }
 
 // Whether the assignment has the entry.
-fn is_had(values: &Assignment, entry: Entry) -> bool
+pub fn is_had(values: &Assignment, entry: Entry) -> bool
     ensures { result ≡ is_had values.now entry }
 {
     match values.values().get(usize::from(entry.cell.0)) {
@@ -135,7 +135,11 @@ fn is_had(values: &Assignment, entry: Entry) -> bool
 }
 
 // The entries that the assignment has, oldest first.
-fn had_by(alloc: Global, entries: &[Entry], values: &Assignment) -> Result<Vec<Entry>, AllocError>
+pub fn had_by(
+    alloc: Global,
+    entries: &[Entry],
+    values: &Assignment,
+) -> Result<Vec<Entry>, AllocError>
     ensures { IfOk result (λ had. had.items ≡ had_by entries.now values.now) }
 {
     let mut had = Vec::new(alloc);
@@ -184,7 +188,7 @@ pub fn whole<C: Choices>(alloc: Global, view: &C) -> Result<Option<Worlds>, Allo
     let book = view.book();
     let fitting = view.fitting();
     well_formed(book);
-    let parts = part_sets(alloc, view)?;
+    let parts = sets_by_part(alloc, view)?;
     if count_choices(&parts) > MOST_SETS {
         return Ok(None);
     }

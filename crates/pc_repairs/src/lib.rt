@@ -17,8 +17,10 @@ mod refuting;
 mod task;
 mod unimplied;
 
-pub use joining::{MOST_SETS, whole};
+pub use joining::{MOST_SETS, had_by, is_had, join_parts, whole};
 pub use listing::{ListFault, Listing, list};
+pub use part_sets::{PartSets, sets_by_part};
 pub use proving::prove;
 pub use refuting::refute;
+pub use task::{Numbers, Task};
 pub use unimplied::lacking;

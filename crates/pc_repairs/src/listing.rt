@@ -12,7 +12,7 @@ ghost use Rattle.pc_repairs.specs.inside.Joining.{IsPartSets};
 ghost use Rattle.pc_repairs.specs.declared.listing.ListFault.TheVariants.{Memory};
 
 use crate::ordering::{Aged, in_order};
-use crate::part_sets::{PartSets, part_sets};
+use crate::part_sets::{PartSets, sets_by_part};
 use pc_choices::Choices;
 use pc_logic::{Book, well_formed};
 use pc_port::{Failed, Sink};
@@ -107,7 +107,7 @@ impl<'a> Listing<'a> {
         ensures { IfOk result (λ listing. IsListing (C.sheet view.now) (listed_in listing)) }
     {
         let book = view.book();
-        let lent = part_sets(alloc, view)?;
+        let lent = sets_by_part(alloc, view)?;
         let mut parts = Vec::new(alloc);
         for part in lent.iter() {
             let listed = listing_part(alloc, book, *part)?;

@@ -11,16 +11,13 @@ use std::alloc::{AllocError, Global};
 
 /// A part's cells and its maximal sets.
 #[derive(Clone, Copy, Drop)]
-pub(crate) struct PartSets<'a> {
-    pub(crate) cells: &'a [CellId],
-    pub(crate) sets: &'a Worlds,
+pub struct PartSets<'a> {
+    pub cells: &'a [CellId],
+    pub sets: &'a Worlds,
 }
 
 /// Each part that has an entry on its cells, in the order of parts.
-pub(crate) fn part_sets<C: Choices>(
-    alloc: Global,
-    view: &C,
-) -> Result<Vec<PartSets<'_>>, AllocError>
+pub fn sets_by_part<C: Choices>(alloc: Global, view: &C) -> Result<Vec<PartSets<'_>>, AllocError>
     ensures { IfOk result (λ parts. AllZip (IsPartSets (C.sheet view.now)) (chosen_parts (C.sheet view.now)) parts.items) }
 {
     let mut parts = Vec::new(alloc);

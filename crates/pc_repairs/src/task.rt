@@ -21,21 +21,21 @@ use std::alloc::{AllocError, Global};
 
 /// The numbers of all axioms, variables and cells of a book.
 #[derive(Drop)]
-pub(crate) struct Numbers {
-    pub(crate) axioms: Vec<u32>,
-    pub(crate) variables: Vec<Var>,
-    pub(crate) cells: Vec<CellId>,
+pub struct Numbers {
+    pub axioms: Vec<u32>,
+    pub variables: Vec<Var>,
+    pub cells: Vec<CellId>,
 }
 
 /// A book with its clauses, and the numbers of all of its axioms, variables and cells.
 #[derive(Clone, Copy)]
-pub(crate) struct Task<'g> {
-    pub(crate) alloc: Global,
-    pub(crate) book: &'g Book,
-    pub(crate) ground: &'g Ground,
-    pub(crate) axioms: &'g [u32],
-    pub(crate) variables: &'g [Var],
-    pub(crate) cells: &'g [CellId],
+pub struct Task<'g> {
+    pub alloc: Global,
+    pub book: &'g Book,
+    pub ground: &'g Ground,
+    pub axioms: &'g [u32],
+    pub variables: &'g [Var],
+    pub cells: &'g [CellId],
 }
 
 fn axioms_below(alloc: Global, count: usize) -> Result<Vec<u32>, AllocError>
@@ -72,7 +72,7 @@ fn cells_below(alloc: Global, count: usize) -> Result<Vec<CellId>, AllocError>
 
 impl Numbers {
     /// All that a book has.
-    pub(crate) fn of(alloc: Global, book: &Book, ground: &Ground) -> Result<Numbers, AllocError>
+    pub fn of(alloc: Global, book: &Book, ground: &Ground) -> Result<Numbers, AllocError>
         requires { ground.now ≡ grounded book.now }
         ensures { IfOk result (λ n. IsTask book.now ground.now n.axioms.items n.variables.items n.cells.items) }
     {
@@ -92,7 +92,7 @@ impl Numbers {
 
 impl<'g> Task<'g> {
     /// A solver over all of the book, which has no blocks and has derived nothing yet. The pairs are decided first.
-    pub(crate) fn solver(self) -> Result<Solver<'g>, AllocError>
+    pub fn solver(self) -> Result<Solver<'g>, AllocError>
         requires { IsTask self.book.now self.ground.now self.axioms.now self.variables.now self.cells.now }
         ensures { IfOk result (λ s. IsAsked self.entry.book.now [] s []) }
     {

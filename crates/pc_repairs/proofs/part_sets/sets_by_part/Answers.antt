@@ -5,7 +5,7 @@ use Rattle.pc_repairs.specs.inside.Joining.{IsPartSets}
 use Rattle.pc_repairs.specs.declared.part_sets.PartSets.{PartSets}
 use Rattle.pc_repairs.proofs.PartSetsMade.{lent_part}
 use Rattle.pc_repairs.proofs.Written.{zip_more}
-use Rattle.pc_repairs.proofs.part_sets.part_sets.Goals as goal
+use Rattle.pc_repairs.proofs.part_sets.sets_by_part.Goals as goal
 
 pub loop-part-preserved : goal.loop-part-preserved
 loop-part-preserved g c =
