@@ -1,0 +1,169 @@
+-- What is found over an asked sheet is its answer.
+use Rattle.std.proofs.Common.{◌≡◌, ◌↔◌, ℕ, ◌-◌, ◌≤◌, ◌+◌, ◌*◌, ◌<◌, ◌^◌, List, [], filter, length, Option, None, Some, All, Contains, arith, ap, sym, ◌∙◌, subst}
+use Rattle.std.specs.List.{AllZip}
+use Rattle.std.proofs.lemmas.List.Elements.{All-contains, All-filter}
+use Rattle.pc_laws.specs.Laws.{DifferentSublistsAreOrdered}
+use Rattle.pc_lemmas.proofs.Elements.{all_from, kept_is}
+use Rattle.pc_lits.specs.declared.literal.Var.{Var}
+use Rattle.pc_lits.specs.declared.tally.Tally.{Tally}
+use Rattle.pc_log.specs.Lines.{LogLine}
+use Rattle.pc_accept.specs.Sets.{those_in}
+use Rattle.pc_sheet.specs.Limits.{most_cells, most_entries}
+use Rattle.pc_sheet.specs.Sheet.{Sheet, Statement}
+use Rattle.pc_sheet.specs.MaximalSets.{IsContained}
+use Rattle.pc_sheet.specs.WellFormed.{IsEntryOf, IsWellFormed}
+use Rattle.pc_sheet.specs.declared.ids.ValueId.{ValueId}
+use Rattle.pc_sheet.specs.declared.ids.Entry.{Entry}
+use Rattle.pc_ground.specs.Ground.{clauses}
+use Rattle.pc_ground.specs.Grounded.{grounded}
+use Rattle.pc_parts.specs.Parts.{Part}
+use Rattle.pc_parts.proofs.ByReads.{truth_is_by_reads}
+use Rattle.pc_parts.proofs.LeafReads.{leaves_read_the_cells}
+use Rattle.pc_choices.specs.Choices.{chosen_parts, IsFitting}
+use Rattle.pc_asked.specs.Asked.{IsLeastForStatement, asked}
+use Rattle.pc_searched.specs.Laws.{PartsAreSearched}
+use Rattle.pc_solver.specs.Solver.{SolverView}
+use Rattle.pc_solver.specs.Spending.{SpendsIn}
+use Rattle.pc_theory.proofs.Lists.{few_filtered}
+use Rattle.pc_repairs.specs.inside.Joining.{IsPartSets, IsSized, joined_by}
+use Rattle.pc_repairs.specs.declared.part_sets.PartSets.{PartSets}
+use Rattle.pc_repairs.proofs.Cells.{value_below}
+use Rattle.pc_repairs.proofs.Joined.{all_sized}
+use Rattle.pc_repairs.proofs.WholeSearch.{no_sets, nothing_done}
+use Rattle.pc_ask.specs.Asking.{AreReadSizes, IsAskedPart, IsDeniedAt, Reads}
+use Rattle.pc_ask.specs.declared.finding.Found.{Found}
+use Rattle.pc_ask.specs.declared.narrowing.Choosing.{Choosing}
+use Rattle.pc_ask.specs.inside.Answered.{IsSearchOf, SearchSays}
+use Rattle.pc_ask.specs.inside.Choices.{IsChoosing}
+use Rattle.pc_ask.specs.inside.Finding.{FindSays}
+use Rattle.pc_ask.specs.inside.Narrowing.{LacksWitness, IsNarrowed}
+use Rattle.pc_ask.specs.inside.Parts.{IsAskable, IsAsked, IsTask}
+use Rattle.pc_ask.specs.inside.Reading.{AreCandidates, AreLastReads, is_on_some, is_read}
+use Rattle.pc_ask.proofs.Least.{none_implied, is_least}
+use Rattle.pc_ask.proofs.Searched.{no_part, searched_part, searched_whole, within_more}
+use Rattle.pc_ask.proofs.Tied.{on_asked}
+use Rattle.pc_ask.proofs.Reading.{all_cover, all_fit, last_reads, many_choices, many_entries, reading}
+
+-- the parts that are read have few cells and long assignments
+pub read_sized : (sheet : Sheet) → IsWellFormed sheet → (fitting : List ValueId) → IsFitting sheet fitting → (reads : List ℕ) (qs : List PartSets) → AllZip (IsPartSets sheet) (chosen_parts sheet) qs
+    → (sets : List PartSets) → sets ≡ filter (is_read reads) qs → All (IsSized (length fitting)) sets
+read_sized sheet formed fitting fit reads qs zip sets are =
+    subst (All (IsSized (length fitting))) (sym are) (All-filter (is_read reads) (IsSized (length fitting)) qs (all_sized sheet formed fitting fit qs zip))
+
+-- ---- what is asked about
+
+module _ (sheet book : Sheet) (formed : IsWellFormed book) (entries : List Entry) (all : List (List ValueId)) (k : AreCandidates sheet book entries all) where
+  entry_there : (e : Entry) → Contains entries e → Contains book.entries e
+  entry_there e c = (kept_is (is_on_some (filter (is_read k.reads) k.qs)) book.entries e (subst (λ es. Contains es e) k.entries_are c)).0
+
+  -- each is an entry of the part that has what is asked
+  entry_askable : IsWellFormed sheet → (f : Statement) → book ≡ asked sheet f → (e : Entry) → Contains entries e → IsAskable book e
+  entry_askable own f is e c =
+      let known = kept_is (is_on_some (filter (is_read k.reads) k.qs)) book.entries e (subst (λ es. Contains es e) k.entries_are c) in
+      record {
+        value = value_below book.universe e (All-contains (IsEntryOf book.universe) book.entries e formed.entries.each known.0);
+        on = subst (λ (b : Sheet). IsWellFormed b → AreLastReads b k.reads → (q : Part) → IsAskedPart b q → Contains q.cells e.cell.0) (sym is)
+            (λ w last q h. on_asked sheet f w own leaves_read_the_cells k.reads last k.qs k.zip e known.1 q h) formed k.last;
+      }
+
+  pub choosing_is : IsWellFormed sheet → (f : Statement) → book ≡ asked sheet f → (c : Choosing) → c.task.book.now ≡ book → c.task.ground.now ≡ grounded book → length (clauses book) < 2 ^ 32
+      → c.entries.now ≡ entries → length book.entries ≤ most_entries * most_cells → IsChoosing c
+  choosing_is own f is c book_at ground_at few_axioms entries_at few =
+      let task : IsTask book c.task.ground.now = record { formed = formed; ground_is = ground_at; few = few_axioms; sheet = sheet; f = f; is = is; fitting = k.fitting; fit = k.fit } in
+      record {
+        task = subst (λ (s : Sheet). IsTask s c.task.ground.now) (sym book_at) task;
+        askable = subst (λ (s : Sheet). All (IsAskable s) c.entries.now) (sym book_at)
+            (all_from (IsAskable book) c.entries.now (λ e at. entry_askable own f is e (subst (λ es. Contains es e) entries_at at)));
+        few = omega (arith, few, ap length entries_at, ap length k.entries_are, few_filtered (is_on_some (filter (is_read k.reads) k.qs)) book.entries);
+      }
+
+  pub entries_entered : (es : List Entry) → es ≡ entries → IsContained es book.entries
+  entries_entered es entries_at e at = entry_there e (subst (λ xs. Contains xs e) entries_at at)
+
+-- ---- what is found
+
+module _ (sheet : Sheet) (formed : IsWellFormed sheet) (f : Statement) (book : Sheet) (book_is : book ≡ asked sheet f) (book_formed : IsWellFormed book) (entries : List Entry) (every : List (List ValueId)) (k : AreCandidates sheet book entries every) where
+  abbrev fitting : List ValueId
+  fitting = k.fitting
+
+  abbrev sets : List PartSets
+  sets = filter (is_read k.reads) k.qs
+
+  abbrev all : List (List ValueId)
+  all = joined_by k.fitting sets
+
+  abbrev on : List Entry
+  on = filter (is_on_some sets) sheet.entries
+
+  reads_are : (c : ℕ) → Contains k.reads c ↔ Reads sheet.universe f c
+  reads_are = last_reads leaves_read_the_cells sheet f book book_is book_formed k.reads k.last
+
+  entries_same : book.entries ≡ sheet.entries
+  entries_same = ap (λ (s : Sheet). s.entries) book_is
+
+  module _ (c : Choosing) (book_at : c.task.book.now ≡ book) (entries_at : c.entries.now ≡ entries) (all_at : c.all.now ≡ every) where
+    on_are : c.entries.now ≡ on
+    on_are = entries_at ∙ (k.entries_are ∙ ap (filter (is_on_some sets)) entries_same)
+
+    all_are : c.all.now ≡ all
+    all_are = all_at ∙ k.all_are
+
+    none_found : LacksWitness c.task.book.now c.entries.now c.all.now (length c.entries.now) [] → LacksWitness book on all (length on) []
+    none_found h = subst (λ es. LacksWitness book es all (length es) []) on_are (subst (λ l. LacksWitness book c.entries.now l (length c.entries.now) []) all_are (subst (λ s. LacksWitness s c.entries.now c.all.now (length c.entries.now) []) book_at h))
+
+    narrowed_found : (set : List Entry) → IsNarrowed c.task.book.now c.entries.now c.all.now 0 set → IsNarrowed book on all 0 set
+    narrowed_found set h = subst (λ es. IsNarrowed book es all 0 set) on_are (subst (λ l. IsNarrowed book c.entries.now l 0 set) all_are (subst (λ s. IsNarrowed s c.entries.now c.all.now 0 set) book_at h))
+
+    pub found_says : DifferentSublistsAreOrdered → (log : List LogLine) (o : Option Found) → FindSays c log o → SearchSays sheet f log o
+    found_says ordered log None h =
+        none_implied sheet f book book_is formed.entries.distinct (is_on_some sets) all (all_fit sheet formed fitting k.fit f k.reads reads_are k.qs k.zip) (all_cover sheet formed fitting k.fit f k.reads reads_are k.qs k.zip)
+        (reading sheet formed fitting k.fit f k.reads reads_are k.qs k.zip truth_is_by_reads) (none_found h)
+    found_says ordered log (Some found) (set, narrowed, explained) =
+        let n = narrowed_found set narrowed in
+        let support_is : found.support.items ≡ those_in sheet.entries set = explained.support_is ∙ ap (λ (s : Sheet). those_in s.entries set) (book_at ∙ book_is) in
+        record {
+          least = subst (λ s. IsLeastForStatement sheet s f) (sym support_is)
+              (is_least sheet f book book_is formed.entries.distinct (is_on_some sets) all (all_fit sheet formed fitting k.fit f k.reads reads_are k.qs k.zip) (all_cover sheet formed fitting k.fit f k.reads reads_are k.qs k.zip)
+              (reading sheet formed fitting k.fit f k.reads reads_are k.qs k.zip truth_is_by_reads) set n ordered);
+          shown = let known = all_fit sheet formed fitting k.fit f k.reads reads_are k.qs k.zip found.shown (subst (λ l. Contains l found.shown) all_are explained.shown) in record { assigns = known.0; fits = known.1; has = explained.has };
+          denied = subst (λ s. IsDeniedAt s found.support.items log found.last) (book_at ∙ book_is) explained.denied;
+        }
+
+    -- so many calls are few enough
+    calls_within : (n many : ℕ) → AreReadSizes sheet f n many → length c.all.now * (length c.entries.now + 1) + 1 ≤ many * (n + 2) + 1
+    calls_within n many h =
+        let es : length c.entries.now ≡ n = ap length on_are ∙ sym (many_entries sheet formed fitting k.fit f k.reads reads_are k.qs k.zip n many h) in
+        let ms : length c.all.now ≡ many = ap length all_are ∙ sym (many_choices sheet formed fitting k.fit f k.reads reads_are k.qs k.zip n many h) in
+        subst (λ m. m * (length c.entries.now + 1) + 1 ≤ many * (n + 2) + 1) (sym ms) (subst (λ m. many * (m + 1) + 1 ≤ many * (n + 2) + 1) (sym es) (by many n))
+      where
+        by : (m n : ℕ) → m * (n + 1) + 1 ≤ m * (n + 2) + 1
+        by m n = omega arith
+
+-- ---- what is spent
+
+-- before anything is asked
+pub nothing_asked : (sheet book : Sheet) (t : Tally) (log : List LogLine) → log ≡ [] → IsSearchOf sheet book t t log
+nothing_asked sheet book t log none = record {
+  whole = (0, nothing_done book [] (no_sets book) 0 t log none);
+  part = (0, no_part book 0 t log none);
+  within = λ f entries sets is sizes. nothing_done book [] (no_sets book) (sets * (entries + 2) + 1) t log none;
+}
+
+-- by what is asked of the candidates
+pub all_asked : PartsAreSearched → (sheet : Sheet) → IsWellFormed sheet → (book : Sheet) → IsWellFormed book → (entries : List Entry) (every : List (List ValueId)) → AreCandidates sheet book entries every
+    → (c : Choosing) → IsTask c.task.book.now c.task.ground.now → c.task.book.now ≡ book → c.entries.now ≡ entries → c.all.now ≡ every
+    → (before after : Tally) (s : SolverView) (log grown : List LogLine) → log ≡ [] → IsAsked c.task.book.now c.task.variables.now s grown
+    → SpendsIn (length c.task.variables.now) (length c.all.now * (length c.entries.now + 1) + 1) before after log grown → IsSearchOf sheet book before after grown
+all_asked parts sheet formed book book_formed entries every k c task book_at entries_at all_at before after s log grown none is_asked spends =
+    let own : List Var = c.task.variables.now in
+    let calls : ℕ = length c.all.now * (length c.entries.now + 1) + 1 in
+    let task_here : IsTask book c.task.ground.now = subst (λ (b : Sheet). IsTask b c.task.ground.now) book_at task in
+    let asked_here : IsAsked book own s grown = subst (λ (b : Sheet). IsAsked b own s grown) book_at is_asked in
+    let spends_here : SpendsIn (length own) calls before after [] grown = subst (λ l. SpendsIn (length own) calls before after l grown) none spends in
+    record {
+      whole = (calls, searched_whole parts book c.task.ground.now task_here own s grown asked_here calls before after spends_here);
+      part = (calls, searched_part parts book c.task.ground.now task_here own s grown asked_here calls before after spends_here);
+      within = λ f n many is sizes.
+          searched_whole parts book c.task.ground.now task_here own s grown asked_here (many * (n + 2) + 1) before after
+          (within_more own calls (many * (n + 2) + 1) before after [] grown (calls_within sheet formed f book is book_formed entries every k c book_at entries_at all_at n many sizes) spends_here);
+    }

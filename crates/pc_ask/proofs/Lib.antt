@@ -1,0 +1,16 @@
+pub mod Answered
+pub mod Chosen
+pub mod Kept
+pub mod Least
+pub mod Lists
+pub mod Narrowed
+pub mod Over
+pub mod Overlaid
+pub mod Places
+pub mod Proved
+pub mod Reading
+pub mod Searched
+pub mod Spent
+pub mod Tied
+pub mod Which
+pub mod Witnesses

@@ -1,0 +1,35 @@
+-- That little is spent enough for the next call.
+use Rattle.std.proofs.Common.{◌≡◌, ℕ, ◌+◌, ◌-◌, ◌*◌, ◌<◌, ◌≤◌, ◌^◌, List, ap, refl, arith}
+use Rattle.std.proofs.Math.Nat.{mul-le-mul_left}
+use Rattle.pc_lits.specs.declared.tally.Tally.{Tally}
+use Rattle.pc_log.specs.Lines.{LogLine}
+use Rattle.pc_solver.specs.Spending.{SpendsIn}
+use Rattle.pc_support.proofs.SpendingLemmas.{once_more, up_to_all}
+
+pub still_low : (own most low high : ℕ) (a b : Tally) (log grown : List LogLine) → SpendsIn own most a b log grown → a.limit < 2 ^ 64 → most < 2 ^ 114 → low + 2 ^ 115 ≤ high → a.learned < low → a.calls < low → (b.learned < high) × (b.calls < high)
+still_low own most low high a b log grown s limit few room learned calls = (
+  omega (arith, s.learned, s.spare, s.few, ap (λ (n : ℕ). n) s.limit, b.within_limit, limit, few, room, learned),
+  omega (arith, s.calls, s.few, few, room, calls),
+)
+
+-- so many calls for each of few entries
+few_together : (sets places : ℕ) → sets < 2 ^ 64 → places < 2 ^ 48 → sets * places < 2 ^ 114
+few_together sets places few less =
+    let most : sets * places ≤ sets * 2 ^ 48 = mul-le-mul_left sets (omega (arith, less)) in
+    omega (arith, most, few)
+
+pub few_and_once : (sets places : ℕ) → sets < 2 ^ 64 → places < 2 ^ 48 → sets * (places + 1) < 2 ^ 114
+few_and_once sets places few less =
+    let most : sets * (places + 1) ≤ sets * 2 ^ 48 = mul-le-mul_left sets (omega (arith, less)) in
+    omega (arith, most, few)
+
+pub few_left : (sets places place : ℕ) → sets < 2 ^ 64 → places < 2 ^ 48 → sets * (places - place) < 2 ^ 114
+few_left sets places place few less =
+    let most : sets * (places - place) ≤ sets * places = up_to_all sets places place in
+    let bound : sets * places < 2 ^ 114 = few_together sets places few less in
+    omega (arith, most, bound)
+
+pub once_at_least : (sets places : ℕ) → sets ≤ sets * (places + 1)
+once_at_least sets places =
+    let most : sets + sets * places ≤ sets * (places + 1) = once_more sets places sets places refl refl in
+    omega (arith, most)

@@ -1,0 +1,112 @@
+//! Asking a book's entries whether a formula is so.
+ghost use Rattle.std.specs.Prelude.{◌≡◌, ◌<◌, ◌≤◌, ◌+◌, ◌*◌, ◌^◌, [], All, IfErr, IfOk, ℕ};
+ghost use Rattle.pc_sheet.specs.Sheet.{Statement};
+ghost use Rattle.pc_sheet.specs.Limits.{most_weight};
+ghost use Rattle.pc_sheet.specs.Weight.{weight};
+ghost use Rattle.pc_asked.specs.Asked.{asked};
+ghost use Rattle.pc_ground.specs.Grounded.{grounded};
+ghost use Rattle.pc_repairs.specs.Searches.{IsWholeSearch};
+ghost use Rattle.pc_solver.specs.Spending.{StopSays};
+ghost use Rattle.pc_ask.specs.Asking.{AreReadSizes, AskSays, AskStops, IsPartSearch};
+ghost use Rattle.pc_ask.specs.inside.Answered.{IsSearchOf, SearchSays};
+
+use crate::answer::{Answer, AskStop};
+use crate::candidates::find_candidates;
+use crate::finding::{Found, find};
+use crate::narrowing::Choosing;
+use crate::part::{Task, asked_part, axioms_over, part_solver};
+use pc_choices::Choices;
+use pc_components::find_components;
+use pc_ground::{Ground, ground_book};
+use pc_laws::different_sublists_are_ordered;
+use pc_lits::Tally;
+use pc_log::Log;
+use pc_logic::{Book, few_entries, well_formed};
+use pc_searched::laws::parts_are_searched;
+use pc_solver::Stop;
+use std::alloc::Global;
+
+// Searches the asked book by its ground: the part alone that has what is asked.
+fn search_book<C: Choices>(
+    alloc: Global,
+    view: &C,
+    book: &Book,
+    ground: &Ground,
+    log: &mut Log,
+    tally: &mut Tally,
+) -> Result<Option<Found>, Stop>
+    requires ground { ground.now ≡ grounded book.now }
+    requires literals { All (All (λ l. l.variable.0 < ground.now.variables)) ground.now.clauses }
+    requires asked { (f : Statement) × (book.now ≡ asked (C.sheet view.now) f) }
+    requires new_log { log.old ≡ [] }
+    requires few_learned { tally.old.learned < 2 ^ 120 }
+    requires few_calls { tally.old.calls < 2 ^ 120 }
+    ensures says { (f : Statement) → book.now ≡ asked (C.sheet view.now) f → IfOk result (SearchSays (C.sheet view.now) f log.new) }
+    ensures stop { IfErr result (StopSays tally.new) }
+    ensures search { IsSearchOf (C.sheet view.now) book.now tally.old tally.new log.new }
+{
+    different_sublists_are_ordered();
+    parts_are_searched();
+    let own = view.book();
+    well_formed(own);
+    well_formed(book);
+    few_entries(book);
+    ground.few_axioms();
+    let chosen = find_candidates(alloc, view, book, ground)?;
+    let components = find_components(alloc, book, ground)?;
+    let part = asked_part(book, ground, &components);
+    let axioms = axioms_over(alloc, book, ground, part)?;
+    let mut solver = part_solver(alloc, book, ground, part, &axioms)?;
+    let choosing = Choosing {
+        task: Task {
+            alloc,
+            book,
+            ground,
+            variables: part.variables,
+        },
+        entries: &chosen.entries,
+        all: &chosen.all,
+    };
+    let found = find(choosing, &mut solver, log, tally)?;
+    Ok(found)
+}
+
+/// Whether the view's entries imply the formula that the last rule of the asked book denies: the asked book is the view's
+/// with that rule. Ok is the formula's least support with what a certificate of it is made of; `None` exactly where the formula
+/// isn't implied. Only the part with the last rule is searched, which ties the parts together that the formula reads. The log
+/// is empty before. Whatever is answered, tally and log have what was done.
+pub fn ask<C: Choices>(
+    alloc: Global,
+    view: &C,
+    book: &Book,
+    log: &mut Log,
+    tally: &mut Tally,
+) -> Result<Option<Answer>, AskStop>
+    requires asked { (f : Statement) × (book.now ≡ asked (C.sheet view.now) f) }
+    requires new_log { log.old ≡ [] }
+    requires few_learned { tally.old.learned < 2 ^ 120 }
+    requires few_calls { tally.old.calls < 2 ^ 120 }
+    ensures says { (f : Statement) → book.now ≡ asked (C.sheet view.now) f → IfOk result (AskSays (C.sheet view.now) f log.new) }
+    ensures large { IfOk result (λ _. weight book.now ≤ most_weight) }
+    ensures stop { IfErr result (AskStops book.now tally.new) }
+    ensures search { (f : Statement) (entries sets : ℕ) → book.now ≡ asked (C.sheet view.now) f → AreReadSizes (C.sheet view.now) f entries sets → IsWholeSearch book.now [] (sets * (entries + 2) + 1) tally.old tally.new log.new }
+    ensures whole { (most : ℕ) × IsWholeSearch book.now [] most tally.old tally.new log.new }
+    ensures part { (most : ℕ) × IsPartSearch book.now most tally.old tally.new log.new }
+{
+    let ground = ground_book(alloc, book)?;
+    match search_book(alloc, view, book, &ground, log, tally)? {
+        None => Ok(None),
+        Some(
+            Found {
+                support,
+                shown,
+                last,
+            },
+        ) => Ok(Some(Answer {
+            support,
+            shown,
+            names: ground.into_names(),
+            last,
+        })),
+    }
+}
