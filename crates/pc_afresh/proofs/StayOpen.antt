@@ -12,8 +12,8 @@ use Rattle.pc_logic.specs.Edits.{without_rule}
 use Rattle.pc_lines.specs.Lines as a_line
 use Rattle.pc_syntax.specs.Tree.{Asked}
 use Rattle.pc_transcript.specs.Answer.{Answer, silent, accepted, shown, refused, no_memory}
-use Rattle.pc_spreadsheet.specs.Judgement.{State, IsLight, Task, entering, entering_beside, clearing, removing, adding, dropping, budgeting, asking, showing, showing_grid, showing_json, dumping, listing, proving, doubting, IsTaskOf, IsEdit, state_after}
-use Rattle.pc_spreadsheet.specs.Allowed.{Notes, Allows, as_judged, as_contradiction, as_spent, as_proof_spent}
+use Rattle.pc_spreadsheet.specs.Judgement.{State, IsLight, Task, entering, entering_beside, clearing, removing, adding, dropping, budgeting, asking, showing, showing_grid, showing_json, dumping, listing, proving, doubting, inquiring, IsTaskOf, IsEdit, state_after}
+use Rattle.pc_spreadsheet.specs.Allowed.{Notes, Allows, as_judged, as_contradiction, as_spent, as_proof_spent, as_ask_spent}
 use Rattle.pc_spreadsheet.specs.Laws.{StartsAreWellFormed, AnswersKeepForm}
 use Rattle.pc_afresh.specs.Afresh.{IsOpen, StartsAreOpen, AnswersKeepOpen, TranscriptsKeepOpen}
 
@@ -56,6 +56,7 @@ edit_fits state asked task fit dumping edit = absurd edit
 edit_fits state asked task fit listing edit = absurd edit
 edit_fits state asked task fit (proving few) edit = absurd edit
 edit_fits state asked task fit (doubting t named holds few) edit = absurd edit
+edit_fits state asked task fit (inquiring s new light) edit = absurd edit
 
 same_pair : (old new : State × Notes) → IsFit old.0.sheet → new ≡ old → IsFit new.0.sheet
 same_pair old new fit same = subst (λ (s : State × Notes). IsFit s.0.sheet) (sym same) fit
@@ -71,6 +72,7 @@ answer_fits old new line (refused why more) fit (as_judged is none same) = same_
 answer_fits old new line (refused why more) fit (as_contradiction r is against why_is same) = same_pair old new fit same
 answer_fits old new line (refused why more) fit (as_spent counts spends why_is none same) = same_state old.0 new.0 fit same
 answer_fits old new line (refused why more) fit (as_proof_spent counts spends why_is none same) = same_state old.0 new.0 fit same
+answer_fits old new line (refused why more) fit (as_ask_spent counts spends why_is none same) = same_state old.0 new.0 fit same
 answer_fits old new line no_memory fit is = same_pair old new fit is.1
 
 -- ---- the laws

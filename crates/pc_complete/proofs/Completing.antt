@@ -8,11 +8,11 @@ use Rattle.pc_sortcheck.specs.Laws.{SheetsAreWellFormed}
 use Rattle.pc_refusals.specs.declared.refusal.Refusal.{Refusal}
 use Rattle.pc_refusals.specs.declared.refusal.SheetRefusal.{SheetRefusal}
 use Rattle.pc_transcript.specs.Answer.{Answer, silent, accepted, shown, refused, no_memory}
-use Rattle.pc_spreadsheet.specs.Judgement.{State, Task, IsTaskOf, entering, entering_beside, clearing, removing, adding, dropping, budgeting, asking, showing, showing_grid, showing_json, dumping, listing, proving, doubting, state_after, enters, enters_beside, clears, removes, adds, drops, budgets, shows, IsEdit, Verdict, nothing, does, refuses, contradicts, IsVerdictOn, opens, rejects, IsRejected}
-use Rattle.pc_spreadsheet.specs.Allowed.{Notes, Allows, RefusesLine, as_judged, as_contradiction, as_spent, as_proof_spent, RefusesText, for_fault, for_weight, for_rules, for_search}
+use Rattle.pc_spreadsheet.specs.Judgement.{State, Task, IsTaskOf, entering, entering_beside, clearing, removing, adding, dropping, budgeting, asking, showing, showing_grid, showing_json, dumping, listing, proving, doubting, inquiring, state_after, enters, enters_beside, clears, removes, adds, drops, budgets, shows, IsEdit, Verdict, nothing, does, refuses, contradicts, IsVerdictOn, opens, rejects, IsRejected}
+use Rattle.pc_spreadsheet.specs.Allowed.{Notes, Allows, RefusesLine, as_judged, as_contradiction, as_spent, as_proof_spent, as_ask_spent, RefusesText, for_fault, for_weight, for_rules, for_search}
 use Rattle.pc_spreadsheet.specs.Laws.{LinesHaveOneVerdict, TextsHaveOneVerdict, AnswersKeepForm}
 use Rattle.pc_complete.specs.Complete.{HasEnough, IsDone, Tells, IsAsJudged, LinesAreAnsweredInFull, TranscriptsAreInFull, HasEnoughFor, TextsAreRefusedInFull, TextsOfEnoughAreOpened}
-use Rattle.pc_complete.proofs.Spending.{not_spent, proof_not_spent, search_formed}
+use Rattle.pc_complete.proofs.Spending.{not_spent, proof_not_spent, ask_not_spent, answer_formed, search_formed}
 
 -- ---- lines
 
@@ -47,6 +47,9 @@ module _ (one : LinesHaveOneVerdict) (ordered : CellsAreNumberedInOrder) (old ne
   refusal why more (as_proof_spent counts spends why_is none same) =
       let s = spends.2 in
       absurd (proof_not_spent old.0.sheet formed old.0.budget some (enough.to_prove spends.0 spends.1 s.0) counts old.1 new.1 s.1)
+  refusal why more (as_ask_spent counts spends why_is none same) =
+      let s = spends.2 in
+      absurd (ask_not_spent old.0.sheet s.0 (answer_formed old.0.sheet spends.0 s.0 formed s.1) old.0.budget some (enough.to_ask spends.0 s.0 spends.1 s.1) counts old.1 new.1 s.2)
 
   answered : (answer : Answer) → Allows old line answer new → IsAsJudged old verdict answer new
   answered silent (this, same) = told_by silent nothing this refl (notes_stay old new same)
@@ -80,6 +83,7 @@ budget_stays state asked task some dumping = some
 budget_stays state asked task some listing = some
 budget_stays state asked task some (proving few) = some
 budget_stays state asked task some (doubting t named holds few) = some
+budget_stays state asked task some (inquiring s new light) = some
 
 same_budget : (old new : State) → 1 ≤ old.budget → new ≡ old → 1 ≤ new.budget
 same_budget old new some same = subst (λ (s : State). 1 ≤ s.budget) (sym same) some
@@ -95,6 +99,7 @@ keeps_budget old new line (refused why more) some (as_judged is none same) = sam
 keeps_budget old new line (refused why more) some (as_contradiction r is against why_is same) = same_pair old new some same
 keeps_budget old new line (refused why more) some (as_spent counts spends why_is none same) = same_budget old.0 new.0 some same
 keeps_budget old new line (refused why more) some (as_proof_spent counts spends why_is none same) = same_budget old.0 new.0 some same
+keeps_budget old new line (refused why more) some (as_ask_spent counts spends why_is none same) = same_budget old.0 new.0 some same
 keeps_budget old new line no_memory some is = same_pair old new some is.1
 
 pub transcripts_in_full : LinesAreAnsweredInFull → AnswersKeepForm → TranscriptsAreInFull

@@ -3,7 +3,7 @@ use Rattle.std.proofs.Common.{◌≡◌, ℕ, ◌+◌, ◌*◌, List, [], ◌∷
 use Rattle.std.specs.List.{AllZip}
 use Rattle.pc_sheet.specs.Cells.{CellsAreNumberedInOrder}
 use Rattle.pc_sheet.specs.Entailment.{cell_sizes}
-use Rattle.pc_sheet.specs.Sheet.{Sheet}
+use Rattle.pc_sheet.specs.Sheet.{Sheet, Statement}
 use Rattle.pc_sheet.specs.WellFormed.{IsWellFormed}
 use Rattle.pc_sheet.specs.declared.ids.CellId.{CellId}
 use Rattle.pc_sortcheck.specs.Laws.{SheetsAreWellFormed}
@@ -14,6 +14,7 @@ use Rattle.pc_theory.specs.Spendings.{IsSpendingOf}
 use Rattle.pc_theory.specs.Targets.{target_count}
 use Rattle.pc_theory.specs.Theories.{rules_alone}
 use Rattle.pc_theory.specs.declared.spending.Spending.{Spending}
+use Rattle.pc_asked.specs.Asked.{asked}
 use Rattle.pc_enough.specs.Enough.{IsMostCalls}
 use Rattle.pc_enough.proofs.Sets.{sets_few}
 use Rattle.pc_enough.proofs.Told.{counts_bounded, on_one_part}
@@ -23,9 +24,9 @@ use Rattle.pc_refusals.specs.declared.refusal.Counts.{Counts}
 use Rattle.pc_refusals.specs.declared.refusal.SheetRefusal.{SheetRefusal}
 use Rattle.pc_refusals.specs.declared.refusal.Refusal.TheVariants.{TooLarge, Inconsistent, Spent}
 use Rattle.pc_spreadsheet.specs.Judgement.{State, of_whole}
-use Rattle.pc_spreadsheet.specs.Allowed.{Notes, IsLawfullySpent, IsWholeSpent, LineSpends, LineProofSpends, RefusesText, for_fault, for_weight, for_rules, for_search}
-use Rattle.pc_complete.specs.Counts.{AreFew, IsCounted, IsCountedOnPart, TalliesAreCounted, IsToldSpent, IsToldSpentWhole, TellsOfEdit, TellsOfProof, TellsOfLoad, ToldCountsAreBounded}
-use Rattle.pc_complete.proofs.Spending.{too_little, search_formed}
+use Rattle.pc_spreadsheet.specs.Allowed.{Notes, IsLawfullySpent, IsWholeSpent, IsAskSpent, LineSpends, LineProofSpends, LineAskSpends, RefusesText, for_fault, for_weight, for_rules, for_search}
+use Rattle.pc_complete.specs.Counts.{AreFew, IsCounted, IsCountedOnPart, TalliesAreCounted, IsToldSpent, IsToldSpentWhole, IsToldSpentAsking, TellsOfEdit, TellsOfProof, TellsOfAsking, TellsOfLoad, ToldCountsAreBounded}
+use Rattle.pc_complete.proofs.Spending.{too_little, search_formed, one_log_learns_few}
 
 -- each part has a greatest number of calls
 most_of : (sheet : Sheet) → IsWellFormed sheet → (parts : List Part) → (most_calls : List ℕ) × AllZip (IsMostCalls sheet) parts most_calls
@@ -78,6 +79,15 @@ told_whole budget sheet counts old new s =
       few_calls = s.few_calls;
     })
 
+told_asking : (budget : ℕ) (sheet : Sheet) (f : Statement) (counts : Counts) (old new : Notes) → IsAskSpent budget sheet f counts old new → IsToldSpentAsking budget sheet f counts
+told_asking budget sheet f counts old new s =
+    subst (λ (n : Counts). IsToldSpentAsking budget sheet f n) (sym s.counts_are) (record {
+      all = s.spent.all_placed ∙ s.limited;
+      few_placed = s.spent.spending.placed;
+      few_learned = one_log_learns_few (asked sheet f) s.log s.tally s.spent;
+      few_calls = s.few_calls;
+    })
+
 of_edit : CellsAreNumberedInOrder → (state : State) (line : List ℕ) (counts : Counts) (old new : Notes) → IsWellFormed state.sheet → LineSpends state line counts old new → TellsOfEdit state line counts
 of_edit ordered state line counts old new formed (command, reading, s) = record {
   command = command;
@@ -90,6 +100,9 @@ of_edit ordered state line counts old new formed (command, reading, s) = record 
 
 of_proof : (state : State) (line : List ℕ) (counts : Counts) (old new : Notes) → LineProofSpends state line counts old new → TellsOfProof state line counts
 of_proof state line counts old new (command, reading, s) = record { command = command; reading = reading; needs = s.0; told = told_whole state.budget state.sheet counts old new s.1 }
+
+of_asking : (state : State) (line : List ℕ) (counts : Counts) (old new : Notes) → LineAskSpends state line counts old new → TellsOfAsking state line counts
+of_asking state line counts old new (command, reading, s) = record { command = command; formula = s.0; reading = reading; needs = s.1; told = told_asking state.budget state.sheet s.0 counts old new s.2 }
 
 same_counts : (x y : Counts) → of_whole (Spent x) ≡ of_whole (Spent y) → y ≡ x
 same_counts x y e =
@@ -107,4 +120,4 @@ of_load formed budget text counts more old new (for_search sheet found reads lig
 }
 
 pub told_bounded : CellsAreNumberedInOrder → SheetsAreWellFormed → ToldCountsAreBounded
-told_bounded ordered formed = record { of_edit = of_edit ordered; of_proof = of_proof; of_load = of_load formed }
+told_bounded ordered formed = record { of_edit = of_edit ordered; of_proof = of_proof; of_asking = of_asking; of_load = of_load formed }

@@ -7,4 +7,5 @@ pub mod OnePart
 pub mod Replaying
 pub mod Posting
 pub mod Counting
+pub mod ReadSizes
 pub mod Worked

@@ -9,7 +9,7 @@ use Rattle.pc_refusals.specs.declared.refusal.Refusal.{Refusal}
 use Rattle.pc_refusals.specs.declared.refusal.Refusal.TheVariants.{Spent}
 use Rattle.pc_load.specs.Refusals.{IsSortRefusal}
 use Rattle.pc_transcript.specs.Answer.{refused}
-use Rattle.pc_spreadsheet.specs.Judgement.{State, Task, enters, enters_beside, clears, removes, adds, drops, budgets, shows, nothing, does, refuses, contradicts, IsRefusalOf, by_fault, without_entry, without_that, of_old_name, of_no_rule, too_large, too_many_sets, too_many_for, IsRefused, for_utf8, for_depth, for_syntax, for_asked}
+use Rattle.pc_spreadsheet.specs.Judgement.{State, Task, enters, enters_beside, clears, removes, adds, drops, budgets, shows, nothing, does, refuses, contradicts, IsRefusalOf, by_fault, without_entry, without_that, of_old_name, of_no_rule, too_large, too_many_sets, too_many_for, of_rule_ask, too_large_asked, IsRefused, for_utf8, for_depth, for_syntax, for_asked}
 use Rattle.pc_complete.specs.Complete.{IsDone}
 use Rattle.pc_complete.specs.Worked.{WorkedBudgets, NoVerdictIsSpent}
 
@@ -53,6 +53,8 @@ never_of sheet a why counts same (of_no_rule none) = absurd (cc)
 never_of sheet a why counts same (too_large r new heavy) = absurd (cc)
 never_of sheet a why counts same (too_many_sets many) = absurd (cc)
 never_of sheet a why counts same (too_many_for e named many) = absurd (cc)
+never_of sheet a why counts same (of_rule_ask s is stands) = absurd (cc)
+never_of sheet a why counts same (too_large_asked s new heavy) = absurd (cc)
 
 never_refused : (state : State) (line : List ℕ) (why : Refusal) (counts : Counts) → why ≡ Spent counts → IsRefused state line why → ⊥
 never_refused state line why counts same (for_utf8 reading) = absurd (cc)

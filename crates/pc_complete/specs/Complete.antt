@@ -2,7 +2,7 @@
 use Rattle.std.specs.Prelude.{◌≡◌, ℕ, ◌≤◌, ◌⊎◌, List, [], Option, None}
 use Rattle.pc_syntax.specs.Tree.{Asked}
 use Rattle.pc_syntax.specs.Command.{IsCommandReading, asks}
-use Rattle.pc_sheet.specs.Sheet.{Sheet, with_rule}
+use Rattle.pc_sheet.specs.Sheet.{Sheet, Statement, with_rule}
 use Rattle.pc_sheet.specs.WellFormed.{IsWellFormed}
 use Rattle.pc_sheet.specs.declared.ids.CellId.{CellId}
 use Rattle.pc_sortcheck.specs.Declaring.{ReadsAs}
@@ -11,17 +11,18 @@ use Rattle.pc_refusals.specs.declared.refusal.Refusal.TheVariants.{Inconsistent}
 use Rattle.pc_transcript.specs.Answer.{Answer, silent, accepted, shown, refused, no_memory}
 use Rattle.pc_transcript.specs.Transcript.{Transcript, Legal}
 use Rattle.pc_spreadsheet.specs.Judgement.{State, IsLight, Task, shows, Verdict, nothing, does, refuses, contradicts, IsVerdictOn, Starts, IsRejected}
-use Rattle.pc_spreadsheet.specs.Allowed.{Notes, NeedsSearch, NeedsProof, Allows, RefusesText}
+use Rattle.pc_spreadsheet.specs.Allowed.{Notes, NeedsSearch, NeedsProof, NeedsAnswer, Allows, RefusesText}
 use Rattle.pc_spreadsheet.specs.Pages.{PageSays, IsCertificateAgainst}
-use Rattle.pc_complete.specs.Enough.{IsEnough, IsEnoughToProve}
+use Rattle.pc_complete.specs.Enough.{IsEnough, IsEnoughToProve, IsEnoughToAsk}
 
 -- ---- lines
 
--- The budget is enough for what the line needs: for the search of an edit, and for searches of the whole sheet for a certificate of its
--- maximal sets. A line needs one of them at most.
+-- The budget is enough for what the line needs: for the search of an edit, for searches of the whole sheet for a certificate of its maximal
+-- sets, and for the search that answers whether a formula is implied. A line needs one of them at most.
 pub record HasEnough (state : State) (line : List ℕ) : Type 0 where
   pub to_edit : (a : Asked) (cell : Option CellId) (made : Sheet) → IsCommandReading line (asks a) → NeedsSearch state.sheet a cell made → IsEnough made cell state.budget
   pub to_prove : (a : Asked) → IsCommandReading line (asks a) → NeedsProof state.sheet a → IsEnoughToProve state.sheet state.budget
+  pub to_ask : (a : Asked) (f : Statement) → IsCommandReading line (asks a) → NeedsAnswer state.sheet a f → IsEnoughToAsk state.sheet f state.budget
 
 -- `ok`, or the page
 abbrev pub IsDone : State → Task → Answer → Type 0

@@ -4,7 +4,7 @@ use Rattle.std.specs.List.{AllZip}
 use Rattle.pc_lits.specs.declared.literal.Var.{Var}
 use Rattle.pc_syntax.specs.Tree.{Asked}
 use Rattle.pc_syntax.specs.Command.{IsCommandReading, asks}
-use Rattle.pc_sheet.specs.Sheet.{Sheet}
+use Rattle.pc_sheet.specs.Sheet.{Sheet, Statement}
 use Rattle.pc_sheet.specs.WellFormed.{IsWellFormed}
 use Rattle.pc_sheet.specs.declared.ids.CellId.{CellId}
 use Rattle.pc_sheet.specs.declared.ids.Entry.{Entry}
@@ -16,12 +16,14 @@ use Rattle.pc_parts.specs.Components.{parts_of}
 use Rattle.pc_components.specs.View.{Kept, AreComponentsOf}
 use Rattle.pc_theory.specs.Spendings.{AreFewCalls}
 use Rattle.pc_theory.specs.Theories.{rules_alone, IsPartNumbered}
+use Rattle.pc_asked.specs.Asked.{asked}
+use Rattle.pc_ask.specs.Asking.{AreReadSizes}
 use Rattle.pc_enough.specs.Enough.{sum_of_touched, most_learned, IsMostCalls}
 use Rattle.pc_session.specs.Views as session
 use Rattle.pc_refusals.specs.declared.refusal.Counts.{Counts}
 use Rattle.pc_refusals.specs.declared.refusal.Refusal.TheVariants.{Spent}
 use Rattle.pc_spreadsheet.specs.Judgement.{State, of_whole}
-use Rattle.pc_spreadsheet.specs.Allowed.{Notes, NeedsSearch, LineSpends, NeedsProof, LineProofSpends, RefusesText}
+use Rattle.pc_spreadsheet.specs.Allowed.{Notes, NeedsSearch, LineSpends, NeedsProof, LineProofSpends, NeedsAnswer, LineAskSpends, RefusesText}
 use Rattle.pc_complete.specs.Enough.{IsTooLittle}
 
 -- Of a search of the touched parts of a sheet, in some way to keep them: so many literals placed by its pairs and nodes, so many clauses learned
@@ -68,6 +70,13 @@ pub record IsToldSpentWhole (budget : ℕ) (sheet : Sheet) (counts : Counts) : T
   pub few_learned : counts.learned ≤ 3 ^ (variable_count sheet + 1)
   pub few_calls : (sets : List (List Entry)) → AreMaximalSets sheet sets → counts.calls ≤ length sets + 1
 
+-- The same of a search of the whole sheet in which a formula is asked, by the entries and maximal sets of the parts that it reads.
+pub record IsToldSpentAsking (budget : ℕ) (sheet : Sheet) (f : Statement) (counts : Counts) : Type 0 where
+  pub all : counts.placed ≡ budget
+  pub few_placed : counts.placed ≤ variable_count (asked sheet f) * (counts.learned + counts.calls)
+  pub few_learned : counts.learned ≤ 3 ^ variable_count (asked sheet f)
+  pub few_calls : (entries sets : ℕ) → AreReadSizes sheet f entries sets → counts.calls ≤ sets * (entries + 2) + 1
+
 -- the line asks for an edit that needs a search, whose numbers they are
 pub record TellsOfEdit (state : State) (line : List ℕ) (counts : Counts) : Type 0 where
   pub command : Asked
@@ -84,6 +93,14 @@ pub record TellsOfProof (state : State) (line : List ℕ) (counts : Counts) : Ty
   pub needs : NeedsProof state.sheet command
   pub told : IsToldSpentWhole state.budget state.sheet counts
 
+-- the line asks a formula, for whose answer they are the numbers
+pub record TellsOfAsking (state : State) (line : List ℕ) (counts : Counts) : Type 0 where
+  pub command : Asked
+  pub formula : Statement
+  pub reading : IsCommandReading line (asks command)
+  pub needs : NeedsAnswer state.sheet command formula
+  pub told : IsToldSpentAsking state.budget state.sheet formula counts
+
 -- the text reads as a sheet, of whose load they are the numbers
 pub record TellsOfLoad (budget : ℕ) (text : List ℕ) (counts : Counts) : Type 0 where
   pub sheet : Sheet
@@ -94,4 +111,5 @@ pub record TellsOfLoad (budget : ℕ) (text : List ℕ) (counts : Counts) : Type
 pub record ToldCountsAreBounded : Type 0 where
   pub of_edit : (state : State) (line : List ℕ) (counts : Counts) (old new : Notes) → IsWellFormed state.sheet → LineSpends state line counts old new → TellsOfEdit state line counts
   pub of_proof : (state : State) (line : List ℕ) (counts : Counts) (old new : Notes) → LineProofSpends state line counts old new → TellsOfProof state line counts
+  pub of_asking : (state : State) (line : List ℕ) (counts : Counts) (old new : Notes) → LineAskSpends state line counts old new → TellsOfAsking state line counts
   pub of_load : (budget : ℕ) (text : List ℕ) (counts : Counts) (more : List ℕ) (old new : Notes) → RefusesText budget text (of_whole (Spent counts)) more old new → TellsOfLoad budget text counts

@@ -1,7 +1,9 @@
 -- When a budget is enough for a search, and what a session's calls spend.
 use Rattle.std.specs.Prelude.{ℕ, ◌+◌, ◌*◌, ◌^◌, ◌<◌, ◌≤◌, ◌⊎◌, List, Option, Some, None, length}
 use Rattle.pc_sheet.specs.Limits.{most_rules}
-use Rattle.pc_sheet.specs.Sheet.{Sheet, NamedStatement, with_rule}
+use Rattle.pc_sheet.specs.Sheet.{Sheet, Statement, NamedStatement, with_rule}
+use Rattle.pc_asked.specs.Asked.{asked}
+use Rattle.pc_ask.specs.Asking.{AreReadSizes}
 use Rattle.pc_sheet.specs.WellFormed.{IsWellFormed, IsWellFormedRule, IsEntryOf, is_of_cell}
 use Rattle.pc_sheet.specs.declared.ids.CellId.{CellId}
 use Rattle.pc_sheet.specs.declared.ids.Entry.{Entry}
@@ -30,6 +32,11 @@ IsEnoughToProve sheet budget = (sets : List (List Entry)) × AreMaximalSets shee
 pub record IsTooLittle (sheet : Sheet) (touched : Option CellId) (budget : ℕ) : Type 0 where
   pub for_parts : (kept : Kept) → AreComponentsOf (rules_alone sheet) kept → budget < enough_for sheet touched kept
   pub for_whole : budget < enough_for_all sheet
+
+-- for the search of the whole sheet in which a formula is asked, whose calls are bounded by the entries and maximal sets of the parts that it reads
+abbrev pub IsEnoughToAsk : Sheet → Statement → ℕ → Type 0
+IsEnoughToAsk sheet f budget = (entries : ℕ) × (sets : ℕ) × AreReadSizes sheet f entries sets
+    × (variable_count (asked sheet f) * (3 ^ variable_count (asked sheet f) + (sets * (entries + 2) + 1)) ≤ budget)
 
 -- ---- a session's calls
 

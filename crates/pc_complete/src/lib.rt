@@ -1,10 +1,12 @@
 //! Laws: where the budget is enough, no answer tells that it is spent, and each line is answered as it is judged.
 #![tactic(auto)]
 
+mod asking;
 mod counts;
 mod inputs;
 mod law;
 
+pub use asking::{entries_say_what_is_enough, read_sizes_exist};
 pub use counts::{tallies_are_counted, told_counts_are_bounded};
 pub use inputs::{
     faultless_posts_are_answered, inputs_have_one_sheet_part, posts_of_enough_are_answered,

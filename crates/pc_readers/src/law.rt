@@ -6,8 +6,8 @@ use pc_collab::merges_are_lawful;
 use pc_display::sheet_has_one_display;
 use pc_spreadsheet::{lines_have_one_verdict, states_are_well_formed, texts_have_one_verdict};
 
-/// Two answers to a line in one state, neither of them that a budget is spent or that memory is wanted, say the same, and leave
-/// one state.
+/// Two answers to a line on one sheet, neither of them that a budget is spent or that memory is wanted, say the same, and leave
+/// one sheet, whatever the budgets.
 pub fn answers_say_the_same()
     ensures { AnswersSayTheSame }
 {
@@ -23,7 +23,7 @@ pub fn transcripts_say_the_same()
     states_are_well_formed();
 }
 
-/// Who has merged the same two journals, in either order, sees the same answers to their posts, and one display.
+/// Who has the same posts, however they were merged and with whatever budget, sees the same answers to them, and one display.
 pub fn readers_see_one_display()
     ensures { ReadersSeeOneDisplay }
 {

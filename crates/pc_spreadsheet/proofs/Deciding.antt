@@ -8,7 +8,7 @@ use Rattle.pc_syntax.specs.declared.tree.CommandFault.{CommandFault}
 use Rattle.pc_syntax.specs.declared.tree.CommandFault.TheVariants as command_fault
 use Rattle.pc_syntax.specs.Spelling.{IsSpelled}
 use Rattle.pc_syntax.specs.Tree.{Asked, asks_show, asks_grid, asks_dump}
-use Rattle.pc_syntax.specs.Command.{CommandReading, no_command, asks, IsCommandReading, empty_command, spelled_command, command_keyword, FollowsCommand, TakesNoMemory}
+use Rattle.pc_syntax.specs.Command.{CommandReading, no_command, asks, IsCommandReading, IsDeepAsk, empty_command, spelled_command, command_keyword, FollowsCommand, TakesNoMemory}
 use Rattle.pc_syntax.specs.Told.{IsCommandTold}
 use Rattle.pc_refusals.specs.declared.refusal.Refusal.{Refusal}
 use Rattle.pc_transcript.specs.declared.machine.Reply.TheVariants.{Silent, Accepted, Shown, Refused, Memory}
@@ -16,8 +16,8 @@ use Rattle.pc_transcript.specs.Answer.{Answer, silent, IsToldBehind, IsAnswer, C
 use Rattle.pc_sheet.specs.Sheet.{Sheet}
 use Rattle.pc_spreadsheet.specs.Judgement.{State, for_utf8, for_depth, for_syntax, for_asked}
 use Rattle.pc_spreadsheet.specs.Pages.{IsPage, CanShow, IsCertificateAgainst, kind_of}
-use Rattle.pc_spreadsheet.specs.Allowed.{Notes, Allows, RefusesLine, as_judged, as_contradiction, as_spent, as_proof_spent}
-use Rattle.pc_spreadsheet.specs.Commands.{Told, MayWantMemory, Obeys, RefusesAsked, judged, contradicted, spent, proof_spent, reply_to}
+use Rattle.pc_spreadsheet.specs.Allowed.{Notes, Allows, RefusesLine, as_judged, as_contradiction, as_spent, as_proof_spent, as_ask_spent}
+use Rattle.pc_spreadsheet.specs.Commands.{Told, MayWantMemory, Obeys, RefusesAsked, judged, contradicted, spent, proof_spent, ask_spent, reply_to}
 
 -- ---- lines that are no command
 
@@ -46,7 +46,7 @@ lone_reading line ws a spelled known follows one =
     spelled_command (name (command_keyword a) ∷ []) record {
       split = record { utf8 = spelled.split.utf8; something = spelled.split.something; has = one_name_has line (command_keyword a) known one };
       within = omega (arith, few);
-    } record { rest = []; words = refl; follows = follows }
+    } record { rest = []; words = refl; follows = follows } (λ (d : IsDeepAsk (name (command_keyword a) ∷ [])). absurd (omega (arith, few, d.deep)))
 
 -- ---- commands that may want memory
 
@@ -78,7 +78,7 @@ module _ (sheet : Sheet) (line : List ℕ) (a : Asked) (may : MayWantMemory shee
   ]
 
 takes_memory : (sheet : Sheet) (line : List ℕ) (a : Asked) → MayWantMemory sheet a → IsCommandReading line (asks a) → ((r : CommandReading) → IsCommandReading line r → r ≡ asks a) → ¬ TakesNoMemory line
-takes_memory sheet line a may (spelled_command ws spelled is) only = lone sheet line a may only ws spelled
+takes_memory sheet line a may (spelled_command ws spelled is shallow) only = lone sheet line a may only ws spelled
 
 -- ---- commands
 
@@ -91,6 +91,7 @@ refused_line old new line a why proof more reading (contradicted r makes is show
     as_contradiction r (a, reading, makes) (subst (λ (p : Option Sheet). IsToldBehind IsCertificateAgainst p more) shows follows) is same
 refused_line old new line a why proof more reading (spent counts spends is none same) follows = as_spent counts (a, reading, spends) is (no_more proof more none follows) same
 refused_line old new line a why proof more reading (proof_spent counts spends is none same) follows = as_proof_spent counts (a, reading, spends) is (no_more proof more none follows) same
+refused_line old new line a why proof more reading (ask_spent counts spends is none same) follows = as_ask_spent counts (a, reading, spends) is (no_more proof more none follows) same
 
 pub obeyed_line : (old new : State × Notes) (line : List ℕ) (a : Asked) (reply : Told) (answer : Answer) → IsCommandReading line (asks a) → ((r : CommandReading) → IsCommandReading line r → r ≡ asks a)
     → Obeys old a reply new → IsAnswer IsPage IsCertificateAgainst new.0 reply answer → Allows old line answer new

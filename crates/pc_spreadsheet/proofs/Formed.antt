@@ -11,8 +11,8 @@ use Rattle.pc_logic.proofs.EntryLemmas.{entries_stay, entries_beside, entries_ke
 use Rattle.pc_one_reading.proofs.Entries.{entry_of}
 use Rattle.pc_transcript.specs.Answer.{silent, accepted, shown, refused, no_memory}
 use Rattle.pc_sortcheck.specs.Laws.{SheetsAreWellFormed}
-use Rattle.pc_spreadsheet.specs.Judgement.{State, Task, entering, entering_beside, clearing, removing, adding, dropping, budgeting, asking, showing, showing_grid, showing_json, dumping, listing, proving, doubting, IsTaskOf, IsEdit, state_after}
-use Rattle.pc_spreadsheet.specs.Allowed.{Notes, as_judged, as_contradiction, as_spent, as_proof_spent}
+use Rattle.pc_spreadsheet.specs.Judgement.{State, Task, entering, entering_beside, clearing, removing, adding, dropping, budgeting, asking, showing, showing_grid, showing_json, dumping, listing, proving, doubting, inquiring, IsTaskOf, IsEdit, state_after}
+use Rattle.pc_spreadsheet.specs.Allowed.{Notes, as_judged, as_contradiction, as_spent, as_proof_spent, as_ask_spent}
 use Rattle.pc_spreadsheet.specs.Laws.{StartsAreWellFormed, AnswersKeepForm}
 use Rattle.pc_spreadsheet.proofs.Rules.{formed_with}
 
@@ -44,6 +44,7 @@ module _ (ordered : CellsAreNumberedInOrder) where
   edit_keeps state asked task formed listing edit = absurd edit
   edit_keeps state asked task formed (proving few) edit = absurd edit
   edit_keeps state asked task formed (doubting t named holds few) edit = absurd edit
+  edit_keeps state asked task formed (inquiring s new light) edit = absurd edit
 
   pub answers_keep : AnswersKeepForm
   answers_keep old new line silent formed is = same_pair_formed old new formed is.1
@@ -54,4 +55,5 @@ module _ (ordered : CellsAreNumberedInOrder) where
   answers_keep old new line (refused why more) formed (as_contradiction r is against why_is same) = same_pair_formed old new formed same
   answers_keep old new line (refused why more) formed (as_spent counts spends why_is none same) = same_formed old.0 new.0 formed same
   answers_keep old new line (refused why more) formed (as_proof_spent counts spends why_is none same) = same_formed old.0 new.0 formed same
+  answers_keep old new line (refused why more) formed (as_ask_spent counts spends why_is none same) = same_formed old.0 new.0 formed same
   answers_keep old new line no_memory formed is = same_pair_formed old new formed is.1

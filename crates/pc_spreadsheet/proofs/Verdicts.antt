@@ -1,9 +1,10 @@
 -- That a command line has one verdict at most.
 use Rattle.std.proofs.Common.{◌≡◌, ℕ, Bool, ◌<◌, List, [], length, Contains, Option, Some, None, refl, sym, ap, ap₂, subst, arith, inl, inr, ◌∙◌}
 use Rattle.pc_syntax.specs.Fault.{Fault, not_utf8, too_deep, syntax, wrong_version}
-use Rattle.pc_syntax.specs.Tree.{Cell, Value, Formula, Asked, enter, also, asks_enter, asks_also, asks_clear, asks_clear_one, asks_rule, asks_drop, asks_budget, asks_show, asks_grid, asks_json, asks_why, asks_dump, asks_repairs, asks_prove_repairs, asks_whynot}
+use Rattle.pc_syntax.specs.Tree.{Cell, Value, Formula, Asked, enter, also, asks_enter, asks_also, asks_clear, asks_clear_one, asks_rule, asks_drop, asks_budget, asks_show, asks_grid, asks_json, asks_why, asks_dump, asks_repairs, asks_prove_repairs, asks_whynot, asks_ask, not}
 use Rattle.pc_syntax.specs.Command.{CommandReading, no_command, asks, at_fault, IsCommandReading}
-use Rattle.pc_sheet.specs.Sheet.{Sheet, Statement, some_of, no_statements, NamedStatement, with_rule}
+use Rattle.pc_sheet.specs.Sheet.{Sheet, Statement, some_of, no_statements, negation, NamedStatement, with_rule}
+use Rattle.pc_asked.specs.Asked.{ask_name, denial, asked}
 use Rattle.pc_sheet.specs.MaximalSets.{AreRulesConsistent}
 use Rattle.pc_laws.proofs.Different.{exact_as_long}
 use Rattle.pc_choices.specs.FewSets.{HasFewSets, HasManySets}
@@ -25,7 +26,7 @@ use Rattle.pc_refusals.specs.declared.refusal.Refusal.{Refusal}
 use Rattle.pc_refusals.specs.declared.refusal.Refusal.TheVariants.{NotUtf8, Syntax, TooDeep}
 use Rattle.pc_load.specs.Refusals.{IsSortRefusal}
 use Rattle.pc_load.proofs.OneRefusal.{one_refusal, some_is}
-use Rattle.pc_spreadsheet.specs.Judgement.{State, IsLight, Task, enters, enters_beside, clears, removes, adds, drops, shows, why_page, whynot_page, HasEntryOf, IsRuleOf, IsTaskOf, entering, entering_beside, clearing, removing, adding, dropping, budgeting, asking, showing, showing_grid, showing_json, dumping, listing, proving, doubting, IsAskedFault, IsRefusalOf, by_fault, without_entry, without_that, of_old_name, of_no_rule, too_large, too_many_sets, too_many_for, MakesContradiction, contradicting, IsRefused, for_utf8, for_depth, for_syntax, for_asked, Verdict, nothing, does, refuses, contradicts, IsVerdictOn}
+use Rattle.pc_spreadsheet.specs.Judgement.{State, IsLight, Task, enters, enters_beside, clears, removes, adds, drops, shows, why_page, whynot_page, ask_page, HasEntryOf, IsRuleOf, IsDenial, IsTaskOf, entering, entering_beside, clearing, removing, adding, dropping, budgeting, asking, showing, showing_grid, showing_json, dumping, listing, proving, doubting, inquiring, IsAskedFault, IsRefusalOf, by_fault, without_entry, without_that, of_old_name, of_no_rule, too_large, too_many_sets, too_many_for, of_rule_ask, too_large_asked, MakesContradiction, contradicting, IsRefused, for_utf8, for_depth, for_syntax, for_asked, Verdict, nothing, does, refuses, contradicts, IsVerdictOn}
 use Rattle.pc_spreadsheet.specs.Judgement as judgement
 use Rattle.pc_spreadsheet.proofs.Places.{not_new, one_place}
 use Rattle.pc_spreadsheet.specs.Laws.{LinesHaveOneVerdict}
@@ -49,6 +50,13 @@ asked_why e holds = shows (why_page (record { cell = e.cell; value = e.value; ho
 -- the page that says why it doesn't follow that the cell has the value
 abbrev asked_whynot : Entry → Bool → Task
 asked_whynot e holds = shows (whynot_page (record { cell = e.cell; value = e.value; holds = holds }))
+
+-- the page that says whether the formula is implied
+abbrev asked_page : Sheet → Statement → Task
+asked_page sheet f = shows (ask_page (asked sheet f))
+
+same_denied : (s t : Statement) → negation s ≡ negation t → s ≡ t
+same_denied s t same = cc
 
 abbrev pair_of : CellId → SortId → CellId × SortId
 pair_of cell sort = (cell, sort)
@@ -124,6 +132,9 @@ module _ (sheet : Sheet) (one : HaveOneOutcome sheet.universe) (formed : IsWellF
   rule_of_never : (n : List ℕ) (f : Formula) (r : NamedStatement) → IsRuleOf sheet n f r → (e : SortFault) → ¬ IsRuleFault sheet f no_test e
   rule_of_never n f r is e = rule_never f (r.states, is.states, is.formed.sorted) is.room e
 
+  denied_is : (f : Formula) (s t : Statement) → IsDenial sheet f s → IsDenial sheet f t → s ≡ t
+  denied_is f s t first second = same_denied s t (ap (λ (r : NamedStatement). r.states) (statement_is ask_name (not f) (denial s) (denial t) first second))
+
   light_or_heavy : (n : List ℕ) (f : Formula) (r q : NamedStatement) → IsRuleOf sheet n f r → IsRuleOf sheet n f q → 4000000 < weight (with_rule sheet r) → ¬ IsLight (with_rule sheet q)
   light_or_heavy n f r q first second heavy = λ light. absurd (omega (arith, subst (λ (s : NamedStatement). 4000000 < weight (with_rule sheet s)) (statement_is n f r q first second) heavy, light))
 
@@ -145,6 +156,7 @@ module _ (sheet : Sheet) (one : HaveOneOutcome sheet.universe) (formed : IsWellF
   fault_same asks_repairs e f x y = absurd x
   fault_same asks_prove_repairs e f x y = absurd x
   fault_same (asks_whynot c v) e f x y = entry_same c v e f x y
+  fault_same (asks_ask g) e f x y = rule_same (not g) e f x y
 
   task_never : {a : Asked} {task : Task} → IsTaskOf sheet a task → (e : SortFault) → ¬ IsAskedFault sheet a e
   task_never (entering {c = c} {v = v} d named) e = entry_never c v d named e
@@ -162,6 +174,7 @@ module _ (sheet : Sheet) (one : HaveOneOutcome sheet.universe) (formed : IsWellF
   task_never listing e = λ fails. fails
   task_never (proving few) e = λ fails. fails
   task_never (doubting {c = c} {v = v} t named holds few) e = entry_never c v (judgement.entry_of_target t) named e
+  task_never (inquiring {f = f} s new light) e = rule_of_never ask_name (not f) (denial s) new.0 e
 
   contradiction_never : {a : Asked} {r : NamedStatement} → MakesContradiction sheet a r → (e : SortFault) → ¬ IsAskedFault sheet a e
   contradiction_never (contradicting {n = n} {f = f} r new light never) e = rule_of_never n f r new.0 e
@@ -185,6 +198,7 @@ module _ (sheet : Sheet) (one : HaveOneOutcome sheet.universe) (formed : IsWellF
   task_is (proving few) (proving few') = refl
   task_is (doubting {c = c} {v = v} t x holds few) (doubting u y holding few') =
       ap₂ asked_whynot (entry_is c v (judgement.entry_of_target t) (judgement.entry_of_target u) x y) (holds ∙ sym holding)
+  task_is (inquiring {f = f} s x light) (inquiring t y light') = ap (asked_page sheet) (denied_is f s t x.0 y.0)
 
   -- two refusals are one
   refusal_is : {a : Asked} {q r : Refusal} → IsRefusalOf sheet a q → IsRefusalOf sheet a r → q ≡ r
@@ -196,6 +210,8 @@ module _ (sheet : Sheet) (one : HaveOneOutcome sheet.universe) (formed : IsWellF
   refusal_is (by_fault e fails tells) (too_large {n = n} {f = f} r new heavy) = absurd (rule_of_never n f r new.0 e fails)
   refusal_is (by_fault e fails tells) (too_many_sets many) = absurd fails
   refusal_is (by_fault e fails tells) (too_many_for {c = c} {v = v} d named many) = absurd (entry_never c v d named e fails)
+  refusal_is (by_fault e fails tells) (of_rule_ask {f = f} s is has) = absurd (rule_of_never ask_name (not f) (denial s) is e fails)
+  refusal_is (by_fault e fails tells) (too_large_asked {f = f} s new heavy) = absurd (rule_of_never ask_name (not f) (denial s) new.0 e fails)
   refusal_is (without_entry {c = c} k named lacks) (by_fault e fails tells) = absurd (cell_never c k named.0 named.1 e fails)
   refusal_is (without_entry k named lacks) (without_entry l named' lacks') = refl
   refusal_is (without_that {c = c} {v = v} d named lacks) (by_fault e fails tells) = absurd (entry_never c v d named e fails)
@@ -212,6 +228,12 @@ module _ (sheet : Sheet) (one : HaveOneOutcome sheet.universe) (formed : IsWellF
   refusal_is (too_many_sets many) (too_many_sets many') = refl
   refusal_is (too_many_for {c = c} {v = v} d named many) (by_fault e fails tells) = absurd (entry_never c v d named e fails)
   refusal_is (too_many_for d named many) (too_many_for e named' many') = refl
+  refusal_is (of_rule_ask {f = f} s is has) (by_fault e fails tells) = absurd (rule_of_never ask_name (not f) (denial s) is e fails)
+  refusal_is (of_rule_ask s is has) (of_rule_ask t is' has') = refl
+  refusal_is (of_rule_ask s is has) (too_large_asked t new heavy) = absurd (has new.1)
+  refusal_is (too_large_asked {f = f} s new heavy) (by_fault e fails tells) = absurd (rule_of_never ask_name (not f) (denial s) new.0 e fails)
+  refusal_is (too_large_asked s new heavy) (of_rule_ask t is has) = absurd (has new.1)
+  refusal_is (too_large_asked s new heavy) (too_large_asked t new' heavy') = refl
 
   -- what can be done isn't refused
   task_or_refusal : {a : Asked} {t : Task} {q : Refusal} → IsTaskOf sheet a t → IsRefusalOf sheet a q → ⊥
@@ -223,6 +245,8 @@ module _ (sheet : Sheet) (one : HaveOneOutcome sheet.universe) (formed : IsWellF
   task_or_refusal (dropping {n = n} place at) (of_no_rule lacks) = not_new sheet.rules n place no_rule at lacks
   task_or_refusal (proving few) (too_many_sets many) = few_or_many sheet few many
   task_or_refusal (doubting t named holds few) (too_many_for e named' many) = few_or_many sheet few many
+  task_or_refusal (inquiring s new light) (of_rule_ask t is has) = has new.1
+  task_or_refusal (inquiring {f = f} s new light) (too_large_asked t new' heavy) = light_or_heavy ask_name (not f) (denial t) (denial s) new'.0 new.0 heavy light
 
   -- a contradiction is neither
   task_or_contradiction : {a : Asked} {t : Task} {r : NamedStatement} → IsTaskOf sheet a t → MakesContradiction sheet a r → ⊥
@@ -242,6 +266,7 @@ module _ (sheet : Sheet) (one : HaveOneOutcome sheet.universe) (formed : IsWellF
   task_or_contradiction listing makes = elim makes [ ]
   task_or_contradiction (proving few) makes = elim makes [ ]
   task_or_contradiction (doubting t named holds few) makes = elim makes [ ]
+  task_or_contradiction (inquiring s new light) makes = elim makes [ ]
 
   refusal_or_contradiction : {a : Asked} {q : Refusal} {r : NamedStatement} → IsRefusalOf sheet a q → MakesContradiction sheet a r → ⊥
   refusal_or_contradiction (by_fault e fails tells) makes = contradiction_never makes e fails
@@ -252,6 +277,8 @@ module _ (sheet : Sheet) (one : HaveOneOutcome sheet.universe) (formed : IsWellF
   refusal_or_contradiction (of_no_rule lacks) makes = elim makes [ ]
   refusal_or_contradiction (too_many_sets many) makes = elim makes [ ]
   refusal_or_contradiction (too_many_for e named many) makes = elim makes [ ]
+  refusal_or_contradiction (of_rule_ask s is has) makes = elim makes [ ]
+  refusal_or_contradiction (too_large_asked s new heavy) makes = elim makes [ ]
 
   contradiction_is : {a : Asked} {q r : NamedStatement} → MakesContradiction sheet a q → MakesContradiction sheet a r → q ≡ r
   contradiction_is (contradicting {n = n} {f = f} q new light never) (contradicting r new' light' never') = statement_is n f q r new.0 new'.0

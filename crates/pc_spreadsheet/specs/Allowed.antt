@@ -1,8 +1,10 @@
 -- What may answer a sheet and a command line, and what is noted on the way.
-use Rattle.std.specs.Prelude.{◌≡◌, ℕ, ◌+◌, ◌≤◌, true, List, [], ◌∷◌, ◌++◌, length, Option, Some, None, Contains}
-use Rattle.pc_syntax.specs.Tree.{Asked, asks_enter, asks_also, asks_clear, asks_clear_one, asks_rule, asks_drop, asks_prove_repairs, asks_whynot, Cell, Value, Formula}
+use Rattle.std.specs.Prelude.{◌≡◌, ℕ, ◌+◌, ◌*◌, ◌≤◌, true, List, [], ◌∷◌, ◌++◌, length, Option, Some, None, Contains}
+use Rattle.pc_syntax.specs.Tree.{Asked, asks_enter, asks_also, asks_clear, asks_clear_one, asks_rule, asks_drop, asks_prove_repairs, asks_whynot, asks_ask, Cell, Value, Formula}
 use Rattle.pc_syntax.specs.Command.{IsCommandReading, asks, TakesNoMemory}
-use Rattle.pc_sheet.specs.Sheet.{Sheet, NamedStatement, with_rule}
+use Rattle.pc_sheet.specs.Sheet.{Sheet, Statement, NamedStatement, with_rule}
+use Rattle.pc_asked.specs.Asked.{asked}
+use Rattle.pc_ask.specs.Asking.{AreReadSizes}
 use Rattle.pc_sheet.specs.Entailment.{IsImplied}
 use Rattle.pc_sheet.specs.WellFormed.{is_of_cell}
 use Rattle.pc_sheet.specs.declared.ids.CellId.{CellId}
@@ -27,7 +29,7 @@ use Rattle.pc_refusals.specs.declared.refusal.SheetRefusal.{SheetRefusal}
 use Rattle.pc_refusals.specs.declared.refusal.Refusal.{Refusal}
 use Rattle.pc_refusals.specs.declared.refusal.Refusal.TheVariants.{TooLarge, Inconsistent, Spent}
 use Rattle.pc_transcript.specs.Answer.{Answer, silent, accepted, shown, refused, no_memory}
-use Rattle.pc_spreadsheet.specs.Judgement.{State, IsLight, IsTooLarge, IsContradictory, of_whole, Task, shows, entry_of_target, PageKind, HasEntryOf, IsNewRule, AsksNothing, IsTask, IsEdit, state_after, IsRefused, IsContradiction}
+use Rattle.pc_spreadsheet.specs.Judgement.{State, IsLight, IsTooLarge, IsContradictory, of_whole, Task, shows, entry_of_target, PageKind, HasEntryOf, IsNewRule, IsNewDenial, AsksNothing, IsTask, IsEdit, state_after, IsRefused, IsContradiction}
 use Rattle.pc_spreadsheet.specs.Pages.{PageSays, IsCertificateAgainst}
 
 -- ---- what is spent
@@ -59,6 +61,17 @@ pub record IsWholeSpent (budget : ℕ) (sheet : Sheet) (counts : Counts) (old ne
   pub counts_are : counts ≡ told_counts_of tally
   pub noted : new ≡ old ++ record { sheet = sheet; cell = None; tally = session.counts_of tally } ∷ []
 
+-- A search on the whole sheet in which the formula is asked lawfully spends the budget, with no more calls than the parts that the formula
+-- reads have entries and maximal sets for. That is told by these counts, and noted as the last of the notes, without a cell.
+pub record IsAskSpent (budget : ℕ) (sheet : Sheet) (f : Statement) (counts : Counts) (old new : Notes) : Type 0 where
+  pub log : List LogLine
+  pub tally : Tally
+  pub spent : IsSpentWhole (asked sheet f) (log ∷ []) tally
+  pub limited : tally.limit ≡ budget
+  pub few_calls : (entries sets : ℕ) → AreReadSizes sheet f entries sets → tally.calls ≤ sets * (entries + 2) + 1
+  pub counts_are : counts ≡ told_counts_of tally
+  pub noted : new ≡ old ++ record { sheet = asked sheet f; cell = None; tally = session.counts_of tally } ∷ []
+
 -- ---- sheets
 
 -- By a run with that budget the text is refused so, with what is told after that, and these notes become those: for its first fault; as too
@@ -84,10 +97,10 @@ pub data NeedsSearch (sheet : Sheet) : Asked → Option CellId → Sheet → Typ
   to_drop : {n : List ℕ} (place : ℕ) → IsRuleAt sheet.rules n place → NeedsSearch sheet (asks_drop n) None (without_rule sheet place)
 
 -- the command's search spends too much, which is told by these counts and noted
-pub record SpendsFor (state : State) (asked : Asked) (counts : Counts) (old new : Notes) : Type 0 where
+pub record SpendsFor (state : State) (a : Asked) (counts : Counts) (old new : Notes) : Type 0 where
   pub cell : Option CellId
   pub made : Sheet
-  pub needs : NeedsSearch state.sheet asked cell made
+  pub needs : NeedsSearch state.sheet a cell made
   pub spent : IsLawfullySpent state.budget made cell counts old new
 
 -- the same of the command that a line asks
@@ -102,22 +115,35 @@ pub data NeedsProof (sheet : Sheet) : Asked → Type 0 where
 
 -- the command's certificate needs searches that spend too much, which is told by these counts and noted
 abbrev pub ProofSpends : State → Asked → Counts → Notes → Notes → Type 0
-ProofSpends state asked counts old new = NeedsProof state.sheet asked × IsWholeSpent state.budget state.sheet counts old new
+ProofSpends state a counts old new = NeedsProof state.sheet a × IsWholeSpent state.budget state.sheet counts old new
 
 -- the same of the command that a line asks
 abbrev pub LineProofSpends : State → List ℕ → Counts → Notes → Notes → Type 0
 LineProofSpends state line counts old new = (a : Asked) × IsCommandReading line (asks a) × ProofSpends state a counts old new
 
+-- the command asks this formula, and the asked sheet isn't too large
+pub data NeedsAnswer (sheet : Sheet) : Asked → Statement → Type 0 where
+  to_answer : {f : Formula} (s : Statement) → IsNewDenial sheet f s → IsLight (asked sheet s) → NeedsAnswer sheet (asks_ask f) s
+
+-- the search for the command's answer spends too much, which is told by these counts and noted
+abbrev pub AskSpends : State → Asked → Counts → Notes → Notes → Type 0
+AskSpends state a counts old new = (f : Statement) × NeedsAnswer state.sheet a f × IsAskSpent state.budget state.sheet f counts old new
+
+-- the same of the command that a line asks
+abbrev pub LineAskSpends : State → List ℕ → Counts → Notes → Notes → Type 0
+LineAskSpends state line counts old new = (a : Asked) × IsCommandReading line (asks a) × AskSpends state a counts old new
+
 -- The line is refused so, with what is told after that: as it is judged; as a contradiction, with a certificate for the sheet with that
--- rule; or since its search, or that for its certificate, spends too much.
+-- rule; or since its search, or that for its certificate or its answer, spends too much.
 pub data RefusesLine (old : State × Notes) (line : List ℕ) (why : Refusal) (more : List ℕ) (new : State × Notes) : Type 0 where
   as_judged : IsRefused old.0 line why → more ≡ [] → new ≡ old → RefusesLine old line why more new
   as_contradiction : (r : NamedStatement) → IsContradiction old.0 line r → IsCertificateAgainst (with_rule old.0.sheet r) more → why ≡ Inconsistent → new ≡ old → RefusesLine old line why more new
   as_spent : (counts : Counts) → LineSpends old.0 line counts old.1 new.1 → why ≡ Spent counts → more ≡ [] → new.0 ≡ old.0 → RefusesLine old line why more new
   as_proof_spent : (counts : Counts) → LineProofSpends old.0 line counts old.1 new.1 → why ≡ Spent counts → more ≡ [] → new.0 ≡ old.0 → RefusesLine old line why more new
+  as_ask_spent : (counts : Counts) → LineAskSpends old.0 line counts old.1 new.1 → why ≡ Spent counts → more ≡ [] → new.0 ≡ old.0 → RefusesLine old line why more new
 
 -- In the state, the line may have this answer, and the next state and notes follow. Any line but one that takes none may want memory instead,
--- and an edit that needs a search, or a certificate of maximal sets, may spend too much instead.
+-- and an edit that needs a search, a certificate of maximal sets, or the answer to a formula, may spend too much instead.
 abbrev pub Allows : State × Notes → List ℕ → Answer → State × Notes → Type 0
 Allows old line silent new = AsksNothing line × (new ≡ old)
 Allows old line accepted new = (task : Task) × IsTask old.0 line task × IsEdit task × (new ≡ (state_after old.0 task, old.1))

@@ -5,7 +5,7 @@ use Rattle.std.specs.declared.option.Option.{Option}
 use Rattle.std.specs.declared.option.Option.TheVariants.{Some, None}
 use Rattle.pc_syntax.specs.declared.tree.CommandFault.{CommandFault}
 use Rattle.pc_syntax.specs.declared.tree.CommandFault.TheVariants as command_fault
-use Rattle.pc_syntax.specs.Tree.{Asked, asks_rule, asks_json, asks_repairs, asks_prove_repairs, asks_whynot}
+use Rattle.pc_syntax.specs.Tree.{Asked, asks_rule, asks_json, asks_repairs, asks_prove_repairs, asks_whynot, asks_ask}
 use Rattle.pc_sheet.specs.Sheet.{Sheet, NamedStatement, with_rule}
 use Rattle.pc_sheet.specs.declared.ids.CellId.{CellId}
 use Rattle.pc_sheet.specs.declared.ids.Entry.{Entry}
@@ -28,7 +28,7 @@ use Rattle.pc_display.specs.Json.{IsJson}
 use Rattle.pc_load.specs.Refusals.{IsSortRefusal}
 use Rattle.pc_spreadsheet.specs.Judgement.{State, Task, shows, why_page, IsTaskOf, IsEdit, state_after, MakesContradiction, IsRefusalOf}
 use Rattle.pc_spreadsheet.specs.Pages.{CanShow, kind_of}
-use Rattle.pc_spreadsheet.specs.Allowed.{Notes, told_counts_of, NeedsSearch, SpendsFor, ProofSpends}
+use Rattle.pc_spreadsheet.specs.Allowed.{Notes, told_counts_of, NeedsSearch, SpendsFor, ProofSpends, AskSpends}
 use Rattle.pc_spreadsheet.specs.declared.page.Page.{Page}
 use Rattle.pc_spreadsheet.specs.declared.page.Page.TheVariants.{Json, Why}
 
@@ -76,11 +76,12 @@ pub data ShowsJson (sheet : Sheet) : Told → Type 0 where
   by_text : (text : String Global) → IsJson sheet (string_bytes text) → ShowsJson sheet (Shown (Json text))
   for_memory : ShowsJson sheet Memory
 
--- The commands that may want memory once they are read: to add a rule, to show the display as JSON, to list the maximal sets, to prove
--- anything of them once its names are known, and each edit that needs a search. So to ask why a target is implied wants none, nor does an edit
+-- The commands that may want memory once they are read: to add a rule, to ask a formula, to show the display as JSON, to list the maximal
+-- sets, to prove anything of them once its names are known, and each edit that needs a search. So to ask why a target is implied wants none, nor does an edit
 -- that changes nothing, one that removes only entries that no least support has, nor a refusal for want of the entry or the rule.
 abbrev pub MayWantMemory : Sheet → Asked → Type 0
 MayWantMemory sheet (asks_rule n f) = Unit {0}
+MayWantMemory sheet (asks_ask f) = Unit {0}
 MayWantMemory sheet asks_json = Unit {0}
 MayWantMemory sheet asks_repairs = Unit {0}
 MayWantMemory sheet asks_prove_repairs = Unit {0}
@@ -88,12 +89,13 @@ MayWantMemory sheet (asks_whynot c v) = (e : Entry) × IsEntryNamed sheet.univer
 MayWantMemory sheet a = (cell : Option CellId) × (made : Sheet) × NeedsSearch sheet a cell made
 
 -- A refused command: as it is judged; as a contradiction, which the sheet with that rule shows; or since its search, or that for its
--- certificate, spends too much.
+-- certificate or its answer, spends too much.
 pub data RefusesAsked (old : State × Notes) (a : Asked) (why : Refusal) (proof : Option Sheet) (new : State × Notes) : Type 0 where
   judged : IsRefusalOf old.0.sheet a why → proof ≡ None → new ≡ old → RefusesAsked old a why proof new
   contradicted : (r : NamedStatement) → MakesContradiction old.0.sheet a r → why ≡ Inconsistent → proof ≡ Some (with_rule old.0.sheet r) → new ≡ old → RefusesAsked old a why proof new
   spent : (counts : Counts) → SpendsFor old.0 a counts old.1 new.1 → why ≡ Spent counts → proof ≡ None → new.0 ≡ old.0 → RefusesAsked old a why proof new
   proof_spent : (counts : Counts) → ProofSpends old.0 a counts old.1 new.1 → why ≡ Spent counts → proof ≡ None → new.0 ≡ old.0 → RefusesAsked old a why proof new
+  ask_spent : (counts : Counts) → AskSpends old.0 a counts old.1 new.1 → why ≡ Spent counts → proof ≡ None → new.0 ≡ old.0 → RefusesAsked old a why proof new
 
 -- What a command does: an edit, a page, or a refusal, and then the state stays, as it does at want of memory.
 abbrev pub Obeys : State × Notes → Asked → Told → State × Notes → Type 0

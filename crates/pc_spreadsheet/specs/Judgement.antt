@@ -1,11 +1,12 @@
 -- Which texts are sheets, why others are refused, and what a command line asks in a state.
 use Rattle.std.specs.Prelude.{◌≡◌, ℕ, Bool, true, ◌<◌, ◌≤◌, ◌⊎◌, List, [], length, Any, Contains}
 use Rattle.std.specs.declared.option.Option.TheVariants.{None}
-use Rattle.pc_syntax.specs.Tree.{enter, also, Asked, asks_enter, asks_also, asks_clear, asks_clear_one, asks_rule, asks_drop, asks_budget, asks_show, asks_grid, asks_json, asks_why, asks_dump, asks_repairs, asks_prove_repairs, asks_whynot, Cell, Value, Formula}
+use Rattle.pc_syntax.specs.Tree.{enter, also, Asked, asks_enter, asks_also, asks_clear, asks_clear_one, asks_rule, asks_drop, asks_budget, asks_show, asks_grid, asks_json, asks_why, asks_dump, asks_repairs, asks_prove_repairs, asks_whynot, asks_ask, Cell, Value, Formula, not}
 use Rattle.pc_syntax.specs.Fault.{not_utf8, too_deep, syntax}
 use Rattle.pc_syntax.specs.Command.{IsCommandReading, no_command, asks, at_fault}
 use Rattle.pc_sheet.specs.Limits.{most_rules, most_weight}
-use Rattle.pc_sheet.specs.Sheet.{Sheet, NamedStatement, with_rule}
+use Rattle.pc_sheet.specs.Sheet.{Sheet, Statement, NamedStatement, with_rule}
+use Rattle.pc_asked.specs.Asked.{ask_name, denial, asked}
 use Rattle.pc_sheet.specs.MaximalSets.{AreRulesConsistent}
 use Rattle.pc_sheet.specs.Weight.{weight}
 use Rattle.pc_sheet.specs.WellFormed.{IsWellFormedRule}
@@ -81,8 +82,8 @@ IsSheetVerdict budget text (rejects why) = IsRejected text why
 -- ---- what a command asks
 
 -- The kinds of page that a sheet can be shown as: the display line by line, as a table and as JSON; a text that reads back as the sheet;
--- why a target is implied, or that it isn't; the maximal sets of each part; a certificate that they are all that there are; and why a target
--- isn't implied, or that it is.
+-- why a target is implied, or that it isn't; the maximal sets of each part; a certificate that they are all that there are; why a target
+-- isn't implied, or that it is; and why the formula is implied that the last rule of this sheet denies, or that it isn't.
 pub data PageKind : Type 0 where
   lines_page : PageKind
   grid_page : PageKind
@@ -92,6 +93,7 @@ pub data PageKind : Type 0 where
   repairs_page : PageKind
   proof_page : PageKind
   whynot_page : Target → PageKind
+  ask_page : Sheet → PageKind
 
 -- an edit of the sheet, a budget, or a page
 pub data Task : Type 0 where
@@ -118,6 +120,14 @@ pub record IsRuleOf (sheet : Sheet) (n : List ℕ) (f : Formula) (r : NamedState
 abbrev pub IsNewRule : Sheet → List ℕ → Formula → NamedStatement → Type 0
 IsNewRule sheet n f r = IsRuleOf sheet n f r × IsNewName sheet.rules n
 
+-- the rule `ask : !F` stands for this statement's denial, is well formed, and there is room for it
+abbrev pub IsDenial : Sheet → Formula → Statement → Type 0
+IsDenial sheet f s = IsRuleOf sheet ask_name (not f) (denial s)
+
+-- ... and no rule has that name yet
+abbrev pub IsNewDenial : Sheet → Formula → Statement → Type 0
+IsNewDenial sheet f s = IsNewRule sheet ask_name (not f) (denial s)
+
 abbrev pub IsBudget : ℕ → Type 0
 IsBudget n = (1 ≤ n) × (n ≤ 1000000000000)
 
@@ -141,6 +151,7 @@ pub data IsTaskOf (sheet : Sheet) : Asked → Task → Type 0 where
   listing : IsTaskOf sheet asks_repairs (shows repairs_page)
   proving : HasFewSets sheet → IsTaskOf sheet asks_prove_repairs (shows proof_page)
   doubting : {c : Cell} {v : Value} (t : Target) → IsEntryNamed sheet.universe c v (entry_of_target t) → t.holds ≡ true → HasFewSets sheet → IsTaskOf sheet (asks_whynot c v) (shows (whynot_page t))
+  inquiring : {f : Formula} (s : Statement) → IsNewDenial sheet f s → IsLight (asked sheet s) → IsTaskOf sheet (asks_ask f) (shows (ask_page (asked sheet s)))
 
 -- the task is an edit of the state, and no page
 abbrev pub IsEdit : Task → Type 0
@@ -169,12 +180,13 @@ IsAskedFault sheet (asks_why c v holds) = IsDeclarationFault sheet (enter c v)
 IsAskedFault sheet (asks_whynot c v) = IsDeclarationFault sheet (enter c v)
 IsAskedFault sheet (asks_clear c) = IsCellFault sheet.universe c
 IsAskedFault sheet (asks_rule n f) = IsRuleFault sheet f no_test
+IsAskedFault sheet (asks_ask f) = IsRuleFault sheet (not f) no_test
 IsAskedFault sheet (asks_budget n) = test (IsBudget n) (fault.Limit limited.Budget) no_test
-IsAskedFault sheet asked = no_test
+IsAskedFault sheet a = no_test
 
 -- The command is refused so: for its names, sorts and limits first; to clear a cell without an entry, or an entry that doesn't stand; to add a
--- rule of a name that a rule has, to drop a rule that isn't there; to add a rule with which the sheet is too large; or to tell a certificate
--- of more maximal sets than one may have.
+-- rule of a name that a rule has, to drop a rule that isn't there; to add a rule with which the sheet is too large; to tell a certificate
+-- of more maximal sets than one may have; to ask a formula where a rule has the name of the one that denies it, or makes the sheet too large.
 pub data IsRefusalOf (sheet : Sheet) : Asked → Refusal → Type 0 where
   by_fault : {a : Asked} {why : Refusal} (e : SortFault) → IsAskedFault sheet a e → IsSortRefusal e why → IsRefusalOf sheet a why
   without_entry : {c : Cell} (k : CellId) → IsCellNamed sheet.universe c k → ¬ HasEntryOf sheet k → IsRefusalOf sheet (asks_clear c) NoEntry
@@ -184,6 +196,8 @@ pub data IsRefusalOf (sheet : Sheet) : Asked → Refusal → Type 0 where
   too_large : {n : List ℕ} {f : Formula} (r : NamedStatement) → IsNewRule sheet n f r → most_weight < weight (with_rule sheet r) → IsRefusalOf sheet (asks_rule n f) TooLarge
   too_many_sets : HasManySets sheet → IsRefusalOf sheet asks_prove_repairs TooManySets
   too_many_for : {c : Cell} {v : Value} (e : Entry) → IsEntryNamed sheet.universe c v e → HasManySets sheet → IsRefusalOf sheet (asks_whynot c v) TooManySets
+  of_rule_ask : {f : Formula} (s : Statement) → IsDenial sheet f s → ¬ IsNewName sheet.rules ask_name → IsRefusalOf sheet (asks_ask f) DuplicateRule
+  too_large_asked : {f : Formula} (s : Statement) → IsNewDenial sheet f s → most_weight < weight (asked sheet s) → IsRefusalOf sheet (asks_ask f) TooLarge
 
 -- The command asks to add this rule, with which the sheet isn't too large and no assignment makes every rule true.
 pub data MakesContradiction (sheet : Sheet) : Asked → NamedStatement → Type 0 where

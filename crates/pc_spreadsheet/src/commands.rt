@@ -5,6 +5,7 @@ ghost use Rattle.pc_syntax.specs.Tree.{asked_of, asks_budget, asks_why, cell_of,
 ghost use Rattle.pc_spreadsheet.specs.Allowed.{Notes};
 ghost use Rattle.pc_spreadsheet.specs.Commands.{Explains, Obeys, ShowsJson, state_of};
 
+use crate::asking::answer;
 use crate::edits::{add_rule, clear, drop_rule, enter, enter_beside, remove};
 use crate::page::Page;
 use crate::pages::has_displays;
@@ -85,5 +86,6 @@ pub(crate) fn obey(
         Command::Repairs => list_repairs(alloc, session),
         Command::ProveRepairs => prove_repairs(alloc, session, notes),
         Command::WhyNot(cell, value) => why_not(alloc, session, cell, value, notes),
+        Command::Ask(formula) => answer(alloc, session, formula, notes),
     }
 }

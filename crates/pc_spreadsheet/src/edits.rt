@@ -237,8 +237,8 @@ pub(crate) fn add_rule(
     }
 }
 
-// The place of the rule of that name.
-fn place_of(rules: &[Rule], name: &Name) -> Option<usize>
+/// The place of the rule of that name.
+pub(crate) fn place_of(rules: &[Rule], name: &Name) -> Option<usize>
     ensures found { IfSome result (IsRuleAt (map rule_of rules.now) name.now) }
     ensures none { IfNone result (IsNewName (map rule_of rules.now) name.now) }
 {

@@ -6,6 +6,7 @@
 //! `pc_cert_text`.
 #![tactic(auto)]
 
+mod asking;
 mod commands;
 mod edits;
 mod law;
@@ -23,7 +24,7 @@ mod text;
 pub use law::{
     lines_have_one_verdict, sheets_have_one_summary, states_are_well_formed, texts_have_one_verdict,
 };
-pub use page::Page;
+pub use page::{AskProof, Page};
 pub use pc_session::Spendings;
 pub use spreadsheet::Spreadsheet;
 pub use summary::Summary;

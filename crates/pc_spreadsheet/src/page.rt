@@ -1,7 +1,27 @@
 //! What a spreadsheet can be shown as.
 
 use pc_choices::SetProof;
-use pc_sheet::Target;
+use pc_log::{Log, Span};
+use pc_logic::{Assignment, Book};
+use pc_names::Names;
+use pc_sheet::{Entry, Target};
+
+/// Why a formula is implied: what a certificate against the last rule of the asked book is made of.
+#[derive(Drop)]
+pub struct AskProof {
+    /// The asked book: its last rule says that the formula is false.
+    pub book: Book,
+    /// The least support, oldest entry first.
+    pub support: Vec<Entry>,
+    /// An assignment that makes the other rules true and has the support.
+    pub shown: Assignment,
+    /// The names of the asked book's variables and axioms.
+    pub names: Names,
+    /// The lines that derive that some entry of the support doesn't stand.
+    pub lines: Log,
+    /// Where these lie among them.
+    pub span: Span,
+}
 
 /// What a spreadsheet can be shown as.
 #[derive(Drop)]
@@ -24,4 +44,8 @@ pub enum Page {
     Implied(Target),
     /// A certificate of the maximal sets by which the target isn't implied.
     Unimplied(Target, SetProof),
+    /// A certificate that a formula is implied.
+    Answered(AskProof),
+    /// That the formula isn't implied that the last rule of this book denies.
+    Unanswered(Book),
 }

@@ -1,9 +1,13 @@
 //! The pages of a spreadsheet, written.
-ghost use Rattle.std.specs.Prelude.{ℕ, AllPairs, List, map, string_bytes};
+ghost use Rattle.std.specs.Prelude.{◌≡◌, ℕ, ◌<◌, ◌-◌, AllPairs, List, length, map, string_bytes};
 ghost use Rattle.pc_ground.specs.Naming.{names_of};
 ghost use Rattle.pc_repairs.specs.Listed.{ComesFirst};
 ghost use Rattle.pc_world_list.specs.Worlds.{set_of};
 ghost use Rattle.pc_choices.specs.FewSets.{AreMaximalSets};
+ghost use Rattle.pc_choices.specs.RuleCertificates.{GoesAgainst, IsAgainstRule};
+ghost use Rattle.pc_accept.specs.Accepts.{Certificate};
+ghost use Rattle.pc_cert_text.specs.CertificateText.{certificate_text};
+ghost use Rattle.pc_sheet.specs.Sheet.{Statement};
 ghost use Rattle.pc_choices.specs.SetCertificates.{AreCertified, claim_on_sets};
 ghost use Rattle.pc_choices.specs.declared.set_proof.SetsClaim.TheVariants.{Lacking, Repairs};
 ghost use Rattle.pc_accept.specs.Accepts.{repairs};
@@ -11,18 +15,19 @@ ghost use Rattle.pc_sheet.specs.Entailment.{IsImplied};
 ghost use Rattle.pc_reason.specs.Reasons.{IsTargetOf};
 ghost use Rattle.pc_writer.specs.Writes.{Writes};
 ghost use Rattle.pc_spreadsheet.specs.Commands.{state_of};
-ghost use Rattle.pc_spreadsheet.specs.Pages.{CanShow, Certifies, IsCertificateAgainst, IsCertificateOnSets, IsPage, IsWhy, IsWhyNot};
+ghost use Rattle.pc_spreadsheet.specs.Pages.{CanShow, Certifies, IsCertificateAgainst, IsCertificateOnSets, IsAnsweredIn, IsPage, IsWhy, IsWhyNot, ProvesAsked};
 ghost use Rattle.pc_writer.specs.SheetText.{ended};
 ghost use Rattle.pc_display.specs.Show.{IsShown};
 ghost use Rattle.pc_display.specs.Grid.{IsGrid};
 ghost use Rattle.pc_display.specs.Json.{IsJson};
 
-use crate::page::Page;
-use pc_cert_text::{write_refutation, write_sets, write_why};
+use crate::page::{AskProof, Page};
+use pc_cert_text::{write_against, write_refutation, write_sets, write_why};
 use pc_choices::SetProof;
 use pc_display::{grid, sheet_has_one_display, show};
-use pc_logic::Book;
+use pc_logic::{Book, well_formed};
 use pc_port::{Failed, Sink};
+use pc_proof::Proof;
 use pc_reason::{Reasons, Refutation};
 use pc_session::Session;
 use pc_sheet::Target;
@@ -105,6 +110,46 @@ fn write_unimplied<O: Sink>(
     write_proof(session, proof, out)
 }
 
+// The number of the last rule.
+fn last_rule(book: &Book) -> u32
+    requires { 0 < length book.now.rules }
+    ensures { result ≡ length book.now.rules - 1 }
+{
+    well_formed(book);
+    let count = book.rules().len();
+    (count - 1) as u32
+}
+
+// Writes the certificate against the last rule of the asked book.
+fn write_asked<O: Sink>(proof: &AskProof, out: &mut O) -> Result<(), Failed>
+    requires some { 0 < length proof.now.book.rules }
+    requires against { GoesAgainst proof.now.book proof.now.names (length proof.now.book.rules - 1) proof.now.support.items proof.now.shown proof.now.lines proof.now.span }
+    ensures { (c : Certificate) × IsAgainstRule proof.now.book (length proof.now.book.rules - 1) proof.now.support.items c × Writes O.given O.faults out.old out.new result (certificate_text proof.now.book c) }
+{
+    let lines = Proof {
+        log: &proof.lines,
+        names: &proof.names,
+        span: proof.span,
+    };
+    write_against(
+        &proof.book,
+        last_rule(&proof.book),
+        &proof.support,
+        &proof.shown,
+        lines,
+        out,
+    )
+}
+
+// Writes why a formula is implied.
+fn write_answer<O: Sink>(session: &Session, proof: &AskProof, out: &mut O) -> Result<(), Failed>
+    requires { (f : Statement) × ProvesAsked session.now.sheet f proof.now }
+    ensures { (text : List ℕ) × IsAnsweredIn session.now.sheet proof.now.book text × Writes O.given O.faults out.old out.new result text }
+{
+    let _view = session;
+    write_asked(proof, out)
+}
+
 /// Writes a page.
 pub(crate) fn write_page<O: Sink>(session: &Session, page: &Page, out: &mut O) -> Result<(), Failed>
     requires { CanShow page.now (state_of session.now) }
@@ -120,6 +165,8 @@ pub(crate) fn write_page<O: Sink>(session: &Session, page: &Page, out: &mut O) -
         Page::Proof(proof) => write_repairs(session, proof, out),
         Page::Implied(_) => write_text(b"implied\n", out),
         Page::Unimplied(target, proof) => write_unimplied(session, *target, proof, out),
+        Page::Answered(proof) => write_answer(session, proof, out),
+        Page::Unanswered(_) => write_text(b"not implied\n", out),
     }
 }
 

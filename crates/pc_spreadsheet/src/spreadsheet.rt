@@ -46,8 +46,8 @@ impl Spreadsheet {
         sum_up(&self.session)
     }
 
-    /// Does what a command asks for, once its line is read. Only a rule to add, the display as JSON and an edit that needs a
-    /// search may want memory.
+    /// Does what a command asks for, once its line is read. Only a rule to add, the display as JSON, what asks for maximal
+    /// sets or a formula, and an edit that needs a search may want memory.
     pub fn obey(
         &mut self,
         alloc: Global,

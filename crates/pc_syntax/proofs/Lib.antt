@@ -1,4 +1,5 @@
 pub mod CommandTold
+pub mod Deep
 pub mod Families
 pub mod Limits
 pub mod LineTold

@@ -7,10 +7,11 @@ use Rattle.pc_formula.specs.Word.{Word, sign}
 use Rattle.pc_formula.specs.Tree.{Formula, Cell, Value}
 use Rattle.pc_formula.specs.Value.{DerivesCell}
 use Rattle.pc_formula.specs.Equation.{IsEquation}
-use Rattle.pc_syntax.specs.Tree.{Asked, asks_enter, asks_also, asks_clear, asks_clear_one, asks_rule, asks_drop, asks_budget, asks_show, asks_grid, asks_json, asks_why, asks_dump, asks_repairs, asks_prove_repairs, asks_whynot}
+use Rattle.pc_syntax.specs.Tree.{Asked, asks_enter, asks_also, asks_clear, asks_clear_one, asks_rule, asks_drop, asks_budget, asks_show, asks_grid, asks_json, asks_why, asks_dump, asks_repairs, asks_prove_repairs, asks_whynot, asks_ask}
 use Rattle.pc_syntax.specs.Spelling.{IsTooDeep}
 use Rattle.pc_syntax.specs.Fault.{Fault, IsAtFault}
-use Rattle.pc_syntax.specs.Command.{command_keyword, FollowsCommand, IsCommand, HasCommand, no_words, some_words, CommandReading, asks, at_fault, IsCommandReading, empty_command, spelled_command, faulty_command}
+use Rattle.pc_syntax.specs.Command.{command_keyword, FollowsCommand, IsCommand, IsDeepAsk, HasCommand, no_words, some_words, deep_words, CommandReading, asks, at_fault, IsCommandReading, empty_command, spelled_command, deep_command, faulty_command}
+use Rattle.pc_formula.proofs.Unambiguous.{one_tree}
 use Rattle.pc_formula.proofs.ValueForms.{number_once}
 use Rattle.pc_formula.proofs.Equations.{equation_once}
 use Rattle.pc_syntax.proofs.Families.{one_cell}
@@ -35,6 +36,7 @@ data Start : Type 0 where
   of_repairs : Start
   of_prove : Start
   of_whynot : Start
+  of_ask : Start
   of_none : Start
 
 start : List ℕ → Start
@@ -52,7 +54,8 @@ start text =
     else (if bytes_eq text (codes "dump") then of_dump
     else (if bytes_eq text (codes "repairs") then of_repairs
     else (if bytes_eq text (codes "prove") then of_prove
-    else (if bytes_eq text (codes "whynot") then of_whynot else of_none)))))))))))))
+    else (if bytes_eq text (codes "whynot") then of_whynot
+    else (if bytes_eq text (codes "ask") then of_ask else of_none))))))))))))))
 
 start_of : Asked → Start
 start_of (asks_enter c v) = of_enter
@@ -70,6 +73,7 @@ start_of asks_dump = of_dump
 start_of asks_repairs = of_repairs
 start_of asks_prove_repairs = of_prove
 start_of (asks_whynot c v) = of_whynot
+start_of (asks_ask f) = of_ask
 
 start_is : (a : Asked) → start (command_keyword a) ≡ start_of a
 unfolding start start_of
@@ -88,6 +92,7 @@ start_is asks_dump = refl
 start_is asks_repairs = refl
 start_is asks_prove_repairs = refl
 start_is (asks_whynot c v) = refl
+start_is (asks_ask f) = refl
 
 data Shape : Start → Asked → Type 0 where
   an_enter : (c : Cell) (v : Value) → Shape of_enter (asks_enter c v)
@@ -105,6 +110,7 @@ data Shape : Start → Asked → Type 0 where
   a_repairs : Shape of_repairs asks_repairs
   a_prove : Shape of_prove asks_prove_repairs
   a_whynot : (c : Cell) (v : Value) → Shape of_whynot (asks_whynot c v)
+  an_ask : (f : Formula) → Shape of_ask (asks_ask f)
 
 shape : (a : Asked) → Shape (start_of a) a
 unfolding start_of
@@ -123,6 +129,7 @@ shape asks_dump = a_dump
 shape asks_repairs = a_repairs
 shape asks_prove_repairs = a_prove
 shape (asks_whynot c v) = a_whynot c v
+shape (asks_ask f) = an_ask f
 
 -- a command is one of those that its first word says
 shape_of : (a : Asked) (text : List ℕ) (t : Start) → start text ≡ t → command_keyword a ≡ text → Shape t a
@@ -156,6 +163,7 @@ one_shape t a b ws a_dump a_dump p q = refl
 one_shape t a b ws a_repairs a_repairs p q = refl
 one_shape t a b ws a_prove a_prove p q = refl
 one_shape t a b ws (a_whynot c v) (a_whynot d w) p q = let both = equation_once ws c d v w true true p q in ap (λ m. asks_whynot m v) both.0 ∙ ap (λ u. asks_whynot d u) both.1
+one_shape t a b ws (an_ask f) (an_ask g) p q = ap asks_ask (one_tree ws f g p q)
 
 pub one_command : (ws : List Word) (a b : Asked) → IsCommand ws a → IsCommand ws b → a ≡ b
 one_command ws a b p q =
@@ -169,21 +177,30 @@ one_command ws a b p q =
 command_utf8 : (line : List ℕ) → HasCommand line → IsUtf8 line
 command_utf8 line (no_words n) = n.utf8
 command_utf8 line (some_words ws a s is) = s.split.utf8
+command_utf8 line (deep_words ws s is) = s.split.utf8
 
 command_shallow : (line : List ℕ) → HasCommand line → IsTooDeep line → ⊥
 command_shallow line (no_words n) t = t.split.something n
 command_shallow line (some_words ws a s is) t = deep_unspelled line ws t s
+command_shallow line (deep_words ws s is) t = deep_unspelled line ws t s
 
 command_at_fault : (line : List ℕ) (e : Fault) → IsAtFault line (HasCommand line) e → HasCommand line → ⊥
 command_at_fault line e f h = form_no_fault line (HasCommand line) e h (command_utf8 line h) (command_shallow line h) f
 
 pub one_command_reading : (line : List ℕ) (q r : CommandReading) → IsCommandReading line q → IsCommandReading line r → q ≡ r
 one_command_reading line q r (empty_command a) (empty_command b) = refl
-one_command_reading line q r (empty_command a) (spelled_command ws s b) = absurd (s.split.something a)
-one_command_reading line q r (spelled_command ws s b) (empty_command a) = absurd (s.split.something a)
-one_command_reading line q r (spelled_command {a = a} ws s p) (spelled_command {a = b} vs t is) = ap asks (one_command vs a b (subst (λ l. IsCommand l a) (one_words line ws vs s.split.has t.split.has) p) is)
-one_command_reading line q r (faulty_command {e = e} f) (empty_command a) = absurd (command_at_fault line e f (no_words a))
+one_command_reading line q r (empty_command a) (spelled_command ws s b shallow) = absurd (s.split.something a)
+one_command_reading line q r (empty_command a) (deep_command ws s d) = absurd (s.split.something a)
 one_command_reading line q r (empty_command a) (faulty_command {e = e} f) = absurd (command_at_fault line e f (no_words a))
-one_command_reading line q r (faulty_command {e = e} f) (spelled_command {a = a} ws s p) = absurd (command_at_fault line e f (some_words ws a s p))
-one_command_reading line q r (spelled_command {a = a} ws s p) (faulty_command {e = e} f) = absurd (command_at_fault line e f (some_words ws a s p))
+one_command_reading line q r (spelled_command ws s b shallow) (empty_command a) = absurd (s.split.something a)
+one_command_reading line q r (spelled_command {a = a} ws s p shallow) (spelled_command {a = b} vs t is shallows) = ap asks (one_command vs a b (subst (λ l. IsCommand l a) (one_words line ws vs s.split.has t.split.has) p) is)
+one_command_reading line q r (spelled_command ws s p shallow) (deep_command vs t d) = absurd (shallow (subst IsDeepAsk (one_words line vs ws t.split.has s.split.has) d))
+one_command_reading line q r (spelled_command {a = a} ws s p shallow) (faulty_command {e = e} f) = absurd (command_at_fault line e f (some_words ws a s p))
+one_command_reading line q r (deep_command ws s d) (empty_command a) = absurd (s.split.something a)
+one_command_reading line q r (deep_command ws s d) (spelled_command vs t p shallow) = absurd (shallow (subst IsDeepAsk (one_words line ws vs s.split.has t.split.has) d))
+one_command_reading line q r (deep_command ws s d) (deep_command vs t e) = refl
+one_command_reading line q r (deep_command ws s d) (faulty_command {e = e} f) = absurd (command_at_fault line e f (deep_words ws s d))
+one_command_reading line q r (faulty_command {e = e} f) (empty_command a) = absurd (command_at_fault line e f (no_words a))
+one_command_reading line q r (faulty_command {e = e} f) (spelled_command {a = a} ws s p shallow) = absurd (command_at_fault line e f (some_words ws a s p))
+one_command_reading line q r (faulty_command {e = e} f) (deep_command ws s d) = absurd (command_at_fault line e f (deep_words ws s d))
 one_command_reading line q r (faulty_command {e = d} f) (faulty_command {e = e} g) = ap at_fault (fault_once line (HasCommand line) d e f g)

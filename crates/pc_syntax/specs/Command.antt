@@ -1,13 +1,14 @@
 -- The forms of a command line.
-use Rattle.std.specs.Prelude.{◌≡◌, ℕ, ◌⊎◌, List, [], ◌∷◌, codes}
+use Rattle.std.specs.Prelude.{◌≡◌, ℕ, ◌<◌, ◌⊎◌, List, [], ◌∷◌, codes}
 use Rattle.pc_token.specs.Line.{IsOneName}
 use Rattle.pc_token.specs.declared.token.Kind.TheVariants.{Equal}
-use Rattle.pc_formula.specs.Word.{Word, name}
+use Rattle.pc_formula.specs.Word.{Word, name, nesting}
 use Rattle.pc_formula.specs.Value.{DerivesNumber, DerivesCell}
 use Rattle.pc_formula.specs.Equation.{equality, IsEquation}
+use Rattle.pc_formula.specs.Grammar.{IsFormula}
 use Rattle.pc_syntax.specs.Spelling.{IsNothing, IsSpelled}
-use Rattle.pc_syntax.specs.Fault.{Fault, IsAtFault}
-use Rattle.pc_syntax.specs.Tree.{Asked, asks_enter, asks_also, asks_clear, asks_clear_one, asks_rule, asks_drop, asks_budget, asks_show, asks_grid, asks_json, asks_why, asks_dump, asks_repairs, asks_prove_repairs, asks_whynot}
+use Rattle.pc_syntax.specs.Fault.{Fault, too_deep, IsAtFault}
+use Rattle.pc_syntax.specs.Tree.{Asked, asks_enter, asks_also, asks_clear, asks_clear_one, asks_rule, asks_drop, asks_budget, asks_show, asks_grid, asks_json, asks_why, asks_dump, asks_repairs, asks_prove_repairs, asks_whynot, asks_ask}
 use Rattle.pc_syntax.specs.Clause.{IsRule}
 
 -- the word that starts a command; `clear` starts two, which differ by what stands behind it
@@ -27,6 +28,7 @@ command_keyword asks_dump = codes "dump"
 command_keyword asks_repairs = codes "repairs"
 command_keyword asks_prove_repairs = codes "prove"
 command_keyword (asks_whynot c v) = codes "whynot"
+command_keyword (asks_ask f) = codes "ask"
 
 -- what stands behind the word
 abbrev pub FollowsCommand : Asked → List Word → Type 0
@@ -45,6 +47,7 @@ FollowsCommand asks_dump ws = ws ≡ []
 FollowsCommand asks_repairs ws = ws ≡ []
 FollowsCommand asks_prove_repairs ws = ws ≡ name (codes "repairs") ∷ []
 FollowsCommand (asks_whynot c v) ws = IsEquation ws Equal c v
+FollowsCommand (asks_ask f) ws = IsFormula ws f
 
 -- the words are a command, all of them
 pub record IsCommand (ws : List Word) (a : Asked) : Type 0 where
@@ -52,10 +55,22 @@ pub record IsCommand (ws : List Word) (a : Asked) : Type 0 where
   pub words : ws ≡ name (command_keyword a) ∷ rest
   pub follows : FollowsCommand a rest
 
--- the line is blank or a comment, or it is a command
+-- The most words of a line that asks a formula at which the formula goes a level down: two fewer than of other lines, since the rule that
+-- denies it has a sign and a parenthesis more.
+abbrev pub most_asked_nesting : ℕ
+most_asked_nesting = 126
+
+-- the words ask a formula and go too deep for that
+pub record IsDeepAsk (ws : List Word) : Type 0 where
+  pub rest : List Word
+  pub words : ws ≡ name (codes "ask") ∷ rest
+  pub deep : most_asked_nesting < nesting ws
+
+-- the line is blank or a comment, or it is a command, or it asks a formula and goes too deep for that
 pub data HasCommand (line : List ℕ) : Type 0 where
   no_words : IsNothing line → HasCommand line
   some_words : (ws : List Word) (a : Asked) → IsSpelled line ws → IsCommand ws a → HasCommand line
+  deep_words : (ws : List Word) → IsSpelled line ws → IsDeepAsk ws → HasCommand line
 
 -- what a command line is
 pub data CommandReading : Type 0 where
@@ -66,7 +81,8 @@ pub data CommandReading : Type 0 where
 -- the command line is read as nothing, as a command, or as one with this first fault
 pub data IsCommandReading (line : List ℕ) : CommandReading → Type 0 where
   empty_command : IsNothing line → IsCommandReading line no_command
-  spelled_command : {a : Asked} (ws : List Word) → IsSpelled line ws → IsCommand ws a → IsCommandReading line (asks a)
+  spelled_command : {a : Asked} (ws : List Word) → IsSpelled line ws → IsCommand ws a → ¬ IsDeepAsk ws → IsCommandReading line (asks a)
+  deep_command : (ws : List Word) → IsSpelled line ws → IsDeepAsk ws → IsCommandReading line (at_fault too_deep)
   faulty_command : {e : Fault} → IsAtFault line (HasCommand line) e → IsCommandReading line (at_fault e)
 
 -- a command line that takes no memory: blank, a comment, or the one token `show`, `grid` or `dump`

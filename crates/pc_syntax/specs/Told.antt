@@ -21,7 +21,7 @@ use Rattle.pc_syntax.specs.declared.tree.SheetFault.TheVariants as sheet_fault
 use Rattle.pc_syntax.specs.Fault.{Fault, not_utf8, too_deep, syntax, wrong_version, IsAtFault}
 use Rattle.pc_syntax.specs.Tree.{Declared, Asked, declared_of, asked_of, sheet_of}
 use Rattle.pc_syntax.specs.Line.{LineForm, nothing, heading, declares, begins, IsForm, IsLine, HasForm}
-use Rattle.pc_syntax.specs.Command.{CommandReading, no_command, asks, at_fault, IsCommand, IsCommandReading}
+use Rattle.pc_syntax.specs.Command.{CommandReading, no_command, asks, at_fault, IsCommand, IsDeepAsk, IsCommandReading}
 use Rattle.pc_syntax.specs.Part.{Takes, IsAtFaultIn}
 use Rattle.pc_syntax.specs.Sheet.{SheetReading, sheet, fault_at, no_begin, IsSheetReading}
 
@@ -135,9 +135,14 @@ abbrev pub IsFormTold : List ℕ → Result LineTree LineFault → Type 0
 IsFormTold text (Ok t) = Spells text (λ ws. IsForm ws (form_of t))
 IsFormTold text (Err f) = SpellsNone text f (λ ws. (form : LineForm) × IsForm ws form)
 
+-- the words are a command, or they ask a formula and go too deep for that
+abbrev pub IsHeard : List Word → Type 0
+IsHeard ws = ((a : Asked) × IsCommand ws a) ⊎ IsDeepAsk ws
+
 abbrev pub IsAskedTold : List ℕ → Result Command LineFault → Type 0
-IsAskedTold text (Ok c) = Spells text (λ ws. IsCommand ws (asked_of c))
-IsAskedTold text (Err f) = SpellsNone text f (λ ws. (a : Asked) × IsCommand ws a)
+IsAskedTold text (Ok c) = Spells text (λ ws. IsCommand ws (asked_of c) × (¬ IsDeepAsk ws))
+IsAskedTold text (Err line_fault.TooDeep) = SpellsTooDeep text ⊎ Spells text IsDeepAsk
+IsAskedTold text (Err f) = SpellsNone text f IsHeard
 
 -- the line's one token is a command that takes no memory
 abbrev pub IsLone : List ℕ → Type 0

@@ -36,6 +36,7 @@ pub data Asked : Type 0 where
   asks_repairs : Asked
   asks_prove_repairs : Asked
   asks_whynot : Cell → Value → Asked
+  asks_ask : Formula → Asked
 
 -- what a declaration's tree stands for
 abbrev pub declared_of : Declaration → Declared
@@ -65,6 +66,7 @@ asked_of asks.Dump = asks_dump
 asked_of asks.Repairs = asks_repairs
 asked_of asks.ProveRepairs = asks_prove_repairs
 asked_of (asks.WhyNot c v) = asks_whynot (cell_of c) (value_of v)
+asked_of (asks.Ask f) = asks_ask (formula_of f)
 
 -- the numbered declarations of a sheet's tree
 abbrev pub sheet_of : SheetTree → List (ℕ × Declared)

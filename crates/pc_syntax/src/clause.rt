@@ -2,11 +2,12 @@
 ghost use Rattle.std.specs.Prelude.{◌≡◌, ◌↔◌, ℕ, List, [], ◌∷◌, IfOk, IsTrue};
 ghost use Rattle.pc_formula.specs.Word.{name};
 ghost use Rattle.pc_formula.specs.Tree.{Formula, formula_of};
+ghost use Rattle.pc_formula.specs.Grammar.{IsFormula};
 ghost use Rattle.pc_formula.specs.Value.{DerivesNumber};
 ghost use Rattle.pc_syntax.specs.Clause.{IsRule};
 
 use crate::tree::RuleTree;
-use pc_formula::{Refusal, Words, read_end, read_formula, read_number};
+use pc_formula::{FormulaTree, Refusal, Words, read_end, read_formula, read_number};
 use pc_name::Name;
 use pc_token::Kind;
 use std::alloc::Global;
@@ -42,6 +43,16 @@ pub fn last_name(alloc: Global, words: &mut Words<'_>) -> Result<Name, Refusal>
     Ok(Name::new(alloc, text)?)
 }
 
+/// Reads FORMULA and the end.
+pub fn last_formula(alloc: Global, words: &mut Words<'_>) -> Result<FormulaTree, Refusal>
+    ensures told { IfOk result (λ t. IsFormula words.old (formula_of t)) }
+    ensures none { result ≡ Err Refusal.Syntax → (f : Formula) → IsFormula words.old f → ⊥ }
+{
+    let formula = read_formula(alloc, words)?;
+    read_end(words)?;
+    Ok(formula)
+}
+
 /// Reads NAME : FORMULA and the end.
 pub fn rule(alloc: Global, words: &mut Words<'_>) -> Result<RuleTree, Refusal>
     ensures told { IfOk result (λ t. IsRule words.old t.name (formula_of t.formula)) }
@@ -53,8 +64,7 @@ pub fn rule(alloc: Global, words: &mut Words<'_>) -> Result<RuleTree, Refusal>
     if !words.take_sign(Kind::Colon) {
         return Err(Refusal::Syntax);
     }
-    let formula = read_formula(alloc, words)?;
-    read_end(words)?;
+    let formula = last_formula(alloc, words)?;
     let name = Name::new(alloc, text)?;
     Ok(RuleTree { name, formula })
 }

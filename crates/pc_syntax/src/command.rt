@@ -1,13 +1,13 @@
 // The reader of commands.
-ghost use Rattle.std.specs.Prelude.{◌≡◌, ◌≤◌, List, [], ℕ, length, codes, IfOk, MatchOption};
+ghost use Rattle.std.specs.Prelude.{◌≡◌, ◌↔◌, ◌≤◌, IsTrue, List, [], ℕ, length, codes, IfOk, MatchOption};
 ghost use Rattle.pc_name.specs.Names.{most_name_bytes};
 ghost use Rattle.pc_token.specs.Line.{IsOneName};
 ghost use Rattle.pc_syntax.specs.Tree.{Asked, asked_of};
-ghost use Rattle.pc_syntax.specs.Command.{command_keyword, FollowsCommand, IsCommand, Asks, IsAlone, CommandReading, IsCommandReading, TakesNoMemory};
+ghost use Rattle.pc_syntax.specs.Command.{command_keyword, FollowsCommand, IsCommand, IsDeepAsk, Asks, IsAlone, CommandReading, IsCommandReading, TakesNoMemory};
 ghost use Rattle.pc_syntax.specs.Told.{reading_of, IsCommandTold, TellsCommand, IsAskedTold, IsLone};
 ghost use Rattle.pc_syntax.specs.Sized.{IsSizedReading, IsNestedReading};
 
-use crate::clause::{is_word, last_name, number, rule};
+use crate::clause::{is_word, last_formula, last_name, number, rule};
 use crate::fault::LineFault;
 use crate::read::{is_nothing, tokens_within};
 use crate::tree::{Command, CommandFault};
@@ -18,9 +18,13 @@ use pc_token::{Kind, is_one_name};
 use std::alloc::Global;
 use std::str;
 
+/// The most tokens of a line that asks a formula at which the formula goes a level down: two fewer than of other lines, since
+/// the rule that denies it has a sign and a parenthesis more.
+const MOST_ASKED_NESTING: usize = 126;
+
 /// The command of a line without its end, or `None` at a blank line or a comment.
 ///
-/// The order of faults is `NotUtf8`, `TooDeep`, `Syntax`. A blank line, a comment and a line whose one token is `show`,
+/// The order of faults is `NotUtf8`, `TooDeep`, `Syntax`. A line that asks a formula goes too deep two tokens earlier. A blank line, a comment and a line whose one token is `show`,
 /// `grid` or `dump` take no memory.
 pub fn parse_command(alloc: Global, line: &[u8]) -> Result<Option<Command>, CommandFault>
     requires { length line.now ≤ 4096 }
@@ -67,9 +71,25 @@ fn read_command(alloc: Global, text: &str) -> Result<Command, LineFault>
     ensures { IsAskedTold text.now result }
 {
     let found = tokens_within(alloc, text)?;
+    if is_deep_ask(&mut Words::new(text, found.as_slice())) {
+        return Err(LineFault::TooDeep);
+    }
     let mut words = Words::new(text, found.as_slice());
     let command = command(alloc, &mut words)?;
     Ok(command)
+}
+
+// Whether the words ask a formula and go too deep for that.
+fn is_deep_ask(words: &mut Words<'_>) -> bool
+    ensures { IsTrue result ↔ IsDeepAsk words.old }
+{
+    let Some(start) = words.take_name() else {
+        return false;
+    };
+    if !is_word(start, "ask") {
+        return false;
+    }
+    words.nesting() > MOST_ASKED_NESTING
 }
 
 // The command with these words.
@@ -122,6 +142,9 @@ fn command_of(alloc: Global, start: &str, words: &mut Words<'_>) -> Result<Comma
     if is_word(start, "whynot") {
         let (cell, value) = read_equation(alloc, words)?;
         return Ok(Command::WhyNot(cell, value));
+    }
+    if is_word(start, "ask") {
+        return Ok(Command::Ask(last_formula(alloc, words)?));
     }
     Err(Refusal::Syntax)
 }

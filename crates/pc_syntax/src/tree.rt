@@ -66,6 +66,7 @@ pub enum Command {
     Repairs,
     ProveRepairs,
     WhyNot(CellTree, ValueTree),
+    Ask(FormulaTree),
 }
 
 /// A rule as it is written.

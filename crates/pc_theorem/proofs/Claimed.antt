@@ -15,7 +15,7 @@ use Rattle.pc_cert.specs.Meaning.{IsSaidLine}
 use Rattle.pc_cert.specs.Text.{SetReading, CertificateReading, certificate, IsTextReading, whole, AllSay, SaysOfSheet, in_front, uses_from, sets_from, claim_in, entry_said, set_read, certificate_read}
 use Rattle.pc_one_reading.specs.Laws.{LinesHaveOneForm, FormsSayOneThing}
 use Rattle.pc_spreadsheet.specs.Pages.{uses_of}
-use Rattle.pc_theorem.specs.Theorem.{IsUseLine, IsClaimLine, IsSetLine, ArePartedAtSets, none_left, other_line, set_line, AreUsedBy, Claims}
+use Rattle.pc_theorem.specs.Certificates.{IsUseLine, IsClaimLine, IsSetLine, ArePartedAtSets, none_left, other_line, set_line, AreUsedBy, Claims}
 
 -- ---- lists
 

@@ -1,9 +1,9 @@
 -- How the courses of the modes end.
-use Rattle.std.proofs.Common.{◌≡◌, ℕ, List, [], ◌∷◌, ◌++◌, ◌⊎◌, refl, sym, ◌∙◌, ap, subst, inl, inr}
+use Rattle.std.proofs.Common.{◌≡◌, ℕ, List, [], ◌∷◌, ◌++◌, ◌⊎◌, codes, refl, sym, ◌∙◌, ap, subst, inl, inr}
 use Rattle.pc_sheet.specs.Sheet.{Sheet}
 use Rattle.pc_sortcheck.specs.Declaring.{ReadsAs}
 use Rattle.pc_collab.specs.Journal.{Post}
-use Rattle.pc_collab.specs.Reading.{IsTextOf}
+use Rattle.pc_collab.specs.Reading.{IsTextOf, LineFault, bad_line, gap, out_of_order}
 use Rattle.pc_collab.specs.ReadBack.{ReadsBack}
 use Rattle.pc_collab.specs.Merge.{IsMerge, DifferFirstAt}
 use Rattle.pc_collab.specs.Text.{journal_text}
@@ -22,8 +22,10 @@ use Rattle.pc_judge.specs.Course as check
 use Rattle.pc_judge.specs.Course.{Check}
 use Rattle.pc_journal.specs.Course as journal
 use Rattle.pc_journal.specs.Course.{lines_of_posts, answers_told, AnswersHeld, AnswersPosts, MergeBoth, MergeText, Merge, PostText, Posts}
+use Rattle.pc_journal.specs.Told.{from_file, from_input, refused_text}
 use Rattle.pc_spreadsheet.specs.Judgement.{State, Starts}
 use Rattle.pc_spreadsheet.specs.Allowed.{Notes, Allows, RefusesText}
+use Rattle.pc_theorem.specs.Theorem.{BeginsWith}
 
 -- ---- checks
 
@@ -64,9 +66,18 @@ pub record IsMergedTo (a b : List Post) (events : List Event) (line : List ℕ) 
   pub merge : IsMerge a b merged
   pub line_is : line ≡ journal_text merged
 
-pub record HaveNone (a b : List Post) (events : List Event) (status : Status) : Type 0 where
+abbrev pub IsJournalRefusal : List ℕ → Type 0
+IsJournalRefusal line = BeginsWith (codes "journal refused ") line
+
+fault_told : (place : List ℕ) (fault : LineFault) (line : ℕ) → IsJournalRefusal (refused_text place fault line)
+fault_told place bad_line line = (_, refl)
+fault_told place gap line = (_, refl)
+fault_told place out_of_order line = (_, refl)
+
+pub record HaveNone (a b : List Post) (events : List Event) (line : List ℕ) (status : Status) : Type 0 where
   pub refused : status ≡ SheetRefused
   pub nothing_more : events ≡ []
+  pub told : IsJournalRefusal line
   pub none : (merged : List Post) → ¬ IsMerge a b merged
 
 -- journals that differ have no merge
@@ -76,20 +87,20 @@ differing a b merged author number first merge =
     at.differ (one_in_journal merged merge.journal.numbered at.one at.other ((merge.posts at.one).1 (inl at.in_first)) ((merge.posts at.other).1 (inr at.in_second)) at.namesakes)
 
 abbrev pub BothAt : List Post → List Post → List Event → Stage → Type 0
-BothAt a b events (ends_with line status) = IsMergedTo a b events line status ⊎ HaveNone a b events status
+BothAt a b events (ends_with line status) = IsMergedTo a b events line status ⊎ HaveNone a b events line status
 BothAt a b events (ends status) = ⊥
 BothAt a b events stage = Unit {0}
 
 both_at : (a b : List Post) (events : List Event) (stage : Stage) (notes : Unit {0}) → MergeBoth a b events stage notes → BothAt a b events stage
 both_at a b events stage notes (journal.needs_memory_for_both is) = tt
-both_at a b events stage notes (journal.differs author number differ is) = inr (record { refused = refl; nothing_more = is; none = λ merged. differing a b merged author number differ })
+both_at a b events stage notes (journal.differs author number differ is) = inr (record { refused = refl; nothing_more = is; told = (_, refl); none = λ merged. differing a b merged author number differ })
 both_at a b events stage notes (journal.is_merged merged merge is) = inl (record { done = refl; nothing_more = is; merged = merged; merge = merge; line_is = refl })
 
 -- The file's text and all of the input are journals with a merge; or the file's text is none; or the input is none, or has none with it.
 pub data Merges (file : List ℕ) (events : List Event) (line : List ℕ) (status : Status) : Type 0 where
   merges_both : (text input : List ℕ) (a b : List Post) → IsTextOf text a → IsTextOf input b → events ≡ gave file text ∷ took_rest input ∷ [] → IsMergedTo a b [] line status → Merges file events line status
-  without_first : (text : List ℕ) (more : List Event) → status ≡ SheetRefused → events ≡ gave file text ∷ more → ((a : List Post) → ¬ IsTextOf text a) → Merges file events line status
-  without_both : (text input : List ℕ) → status ≡ SheetRefused → events ≡ gave file text ∷ took_rest input ∷ [] → ((a b merged : List Post) → IsTextOf text a → IsTextOf input b → ¬ IsMerge a b merged) → Merges file events line status
+  without_first : (text : List ℕ) → status ≡ SheetRefused → events ≡ gave file text ∷ [] → IsJournalRefusal line → ((a : List Post) → ¬ IsTextOf text a) → Merges file events line status
+  without_both : (text input : List ℕ) → status ≡ SheetRefused → events ≡ gave file text ∷ took_rest input ∷ [] → IsJournalRefusal line → ((a b merged : List Post) → IsTextOf text a → IsTextOf input b → ¬ IsMerge a b merged) → Merges file events line status
 
 abbrev pub MergeAt : List ℕ → List Event → Stage → Type 0
 MergeAt file events (ends_with line status) = Merges file events line status
@@ -104,7 +115,7 @@ module _ (back : ReadsBack) (file text : List ℕ) (a : List Post) (reads : IsTe
   input_at : (input : List ℕ) (b : List Post) (more events : List Event) (stage : Stage) → IsTextOf input b → events ≡ took_rest input ∷ more → BothAt a b more stage → MergeAt file (gave file text ∷ events) stage
   input_at input b more events (ends_with line status) other is at = elim at [
     | inl made ↦ merges_both text input a b reads other (same_events input more events made.nothing_more is) (record { done = made.done; nothing_more = refl; merged = made.merged; merge = made.merge; line_is = made.line_is })
-    | inr none ↦ without_both text input none.refused (same_events input more events none.nothing_more is)
+    | inr none ↦ without_both text input none.refused (same_events input more events none.nothing_more is) none.told
         (λ x y merged read_x read_y merge. none.none merged (subst (λ z. IsMerge a z merged) (back.alone input y b read_y other) (subst (λ z. IsMerge z y merged) (back.alone text x a read_x reads) merge)))
   ]
   input_at input b more events (ends status) other is at = absurd at
@@ -116,13 +127,13 @@ module _ (back : ReadsBack) (file text : List ℕ) (a : List Post) (reads : IsTe
   journal_at events stage notes (journal.awaits_journal is) = tt
   journal_at events stage notes (journal.needs_memory some few is) = tt
   journal_at events stage notes (journal.is_refused input line fault small first is) =
-      without_both text input refl (ap (λ es. gave file text ∷ es) is) (λ x y merged read_x read_y merge. back.sound input y line fault read_y first)
+      without_both text input refl (ap (λ es. gave file text ∷ es) is) (fault_told from_input fault line) (λ x y merged read_x read_y merge. back.sound input y line fault read_y first)
   journal_at events stage notes (journal.has_journal input b more small other h is) = input_at input b more events stage other is (both_at a b more stage notes h)
 
 module _ (back : ReadsBack) where
   text_at : (file text : List ℕ) (events : List Event) (stage : Stage) (notes : Unit {0}) → MergeText text events stage notes → MergeAt file (gave file text ∷ events) stage
   text_at file text events stage notes (journal.needs_memory_for_text is) = tt
-  text_at file text events stage notes (journal.text_is_refused line fault first is) = without_first text events refl refl (λ a reads. back.sound text a line fault reads first)
+  text_at file text events stage notes (journal.text_is_refused line fault first is) = without_first text refl (ap (λ es. gave file text ∷ es) is) (fault_told from_file fault line) (λ a reads. back.sound text a line fault reads first)
   text_at file text events stage notes (journal.text_is_journal a reads h) = journal_at back file text a reads events stage tt h
 
   pub merge_at : (file : List ℕ) (events : List Event) (stage : Stage) (notes : Unit {0}) → Merge file events stage notes → MergeAt file events stage

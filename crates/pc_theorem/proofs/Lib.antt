@@ -1,4 +1,5 @@
 mod Claimed
+mod Listed
 mod Worth
 mod Answered
 mod Happenings
@@ -6,3 +7,4 @@ mod Ends
 mod Told
 mod Whole
 mod Broken
+mod Worked

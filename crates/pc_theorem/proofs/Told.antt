@@ -1,17 +1,15 @@
 -- Runs over told devices, by how their courses end.
-use Rattle.std.proofs.Common.{◌≡◌, ℕ, Bool, true, false, ◌||◌, List, [], ◌∷◌, ◌++◌, map, codes, Some, refl, sym, ◌∙◌, ap, subst, inl, inr, append_assoc, append-nil}
+use Rattle.std.proofs.Common.{◌≡◌, ◌⊎◌, ℕ, Bool, true, false, ◌||◌, List, [], ◌∷◌, ◌++◌, map, codes, Some, refl, sym, ◌∙◌, ap, subst, inl, inr, append_assoc, append-nil}
 use Rattle.std.specs.List.{flat_map, list_any}
 use Rattle.std.proofs.lemmas.List.Concat.{flat_map-append}
 use Rattle.pc_port.specs.Shelf.{file_named}
 use Rattle.pc_lines.specs.Lines.{lines_of, line_text_of}
-use Rattle.pc_sheet.specs.Sheet.{Sheet}
+use Rattle.pc_sheet.specs.Sheet.{Sheet, NamedStatement, with_rule}
 use Rattle.pc_collab.specs.Reading.{IsTextOf}
 use Rattle.pc_collab.specs.ReadBack.{ReadsBack}
-use Rattle.pc_accept.specs.Accepts.{repairs}
 use Rattle.pc_accept.specs.Laws.{CertificatesAreSound}
 use Rattle.pc_writer.specs.SheetText.{ended}
 use Rattle.pc_display.specs.Show.{IsShown}
-use Rattle.pc_display.specs.Grid.{IsGrid}
 use Rattle.pc_display.specs.OneDisplay.{SheetHasOneDisplay}
 use Rattle.pc_sortcheck.specs.Declaring.{ReadsAs}
 use Rattle.pc_sortcheck.specs.Laws.{SheetsAreWellFormed}
@@ -19,36 +17,42 @@ use Rattle.pc_cert.specs.Text.{certificate_read}
 use Rattle.pc_cert_back.specs.ReadBack.{CertificatesReadBack}
 use Rattle.pc_one_reading.specs.Laws.{LinesHaveOneForm, FormsSayOneThing, WhatIsReadIsBare}
 use Rattle.pc_refusals.specs.declared.status.Status.{Status}
-use Rattle.pc_refusals.specs.declared.status.Status.TheVariants.{Done, SheetRefused, CertRefused}
+use Rattle.pc_refusals.specs.declared.status.Status.TheVariants.{Done, SomeRefused, SheetRefused, CertRefused}
 use Rattle.pc_course.specs.Events.{Event, took_rest, gave, told, Happened}
 use Rattle.pc_course.specs.Stages.{ends, ends_with}
 use Rattle.pc_course_laws.specs.Flat.{taken_in, told_in, taken_of, EventsAddUp}
 use Rattle.pc_transcript.specs.SheetPart.{IsSheetPart}
-use Rattle.pc_transcript.specs.Answer.{Answer, no_memory, is_no_memory, answer_text}
+use Rattle.pc_refusals.specs.declared.refusal.Refusal.{Refusal}
+use Rattle.pc_refusals.specs.Refusals.{refusal_text}
+use Rattle.pc_transcript.specs.Answer as reply
+use Rattle.pc_transcript.specs.Answer.{Answer, no_memory, is_refused, is_no_memory, answer_text}
 use Rattle.pc_transcript.specs.Transcript.{Transcript, Legal, input_of, output_of, worse_of}
 use Rattle.pc_transcript.specs.Transcript as transcript
 use Rattle.pc_transcript.specs.Course.{events_of}
 use Rattle.pc_checker.specs.declared.verdict.Verdict.TheVariants as verdict
 use Rattle.pc_words.specs.Words.{replays, edits, checks, merges, posts, demonstrates}
+use Rattle.pc_load.specs.Laws.{TextsHaveOneOutcome}
+use Rattle.pc_load.specs.Outcome as outcome
 use Rattle.pc_judge.specs.declared.told.Told.{Told}
 use Rattle.pc_judge.specs.declared.told.Told.TheVariants as told_so
 use Rattle.pc_judge.specs.Judged.{IsJudged, judged_text, status_of_told}
 use Rattle.pc_judge.specs.Laws.{IsAcceptedText, AcceptedTextIsAccepts, JudgementsAreOne}
 use Rattle.pc_journal.specs.Course.{lines_of_posts, answers_told}
-use Rattle.pc_spreadsheet.specs.Judgement.{State, Task, shows, PageKind, lines_page, grid_page, json_page, text_page, why_page, repairs_page, proof_page, whynot_page, IsTask}
-use Rattle.pc_spreadsheet.specs.Allowed.{Notes, Allows}
+use Rattle.pc_spreadsheet.specs.Judgement.{State, Task, shows, lines_page, text_page, IsTask, IsContradiction}
+use Rattle.pc_spreadsheet.specs.Allowed.{Notes, Allows, RefusesLine}
 use Rattle.pc_spreadsheet.specs.Pages.{uses_of}
 use Rattle.pc_spreadsheet.specs.Laws.{LinesHaveOneVerdict}
 use Rattle.pc_replay.specs.Course.{CourseIn}
 use Rattle.pc_afresh.specs.Afresh.{IsOpen, StartsAreOpen, AnswersKeepOpen, TranscriptsKeepOpen, DumpsStartAgain}
 use Rattle.pc_theorem.specs.Theorem as page
-use Rattle.pc_theorem.specs.Theorem.{Course, IsProved, IsChecked, IsDeclined, IsMerged, HasNoMerge, AreAccepted, StandsBehind, Answers, IsSession, IsSessionOf, EndedWell, state_after_all}
-use Rattle.pc_theorem.specs.Laws.{GoesIn, ChecksAreWorthIt, MergesAreWorthIt, SessionsAreWorthIt, SavedSheetsShowTheSame}
+use Rattle.pc_theorem.specs.Theorem.{Course, BeginsWith, IsProved, IsChecked, IsDeclined, IsMerged, HasNoMerge, Tells, IsContradicted, IsFulfilled, IsTurnedDown, HasRefusal, AreAccepted, StandsBehind, Answers, IsSession, IsSessionOf, EndedWell, state_after_all}
+use Rattle.pc_theorem.specs.Laws.{GoesIn, ChecksAreWorthIt, MergesAreWorthIt, SessionsAreWorthIt, SavedSheetsShowTheSame, SavedSheetsTakeCertificates}
 use Rattle.pc_theorem.proofs.Claimed.{certificate_claims}
+use Rattle.pc_theorem.proofs.Listed.{ListingsAreTold}
 use Rattle.pc_theorem.proofs.Worth.{is_so}
 use Rattle.pc_theorem.proofs.Happenings.{none_behind, given_file, taken_all, printed_is, told-append, IsFull, Finishes, quietly, telling, finishes}
 use Rattle.pc_theorem.proofs.Ends.{Judges, check_at, Merges, merges_both, without_first, without_both, merge_at, AnswersAll, Replays, replay_at, Edits, edit_at, Posted, posts_at}
-use Rattle.pc_theorem.proofs.Answered.{CommandsHaveOneReading, course_of, NeverWants, edits_exist, edits_are, one_list, page_answers, page_or_refusal, edit_answers, nothing_answers, otherwise_refused, the_text, the_json, explains, proves_by_sets, doubts, doubts_a_value}
+use Rattle.pc_theorem.proofs.Answered.{CommandsHaveOneReading, course_of, NeverWants, edits_exist, edits_are, one_list, IsDone, IsRefuted, task_answers, rule_answers, nothing_answers, otherwise_refused, line_refused, edit_is_done, tells, refutes, contradicting_is_formed}
 
 -- ---- a transcript as it is printed
 
@@ -84,6 +88,20 @@ never_wants [] is = tt
 never_wants (pair ∷ more) is =
     let parts = or_none (is_no_memory pair.1) (list_any (λ pair. is_no_memory pair.1) more) is in
     (no_want pair.1 parts.0, never_wants more parts.1)
+
+or_true : (b c : Bool) → (b || c) ≡ true → (b ≡ true) ⊎ (c ≡ true)
+or_true true c is = inl refl
+or_true false c is = inr is
+
+none_refused : (b c : Bool) (status : Status) → status ≡ Done → status ≡ worse_of b c → c ≡ false
+none_refused true c status done is = absurd (cc)
+none_refused false true status done is = absurd (cc)
+none_refused false false status done is = refl
+
+some_were : (b c : Bool) (status : Status) → status ≡ SomeRefused → status ≡ worse_of b c → c ≡ true
+some_were true c status refused_so is = absurd (cc)
+some_were false true status refused_so is = refl
+some_were false false status refused_so is = absurd (cc)
 
 not_wanted : (b c : Bool) (status : Status) → EndedWell status → status ≡ worse_of b c → b ≡ false
 not_wanted false c status well is = refl
@@ -146,32 +164,80 @@ never_before : (earlier : Transcript) (line : List ℕ) (answer : Answer) (later
 never_before [] line answer later never = (tt, never.0)
 never_before (pair ∷ ts) line answer later never = let r = never_before ts line answer later never.1 in ((never.0, r.0), r.1)
 
+-- ---- refused lines
+
+not_refused_at : (earlier : Transcript) (line : List ℕ) (answer : Answer) (later : Transcript) → list_any (λ pair. is_refused pair.1) (earlier ++ (line, answer) ∷ later) ≡ false → is_refused answer ≡ false
+not_refused_at [] line answer later is = (or_none (is_refused answer) (list_any (λ pair. is_refused pair.1) later) is).0
+not_refused_at (pair ∷ ts) line answer later is = not_refused_at ts line answer later (or_none (is_refused pair.1) (list_any (λ pair. is_refused pair.1) (ts ++ (line, answer) ∷ later)) is).1
+
+is_some_refusal : (answer : Answer) → is_refused answer ≡ true → (why : Refusal) × (more : List ℕ) × (answer ≡ reply.refused why more)
+is_some_refusal reply.silent is = absurd (cc)
+is_some_refusal reply.accepted is = absurd (cc)
+is_some_refusal (reply.shown text) is = absurd (cc)
+is_some_refusal (reply.refused why more) is = (why, more, refl)
+is_some_refusal no_memory is = absurd (cc)
+
+record RefusedAt (t : Transcript) : Type 0 where
+  earlier : Transcript
+  line : List ℕ
+  why : Refusal
+  more : List ℕ
+  later : Transcript
+  is : t ≡ earlier ++ (line, reply.refused why more) ∷ later
+
+refused_at : (t : Transcript) → list_any (λ pair. is_refused pair.1) t ≡ true → RefusedAt t
+refused_at [] is = absurd (cc)
+refused_at (pair ∷ ts) is = elim (or_true (is_refused pair.1) (list_any (λ pair. is_refused pair.1) ts) is) [
+  | inl here ↦
+      let r = is_some_refusal pair.1 here in
+      record { earlier = []; line = pair.0; why = r.0; more = r.1; later = ts; is = ap (λ (a : Answer). (pair.0, a) ∷ ts) r.2 }
+  | inr there ↦
+      let r = refused_at ts there in
+      record { earlier = pair ∷ r.earlier; line = r.line; why = r.why; more = r.more; later = r.later; is = ap (λ (xs : Transcript). pair ∷ xs) r.is }
+]
+
+course_parts : (earlier : Transcript) (line : List ℕ) (answer : Answer) (later : Transcript) → course_of (earlier ++ (line, answer) ∷ later) ≡ course_of earlier ++ (line, answer_text answer) ∷ course_of later
+course_parts [] line answer later = refl
+course_parts (pair ∷ ts) line answer later = ap (λ (c : Course). (pair.0, answer_text pair.1) ∷ c) (course_parts ts line answer later)
+
 -- ---- sessions
 
-module _ (one : LinesHaveOneVerdict) (read : CommandsHaveOneReading) (first : StartsAreOpen) (keep : AnswersKeepOpen) (keep_all : TranscriptsKeepOpen) (again : DumpsStartAgain) (one_display : SheetHasOneDisplay) (back : CertificatesReadBack) (one_form : LinesHaveOneForm) (one_thing : FormsSayOneThing) (bare : WhatIsReadIsBare) where
+module _ (one : LinesHaveOneVerdict) (read : CommandsHaveOneReading) (first : StartsAreOpen) (keep : AnswersKeepOpen) (keep_all : TranscriptsKeepOpen) (again : DumpsStartAgain) (one_display : SheetHasOneDisplay) (listings : ListingsAreTold) (back : CertificatesReadBack) (one_form : LinesHaveOneForm) (one_thing : FormsSayOneThing) (bare : WhatIsReadIsBare) where
+  done_tells : (state : State) (line text : List ℕ) (task : Task) → IsOpen state.sheet → IsTask state (line_text_of line) task → IsDone state.sheet task text → Tells state.sheet task text
+  done_tells state line text task is asked done = tells back one_form one_thing bare one_display again listings state.sheet task asked.0 text is asked.2 done
+
+  refuted : (state : State) (line text : List ℕ) (r : NamedStatement) → IsOpen state.sheet → IsContradiction state (line_text_of line) r → IsRefuted (with_rule state.sheet r) text → IsContradicted (with_rule state.sheet r) text
+  refuted state line text r is against_it shown = refutes back one_form one_thing bare (with_rule state.sheet r) text (contradicting_is_formed state.sheet against_it.0 r is.formed against_it.2) shown
+
   answers : (old new : State × Notes) (line : List ℕ) (answer : Answer) → IsOpen old.0.sheet → Allows old (line_text_of line) answer new → (answer ≡ no_memory → ⊥) → Answers old.0 line (answer_text answer)
-  answers old new line answer is allowed some =
-      let a_page = λ (kind : PageKind) (asked : IsTask old.0 (line_text_of line) (shows kind)). page_answers one read old new (line_text_of line) kind answer is asked in
-      let page_or = λ (kind : PageKind) (asked : IsTask old.0 (line_text_of line) (shows kind)). page_or_refusal one read old new (line_text_of line) kind answer is asked allowed some in
-      record {
-        shown = λ asked. the_text IsShown one_display.shown old.0.sheet (answer_text answer) is (a_page lines_page asked tt allowed some);
-        in_table = λ asked. the_text IsGrid one_display.grid old.0.sheet (answer_text answer) is (a_page grid_page asked tt allowed some);
-        in_json = λ asked. the_json one_display.json old.0.sheet (answer_text answer) is (a_page json_page asked tt allowed some);
-        listed = λ asked. a_page repairs_page asked tt allowed some;
-        explained = λ t asked. explains back one_form one_thing bare old.0.sheet t (answer_text answer) is (a_page (why_page t) asked tt allowed some);
-        proved = λ asked. elim (page_or proof_page asked) [
-          | inl on ↦ inl (proves_by_sets back one_form one_thing bare old.0.sheet repairs (answer_text answer) is tt tt on)
-          | inr refusal ↦ inr refusal
-        ];
-        doubted = λ t asked. elim (page_or (whynot_page t) asked) [
-          | inl on ↦ inl (doubts back one_form one_thing bare old.0.sheet t (answer_text answer) is (doubts_a_value old.0.sheet asked.0 t asked.2) on)
-          | inr refusal ↦ inr refusal
-        ];
-        saved = λ asked. again old.0.sheet (answer_text answer) is (a_page text_page asked tt allowed some);
-        edited = λ edit asked edits. edit_answers one read old new (line_text_of line) edit answer is asked edits allowed some;
-        quiet = λ none. nothing_answers one read old new (line_text_of line) answer is none allowed some;
-        otherwise = λ something never. otherwise_refused one read old new (line_text_of line) answer something never allowed some;
-      }
+  answers old new line answer is allowed some = record {
+    quiet = λ none. nothing_answers one read old new (line_text_of line) answer is none allowed some;
+    tells = λ task asked. elim (task_answers one read old new (line_text_of line) task answer is asked allowed some) [
+      | inl done ↦ inl (done_tells old.0 line (answer_text answer) task is asked done)
+      | inr spent ↦ inr spent
+    ];
+    contradicted = λ r against_it. elim (rule_answers one read old new (line_text_of line) r answer is against_it allowed some) [
+      | inl shown ↦ inl (refuted old.0 line (answer_text answer) r is against_it shown)
+      | inr spent ↦ inr spent
+    ];
+    otherwise = λ something never none. otherwise_refused one read old new (line_text_of line) answer something never none allowed some;
+  }
+
+  fulfilled : (old new : State × Notes) (line : List ℕ) (answer : Answer) → IsOpen old.0.sheet → Allows old (line_text_of line) answer new → is_refused answer ≡ false → (answer ≡ no_memory → ⊥) → IsFulfilled old.0 line (answer_text answer)
+  fulfilled old new line reply.silent is allowed full some = inl allowed.0
+  fulfilled old new line reply.accepted is allowed full some = inr (allowed.0, allowed.1, done_tells old.0 line (ended (codes "ok")) allowed.0 is allowed.1 (edit_is_done old.0.sheet allowed.0 allowed.2))
+  fulfilled old new line (reply.shown text) is allowed full some = inr (shows allowed.0, allowed.1, done_tells old.0 line text (shows allowed.0) is allowed.1 allowed.2)
+  fulfilled old new line (reply.refused why more) is allowed full some = absurd (cc full)
+  fulfilled old new line no_memory is allowed full some = absurd (some refl)
+
+  turned_down : (old new : State × Notes) (line : List ℕ) (why : Refusal) (more : List ℕ) → IsOpen old.0.sheet → RefusesLine old (line_text_of line) why more new → IsTurnedDown old.0 line (refusal_text why ++ more)
+  turned_down old new line why more is refuses_so = elim (line_refused one read old new (line_text_of line) why more refuses_so) [
+    | inl spent ↦ inl spent
+    | inr other ↦ elim other [
+      | inl c ↦ inr (inl (c.0, c.1, refuted old.0 line (refusal_text why ++ more) c.0 is c.1 c.2))
+      | inr cause ↦ inr (inr cause)
+    ]
+  ]
 
   module _ (old new : State × Notes) (t : Transcript) (is : IsOpen old.0.sheet) (legal : Legal Allows old t new) (never : NeverWants t) where
     accepted_before : (before : Course) (line text : List ℕ) → StandsBehind (course_of t) before line text → (done : List Task) × AreAccepted old.0 before done
@@ -198,10 +264,37 @@ module _ (one : LinesHaveOneVerdict) (read : CommandsHaveOneReading) (first : St
         let told = answers r.mid r.next line p.answer (keep_all old r.mid p.earlier is r.before) r.allowed quiet.1 in
         subst (λ s. Answers s line text) (sym state) (subst (λ x. Answers r.mid.0 line x) p.says told)
 
+    fulfilled_behind : list_any (λ pair. is_refused pair.1) t ≡ false → (before : Course) (line text : List ℕ) (done : List Task) → StandsBehind (course_of t) before line text → AreAccepted old.0 before done → IsFulfilled (state_after_all old.0 done) line text
+    fulfilled_behind none before line text done stands accepted =
+        let p = parted t before line text stands.more stands.is in
+        let r = reached old new p.earlier line p.answer p.later (subst (λ x. Legal Allows old x new) p.is legal) in
+        let quiet = never_before p.earlier line p.answer p.later (subst NeverWants p.is never) in
+        let state = edits_are one read keep old r.mid p.earlier done is r.before quiet.0 (subst (λ c. AreAccepted old.0 c done) (sym p.course) accepted) in
+        let full = not_refused_at p.earlier line p.answer p.later (subst (λ (x : Transcript). list_any (λ pair. is_refused pair.1) x ≡ false) p.is none) in
+        let told = fulfilled r.mid r.next line p.answer (keep_all old r.mid p.earlier is r.before) r.allowed full quiet.1 in
+        subst (λ s. IsFulfilled s line text) (sym state) (subst (λ x. IsFulfilled r.mid.0 line x) p.says told)
+
+    refused_somewhere : list_any (λ pair. is_refused pair.1) t ≡ true → HasRefusal old.0 (course_of t)
+    refused_somewhere some =
+        let p = refused_at t some in
+        let r = reached old new p.earlier p.line (reply.refused p.why p.more) p.later (subst (λ x. Legal Allows old x new) p.is legal) in
+        let quiet = never_before p.earlier p.line (reply.refused p.why p.more) p.later (subst NeverWants p.is never) in
+        let found = edits_exist one read keep old r.mid p.earlier is r.before quiet.0 in
+        let state = edits_are one read keep old r.mid p.earlier found.0 is r.before quiet.0 found.1 in
+        record {
+          before = course_of p.earlier;
+          line = p.line;
+          text = refusal_text p.why ++ p.more;
+          stands = record { more = course_of p.later; is = ap course_of p.is ∙ course_parts p.earlier p.line (reply.refused p.why p.more) p.later };
+          edits = found.0;
+          accepted = found.1;
+          is = subst (λ s. IsTurnedDown s p.line (refusal_text p.why ++ p.more)) (sym state) (turned_down r.mid r.next p.line p.why p.more (keep_all old r.mid p.earlier is r.before) r.allowed);
+        }
+
   -- ---- whole sessions
 
   session : (budget : ℕ) (notes noted : Notes) (text output : List ℕ) (status : Status) (all : AnswersAll budget notes text status noted) (commands : List (List ℕ)) → transcript.lines all.transcript ≡ commands → output ≡ output_of all.transcript → EndedWell status
-      → IsSession budget text commands output
+      → IsSession budget text commands output status
   session budget notes noted text output status all commands lines_are printed_so well =
       let is = first budget text all.start all.starts in
       let never = never_wants all.transcript (not_wanted _ _ status well all.status_is) in
@@ -214,6 +307,8 @@ module _ (one : LinesHaveOneVerdict) (read : CommandsHaveOneReading) (first : St
         accepted = accepted_before (all.start, notes) (all.end, noted) all.transcript is all.legal never;
         one_list = list_before (all.start, notes) (all.end, noted) all.transcript is all.legal never;
         answered = answered_behind (all.start, notes) (all.end, noted) all.transcript is all.legal never;
+        fulfilled = λ done. fulfilled_behind (all.start, notes) (all.end, noted) all.transcript is all.legal never (none_refused _ _ status done all.status_is);
+        refused = λ some. refused_somewhere (all.start, notes) (all.end, noted) all.transcript is all.legal never (some_were _ _ status some all.status_is);
       }
 
   module _ (sums : EventsAddUp) where
@@ -352,7 +447,7 @@ module _ (one : LinesHaveOneVerdict) (read : CommandsHaveOneReading) (first : St
 
 -- ---- checks
 
-module _ (sums : EventsAddUp) (formed : SheetsAreWellFormed) (sound : CertificatesAreSound) (accepts : AcceptedTextIsAccepts) (one_verdict : JudgementsAreOne) (one_form : LinesHaveOneForm) (one_thing : FormsSayOneThing) where
+module _ (sums : EventsAddUp) (formed : SheetsAreWellFormed) (sound : CertificatesAreSound) (accepts : AcceptedTextIsAccepts) (one_verdict : JudgementsAreOne) (one_outcome : TextsHaveOneOutcome) (one_form : LinesHaveOneForm) (one_thing : FormsSayOneThing) where
   proved : (sheet : Sheet) (bytes text : List ℕ) → ReadsAs bytes sheet → IsAcceptedText sheet text → IsProved sheet text
   proved sheet bytes text reads is =
       let c = certificate_read is.0 in
@@ -371,6 +466,28 @@ module _ (sums : EventsAddUp) (formed : SheetsAreWellFormed) (sound : Certificat
   done_is_accepted sheet text (told_so.Verdict v) is judged = absurd (cc)
   done_is_accepted sheet text (told_so.Syntax line) is judged = absurd (cc)
   done_is_accepted sheet text (told_so.UnknownName line) is judged = absurd (cc)
+
+  -- what is told where it ends otherwise
+  told_refused : (sheet : Sheet) (t : Told) → CertRefused ≡ status_of_told t → BeginsWith (codes "refused ") (judged_text sheet t)
+  told_refused sheet (told_so.Verdict (verdict.UseNotEntered line)) is = (_, refl)
+  told_refused sheet (told_so.Verdict (verdict.BadValues line)) is = (_, refl)
+  told_refused sheet (told_so.Verdict (verdict.UseNotHeld line)) is = (_, refl)
+  told_refused sheet (told_so.Verdict (verdict.RuleBroken rule)) is = (_, refl)
+  told_refused sheet (told_so.Verdict (verdict.HasValue line)) is = (_, refl)
+  told_refused sheet (told_so.Verdict (verdict.SetInSet line)) is = (_, refl)
+  told_refused sheet (told_so.Verdict (verdict.BadAxiom line)) is = (_, refl)
+  told_refused sheet (told_so.Verdict (verdict.BadStep line)) is = (_, refl)
+  told_refused sheet (told_so.Verdict verdict.WrongEnd) is = (_, refl)
+  told_refused sheet (told_so.Verdict verdict.Accepted) is = absurd (cc)
+  told_refused sheet (told_so.Syntax line) is = (_, refl)
+  told_refused sheet (told_so.UnknownName line) is = (_, refl)
+
+  -- the file is no other sheet
+  no_other : (bytes : List ℕ) (sheet other : Sheet) → ReadsAs bytes sheet → ReadsAs bytes other → other ≡ sheet
+  no_other bytes sheet other reads also = sheet_same other sheet (one_outcome bytes (outcome.reads other) (outcome.reads sheet) also reads)
+    where
+      sheet_same : (x y : Sheet) → outcome.reads x ≡ outcome.reads y → x ≡ y
+      sheet_same x y same = cc
 
   -- what is told of a text that is accepted is that it is
   refused_is_not_accepted : (sheet : Sheet) (bytes text : List ℕ) (t : Told) → ReadsAs bytes sheet → CertRefused ≡ status_of_told t → IsJudged sheet text t → ¬ IsAcceptedText sheet text
@@ -411,9 +528,9 @@ module _ (sums : EventsAddUp) (formed : SheetsAreWellFormed) (sound : Certificat
           let r = j.judges in
           let is = done_is_accepted r.sheet r.certificate r.what (sym done ∙ r.status_is) r.judged in
           let accepted = subst (λ x. IsAcceptedText r.sheet x) (sym input_is) is.0 in
-          record { bytes = r.text; found = found; sheet = r.sheet; reads = r.reads; accepted = accepted; proved = proved r.sheet r.text run.input r.reads accepted; told = printed_so ∙ is.1 }
+          record { bytes = r.text; found = found; sheet = r.sheet; reads = r.reads; only = λ other also. no_other r.text r.sheet other r.reads also; accepted = accepted; proved = proved r.sheet r.text run.input r.reads accepted; told = printed_so ∙ is.1 }
 
-      declined : run.status ≡ CertRefused → IsDeclined run.files file run.input
+      declined : run.status ≡ CertRefused → IsDeclined run.files file run.input run.printed
       declined refused =
           let r = j.judges in
           record {
@@ -421,7 +538,9 @@ module _ (sums : EventsAddUp) (formed : SheetsAreWellFormed) (sound : Certificat
             found = found;
             sheet = r.sheet;
             reads = r.reads;
+            only = λ other also. no_other r.text r.sheet other r.reads also;
             refused = subst (λ x. ¬ IsAcceptedText r.sheet x) (sym input_is) (refused_is_not_accepted r.sheet r.text r.certificate r.what r.reads (sym refused ∙ r.status_is) r.judged);
+            told = subst (BeginsWith (codes "refused ")) (sym printed_so) (told_refused r.sheet r.what (sym refused ∙ r.status_is));
           }
 
     judged : IsFull run.status → (run.status ≡ SheetRefused → ⊥) → Judged
@@ -457,6 +576,18 @@ module _ (sums : EventsAddUp) (back : ReadsBack) where
         by (quietly h) = absurd (merge_at back file g.ran.events (ends run.status) tt h.0)
         by (telling before line h is) = record { before = before; line = line; events_are = is; merge = merge_at back file before (ends_with line run.status) tt h.0 }
 
+    -- where the file alone was
+    module _ (e : Ended) (text : List ℕ) (events_are : e.before ≡ gave file text ∷ []) where
+      file_event : g.ran.events ≡ gave file text ∷ told e.line ∷ []
+      file_event = e.events_are ∙ ap (λ es. es ++ told e.line ∷ []) events_are
+
+      file_found : file_named file run.files ≡ Some text
+      file_found = given_file file text (told e.line ∷ g.ran.spare) run.files g.before g.after (subst (λ es. Happened (es ++ g.ran.spare) g.before g.after) file_event g.ran.happened) g.told.files_are
+
+      file_line : run.printed ≡ e.line
+      file_line =
+          printed_is sums g.words run.status g.before g.after run g.told g.most g.ran.events g.ran.spare g.ran.is_spare g.ran.happened ∙ ap told_in file_event ∙ append-nil e.line
+
     -- where both were taken
     module _ (e : Ended) (text input : List ℕ) (events_are : e.before ≡ gave file text ∷ took_rest input ∷ []) where
       both_events : g.ran.events ≡ gave file text ∷ took_rest input ∷ told e.line ∷ []
@@ -490,23 +621,25 @@ module _ (sums : EventsAddUp) (back : ReadsBack) where
           merge = made.merge;
           told = line_is e text input is ∙ made.line_is;
         }
-        by (without_first text more refused is none) = absurd (cc (done, refused))
-        by (without_both text input refused is none) = absurd (cc (done, refused))
+        by (without_first text refused is refusal none) = absurd (cc (done, refused))
+        by (without_both text input refused is refusal none) = absurd (cc (done, refused))
 
-    unmerged : run.status ≡ SheetRefused → Ended → HasNoMerge run.files file run.input
+    unmerged : run.status ≡ SheetRefused → Ended → HasNoMerge run.files file run.input run.printed
     unmerged refused e = by e.merge
       where
-        by : Merges file e.before e.line run.status → HasNoMerge run.files file run.input
+        by : Merges file e.before e.line run.status → HasNoMerge run.files file run.input run.printed
         by (merges_both text input a b reads other is made) = absurd (cc (refused, made.done))
-        by (without_first text more same is none) = record {
+        by (without_first text same is refusal none) = record {
           bytes = text;
-          found = given_file file text ((more ++ told e.line ∷ []) ++ g.ran.spare) run.files g.before g.after (subst (λ es. Happened (es ++ g.ran.spare) g.before g.after) (e.events_are ∙ ap (λ es. es ++ told e.line ∷ []) is) g.ran.happened) g.told.files_are;
+          found = file_found e text is;
           none = λ a b made reads other merge. none a reads;
+          told = subst (BeginsWith (codes "journal refused ")) (sym (file_line e text is)) refusal;
         }
-        by (without_both text input same is none) = record {
+        by (without_both text input same is refusal none) = record {
           bytes = text;
           found = file_is e text input is;
           none = λ a b made reads other merge. none a b made reads (subst (λ x. IsTextOf x b) (rest_is e text input is) other) merge;
+          told = subst (BeginsWith (codes "journal refused ")) (sym (line_is e text input is)) refusal;
         }
 
   pub merges_are_worth_it : MergesAreWorthIt
@@ -517,9 +650,27 @@ module _ (sums : EventsAddUp) (back : ReadsBack) where
 
 -- ---- a saved sheet
 
+never_spent : {A : Type 0} {B : Type 0} → A ⊎ (⊥ × B) → A
+never_spent (inl a) = a
+never_spent (inr b) = absurd b.0
+
 pub saved_sheets_show_the_same : SavedSheetsShowTheSame
-saved_sheets_show_the_same budget budget' text saved output output' commands commands' one two done shown shown' dumps shows_one shows_two =
-    let first = (one.answered dumps.before dumps.line saved done dumps.stands dumps.accepted).saved dumps.asks in
-    let display = (one.answered shows_one.before shows_one.line shown done shows_one.stands shows_one.accepted).shown shows_one.asks in
-    let later = (two.answered shows_two.before shows_two.line shown' [] shows_two.stands shows_two.accepted).shown shows_two.asks in
+saved_sheets_show_the_same budget budget' text saved output output' commands commands' status status' one two done shown shown' dumps shows_one shows_two =
+    let first = never_spent ((one.answered dumps.before dumps.line saved done dumps.stands dumps.accepted).tells (shows text_page) dumps.asks) in
+    let display = never_spent ((one.answered shows_one.before shows_one.line shown done shows_one.stands shows_one.accepted).tells (shows lines_page) shows_one.asks) in
+    let later = never_spent ((two.answered shows_two.before shows_two.line shown' [] shows_two.stands shows_two.accepted).tells (shows lines_page) shows_two.asks) in
     display.only shown' (subst (λ s. IsShown s shown') (first.only budget' two.start two.starts) later.is)
+
+-- ---- a saved sheet and a certificate
+
+bytes_same : (x y : List ℕ) → Some x ≡ Some y → x ≡ y
+bytes_same x y e = cc
+
+pub saved_sheets_take_certificates : SavedSheetsTakeCertificates
+saved_sheets_take_certificates budget text saved output certificate commands status one done dumps accepted run file found input check refused =
+    let d = check.declined refused in
+    let first = never_spent ((one.answered dumps.before dumps.line saved done dumps.stands dumps.accepted).tells (shows text_page) dumps.asks) in
+    let bytes : saved ≡ d.bytes = bytes_same saved d.bytes (sym found ∙ d.found) in
+    let sheet = (state_after_all one.start done).sheet in
+    let same = d.only sheet (subst (λ b. ReadsAs b sheet) bytes (first.starts budget).reads) in
+    d.refused (subst (λ s. IsAcceptedText s run.input) same (subst (IsAcceptedText sheet) (sym input) accepted))

@@ -3,7 +3,7 @@ use Rattle.std.specs.Prelude.{ℕ, List, [], ◌∷◌, codes, Some}
 use Rattle.pc_port.specs.Shelf.{Files}
 use Rattle.pc_writer.specs.SheetText.{ended}
 use Rattle.pc_refusals.specs.declared.status.Status.{Status}
-use Rattle.pc_refusals.specs.declared.status.Status.TheVariants.{Done}
+use Rattle.pc_refusals.specs.declared.status.Status.TheVariants.{Done, SheetRefused, CertRefused}
 use Rattle.pc_course.specs.Events.{Outside}
 use Rattle.pc_theorem.specs.Theorem.{KeepsItsWord}
 
@@ -19,10 +19,18 @@ Keeps words files input printed status = KeepsItsWord words status (outside_of f
 abbrev pub merge_words : List (List ℕ)
 merge_words = codes "merge" ∷ codes "f" ∷ []
 
+pub record WorkedWords : Type 0 where
+  -- a journal of one post, merged with an empty one, is that journal
+  pub merged : Keeps merge_words ((codes "f", codes "post 1 1 7 : show\n") ∷ []) [] (codes "post 1 1 7 : show\n") Done
+
 pub record BrokenWords : Type 0 where
   -- a certificate is accepted for a file that isn't there
   pub no_file : ¬ Keeps (codes "check" ∷ codes "f" ∷ []) [] [] (ended (codes "accepted")) Done
   -- an input without a sheet is a session
   pub no_sheet : ¬ Keeps (codes "replay" ∷ []) [] [] [] Done
+  -- what is refused is told as accepted, whatever the file is
+  pub told_as_accepted : (files : Files) → ¬ Keeps (codes "check" ∷ codes "f" ∷ []) files [] (ended (codes "accepted")) CertRefused
+  -- that there is no merge isn't told
+  pub untold : (files : Files) → ¬ Keeps merge_words files [] [] SheetRefused
   -- a post is lost
   pub lost_post : ¬ Keeps merge_words ((codes "f", codes "post 1 1 7 : show\n") ∷ []) [] [] Done

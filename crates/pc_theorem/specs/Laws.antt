@@ -1,9 +1,12 @@
 -- That runs are worth what the page says, from what each mode of `run` says of itself; and that a saved sheet shows the same.
-use Rattle.std.specs.Prelude.{◌≡◌, ℕ, List, []}
+use Rattle.std.specs.Prelude.{◌≡◌, ◌≢◌, ℕ, List, [], Some}
+use Rattle.pc_port.specs.Shelf.{file_named}
 use Rattle.pc_refusals.specs.declared.status.Status.{Status}
+use Rattle.pc_refusals.specs.declared.status.Status.TheVariants.{CertRefused}
 use Rattle.pc_course.specs.Events.{Outside}
 use Rattle.pc_course.specs.Runs.{Ran}
 use Rattle.pc_words.specs.Words.{Mode, checks, merges}
+use Rattle.pc_judge.specs.Laws.{IsAcceptedText}
 use Rattle.pc_spreadsheet.specs.Allowed.{Notes}
 use Rattle.pc_spreadsheet.specs.Judgement.{Task, shows, lines_page, text_page}
 use Rattle.pc_replay.specs.Course.{CourseIn, Runs}
@@ -34,7 +37,7 @@ SessionsAreWorthIt = (run : Run) (mode : Mode) (budget : ℕ) → GoesIn run mod
 -- ---- a saved sheet
 
 -- after these edits a session printed this for a line that asks so
-pub record Prints {budget : ℕ} {text : List ℕ} {commands : List (List ℕ)} {printed : List ℕ} (session : IsSession budget text commands printed) (edits : List Task) (task : Task) (answer : List ℕ) : Type 0 where
+pub record Prints {budget : ℕ} {text : List ℕ} {commands : List (List ℕ)} {printed : List ℕ} {status : Status} (session : IsSession budget text commands printed status) (edits : List Task) (task : Task) (answer : List ℕ) : Type 0 where
   pub before : Course
   pub line : List ℕ
   pub stands : StandsBehind session.course before line answer
@@ -45,8 +48,15 @@ pub record Prints {budget : ℕ} {text : List ℕ} {commands : List (List ℕ)} 
 -- one after the edits before the `dump`.
 abbrev pub SavedSheetsShowTheSame : Type 0
 SavedSheetsShowTheSame =
-    (budget budget' : ℕ) (text saved printed printed' : List ℕ) (commands commands' : List (List ℕ)) (one : IsSession budget text commands printed) (two : IsSession budget' saved commands' printed')
+    (budget budget' : ℕ) (text saved printed printed' : List ℕ) (commands commands' : List (List ℕ)) (status status' : Status) (one : IsSession budget text commands printed status) (two : IsSession budget' saved commands' printed' status')
     → (edits : List Task) (shown shown' : List ℕ) → Prints one edits (shows text_page) saved → Prints one edits (shows lines_page) shown → Prints two [] (shows lines_page) shown' → shown' ≡ shown
+
+-- What `check` accepts for the sheet of a session, as the certificates that it prints, isn't refused for what the session printed then for
+-- `dump`.
+abbrev pub SavedSheetsTakeCertificates : Type 0
+SavedSheetsTakeCertificates =
+    (budget : ℕ) (text saved printed certificate : List ℕ) (commands : List (List ℕ)) (status : Status) (one : IsSession budget text commands printed status) (edits : List Task) → Prints one edits (shows text_page) saved
+    → IsAcceptedText (state_after_all one.start edits).sheet certificate → (run : Run) (file : List ℕ) → file_named file run.files ≡ Some saved → run.input ≡ certificate → IsCheckOf run file → run.status ≢ CertRefused
 
 -- ---- all modes
 

@@ -1,41 +1,44 @@
 -- What a run of PrediCalc is worth, in the words of sheets alone. Whoever wants to believe the program reads this page and what it cites:
 -- what a text says, what a sheet's rules and entries entail, what the display is. Nothing here says how anything is found. The page is read
 -- from its end: `KeepsItsWord` is what is proved of `run`.
-use Rattle.std.specs.Prelude.{◌≡◌, ◌↔◌, ◌⊎◌, ℕ, List, [], ◌∷◌, ◌++◌, map, codes, Some, Any, Contains}
+use Rattle.std.specs.Prelude.{◌≡◌, ◌↔◌, ◌⊎◌, ℕ, List, [], ◌∷◌, ◌++◌, length, map, codes, Some, Contains}
 use Rattle.std.specs.List.{AllZip, flat_map}
-use Rattle.std.specs.Str.Lines.{lines}
 use Rattle.pc_port.specs.Shelf.{Files, file_named}
 use Rattle.pc_lines.specs.Lines.{lines_of, line_text_of}
-use Rattle.pc_sheet.specs.Sheet.{Sheet}
+use Rattle.pc_sheet.specs.Sheet.{Sheet, Statement, NamedStatement, with_rule}
 use Rattle.pc_sheet.specs.Entailment.{IsSupport, IsImplied, IsLeastSupport}
 use Rattle.pc_sheet.specs.MaximalSets.{ListsExactly, IsMaximalSet, AreRulesConsistent}
 use Rattle.pc_sheet.specs.declared.ids.Entry.{Entry}
 use Rattle.pc_sheet.specs.declared.ids.Target.{Target}
+use Rattle.pc_parts.specs.Parts.{Part, AreParts}
+use Rattle.pc_parts.specs.Unions.{parts_with_entries, IsUnion}
 use Rattle.pc_collab.specs.Journal.{Post}
 use Rattle.pc_collab.specs.Reading.{IsTextOf}
 use Rattle.pc_collab.specs.Merge.{IsMerge}
 use Rattle.pc_collab.specs.Text.{journal_text}
 use Rattle.pc_accept.specs.Accepts.{Claim, implied, inconsistent, repairs, unimplied, against}
 use Rattle.pc_accept.specs.Laws.{IsInOrder, AreAgainst}
+use Rattle.pc_asked.specs.Asked.{IsStatementImplied, IsLeastForStatement, asked}
 use Rattle.pc_writer.specs.SheetText.{ended}
 use Rattle.pc_display.specs.Show.{IsShown}
 use Rattle.pc_display.specs.Grid.{IsGrid}
-use Rattle.pc_repairs.specs.Listed.{IsListed}
+use Rattle.pc_repairs.specs.Listed.{ListedPart, IsListedPart, listing_text}
 use Rattle.pc_sortcheck.specs.Declaring.{ReadsAs}
-use Rattle.pc_cert.specs.Written.{WrittenPair, WrittenClaim}
-use Rattle.pc_cert.specs.Texts.{texts_of}
-use Rattle.pc_cert.specs.Line.{StartsWithText, SpellsPair, IsClaimForm}
-use Rattle.pc_cert.specs.Meaning.{IsPairNamed, IsClaimNamed}
+use Rattle.pc_refusals.specs.Refusals.{refusal_text}
+use Rattle.pc_refusals.specs.declared.refusal.Counts.{Counts}
+use Rattle.pc_refusals.specs.declared.refusal.Refusal.{Refusal}
+use Rattle.pc_refusals.specs.declared.refusal.Refusal.TheVariants.{Inconsistent, Spent}
 use Rattle.pc_refusals.specs.declared.status.Status.{Status}
 use Rattle.pc_refusals.specs.declared.status.Status.TheVariants.{Done, SomeRefused, SheetRefused, CertRefused}
 use Rattle.pc_course.specs.Events.{Outside}
 use Rattle.pc_transcript.specs.SheetPart.{IsSheetPart}
 use Rattle.pc_journal.specs.Course.{lines_of_posts}
 use Rattle.pc_words.specs.Words.{Mode, replays, edits, checks, merges, posts, Request, FitsWords}
-use Rattle.pc_spreadsheet.specs.Judgement.{State, Starts, Task, shows, lines_page, grid_page, json_page, text_page, why_page, repairs_page, proof_page, whynot_page, AsksNothing, IsTask, IsEdit, state_after}
+use Rattle.pc_spreadsheet.specs.Judgement.{State, Starts, Task, budgets, shows, lines_page, grid_page, json_page, text_page, why_page, repairs_page, proof_page, whynot_page, ask_page, AsksNothing, IsTask, IsEdit, state_after, IsContradiction, IsRefused}
 use Rattle.pc_spreadsheet.specs.Pages.{IsJsonLine}
 use Rattle.pc_afresh.specs.Afresh.{StartsAgain}
 use Rattle.pc_judge.specs.Laws.{IsAcceptedText}
+use Rattle.pc_theorem.specs.Certificates.{Claims}
 
 -- A run whose devices tell their bytes: its words, what the shelf's files and the input had, what was printed, and how it ended.
 pub record Run : Type 0 where
@@ -49,39 +52,11 @@ pub record Run : Type 0 where
 abbrev pub AskFor : Run → Mode → ℕ → Type 0
 AskFor run mode budget = (request : Request) × FitsWords run.words request × (request.mode ≡ mode) × (request.budget ≡ budget)
 
+-- the text begins so
+abbrev pub BeginsWith : List ℕ → List ℕ → Type 0
+BeginsWith front text = (more : List ℕ) × (text ≡ front ++ more)
+
 -- ---- certificates
-
--- the line says `use CELL = VALUE`
-abbrev pub IsUseLine : Sheet → List ℕ → Entry → Type 0
-IsUseLine sheet line e = (p : WrittenPair) × StartsWithText (texts_of line) (codes "use") × SpellsPair line (codes "use") p × IsPairNamed sheet.universe p e
-
--- the line says `claim` and what is claimed
-abbrev pub IsClaimLine : Sheet → List ℕ → Claim → Type 0
-IsClaimLine sheet line claim = (written : WrittenClaim) × IsClaimForm line (texts_of line) written × IsClaimNamed sheet written claim
-
-abbrev pub IsSetLine : List ℕ → Type 0
-IsSetLine line = texts_of line ≡ codes "set" ∷ []
-
--- lines, parted at those that say `set`: what stands in front of the first, and what stands behind each
-pub data ArePartedAtSets : List (List ℕ) → List (List ℕ) → List (List (List ℕ)) → Type 0 where
-  none_left : ArePartedAtSets [] [] []
-  other_line : {line : List ℕ} {more front : List (List ℕ)} {sets : List (List (List ℕ))} → ¬ IsSetLine line → ArePartedAtSets more front sets → ArePartedAtSets (line ∷ more) (line ∷ front) sets
-  set_line : {line : List ℕ} {more front : List (List ℕ)} {sets : List (List (List ℕ))} → IsSetLine line → ArePartedAtSets more front sets → ArePartedAtSets (line ∷ more) [] (front ∷ sets)
-
--- the entries that the lines use
-abbrev pub AreUsedBy : Sheet → List (List ℕ) → List Entry → Type 0
-AreUsedBy sheet of_lines uses = (e : Entry) → Contains uses e ↔ Any (λ line. IsUseLine sheet line e) of_lines
-
--- Some line of the text claims this and none claims anything else. These are the entries that are used in front of the sets, and these, set by
--- set, those that are used in each.
-pub record Claims (sheet : Sheet) (text : List ℕ) (claim : Claim) (uses : List Entry) (sets : List (List Entry)) : Type 0 where
-  pub claimed : Any (λ line. IsClaimLine sheet line claim) (lines text)
-  pub once : (line : List ℕ) (other : Claim) → Contains (lines text) line → IsClaimLine sheet line other → other ≡ claim
-  pub front : List (List ℕ)
-  pub behind : List (List (List ℕ))
-  pub parted : ArePartedAtSets (lines text) front behind
-  pub used : AreUsedBy sheet front uses
-  pub given : AllZip (AreUsedBy sheet) behind sets
 
 -- the sets, each in the order of the sheet's entries, are the maximal consistent sets of its entries, each once
 pub record AreTheMaximalSets (sheet : Sheet) (sets : List (List Entry)) : Type 0 where
@@ -107,28 +82,31 @@ pub record IsProved (sheet : Sheet) (text : List ℕ) : Type 0 where
   pub claims : Claims sheet text claim uses sets
   pub worth : IsSo sheet claim uses sets
 
--- CHECKED. The file is a sheet, the input is a certificate that is accepted for it, and what it claims is so.
+-- CHECKED. The file is a sheet and no other, the input is a certificate that is accepted for it, and what it claims is so.
 pub record IsChecked (files : Files) (file input printed : List ℕ) : Type 0 where
   pub bytes : List ℕ
   pub found : file_named file files ≡ Some bytes
   pub sheet : Sheet
   pub reads : ReadsAs bytes sheet
+  pub only : (other : Sheet) → ReadsAs bytes other → other ≡ sheet
   pub accepted : IsAcceptedText sheet input
   pub proved : IsProved sheet input
   pub told : printed ≡ ended (codes "accepted")
 
--- the file is a sheet, and the input is no certificate that is accepted for it
-pub record IsDeclined (files : Files) (file input : List ℕ) : Type 0 where
+-- the file is a sheet and no other, the input is no certificate that is accepted for it, and that is told
+pub record IsDeclined (files : Files) (file input printed : List ℕ) : Type 0 where
   pub bytes : List ℕ
   pub found : file_named file files ≡ Some bytes
   pub sheet : Sheet
   pub reads : ReadsAs bytes sheet
+  pub only : (other : Sheet) → ReadsAs bytes other → other ≡ sheet
   pub refused : ¬ IsAcceptedText sheet input
+  pub told : BeginsWith (codes "refused ") printed
 
 -- with `check FILE`, by the status
 pub record IsCheckOf (run : Run) (file : List ℕ) : Type 0 where
   pub accepted : run.status ≡ Done → IsChecked run.files file run.input run.printed
-  pub declined : run.status ≡ CertRefused → IsDeclined run.files file run.input
+  pub declined : run.status ≡ CertRefused → IsDeclined run.files file run.input run.printed
 
 -- ---- journals
 
@@ -144,16 +122,17 @@ pub record IsMerged (files : Files) (file input printed : List ℕ) : Type 0 whe
   pub merge : IsMerge one other merged
   pub told : printed ≡ journal_text merged
 
--- the file is there, and it and the input aren't journals that have a merge
-pub record HasNoMerge (files : Files) (file input : List ℕ) : Type 0 where
+-- the file is there, it and the input aren't journals that have a merge, and that is told
+pub record HasNoMerge (files : Files) (file input printed : List ℕ) : Type 0 where
   pub bytes : List ℕ
   pub found : file_named file files ≡ Some bytes
   pub none : (one other merged : List Post) → IsTextOf bytes one → IsTextOf input other → ¬ IsMerge one other merged
+  pub told : BeginsWith (codes "journal refused ") printed
 
 -- with `merge FILE`, by the status
 pub record IsMergeOf (run : Run) (file : List ℕ) : Type 0 where
   pub merged : run.status ≡ Done → IsMerged run.files file run.input run.printed
-  pub declined : run.status ≡ SheetRefused → HasNoMerge run.files file run.input
+  pub declined : run.status ≡ SheetRefused → HasNoMerge run.files file run.input run.printed
 
 -- ---- pages
 
@@ -161,6 +140,16 @@ pub record IsMergeOf (run : Run) (file : List ℕ) : Type 0 where
 pub record IsTheText (Says : Sheet → List ℕ → Type 0) (sheet : Sheet) (text : List ℕ) : Type 0 where
   pub is : Says sheet text
   pub only : (other : List ℕ) → Says sheet other → other ≡ text
+
+-- LISTED. Of each part that has entries, cells that chains of rules' pieces tie together, the maximal sets, in their order. The maximal sets of
+-- the sheet are exactly the unions of one listed set of each listed part.
+pub record IsListing (sheet : Sheet) (text : List ℕ) : Type 0 where
+  pub parts : List Part
+  pub are : AreParts sheet parts
+  pub listing : List ListedPart
+  pub each : AllZip (IsListedPart sheet) (parts_with_entries sheet parts) listing
+  pub told : text ≡ listing_text sheet.universe listing
+  pub unions : (s : List Entry) → IsMaximalSet sheet s ↔ ((choices : List (List Entry)) × AllZip (λ part own. Contains part.sets own) listing choices × IsUnion sheet.entries choices s)
 
 -- EXPLAINED. `not implied`, where no consistent entries entail the target; or a certificate that claims it by its least support, and that
 -- `check` accepts for this sheet.
@@ -180,30 +169,73 @@ pub data Doubts (sheet : Sheet) (t : Target) (text : List ℕ) : Type 0 where
   is_implied : IsImplied sheet t → text ≡ ended (codes "implied") → Doubts sheet t text
   by_sets : ¬ IsImplied sheet t → ProvesBySets sheet (unimplied t) text → Doubts sheet t text
 
+-- ASKED. `not implied`, where no consistent entries entail the formula; or a certificate by its least support against the rule that denies it,
+-- the last one of the sheet with that rule, for which `check` accepts it.
+pub data AnswersFormula (sheet : Sheet) (f : Statement) (text : List ℕ) : Type 0 where
+  not_entailed : ¬ IsStatementImplied sheet f → text ≡ ended (codes "not implied") → AnswersFormula sheet f text
+  by_least : (uses : List Entry) → IsLeastForStatement sheet uses f → Claims (asked sheet f) text (against (length sheet.rules)) uses [] → IsAcceptedText (asked sheet f) text → AnswersFormula sheet f text
+
+-- ---- answers
+
 -- the command line asks for this, names being looked up in the state's sheet
 abbrev pub LineAsks : State → List ℕ → Task → Type 0
 LineAsks state line task = IsTask state (line_text_of line) task
 
-abbrev pub IsRefusal : List ℕ → Type 0
-IsRefusal text = (more : List ℕ) × (text ≡ codes "refused " ++ more)
+-- What is printed where a task is done. SHOWN: for `show` the display of the sheet, each cell with the values that some consistent entries
+-- entail and with the least such entries, and with what each of its own entries clashes with; `grid` and `json` give it in other forms.
+-- PROVED: for `prove repairs` and `whynot` a certificate by the maximal sets, or `implied` for a `whynot` of what is. AFRESH: for `dump` a text
+-- from which a run can start, whatever its budget, with this sheet and with no other.
+abbrev pub Tells : Sheet → Task → List ℕ → Type 0
+Tells sheet (shows lines_page) text = IsTheText IsShown sheet text
+Tells sheet (shows grid_page) text = IsTheText IsGrid sheet text
+Tells sheet (shows json_page) text = IsTheText IsJsonLine sheet text
+Tells sheet (shows text_page) text = StartsAgain text sheet
+Tells sheet (shows (why_page t)) text = Explains sheet t text
+Tells sheet (shows repairs_page) text = IsTheText IsListing sheet text
+Tells sheet (shows proof_page) text = ProvesBySets sheet repairs text
+Tells sheet (shows (whynot_page t)) text = Doubts sheet t text
+Tells sheet (shows (ask_page made)) text = (f : Statement) × (made ≡ asked sheet f) × AnswersFormula sheet f text
+Tells sheet edit text = text ≡ ended (codes "ok")
 
--- What is printed for a line in a state. SHOWN: for `show` the display of the state's sheet, each cell with the values that some consistent
--- entries entail and with the least such entries, and with what each of its entries clashes with; `grid` and `json` give it in other forms.
--- LISTED: for `repairs` the maximal sets, part by part. PROVED: for `prove repairs` and `whynot` a certificate by all of them, `implied` for a
--- `whynot` of what is, or a refusal. AFRESH: for `dump` a text from which a run can start, whatever its budget, with this sheet and with no
--- other. REFUSED: an edit is done or refused, and whatever asks for nothing that can be done is refused.
+-- the task may want a search: an edit of the sheet, or a certificate that isn't kept
+abbrev pub MaySpend : Task → Type 0
+MaySpend (shows proof_page) = Unit {0}
+MaySpend (shows (whynot_page t)) = Unit {0}
+MaySpend (shows (ask_page made)) = Unit {0}
+MaySpend (shows kind) = ⊥
+MaySpend (budgets n) = ⊥
+MaySpend edit = Unit {0}
+
+-- a search placed as many literals as the budget allows, and this tells it
+abbrev pub IsSpent : State → List ℕ → Type 0
+IsSpent state text = (counts : Counts) × (counts.placed ≡ state.budget) × (text ≡ refusal_text (Spent counts))
+
+-- that no assignment makes every rule of the sheet true, and a certificate of it, which `check` accepts for this sheet
+pub record IsContradicted (sheet : Sheet) (text : List ℕ) : Type 0 where
+  pub certificate : List ℕ
+  pub is : text ≡ refusal_text Inconsistent ++ certificate
+  pub claims : Claims sheet certificate inconsistent [] []
+  pub accepted : IsAcceptedText sheet certificate
+
+-- the line is refused for this, and this tells it
+abbrev pub IsRefusal : State → List ℕ → List ℕ → Type 0
+IsRefusal state line text = (why : Refusal) × IsRefused state (line_text_of line) why × (text ≡ refusal_text why)
+
+-- What is printed for a line in a state. What it asks for is done, or its search is spent. REFUSED: a rule that leaves no assignment is refused
+-- with a certificate of that, and what asks for nothing that can be done is refused with its cause.
 pub record Answers (state : State) (line text : List ℕ) : Type 0 where
-  pub shown : LineAsks state line (shows lines_page) → IsTheText IsShown state.sheet text
-  pub in_table : LineAsks state line (shows grid_page) → IsTheText IsGrid state.sheet text
-  pub in_json : LineAsks state line (shows json_page) → IsTheText IsJsonLine state.sheet text
-  pub listed : LineAsks state line (shows repairs_page) → IsListed state.sheet text
-  pub explained : (t : Target) → LineAsks state line (shows (why_page t)) → Explains state.sheet t text
-  pub proved : LineAsks state line (shows proof_page) → ProvesBySets state.sheet repairs text ⊎ IsRefusal text
-  pub doubted : (t : Target) → LineAsks state line (shows (whynot_page t)) → Doubts state.sheet t text ⊎ IsRefusal text
-  pub saved : LineAsks state line (shows text_page) → StartsAgain text state.sheet
-  pub edited : (edit : Task) → LineAsks state line edit → IsEdit edit → (text ≡ ended (codes "ok")) ⊎ IsRefusal text
   pub quiet : AsksNothing (line_text_of line) → text ≡ []
-  pub otherwise : ¬ AsksNothing (line_text_of line) → ((task : Task) → ¬ LineAsks state line task) → IsRefusal text
+  pub tells : (task : Task) → LineAsks state line task → Tells state.sheet task text ⊎ (MaySpend task × IsSpent state text)
+  pub contradicted : (r : NamedStatement) → IsContradiction state (line_text_of line) r → IsContradicted (with_rule state.sheet r) text ⊎ IsSpent state text
+  pub otherwise : ¬ AsksNothing (line_text_of line) → ((task : Task) → ¬ LineAsks state line task) → ((r : NamedStatement) → ¬ IsContradiction state (line_text_of line) r) → IsRefusal state line text
+
+-- the line asks nothing, or what it asks for is done
+abbrev pub IsFulfilled : State → List ℕ → List ℕ → Type 0
+IsFulfilled state line text = AsksNothing (line_text_of line) ⊎ ((task : Task) × LineAsks state line task × Tells state.sheet task text)
+
+-- its search is spent, or it asks for a rule that leaves no assignment, or for nothing that can be done
+abbrev pub IsTurnedDown : State → List ℕ → List ℕ → Type 0
+IsTurnedDown state line text = IsSpent state text ⊎ (((r : NamedStatement) × IsContradiction state (line_text_of line) r × IsContradicted (with_rule state.sheet r) text) ⊎ IsRefusal state line text)
 
 -- ---- sessions
 
@@ -216,21 +248,31 @@ abbrev pub state_after_all : State → List Task → State
 state_after_all state [] = state
 state_after_all state (edit ∷ more) = state_after_all (state_after state edit) more
 
--- The accepted edits of a course, oldest first: those of the lines for which `ok` was printed. A line that asks for no edit, or is refused,
--- changes nothing.
+-- The accepted edits of a course, oldest first: those of the lines for which `ok` was printed. A line that asks for no edit, or whose search
+-- is spent, changes nothing.
 pub data AreAccepted : State → Course → List Task → Type 0 where
   no_line : {state : State} → AreAccepted state [] []
   an_edit : {state : State} {line text : List ℕ} {more : Course} {later : List Task} (edit : Task) → LineAsks state line edit → IsEdit edit → text ≡ ended (codes "ok") → AreAccepted (state_after state edit) more later → AreAccepted state ((line, text) ∷ more) (edit ∷ later)
-  no_edit : {state : State} {line text : List ℕ} {more : Course} {later : List Task} → ((edit : Task) → LineAsks state line edit → ¬ IsEdit edit) ⊎ IsRefusal text → AreAccepted state more later → AreAccepted state ((line, text) ∷ more) later
+  no_edit : {state : State} {line text : List ℕ} {more : Course} {later : List Task} → ((edit : Task) → LineAsks state line edit → ¬ IsEdit edit) ⊎ IsSpent state text → AreAccepted state more later → AreAccepted state ((line, text) ∷ more) later
 
 -- a line of a course, behind these
 pub record StandsBehind (course before : Course) (line text : List ℕ) : Type 0 where
   pub more : Course
   pub is : course ≡ before ++ (line, text) ∷ more
 
--- The text is a sheet, and what was printed are the answers to the command lines, one by one. The edits that were accepted before a line are
--- one list, and it is answered by the sheet after them.
-pub record IsSession (budget : ℕ) (text : List ℕ) (commands : List (List ℕ)) (printed : List ℕ) : Type 0 where
+-- some line of the course was turned down
+pub record HasRefusal (start : State) (course : Course) : Type 0 where
+  pub before : Course
+  pub line : List ℕ
+  pub text : List ℕ
+  pub stands : StandsBehind course before line text
+  pub edits : List Task
+  pub accepted : AreAccepted start before edits
+  pub is : IsTurnedDown (state_after_all start edits) line text
+
+-- The text is a sheet, and what was printed are the answers to the command lines, one by one. The edits that were accepted before a line
+-- are one list, and it is answered by the sheet after them. The status says whether some line was turned down.
+pub record IsSession (budget : ℕ) (text : List ℕ) (commands : List (List ℕ)) (printed : List ℕ) (status : Status) : Type 0 where
   pub start : State
   pub starts : Starts budget text start
   pub course : Course
@@ -239,6 +281,8 @@ pub record IsSession (budget : ℕ) (text : List ℕ) (commands : List (List ℕ
   pub accepted : (before : Course) (line text : List ℕ) → StandsBehind course before line text → (done : List Task) × AreAccepted start before done
   pub one_list : (before : Course) (line text : List ℕ) (done other : List Task) → StandsBehind course before line text → AreAccepted start before done → AreAccepted start before other → other ≡ done
   pub answered : (before : Course) (line text : List ℕ) (done : List Task) → StandsBehind course before line text → AreAccepted start before done → Answers (state_after_all start done) line text
+  pub fulfilled : status ≡ Done → (before : Course) (line text : List ℕ) (done : List Task) → StandsBehind course before line text → AreAccepted start before done → IsFulfilled (state_after_all start done) line text
+  pub refused : status ≡ SomeRefused → HasRefusal start course
 
 -- With `replay` the sheet is the front of the input, up to its line `begin`, and the lines behind it are the commands; with `edit FILE` the file
 -- and the lines of the input; with `posts FILE` the file, and the texts of the posts of the input's journal, with a line `show` at last.
@@ -252,7 +296,7 @@ pub record IsSessionOf (run : Run) (mode : Mode) (budget : ℕ) : Type 0 where
   pub text : List ℕ
   pub commands : List (List ℕ)
   pub given : IsGiven run mode text commands
-  pub session : IsSession budget text commands run.printed
+  pub session : IsSession budget text commands run.printed run.status
 
 abbrev pub AnswersCommands : Mode → Type 0
 AnswersCommands replays = Unit {0}

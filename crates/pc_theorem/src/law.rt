@@ -1,6 +1,6 @@
 // The laws of the page, each the contract of a function that does nothing.
-ghost use Rattle.pc_theorem.specs.Examples.{BrokenWords};
-ghost use Rattle.pc_theorem.specs.Laws.{ChecksAreWorthIt, MergesAreWorthIt, RunsKeepTheirWord, SavedSheetsShowTheSame, SessionsAreWorthIt};
+ghost use Rattle.pc_theorem.specs.Examples.{BrokenWords, WorkedWords};
+ghost use Rattle.pc_theorem.specs.Laws.{ChecksAreWorthIt, MergesAreWorthIt, RunsKeepTheirWord, SavedSheetsShowTheSame, SavedSheetsTakeCertificates, SessionsAreWorthIt};
 
 use pc_accept::certificates_are_sound;
 use pc_afresh::{dumps_start_again, states_stay_open, transcripts_stay_open};
@@ -9,7 +9,11 @@ use pc_collab::journals_read_back;
 use pc_course_laws::events_add_up;
 use pc_display::sheet_has_one_display;
 use pc_judge::{judgements_are_one, told_accepted_is_accepts};
+use pc_load::texts_have_one_outcome;
 use pc_one_reading::{certificates_have_one_reading, what_is_read_is_for_the_sheet};
+use pc_parts::{
+    maximal_sets_are_unions, parts_are_a_division, parts_are_determined, parts_are_found,
+};
 use pc_sortcheck::sheets_are_well_formed;
 use pc_spreadsheet::lines_have_one_verdict;
 use pc_syntax::one_reading;
@@ -24,6 +28,7 @@ pub fn checks_are_worth_it()
     certificates_are_sound();
     told_accepted_is_accepts();
     judgements_are_one();
+    texts_have_one_outcome();
     certificates_have_one_reading();
 }
 
@@ -46,6 +51,10 @@ pub fn sessions_are_worth_it()
     transcripts_stay_open();
     dumps_start_again();
     sheet_has_one_display();
+    parts_are_found();
+    parts_are_a_division();
+    parts_are_determined();
+    maximal_sets_are_unions();
     texts_read_back();
     certificates_have_one_reading();
     what_is_read_is_for_the_sheet();
@@ -56,6 +65,11 @@ pub fn saved_sheets_show_the_same()
     ensures { SavedSheetsShowTheSame }
 {}
 
+/// What `check` accepts for the sheet of a session, it accepts for what the session printed then for `dump`.
+pub fn saved_sheets_take_certificates()
+    ensures { SavedSheetsTakeCertificates }
+{}
+
 /// Whatever a run was asked for, it keeps its word.
 pub fn runs_keep_their_word()
     ensures { RunsKeepTheirWord }
@@ -64,6 +78,13 @@ pub fn runs_keep_their_word()
     checks_are_worth_it();
     merges_are_worth_it();
     sessions_are_worth_it();
+}
+
+/// A run that keeps its word.
+pub fn worked_words()
+    ensures { WorkedWords }
+{
+    words_fit_one_request();
 }
 
 /// Runs that would not keep their word: the page says something.

@@ -28,3 +28,6 @@ returns-in-ProveRepairs c = rw c.in-ProveRepairs.is c.prove_repairs.ensures
 
 pub returns-in-WhyNot : goal.returns-in-WhyNot
 returns-in-WhyNot c = rw c.in-WhyNot.is c.why_not.ensures
+
+pub returns-in-Ask : goal.returns-in-Ask
+returns-in-Ask c = rw c.in-Ask.is c.answer.ensures

@@ -30,6 +30,16 @@ returns-in-Some-clause-only c =
     let some = something c.in-Ok.text.now c.args.line.now c.in-Ok.ensures.cases.0 _ c.if-is_nothing.false c.is_nothing.ensures.neither in
     tells c.args.line.now (Ok (Some c.in-Some.command)) (lone_told c.in-Ok.text.now c.args.line.now c.in-Ok.ensures.cases.0 c.in-Ok.ensures.cases.1 some (asked_of c.in-Some.command) c.in-Some.ensures.0 c.in-Some.ensures.1)
 
+pub returns-in-Some-clause-sized : goal.returns-in-Some-clause-sized
+returns-in-Some-clause-sized c =
+    let some = something c.in-Ok.text.now c.args.line.now c.in-Ok.ensures.cases.0 _ c.if-is_nothing.false c.is_nothing.ensures.neither in
+    sized_command c.args.line.now (asks (asked_of c.in-Some.command)) (omega (arith, c.requires)) (lone_told c.in-Ok.text.now c.args.line.now c.in-Ok.ensures.cases.0 c.in-Ok.ensures.cases.1 some (asked_of c.in-Some.command) c.in-Some.ensures.0 c.in-Some.ensures.1)
+
+pub returns-in-Some-clause-nested : goal.returns-in-Some-clause-nested
+returns-in-Some-clause-nested c =
+    let some = something c.in-Ok.text.now c.args.line.now c.in-Ok.ensures.cases.0 _ c.if-is_nothing.false c.is_nothing.ensures.neither in
+    nested_command c.args.line.now (asks (asked_of c.in-Some.command)) (omega (arith, c.requires)) (lone_told c.in-Ok.text.now c.args.line.now c.in-Ok.ensures.cases.0 c.in-Ok.ensures.cases.1 some (asked_of c.in-Some.command) c.in-Some.ensures.0 c.in-Some.ensures.1)
+
 -- a line with a command
 command_reading : (c : goal.In-Ok-read_command) → IsCommandReading c.args.line.now (asks (asked_of c.in-Ok-read_command.command))
 command_reading c =

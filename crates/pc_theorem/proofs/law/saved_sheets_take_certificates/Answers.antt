@@ -1,0 +1,5 @@
+use Rattle.pc_theorem.proofs.Told.{saved_sheets_take_certificates}
+use Rattle.pc_theorem.proofs.law.saved_sheets_take_certificates.Goals as goal
+
+pub returns : goal.returns
+returns c = saved_sheets_take_certificates
