@@ -69,6 +69,9 @@ list_decides (x ∷ xs) (y ∷ ys) =
     Decides-like (is_list (x ∷ xs) (y ∷ ys)) (λ h. ap (λ z. z ∷ xs) h.0 ∙ ap (λ zs. y ∷ zs) h.1) (λ is. (first_same x y xs ys is, rest_same x y xs ys is))
     (Decides-and (is_entry x y) (is_list xs ys) (entry_decides x y) (list_decides xs ys))
 
+pub list_is : (xs ys : List Entry) → is_list xs ys ≡ true → xs ≡ ys
+list_is xs ys is = (list_decides xs ys).0 is
+
 pub other_list : (xs ys : List Entry) → is_list xs ys ≡ false → xs ≢ ys
 other_list xs ys fails is = false≢true (sym fails ∙ (list_decides xs ys).1 is)
 
@@ -105,11 +108,11 @@ abbrev are_different : List (List Entry) → Bool
 are_different [] = true
 are_different (x ∷ xs) = not (is_listed xs x) && are_different xs
 
-both : (x y : Bool) → x && y ≡ true → (x ≡ true) × (y ≡ true)
+pub both : (x y : Bool) → x && y ≡ true → (x ≡ true) × (y ≡ true)
 both true y e = (refl, e)
 both false y e = absurd (false≢true e)
 
-either : (x y : Bool) → x || y ≡ true → (x ≡ true) ⊎ (y ≡ true)
+pub either : (x y : Bool) → x || y ≡ true → (x ≡ true) ⊎ (y ≡ true)
 either true y e = inl refl
 either false y e = inr e
 
@@ -169,11 +172,11 @@ sublist (x ∷ xs) (y ∷ ys) is = elim (either (is_sublist xs (y ∷ ys)) (is_e
 ]
 
 -- what passes for each sublist
-abbrev passes : List Entry → (List Entry → Bool) → Bool
+abbrev pub passes : List Entry → (List Entry → Bool) → Bool
 passes [] p = p []
 passes (x ∷ xs) p = passes xs p && passes xs (λ s. p (x ∷ s))
 
-passed : (xs : List Entry) (p : List Entry → Bool) → passes xs p ≡ true → (s : List Entry) → IsSublist xs s → p s ≡ true
+pub passed : (xs : List Entry) (p : List Entry → Bool) → passes xs p ≡ true → (s : List Entry) → IsSublist xs s → p s ≡ true
 passed [] p is s h = subst (λ o. p o ≡ true) (sym h) is
 passed (x ∷ xs) p is s (inl h) = passed xs p (both (passes xs p) (passes xs (λ s. p (x ∷ s))) is).0 s h
 passed (x ∷ xs) p is s (inr (rest, same, h)) =
@@ -284,8 +287,11 @@ pub not_less : (entries s t : List Entry) → IsLess entries s t → ¬ IsLess e
 not_less entries s t less more = irreflexive entries s (transitive entries s t s less more)
 
 -- there is one least support
-pub not_least : (sheet : Sheet) (s other : List Entry) (t : Target) → IsLeastSupport sheet s t → is_list other s ≡ false → ¬ IsLeastSupport sheet other t
-not_least sheet s other t l fails h = elim (l.least other h.supports) [
-  | inl same ↦ other_list other s fails same
-  | inr less ↦ elim (h.least s l.supports) [ inl same ↦ other_list other s fails (sym same) | inr more ↦ not_less sheet.entries s other less more ]
+pub same_least : (sheet : Sheet) (s other : List Entry) (t : Target) → IsLeastSupport sheet s t → IsLeastSupport sheet other t → other ≡ s
+same_least sheet s other t l h = elim (l.least other h.supports) [
+  | inl same ↦ same
+  | inr less ↦ elim (h.least s l.supports) [ inl same ↦ sym same | inr more ↦ absurd (not_less sheet.entries s other less more) ]
 ]
+
+pub not_least : (sheet : Sheet) (s other : List Entry) (t : Target) → IsLeastSupport sheet s t → is_list other s ≡ false → ¬ IsLeastSupport sheet other t
+not_least sheet s other t l fails h = other_list other s fails (same_least sheet s other t l h)

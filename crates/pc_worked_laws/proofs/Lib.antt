@@ -1,4 +1,8 @@
 pub mod Computing
+pub mod AxiomsHold
+pub mod ConnectivesHold
+pub mod AskedHolds
+pub mod CertificatesHold
 pub mod NewestHolds
 pub mod LargestSetsHold
 pub mod SeveralHolds
@@ -13,3 +17,8 @@ pub mod LogsHold
 pub mod SpendingsHold
 pub mod LogSpendings
 pub mod WholeSpendingsHold
+pub mod SpareHolds
+pub mod ListingsHold
+pub mod ShownHolds
+pub mod BudgetsHold
+pub mod SearchesHold

@@ -1,3 +1,7 @@
+pub mod Axioms
+pub mod Connectives
+pub mod Asked
+pub mod Certificates
 pub mod Newest
 pub mod LargestSets
 pub mod Several
@@ -9,3 +13,8 @@ pub mod Trails
 pub mod Logs
 pub mod Spendings
 pub mod WholeSpendings
+pub mod Spare
+pub mod Listings
+pub mod Shown
+pub mod Budgets
+pub mod Searches

@@ -1,4 +1,8 @@
 //! The examples, as contracts: the definitions say of small sheets what a reader expects.
+ghost use Rattle.pc_worked_laws.specs.Axioms.{WorkedKinds, WorkedAxioms};
+ghost use Rattle.pc_worked_laws.specs.Connectives.{WorkedConnectives, WorkedCounterTruths, WorkedPieces};
+ghost use Rattle.pc_worked_laws.specs.Asked.{WorkedFormulas, WorkedClashes};
+ghost use Rattle.pc_worked_laws.specs.Certificates.{WorkedAgainst, WorkedFewSets};
 ghost use Rattle.pc_worked_laws.specs.Newest.{NewestDecides};
 ghost use Rattle.pc_worked_laws.specs.LargestSets.{NothingIsKept, PairsHaveFourSets};
 ghost use Rattle.pc_worked_laws.specs.PartSheets.{WorkedPartSheets};
@@ -10,6 +14,36 @@ ghost use Rattle.pc_worked_laws.specs.Trails.{WorkedSettled, WorkedFirstPoint};
 ghost use Rattle.pc_worked_laws.specs.Logs.{WorkedNewClauses, WorkedLawfulLogs, WorkedListingLogs};
 ghost use Rattle.pc_worked_laws.specs.Spendings.{WorkedSpendings, WorkedLogSpendings};
 ghost use Rattle.pc_worked_laws.specs.WholeSpendings.{WorkedWholeSpendings};
+ghost use Rattle.pc_worked_laws.specs.Budgets.{WorkedPartBudgets};
+ghost use Rattle.pc_worked_laws.specs.Spare.{EnteringMayChange, AddingMayChange, RemovingMayChange, ClearingMayChange, WorkedPlaces, WorkedSpare, WorkedReasons};
+ghost use Rattle.pc_worked_laws.specs.Searches.{SearchesChange, ClearingSpareIsNoSearch, RemovingSpareIsNoSearch, EnteringNeedsOne, WorkedSearches};
+ghost use Rattle.pc_worked_laws.specs.Listings.{WorkedListings};
+ghost use Rattle.pc_worked_laws.specs.Shown.{WorkedNewerViews};
+
+/// What connectives and counters say, and which of them are one piece.
+pub fn connectives_are_worked()
+    ensures connectives { WorkedConnectives }
+    ensures counters { WorkedCounterTruths }
+    ensures pieces { WorkedPieces }
+{}
+
+/// Which numbers the clauses of nodes have, and what is an axiom and what is none.
+pub fn axioms_are_worked()
+    ensures kinds { WorkedKinds }
+    ensures axioms { WorkedAxioms }
+{}
+
+/// Which certificates against a rule, and of one set or none, are accepted.
+pub fn certificates_are_worked()
+    ensures against { WorkedAgainst }
+    ensures few_sets { WorkedFewSets }
+{}
+
+/// Which formulas the entries of small sheets imply, and by which least supports.
+pub fn formulas_are_worked()
+    ensures formulas { WorkedFormulas }
+    ensures clashes { WorkedClashes }
+{}
 
 /// The newest entry on which two supports differ decides which one is less.
 pub fn newest_decides()
@@ -73,4 +107,39 @@ pub fn spendings_are_worked()
 /// What searches of a whole small sheet may say that they have spent, and what they may not.
 pub fn whole_spendings_are_worked()
     ensures { WorkedWholeSpendings }
+{}
+
+/// What is enough for a sheet of two parts, part by part and as a whole.
+pub fn budgets_are_worked()
+    ensures { WorkedPartBudgets }
+{}
+
+/// Which edits of entries change nothing, which entries are spare, and what is left of reasons where entries go.
+pub fn spare_entries_are_worked()
+    ensures entering { EnteringMayChange }
+    ensures adding { AddingMayChange }
+    ensures removing { RemovingMayChange }
+    ensures clearing { ClearingMayChange }
+    ensures places { WorkedPlaces }
+    ensures spare { WorkedSpare }
+    ensures reasons { WorkedReasons }
+{}
+
+/// What may be kept together, as it is listed.
+pub fn listings_are_worked()
+    ensures { WorkedListings }
+{}
+
+/// How a cell is displayed of whose two views the newer one alone clashes.
+pub fn displays_are_worked()
+    ensures { WorkedNewerViews }
+{}
+
+/// Which commands need a search, after which too much may be spent: none that changes nothing, and none that clears what is spare.
+pub fn searches_are_worked()
+    ensures changes { SearchesChange }
+    ensures clearing { ClearingSpareIsNoSearch }
+    ensures removing { RemovingSpareIsNoSearch }
+    ensures entering { EnteringNeedsOne }
+    ensures worked { WorkedSearches }
 {}

@@ -1,0 +1,8 @@
+use Rattle.pc_worked_laws.proofs.CertificatesHold.{worked_against, worked_few_sets}
+use Rattle.pc_worked_laws.proofs.worked.certificates_are_worked.Goals as goal
+
+pub returns-clause-against : goal.returns-clause-against
+returns-clause-against c = worked_against
+
+pub returns-clause-few_sets : goal.returns-clause-few_sets
+returns-clause-few_sets c = worked_few_sets
