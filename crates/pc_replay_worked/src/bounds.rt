@@ -1,7 +1,7 @@
 // The longest lines, the most lines and the deepest formulas that a run takes, and one more of each.
 use crate::devices::status_of;
 use crate::roster::{DECLARED, ENTRIES, WEEKEND};
-use crate::sheets::{EQUAL, ends_so, run_with};
+use crate::sheets::{EQUAL, ends_so, is_worked, run_with};
 use pc_port::{MemorySink, MemorySource};
 use pc_replay::Status;
 use std::alloc::{AllocError, Global};
@@ -31,6 +31,52 @@ fn is_negated(alloc: Global, signs: usize, want: &str) -> Result<bool, AllocErro
     ends_behind(alloc, line.as_bytes(), want)
 }
 
+// How a question with so many signs before a formula that never holds ends.
+fn is_asked(alloc: Global, signs: usize, want: &str) -> Result<bool, AllocError> {
+    let signs = "!".repeat(alloc, signs)?;
+    let line = format!(in alloc; "ask {signs}a != b\n")?;
+    ends_behind(alloc, line.as_bytes(), want)
+}
+
+// Whether a run over a sheet of so many rules and these commands ends so.
+fn is_ruled(alloc: Global, rules: usize, block: &str) -> Result<bool, AllocError> {
+    let mut sheet = String::from_str(alloc, "sheet 1\nsort color = red green\ncell a : color\n")?;
+    for number in 0..rules {
+        sheet.push_str(format!(in alloc; "rule r{number} : a = a\n")?.as_str())?;
+    }
+    is_worked(alloc, sheet.as_str(), block)
+}
+
+// Rules and questions where as many rules stand as may, and behind dashes how the run ends and what is printed.
+const AMONG_RULES: &str = "\
+begin
+rule r1 : a = red
+rule r1 : a = 1
+ask a = red
+ask a = blue
+drop r1
+ask a = red
+rule ask : a = a
+ask a = red
+drop r2
+ask a = red
+drop ask
+ask a = red
+--- SomeRefused
+refused 11 limit rules
+refused 8 wrong-sort
+refused 11 limit rules
+refused 5 unknown-name
+ok
+not implied
+ok
+refused 11 limit rules
+ok
+refused 17 duplicate-rule
+ok
+not implied
+";
+
 const TOO_LONG: &str = "TooLong\nrefused 19 too-long\n";
 
 #[test]
@@ -46,6 +92,14 @@ fn deepest_formulas(rt: HostRuntime) -> Result<(), Fail> {
     let alloc = rt.alloc();
     assert!(rt; is_negated(alloc, 128, "Done\nok\n")?);
     assert!(rt; is_negated(alloc, 129, "SomeRefused\nrefused 21 too-deep\n")?);
+    assert!(rt; is_asked(alloc, 126, "Done\nnot implied\n")?);
+    assert!(rt; is_asked(alloc, 127, "SomeRefused\nrefused 21 too-deep\n")?);
+    Ok(())
+}
+
+#[test]
+fn most_rules_and_a_question(rt: HostRuntime) -> Result<(), Fail> {
+    assert!(rt; is_ruled(rt.alloc(), 1024, AMONG_RULES)?);
     Ok(())
 }
 

@@ -24,7 +24,8 @@ LAST\
 end
 ";
 
-// Those three, how the check ends, and what is printed.
+// Those three, how the check ends, and what is printed. Any true axiom may be taken: an atom's with more cells than it reads, in any
+// order, and that a cell hasn't both of two values, in any order.
 const CERTIFICATES: &str = "\
 a = red, red, 4 step ~a=red b=red : 3 1 2/ => Done/accepted/
 a = red, green, 4 step ~a=red b=red : 3 1 2/ => CertRefused/refused rule-broken bc/
@@ -36,6 +37,13 @@ a = red, red, 4 step ~a=red b=red : 3 99 2/ => CertRefused/refused bad-step line
 a = red, red, 4 step ~a=red b=red : 3 4 2/ => CertRefused/refused bad-step line 10/
 a = red, red, 4 step ~a=red b=red : 4/ => CertRefused/refused bad-step line 10/
 a = red, red, 4 stop/ => CertRefused/refused syntax line 10/
+a = red, red, 4 one a red red/ => CertRefused/refused bad-axiom line 10/
+a = red, red, 4 node @ab 1/ => CertRefused/refused bad-axiom line 10/
+a = red, red, 4 atom @ab/ => CertRefused/refused bad-axiom line 10/
+a = red, red, 4 atom @ab a=red/ => CertRefused/refused bad-axiom line 10/
+a = red, red, 4 atom @ab a=red a=red/ => CertRefused/refused bad-axiom line 10/
+a = red, red, 4 atom @ab a=red a=green b=red/ => CertRefused/refused bad-axiom line 10/
+a = red, red, 4 atom @ab b=red a=red c=red/5 one a green red/6 step ~a=red b=red : 3 1 2/ => Done/accepted/
 a = red, red,  => CertRefused/refused wrong-end/
 ";
 

@@ -1,7 +1,7 @@
 // What no clause says: that journals merge, and that their posts are answered, with ample memory; what is printed; and what is where
 // a read or a write fails.
 
-use crate::sheets::{EQUAL, parted, run_with, shelf_of};
+use crate::sheets::{EQUAL, ends_so, parted, shelf_of};
 use pc_port::{MemoryShelf, MemorySink, MemorySource};
 use pc_replay::{Spendings, Status, run};
 use std::alloc::{AllocError, Global};
@@ -31,9 +31,13 @@ fn is_merged(alloc: Global, row: &str) -> Result<bool, AllocError> {
     let row = row.replace(alloc, '/', "\n")?;
     let (asked, want) = row.as_str().split_once(" => ").unwrap_or(("", ""));
     let (file, input) = asked.split_once(';').unwrap_or((asked, ""));
-    let (status, text) = want.split_once('\n').unwrap_or((want, ""));
-    let (ended, out) = run_with(alloc, "merge k.sheet", file.as_bytes(), input.as_bytes())?;
-    Ok(format!(in alloc; "{ended:?}")?.as_str() == status && out.bytes() == text.as_bytes())
+    ends_so(
+        alloc,
+        "merge k.sheet",
+        file.as_bytes(),
+        input.as_bytes(),
+        want,
+    )
 }
 
 #[test]
@@ -69,9 +73,7 @@ fn are_answered(alloc: Global, row: &str) -> Result<bool, AllocError> {
     let row = row.as_str().replace(alloc, '@', usage.as_str())?;
     let (asked, want) = row.as_str().split_once(" => ").unwrap_or(("", ""));
     let (words, input) = asked.split_once(';').unwrap_or((asked, ""));
-    let (status, text) = want.split_once('\n').unwrap_or((want, ""));
-    let (ended, out) = run_with(alloc, words, EQUAL.as_bytes(), input.as_bytes())?;
-    Ok(format!(in alloc; "{ended:?}")?.as_str() == status && out.bytes() == text.as_bytes())
+    ends_so(alloc, words, EQUAL.as_bytes(), input.as_bytes(), want)
 }
 
 #[test]
@@ -174,10 +176,8 @@ fn one_more(alloc: Global) -> Result<Vec<u8>, AllocError> {
     Ok(text)
 }
 
-const TOO_LONG: &[u8] = b"refused 19 too-long\n";
-
-// Whether a run with this file and input ends so.
-fn ends_so(
+// Whether a run with this file and input, whose answer may be as long as a journal, ends so.
+fn comes_to(
     alloc: Global,
     words: &str,
     file: &[u8],
@@ -194,52 +194,23 @@ fn ends_so(
     Ok(ended == status && out.bytes() == want)
 }
 
+// Whether such a run is too long.
+fn is_too_long(alloc: Global, words: &str, file: &[u8], input: &[u8]) -> Result<bool, AllocError> {
+    let told = b"refused 19 too-long\n";
+    comes_to(alloc, words, file, input, Status::TooLong, told)
+}
+
 #[test]
 fn longest_journals(rt: HostRuntime) -> Result<(), Fail> {
     let alloc = rt.alloc();
     let text = longest(alloc)?;
     let more = one_more(alloc)?;
+    let sheet = EQUAL.as_bytes();
     let shown = b"a : -\nb : -\nc : -\n";
-    assert!(rt; ends_so(alloc, "merge k.sheet", &text, &text, Status::Done, &text)?);
-    assert!(rt;
-        ends_so(
-            alloc,
-            "merge k.sheet",
-            &more,
-            b"",
-            Status::TooLong,
-            TOO_LONG
-        )?
-    );
-    assert!(rt;
-        ends_so(
-            alloc,
-            "merge k.sheet",
-            b"",
-            &more,
-            Status::TooLong,
-            TOO_LONG
-        )?
-    );
-    assert!(rt;
-        ends_so(
-            alloc,
-            "posts k.sheet",
-            EQUAL.as_bytes(),
-            &text,
-            Status::Done,
-            shown
-        )?
-    );
-    assert!(rt;
-        ends_so(
-            alloc,
-            "posts k.sheet",
-            EQUAL.as_bytes(),
-            &more,
-            Status::TooLong,
-            TOO_LONG
-        )?
-    );
+    assert!(rt; comes_to(alloc, "merge k.sheet", &text, &text, Status::Done, &text)?);
+    assert!(rt; comes_to(alloc, "posts k.sheet", sheet, &text, Status::Done, shown)?);
+    assert!(rt; is_too_long(alloc, "merge k.sheet", &more, b"")?);
+    assert!(rt; is_too_long(alloc, "merge k.sheet", b"", &more)?);
+    assert!(rt; is_too_long(alloc, "posts k.sheet", sheet, &more)?);
     Ok(())
 }

@@ -2,13 +2,19 @@
 #![tactic(auto)]
 
 #[cfg(test)]
+mod asking;
+#[cfg(test)]
 mod bounds;
+#[cfg(test)]
+mod budgets;
 #[cfg(test)]
 mod certificates;
 #[cfg(test)]
 mod counting;
 #[cfg(test)]
 mod devices;
+#[cfg(test)]
+mod faults;
 #[cfg(test)]
 mod journals;
 #[cfg(test)]

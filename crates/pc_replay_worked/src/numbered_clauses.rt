@@ -1,19 +1,31 @@
-// The clauses of a counting quantifier and of its counters, by their numbers, as certificates take them.
+// The clauses of nodes and of counters, by their numbers, as certificates take them.
 use crate::sheets::ends_so;
 use std::alloc::{AllocError, Global};
 use std::test::Fail;
 
 // One monday at most for three people: three values and the threshold two. So the counters for i and j are, from the one for 1
-// and 1 on, the children 3 to 8.
-const FEW: &str =
-    "sheet 2\nsort p = ann bob cho\nsort d = mon tue\ncell s(p) : d\nrule few : atmost 1 x:p . s(x) = mon\nbegin\n";
+// and 1 on, the children 3 to 8; and so they are where two mondays at least are asked for. Beside these a rule of each other form.
+const SHEET: &str = "\
+sheet 2
+sort p = ann bob cho
+sort d = mon tue
+cell s(p) : d
+rule few : atmost 1 x:p . s(x) = mon
+rule most : atleast 2 x:p . s(x) = mon
+rule imp : s(ann) = mon -> s(bob) = mon
+rule eqv : s(ann) = mon <-> s(bob) = mon
+rule neg : !s(ann) = mon
+rule all : forall x:p . s(x) = mon
+rule some : exists x:p . s(x) = mon
+begin
+";
 
 // A certificate that takes an axiom and goes on to a clause by it alone.
 const CERTIFICATE: &str =
     "certificate 1\nclaim inconsistent\n1 node AXIOM\n2 step CLAUSE : 1\nend\n";
 
 // Nodes with numbers from none to past the last, and the clause of each, or that there is none: the quantifier, and the counters for
-// 1 and 1, for 1 and 2, for 2 and 1, for 2 and 2, and for 3 and 2.
+// 1 and 1, for 1 and 2, for 2 and 1, for 2 and 2, and for 3 and 2; the other count; and the other forms.
 const CLAUSES: &str = "\
 @few 0 => none
 @few 1 => ~@few ~@few/8
@@ -46,6 +58,32 @@ const CLAUSES: &str = "\
 @few/8 3 => @few/8 ~@few/6
 @few/8 4 => @few/8 ~@few/5 ~@few/2
 @few/8 5 => none
+@most 1 => ~@most @most/8
+@most 2 => @most ~@most/8
+@most 3 => none
+@most/8 1 => ~@most/8 @most/6 @most/2
+@imp 0 => none
+@imp 1 => ~@imp ~@imp/0 @imp/1
+@imp 2 => @imp @imp/0
+@imp 3 => @imp ~@imp/1
+@imp 4 => none
+@eqv 1 => ~@eqv ~@eqv/0 @eqv/1
+@eqv 2 => ~@eqv @eqv/0 ~@eqv/1
+@eqv 3 => @eqv @eqv/0 @eqv/1
+@eqv 4 => @eqv ~@eqv/0 ~@eqv/1
+@eqv 5 => none
+@neg 0 => none
+@neg 1 => ~@neg ~@neg/0
+@neg 2 => @neg @neg/0
+@neg 3 => none
+@all 1 => ~@all @all/0
+@all 3 => ~@all @all/2
+@all 4 => @all ~@all/0 ~@all/1 ~@all/2
+@all 5 => none
+@some 1 => @some ~@some/0
+@some 3 => @some ~@some/2
+@some 4 => ~@some @some/0 @some/1 @some/2
+@some 5 => none
 ";
 
 // Whether the certificate with this axiom and this clause is refused so.
@@ -56,7 +94,7 @@ fn is_refused(alloc: Global, axiom: &str, clause: &str, want: &str) -> Result<bo
     ends_so(
         alloc,
         "check k.sheet",
-        FEW.as_bytes(),
+        SHEET.as_bytes(),
         text.as_bytes(),
         want.as_str(),
     )
@@ -85,7 +123,7 @@ fn is_so(alloc: Global, row: &str) -> Result<bool, AllocError> {
 }
 
 #[test]
-fn clauses_of_counts(rt: HostRuntime) -> Result<(), Fail> {
+fn clauses_of_nodes(rt: HostRuntime) -> Result<(), Fail> {
     for row in CLAUSES.lines() {
         assert!(rt; is_so(rt.alloc(), row)?, "{row}");
     }

@@ -1,6 +1,7 @@
 // What could be kept together, and certificates of that, from the bytes of commands to the printed text.
 use crate::certificates::is_written;
 use crate::sheets::{EQUAL, is_worked};
+use std::alloc::{AllocError, Global};
 use std::test::Fail;
 
 // Commands over three equal cells, and behind dashes how the run ends and what is printed: two entries of which either could be
@@ -249,6 +250,77 @@ fn repairs(rt: HostRuntime) -> Result<(), Fail> {
     }
     for block in WRITTEN.split("===\n") {
         assert!(rt; is_written(rt.alloc(), block)?, "{block}");
+    }
+    Ok(())
+}
+
+// What the program's own sheets have before their number of blocks and behind it, but for their entries.
+const BEFORE: &str = "sheet 1\nsort block = 1 .. ";
+
+const BEHIND: &str = "
+sort slot = 1 .. 4
+sort color = red green blue
+cell x(block, slot) : color
+rule chain : forall b:block . x(b, 1) = x(b, 2) & x(b, 2) = x(b, 3)
+rule other : forall b:block . x(b, 3) != x(b, 4)
+";
+
+// The colors that are entered in a block.
+fn colors_of(block: usize) -> (&'static str, &'static str) {
+    match block % 3 {
+        0 => ("red", "red"),
+        1 => ("green", "green"),
+        _ => ("blue", "green"),
+    }
+}
+
+// The sheet of so many blocks: in every third one the two entries contradict each other.
+fn generated(alloc: Global, blocks: usize) -> Result<String, AllocError> {
+    let mut sheet = format!(in alloc; "{BEFORE}{blocks}{BEHIND}")?;
+    for block in 1..blocks.saturating_add(1) {
+        let (first, third) = colors_of(block);
+        let entries = format!(in alloc;
+            "enter x({block}, 1) = {first}\nenter x({block}, 3) = {third}\n"
+        )?;
+        sheet.push_str(entries.as_str())?;
+    }
+    Ok(sheet)
+}
+
+// The certificate of the maximal sets of so many blocks, and its sheet.
+fn are_written(alloc: Global, blocks: usize) -> Result<bool, AllocError> {
+    let sheet = generated(alloc, blocks)?;
+    let block = format!(in alloc;
+        "{sheet}begin\nprove repairs\n--- Done\n--- certificate 1\nclaim repairs\nset\n--- {sheet}begin\n"
+    )?;
+    is_written(alloc, block.as_str())
+}
+
+// Commands over more blocks, and behind dashes how the run ends and what is printed: only what reads all of them is too much.
+const TOO_MANY: &str = "\
+begin
+prove repairs
+whynot x(1, 4) = red
+whynot x(2, 1) = blue
+ask x(2, 1) = x(5, 1) & x(3, 1) = green
+--- SomeRefused
+refused 11 limit sets
+refused 11 limit sets
+refused 11 limit sets
+not implied
+";
+
+// Of 19 blocks six have two maximal sets each, so that there are as many as a certificate may have; of 20 seven have; and of 200
+// there are more than any machine word counts.
+#[test]
+fn sets_of_many_blocks(rt: HostRuntime) -> Result<(), Fail> {
+    assert!(rt; are_written(rt.alloc(), 19)?);
+    for blocks in [20usize, 200] {
+        let sheet = generated(rt.alloc(), blocks)?;
+        assert!(rt;
+            is_worked(rt.alloc(), sheet.as_str(), TOO_MANY)?,
+            "{blocks}"
+        );
     }
     Ok(())
 }

@@ -443,7 +443,7 @@ fn long_files(rt: HostRuntime) -> Result<(), Fail> {
     Ok(())
 }
 
-// A machine that refuses the sheets and the lines that begin with a letter, each letter for another reason.
+// A machine that refuses the sheets and the lines that begin with a sign from a back quote on, each sign for another reason.
 #[derive(Drop)]
 struct Refusing {}
 
@@ -454,7 +454,7 @@ const SPENT: Counts = Counts {
     calls: 340_282_366_920_938_463_463_374_607_431_768_211_455,
 };
 
-const REFUSALS: [Refusal; 28] = [
+const REFUSALS: [Refusal; 31] = [
     Refusal::NotUtf8,
     Refusal::Syntax,
     Refusal::WrongVersion,
@@ -473,9 +473,12 @@ const REFUSALS: [Refusal; 28] = [
     Refusal::Limit(Limited::Cells),
     Refusal::Limit(Limited::Rows),
     Refusal::Limit(Limited::Rules),
+    Refusal::Limit(Limited::Count),
     Refusal::Limit(Limited::Depth),
     Refusal::Limit(Limited::Reads),
+    Refusal::Limit(Limited::Entries),
     Refusal::Limit(Limited::Budget),
+    Refusal::TooManySets,
     Refusal::TooLarge,
     Refusal::Inconsistent,
     Refusal::Spent(SPENT),
@@ -485,8 +488,8 @@ const REFUSALS: [Refusal; 28] = [
     Refusal::TooDeep,
 ];
 
-fn refusal_of(letter: u8) -> Refusal {
-    let place = letter.saturating_sub(b'a') as usize;
+fn refusal_of(sign: u8) -> Refusal {
+    let place = sign.saturating_sub(b'`') as usize;
     if place < REFUSALS.len() {
         REFUSALS[place]
     } else {
@@ -501,7 +504,7 @@ impl Machine for Refusing {
 
     type Notes = u8;
 
-    ghost IsSheet = { λ _ text _. (0 < length text) × (slice_index text 0 < 97) };
+    ghost IsSheet = { λ _ text _. (0 < length text) × (slice_index text 0 < 96) };
 
     ghost RefusesText = { λ _ _ _ _ _ _. Unit {0} };
 
@@ -516,14 +519,14 @@ impl Machine for Refusing {
     fn load(_: Global, text: &[u8], _: u64, _: &mut u8) -> Result<Self, LoadStop<u8>> {
         match text.first() {
             None => Err(LoadStop::Memory),
-            Some(letter) if *letter < b'a' => Ok(Refusing {}),
-            Some(letter) => Err(stop_for(refusal_of(*letter), Some(207), None)),
+            Some(sign) if *sign < b'`' => Ok(Refusing {}),
+            Some(sign) => Err(stop_for(refusal_of(*sign), Some(207), None)),
         }
     }
 
     fn decide(&mut self, _: Global, line: &[u8], _: &mut u8) -> Reply<Page, u8> {
         match line.first() {
-            Some(letter) => Reply::Refused(refusal_of(*letter), None),
+            Some(sign) => Reply::Refused(refusal_of(*sign), None),
             None => Reply::Silent,
         }
     }
@@ -539,45 +542,48 @@ impl Machine for Refusing {
     }
 }
 
-// Each letter with its refusal, as it is told of a command; of the 207th line of a sheet the line stands at the comma, or at the end.
+// Each sign with its refusal, as it is told of a command; of the 207th line of a sheet the line stands at the comma, or at the end.
 const TOLD: &str = "\
-a => 1 not-utf8
-b => 2 syntax
-c => 4 wrong-version
-d => 5 unknown-name
-e => 6 duplicate-name
-f => 7 wrong-arity
-g => 8 wrong-sort
-h => 9 not-a-value
-i => 10 empty-sort
-j => 11 limit, sorts
-k => 11 limit, values
-l => 11 limit, number
-m => 11 limit, tables
-n => 11 limit, families
-o => 11 limit, arity
-p => 11 limit, cells
-q => 11 limit, rows
-r => 11 limit, rules
+` => 1 not-utf8
+a => 2 syntax
+b => 4 wrong-version
+c => 5 unknown-name
+d => 6 duplicate-name
+e => 7 wrong-arity
+f => 8 wrong-sort
+g => 9 not-a-value
+h => 10 empty-sort
+i => 11 limit, sorts
+j => 11 limit, values
+k => 11 limit, number
+l => 11 limit, tables
+m => 11 limit, families
+n => 11 limit, arity
+o => 11 limit, cells
+p => 11 limit, rows
+q => 11 limit, rules
+r => 11 limit, count
 s => 11 limit, depth
 t => 11 limit, reads
-u => 11 limit, budget
-v => 12 too-large
-w => 13 inconsistent
-x => 14 spent, placed=1000000000000 learned=18446744073709551616 calls=340282366920938463463374607431768211455
-y => 16 no-entry
-z => 17 duplicate-rule
-{ => 18 no-rule
-| => 21 too-deep
+u => 11 limit, entries
+v => 11 limit, budget
+w => 11 limit, sets
+x => 12 too-large
+y => 13 inconsistent
+z => 14 spent, placed=1000000000000 learned=18446744073709551616 calls=340282366920938463463374607431768211455
+{ => 16 no-entry
+| => 17 duplicate-rule
+} => 18 no-rule
+~ => 21 too-deep
 ";
 
 // Whether the refusal of a row is told as the row says.
 fn is_refused(alloc: Global, row: &str) -> Result<bool, AllocError> {
-    let (letter, told) = row.split_once(" => ").unwrap_or((row, ""));
+    let (sign, told) = row.split_once(" => ").unwrap_or((row, ""));
     let (number, further) = told.split_once(',').unwrap_or((told, ""));
-    let sheet = format!(in alloc; "{letter}\nbegin\n")?;
+    let sheet = format!(in alloc; "{sign}\nbegin\n")?;
     let told = format!(in alloc; "SheetRefused\nsheet refused {number} line 207{further}\n")?;
-    let command = format!(in alloc; "-\nbegin\n{letter}\n")?;
+    let command = format!(in alloc; "-\nbegin\n{sign}\n")?;
     let answer = format!(in alloc; "SomeRefused\nrefused {number}{further}\n")?;
     Ok(
         ends_well::<Refusing>(alloc, sheet.as_bytes(), 9, told.as_str())?

@@ -140,6 +140,9 @@ value a = red => use a = red|value a = red ; 12 atom @ab a=green b=red|13 atom @
 value c = red => value c = green ==> CertRefused|refused rule-broken bc|
 claim against ask => claim against ab ==> CertRefused|refused rule-broken ask|
 claim against ask => claim against d ==> CertRefused|refused unknown-name line 2|
+4 node @ask 1 => 4 node @ask 0 ==> CertRefused|refused bad-axiom line 9|
+4 node @ask 1 => 4 node @ask/0 1 ==> CertRefused|refused bad-axiom line 9|
+10 atom @ask/0 a=red c=red => 10 atom @ask a=red c=red ==> CertRefused|refused bad-axiom line 15|
 value a = red => use b = red|value a = red ==> CertRefused|refused use-not-entered line 3|
 value a = red => use c = green|value a = red ==> CertRefused|refused use-not-held line 3|
 16 step : 11 15 5| =>  ==> CertRefused|refused wrong-end|

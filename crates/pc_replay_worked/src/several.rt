@@ -164,8 +164,9 @@ c : -
   = green because a = green
 ";
 
-// Whole sheets and commands, and the same: a conflict against the rules beside none and beside another such; a sheet with
-// several entries that is printed as it is; the eighth entry of a cell and the ninth, which comes after every other test.
+// Whole sheets and commands, and the same: a conflict of an older and of a newer entry against the rules beside none, and beside
+// another such; a sheet with several entries that is printed as it is; the eighth entry of a cell and the ninth, which comes after
+// every other test.
 const WHOLE: &str = "\
 sheet 2
 sort color = red green
@@ -177,12 +178,22 @@ begin
 show
 grid
 json
+enter a = green
+also a = red
+show
+json
 --- Done
 a : red, green !
   = green always
   ! red against the rules
 a  red, green  !  green
 [{\"cell\":\"a\",\"conflict\":[[],null],\"entry\":[\"red\",\"green\"],\"implied\":[{\"because\":[],\"value\":\"green\"}]}]
+ok
+ok
+a : green, red !
+  = green always
+  ! red against the rules
+[{\"cell\":\"a\",\"conflict\":[null,[]],\"entry\":[\"green\",\"red\"],\"implied\":[{\"because\":[],\"value\":\"green\"}]}]
 ===
 sheet 1
 sort color = red green blue

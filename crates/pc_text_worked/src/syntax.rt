@@ -82,6 +82,9 @@ why a(c) != 2 => Why { cell: CellTree { name: Name { text: "a" }, args: [Name(Na
 repairs => Repairs
 prove repairs => ProveRepairs
 whynot a(c) = 2 => WhyNot(CellTree { name: Name { text: "a" }, args: [Name(Name { text: "c" })] }, Number(2))
+ask a != 1 => Ask(Compare { left: SideTree { first: Named { name: Name { text: "a" }, args: [] }, rest: [] }, op: Ne, right: SideTree { first: Number(1), rest: [] } })
+ask ask = ask => Ask(
+ask @a = b => TooDeep
 whynot prove = repairs => WhyNot(CellTree { name: Name { text: "prove" }, args: [] }, Name(Name { text: "repairs" }))
 rule r : @!a = b => TooDeep
 show @! => TooDeep
@@ -123,6 +126,10 @@ drop 1
 budget a
 budget -1
 why a < 1
+ask
+ask a
+ask a = b c
+ask r : a = b
 repairs a
 prove
 prove repair
