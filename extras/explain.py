@@ -78,7 +78,8 @@ def claimed(said):
     if re.match(r'not\s+[^\s=!(]', claim):
         return f'No entries imply {claim[4:]}: in each way to keep entries the cell may have another value.', 'not'
     if re.fullmatch(r'against\s+[^\s=!()]+', claim):
-        return f'{given} and all other rules true, rule {claim[8:]} is false.', 'against'
+        denies = ', which says the opposite of what was asked,' if claim[8:].strip() == 'ask' else ''
+        return f'{given} and all other rules true, rule {claim[8:]}{denies} is false.', 'against'
     return f'{given}, the rules imply {claim}.', 'is'
 
 

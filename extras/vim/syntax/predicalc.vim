@@ -18,7 +18,7 @@ syntax match predicalcClaim   "\<\%(\%(inconsistent\|repairs\)\ze\s*$\|\%(not\|a
 " A line begins with its word; a comment is a line of its own.
 syntax match predicalcComment "^\s*;.*$"
 syntax match predicalcWord    "^\s*\%(sheet\|sort\|table\|row\|cell\|rule\|enter\|also\|begin\|clear\|drop\|budget\)\>" nextgroup=predicalcName skipwhite
-syntax match predicalcWord    "^\s*\%(show\|grid\|json\|dump\|why\|whynot\|repairs\|prove\s\+repairs\)\>" nextgroup=predicalcName skipwhite
+syntax match predicalcWord    "^\s*\%(show\|grid\|json\|dump\|ask\|why\|whynot\|repairs\|prove\s\+repairs\)\>" nextgroup=predicalcName skipwhite
 syntax match predicalcWord    "^\s*\%(certificate\|claim\|set\|use\|value\|end\)\>" nextgroup=predicalcClaim,predicalcName skipwhite
 
 " A line of a derivation begins with its number.
