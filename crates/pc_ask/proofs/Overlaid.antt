@@ -1,5 +1,5 @@
 -- What fits the part of an asked sheet that has what is asked, laid over what fits the sheet.
-use Rattle.std.proofs.Common.{◌≡◌, ℕ, ◌-◌, ◌<◌, ◌⊎◌, inl, inr, List, [], ◌∷◌, ◌++◌, length, Some, slice_get, All, Contains, ap, refl, sym, ◌∙◌, subst}
+use Rattle.std.proofs.Common.{◌≡◌, ℕ, ◌-◌, ◌⊎◌, inl, inr, List, [], ◌∷◌, Contains, sym, ◌∙◌, subst}
 use Rattle.std.proofs.lemmas.List.Elements.{All-contains, Contains-append_cases}
 use Rattle.pc_lemmas.proofs.Elements.{all_from, contains_cases, contains_none}
 use Rattle.pc_sheet.specs.Sheet.{Universe, Sheet, Statement, negation}
@@ -15,7 +15,7 @@ use Rattle.pc_parts.proofs.ByReads.{truth_is_by_reads}
 use Rattle.pc_parts.proofs.Consistent.{has_entry_still}
 use Rattle.pc_parts.proofs.Divided.{over, over_assigned, over_here, over_there, part_holds, same_part}
 use Rattle.pc_parts.proofs.PiecesHold.{fitting_is_by_pieces}
-use Rattle.pc_choices.specs.Choices.{IsFitting}
+use Rattle.pc_reason.specs.Fitting.{IsFitting}
 use Rattle.pc_asked.specs.Asked.{asked}
 use Rattle.pc_ask.specs.Asking.{IsAskedPart}
 use Rattle.pc_ask.proofs.Chosen.{shared}

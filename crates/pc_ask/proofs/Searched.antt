@@ -1,10 +1,9 @@
 -- What a solver over the part that has what is asked says of the asked sheet.
-use Rattle.std.proofs.Common.{◌≡◌, ℕ, zero, suc, ◌+◌, ◌*◌, ◌<◌, ◌≤◌, ◌^◌, inl, inr, Bool, true, List, [], ◌∷◌, length, get_or, map, slice_index_or, Some, slice_get, All, AllPairs, Contains, arith, ap, refl, sym, ◌∙◌, subst, zero-add}
+use Rattle.std.proofs.Common.{◌≡◌, ℕ, suc, ◌+◌, ◌*◌, ◌<◌, ◌≤◌, ◌^◌, Bool, true, List, [], ◌∷◌, length, map, slice_index_or, Some, slice_get, All, AllPairs, Contains, arith, ap, sym, ◌∙◌, subst, zero-add}
 use Rattle.std.specs.List.{range_with_len}
 use Rattle.std.proofs.lemmas.List.{length-map}
 use Rattle.std.proofs.lemmas.List.Elements.{All-contains}
 use Rattle.std.proofs.lemmas.List.FromFn.{get_or-range_with_len, length-range_with_len}
-use Rattle.std.proofs.lemmas.Option.{get_or_from_slice_get, slice_get-get_or}
 use Rattle.std.proofs.Math.Nat.{mul-le-mul_left}
 use Rattle.pc_lemmas.proofs.Elements.{all_from, contains_first, contains_later, contains_map, contains_mapped, contains_none}
 use Rattle.pc_lits.specs.declared.literal.Var.{Var}
@@ -24,18 +23,17 @@ use Rattle.pc_ground.specs.Ground.{clauses}
 use Rattle.pc_ground.specs.GroundView.{Grounded}
 use Rattle.pc_ground.specs.Grounded.{grounded}
 use Rattle.pc_ground.specs.Variables.{variable_count}
-use Rattle.pc_parts.specs.Parts.{Part}
 use Rattle.pc_parts.specs.Components.{parts_of}
 use Rattle.pc_parts.specs.PartSheets.{sheet_of}
 use Rattle.pc_parts.proofs.Dividing.{parts_are_a_division}
 use Rattle.pc_parts.proofs.Found.{parts_are_found}
 use Rattle.pc_parts.proofs.PartsCells.{parts_are_of_its_cells}
 use Rattle.pc_components.specs.Laws.{AxiomsAreForTheirSheet}
-use Rattle.pc_components.specs.Pairs.{entry_literal, IsValueOfCell, pair_var}
+use Rattle.pc_components.specs.Pairs.{entry_literal, IsValueOfCell}
 use Rattle.pc_components.specs.Used.{HasValues}
 use Rattle.pc_components.specs.View.{number_of, variable_number}
 use Rattle.pc_components.proofs.Assigned.{has_value, met_are_used, used_are_met}
-use Rattle.pc_choices.specs.Choices.{IsFitting}
+use Rattle.pc_reason.specs.Fitting.{IsFitting}
 use Rattle.pc_asked.specs.Asked.{asked}
 use Rattle.pc_searched.specs.Laws.{AreSearchedBy, PartsAreSearched, problem_of}
 use Rattle.pc_solver.specs.Answers.{Meets, truth_in}
@@ -49,7 +47,7 @@ use Rattle.pc_theory.specs.WholeSpendings.{all_axioms, all_variables, variable_o
 use Rattle.pc_repairs.specs.Searches.{IsWholeSearch, whole_problem}
 use Rattle.pc_repairs.proofs.Asked.{is_number}
 use Rattle.pc_repairs.proofs.WholeSearch.{no_sets, search_is}
-use Rattle.pc_ask.specs.Asking.{IsAskedPart, IsDeniedAt, IsOfAskedPart, IsPartSearch}
+use Rattle.pc_ask.specs.Asking.{IsAskedPart, IsOfAskedPart, IsPartSearch}
 use Rattle.pc_ask.specs.inside.Narrowing.{RefuteSays}
 use Rattle.pc_ask.specs.inside.Parts.{AreAxiomsOver, IsAskable, IsAsked, IsAskedOver, IsTask}
 use Rattle.pc_ask.proofs.Overlaid.{stand}

@@ -1,6 +1,6 @@
 -- The cells that a sheet's rules tie together are tied together in the asked sheet: what its last piece reads ties the read parts.
-use Rattle.std.proofs.Common.{◌≡◌, ◌↔◌, ◌==◌, ℕ, ◌+◌, ◌-◌, ◌<◌, inl, inr, true, List, [], ◌∷◌, ◌++◌, filter, length, map, Some, slice_get, AllPairs, Contains, arith, eqb-true, ap, refl, sym, ◌∙◌, subst, length-append}
-use Rattle.std.specs.List.{AllZip, list_any}
+use Rattle.std.proofs.Common.{◌≡◌, ◌==◌, ℕ, ◌+◌, ◌-◌, inl, inr, true, List, [], ◌∷◌, ◌++◌, filter, map, Contains, eqb-true, ap, sym, ◌∙◌, subst}
+use Rattle.std.specs.List.{AllZip}
 use Rattle.std.proofs.lemmas.List.{map-append}
 use Rattle.std.proofs.lemmas.List.Elements.{All-contains, Contains-append_left, Contains-append_cases}
 use Rattle.pc_lemmas.proofs.Elements.{contains_cases, contains_map, contains_none, kept_is}
@@ -8,8 +8,8 @@ use Rattle.pc_sheet.specs.Sheet.{Universe, Sheet, Statement, negation}
 use Rattle.pc_sheet.specs.WellFormed.{IsWellFormed}
 use Rattle.pc_sheet.specs.declared.ids.CellId.{CellId}
 use Rattle.pc_sheet.specs.declared.ids.Entry.{Entry}
-use Rattle.pc_parts.specs.Pieces.{Piece, piece, pieces, ReadsCell}
-use Rattle.pc_parts.specs.Parts.{Part, AreNeighbours, AreParts, IsChain, IsComponent, IsDivision, part_without_cells}
+use Rattle.pc_parts.specs.Pieces.{Piece, piece, pieces}
+use Rattle.pc_parts.specs.Parts.{Part, AreNeighbours, IsChain, IsComponent, IsDivision, part_without_cells}
 use Rattle.pc_parts.specs.Leaves.{LeavesReadTheCells, cells_of}
 use Rattle.pc_parts.specs.Components.{parts_of}
 use Rattle.pc_parts.specs.PartSheets.{is_among}
@@ -18,12 +18,13 @@ use Rattle.pc_parts.proofs.Divided.{same_part}
 use Rattle.pc_parts.proofs.Dividing.{parts_are_a_division}
 use Rattle.pc_parts.proofs.Found.{parts_are_found}
 use Rattle.pc_parts.proofs.Joining.{among_contains}
-use Rattle.pc_choices.specs.Choices.{cell_number, chosen_parts}
+use Rattle.pc_choices.specs.Choices.{cell_number}
+use Rattle.pc_choices.specs.Chosen.{chosen_parts}
 use Rattle.pc_asked.specs.Asked.{asked}
 use Rattle.pc_repairs.specs.inside.Joining.{IsPartSets}
 use Rattle.pc_repairs.specs.declared.part_sets.PartSets.{PartSets}
 use Rattle.pc_ask.specs.Asking.{IsAskedPart}
-use Rattle.pc_ask.specs.inside.Reading.{are_read, is_cell_of, is_on_some, is_read, AreLastReads}
+use Rattle.pc_ask.specs.inside.Reading.{is_cell_of, is_on_some, is_read, AreLastReads}
 use Rattle.pc_ask.proofs.Lists.{there_any, zip_there}
 use Rattle.pc_ask.proofs.Reading.{pieces_pushed, last_is}
 

@@ -8,7 +8,7 @@ use Rattle.pc_sheet.specs.Sheet.{Universe}
 use Rattle.pc_sheet.specs.Entailment.{cell_sizes}
 use Rattle.pc_sheet.specs.declared.ids.Target.{Target}
 use Rattle.pc_log.specs.Lines.{LogLine}
-use Rattle.pc_reason.specs.Reasons.{IsTargetOf}
+use Rattle.pc_reason.specs.Targets.{IsTargetIn}
 use Rattle.pc_cache.specs.Rows.{targets_of, HasRowOf, AreDistinct, AreEmpty}
 use Rattle.pc_cache.specs.Targets.{targets_of_cell, targets_from, targets}
 use Rattle.pc_cache.specs.inside.Kept.{rows_in, AreRowsIn, IsRowIn, HasSlot, kept_or_none, targets_in}
@@ -207,7 +207,7 @@ fresh_is_kept lines sizes starts slots cells starts_are slots_are few =
     }
 
 pub fresh_rows : (lines : List LogLine) (u : Universe) (starts : List ℕ) (slots : List Slot) (cells : ℕ) → IsKept lines starts slots → slots ≡ slots_of 0 (take cells (cell_sizes u)) → length (cell_sizes u) ≤ cells
-    → ((t : Target) → HasRowOf (rows_in lines slots) t ↔ IsTargetOf u t) × AreDistinct (rows_in lines slots) × AreEmpty (rows_in lines slots)
+    → ((t : Target) → HasRowOf (rows_in lines slots) t ↔ IsTargetIn u t) × AreDistinct (rows_in lines slots) × AreEmpty (rows_in lines slots)
 fresh_rows lines u starts slots cells kept slots_are all =
     let whole : slots ≡ slots_of 0 (cell_sizes u) = slots_are ∙ ap (slots_of 0) (take_all cells (cell_sizes u) all) in (
       λ t. (

@@ -7,7 +7,8 @@
 ghost use Rattle.std.specs.Prelude.{◌≡◌, ◌+◌, ◌↔◌, IfOk, IfSome, IsTrue, OnErr, OnOk, filter, option_map, true};
 ghost use Rattle.pc_sheet.specs.Entailment.{cell_sizes};
 ghost use Rattle.pc_sheet.specs.declared.ids.Target.{Target};
-ghost use Rattle.pc_reason.specs.Reasons.{justification_of, IsTargetOf};
+ghost use Rattle.pc_reason.specs.Reasons.{justification_of};
+ghost use Rattle.pc_reason.specs.Targets.{IsTargetIn};
 ghost use Rattle.pc_cache.specs.Rows.{bytes_of_rows, lacks_row, row_after, row_of, targets_of, uses_entry, AreDistinct, AreEmpty, HasRowOf, HaveTargets};
 ghost use Rattle.pc_cache.specs.Targets.{targets};
 ghost use Rattle.pc_cache.specs.Lent.{IsLentFor};
@@ -56,7 +57,7 @@ impl Cache {
     /// A place for a row of each target of the book, all empty.
     pub fn new(alloc: Global, book: &Book) -> Result<Cache, AllocError>
         ensures order { IfOk result (λ cache. targets_of cache.rows ≡ targets (cell_sizes book.now.universe)) }
-        ensures targets { IfOk result (λ cache. (t : Target) → HasRowOf cache.rows t ↔ IsTargetOf book.now.universe t) }
+        ensures targets { IfOk result (λ cache. (t : Target) → HasRowOf cache.rows t ↔ IsTargetIn book.now.universe t) }
         ensures once { IfOk result (λ cache. AreDistinct cache.rows) }
         ensures empty { IfOk result (λ cache. AreEmpty cache.rows) }
         ensures bytes { IfOk result (λ cache. cache.bytes ≡ 0) }

@@ -3,9 +3,11 @@ use Rattle.std.proofs.Common.{◌≡◌, ℕ, ◌≤◌, Bool, false, List, [], 
 use Rattle.std.specs.Prelude.{bytes_eq}
 use Rattle.std.specs.Char.{digit_value}
 use Rattle.pc_formula.specs.declared.refusal.Refusal.{Refusal}
-use Rattle.pc_cert.specs.Written.{nothing, heading, claims, begins, uses, assigns, derives, ends, WrittenPair, WrittenClaim, written_implied, written_inconsistent, written_repairs, written_unimplied, written_against, WrittenLine}
-use Rattle.pc_cert.specs.Texts.{texts_of, SpellsThis, IsNumberText, IsNameText}
-use Rattle.pc_cert.specs.Line.{IsClaim, IsDenial, SpellsPair, IsClaimForm, IsCertificateForm, IsCertificateLine}
+use Rattle.pc_cert.specs.Written.{nothing, heading, claims, begins, uses, assigns, derives, ends, WrittenLine}
+use Rattle.pc_cert.specs.Claims.{WrittenPair, WrittenClaim, written_implied, written_inconsistent, written_repairs, written_unimplied, written_against, IsClaim, IsDenial, SpellsPair, IsClaimForm}
+use Rattle.pc_cert.specs.Texts.{IsNumberText}
+use Rattle.pc_cert.specs.Words.{texts_of, SpellsThis, IsNameText}
+use Rattle.pc_cert.specs.Line.{IsCertificateForm, IsCertificateLine}
 use Rattle.pc_cert.specs.Trees.{line_of, seen}
 use Rattle.pc_cert.specs.declared.tree.LineTree.{LineTree}
 use Rattle.pc_cert.proofs.Words.{starts_otherwise, heads, tails}

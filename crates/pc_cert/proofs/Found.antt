@@ -10,7 +10,8 @@ use Rattle.pc_elaborate.specs.declared.fault.SortFault.{SortFault}
 use Rattle.pc_elaborate.specs.Elaboration.{IsCell, StandsForValue, IsCellNamed}
 use Rattle.pc_elaborate.specs.FormulaFaults.{IsCellFault, IsValueFault}
 use Rattle.pc_elaborate.specs.Outcome.{IsFoundOrFault, TellsFound, sort_of_cell}
-use Rattle.pc_cert.specs.Meaning.{IsPairNamed, AreValuesNamed}
+use Rattle.pc_cert.specs.Meaning.{AreValuesNamed}
+use Rattle.pc_cert.specs.Claims.{IsPairNamed}
 
 no_error : {A E : Type 0} (r : Result A E) (a : A) (e : E) → r ≡ Ok a → r ≡ Err e → ⊥
 no_error r a e p q = cc

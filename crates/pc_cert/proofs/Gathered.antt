@@ -1,5 +1,5 @@
 -- Lines that are added to what was read.
-use Rattle.std.proofs.Common.{◌≡◌, ◌↔◌, ℕ, suc, ◌+◌, ◌<◌, ◌⊎◌, inl, inr, Bool, true, false, Result, Ok, Err, IfOk, MatchBool, Option, Some, None, List, [], ◌∷◌, ◌++◌, map, length, if◌then◌else◌, ◌≤◌, ◌==◌, append_assoc, refl, ap, ap₂, sym, ◌∙◌, subst, arith}
+use Rattle.std.proofs.Common.{◌≡◌, ◌↔◌, ℕ, suc, ◌+◌, ◌<◌, inl, inr, Bool, true, false, Result, Ok, Err, IfOk, MatchBool, Option, Some, None, List, [], ◌∷◌, ◌++◌, map, length, if◌then◌else◌, ◌≤◌, ◌==◌, append_assoc, refl, ap, ap₂, sym, ◌∙◌, subst, arith}
 use Rattle.std.specs.Option.{option_map, option_or}
 use Rattle.std.proofs.lemmas.List.{map-append, append-nil}
 use Rattle.std.specs.Prelude.{Vec, vec_len}
@@ -10,10 +10,11 @@ use Rattle.pc_sheet.specs.Sheet.{Sheet}
 use Rattle.pc_sheet.specs.declared.ids.Entry.{Entry}
 use Rattle.pc_accept.specs.Literals.{Symbol}
 use Rattle.pc_accept.specs.Accepts as accepts
-use Rattle.pc_cert.specs.Written.{nothing, heading, claims, begins, uses, assigns, derives, ends, WrittenPair, WrittenClaim, WrittenPart, CertificatePart, derived, SaidLine}
-use Rattle.pc_cert.specs.Meaning.{IsPairNamed, IsPartNamed, IsClaimNamed, IsSaidLine}
+use Rattle.pc_cert.specs.Written.{nothing, heading, claims, begins, uses, assigns, derives, ends, WrittenPart, CertificatePart, derived, SaidLine}
+use Rattle.pc_cert.specs.Claims.{WrittenPair, WrittenClaim, IsPairNamed, IsClaimNamed}
+use Rattle.pc_cert.specs.Meaning.{IsPartNamed, IsSaidLine}
 use Rattle.pc_cert.specs.Order.{kind_of, sets_in}
-use Rattle.pc_cert.specs.Text.{SetReading, claim_in, in_front, sets_from, uses_from, values_from, has_entry, has_claim_or_entry, after_from, parts_from}
+use Rattle.pc_cert.specs.Text.{SetReading, claim_in, sets_from, uses_from, values_from, has_claim_or_entry, after_from, parts_from}
 use Rattle.pc_cert.specs.Views.{claim_of, set_of, said_of, literal_of, place_of, part_of, numbered_part_of, places_in, places_of, AppearInOrder}
 use Rattle.pc_cert.specs.Numbered.{StartsWith, AreSymbolNumbers, IsPartTaken}
 use Rattle.pc_cert.specs.Gathered.{IsGathered, IsSaidNext, AddsLine}

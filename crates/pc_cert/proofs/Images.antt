@@ -9,8 +9,9 @@ use Rattle.pc_accept.specs.Axioms.{Axiom, axiom_some, axiom_one, axiom_rule, axi
 use Rattle.pc_elaborate.specs.Elaboration.{IsCellNamed}
 use Rattle.pc_sheet.specs.declared.ids.Entry.{Entry}
 use Rattle.pc_sheet.specs.declared.ids.Target.{Target}
-use Rattle.pc_cert.specs.Written.{WrittenPair, written_implied, written_unimplied, WrittenPart, written_some}
-use Rattle.pc_cert.specs.Meaning.{IsPairNamed, IsTargetNamed, IsClaimNamed, IsAxiomNamed}
+use Rattle.pc_cert.specs.Written.{WrittenPart, written_some}
+use Rattle.pc_cert.specs.Claims.{WrittenPair, written_implied, written_unimplied, IsPairNamed, IsTargetNamed, IsClaimNamed}
+use Rattle.pc_cert.specs.Meaning.{IsAxiomNamed}
 
 same_some : {A : Type 0} (a b : A) → Some a ≡ Some b → a ≡ b
 same_some a b e = cc

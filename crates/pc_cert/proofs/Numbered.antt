@@ -9,11 +9,12 @@ use Rattle.pc_sheet.specs.declared.ids.Entry.{Entry}
 use Rattle.pc_lits.specs.declared.literal.Lit.{Lit}
 use Rattle.pc_accept.specs.Literals.{Symbol, pair, node, Literal}
 use Rattle.pc_cert.specs.Keys.{IsNumberedAs}
-use Rattle.pc_cert.specs.Meaning.{IsPairNamed, IsSymbolNamed, IsLiteralNamed, AreNamedEach}
+use Rattle.pc_cert.specs.Meaning.{IsSymbolNamed, IsLiteralNamed, AreNamedEach}
+use Rattle.pc_cert.specs.Claims.{IsPairNamed, WrittenPair}
 use Rattle.pc_cert.specs.Numbered.{StartsWith, AreNumbered}
 use Rattle.pc_cert.specs.Trees as tree
 use Rattle.pc_cert.specs.Views.{symbol_of, symbol_at, literal_of, place_of, AppearInOrder}
-use Rattle.pc_cert.specs.Written.{WrittenPair, written_pair, WrittenLiteral}
+use Rattle.pc_cert.specs.Written.{written_pair, WrittenLiteral}
 use Rattle.pc_cert.specs.declared.cert.Symbol.{Symbol as SymbolRead}
 use Rattle.pc_cert.specs.declared.tree.LiteralTree.{LiteralTree}
 use Rattle.pc_cert.proofs.EachNamed.{joined, front, fails}

@@ -2,7 +2,8 @@
 use Rattle.std.proofs.Common.{◌≡◌, ◌≢◌, ℕ, List, [], ◌∷◌, ◌++◌, get_or, Bor, codes, refl, sym, ◌∙◌, ap}
 use Rattle.std.specs.List.{AllByRecursion}
 use Rattle.pc_formula.specs.Tree.{Cell, Value}
-use Rattle.pc_cert.specs.Written.{WrittenPair, WrittenPath, WrittenLiteral, WrittenPart, written_some, written_one, written_rule, written_node_clause, written_atom, written_step, written_block}
+use Rattle.pc_cert.specs.Written.{WrittenPath, WrittenLiteral, WrittenPart, written_some, written_one, written_rule, written_node_clause, written_atom, written_step, written_block}
+use Rattle.pc_cert.specs.Claims.{WrittenPair}
 use Rattle.pc_cert.specs.Line.{IsSomeForm, IsOneForm, IsNodeForm, IsAtomForm, IsStep, IsBlockForm, IsPartStarting}
 use Rattle.pc_cert.specs.Trees.{seen}
 use Rattle.pc_cert.proofs.Words.{differ, heads, tails}

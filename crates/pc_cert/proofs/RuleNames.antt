@@ -10,7 +10,7 @@ use Rattle.pc_sheet.specs.Sheet.{NamedStatement, Sheet}
 use Rattle.pc_sheet.specs.Views.{rule_of}
 use Rattle.pc_sheet.specs.WellFormed.{rule_name, AreDifferent}
 use Rattle.pc_sheet.specs.declared.formula.Rule.{Rule}
-use Rattle.pc_cert.specs.Meaning.{IsRuleNamed}
+use Rattle.pc_cert.specs.Claims.{IsRuleNamed}
 use Rattle.pc_cert.specs.Trees.{named_by}
 use Rattle.pc_cert.proofs.Found.{none_is}
 

@@ -3,7 +3,7 @@ use Rattle.std.proofs.Common.{◌≡◌, ℕ, List, Result, Ok, Err, IfOk, sym, 
 use Rattle.pc_token.specs.Token.{split}
 use Rattle.pc_token.proofs.Once.{one_reading}
 use Rattle.pc_formula.specs.Word.{Word, words_of, HasWords}
-use Rattle.pc_cert.specs.Texts.{SpellsWords, SpellsThis}
+use Rattle.pc_cert.specs.Words.{SpellsWords, SpellsThis}
 
 -- a text splits into one list of words
 pub one_words : (text : List ℕ) (ws vs : List Word) → HasWords text ws → HasWords text vs → ws ≡ vs

@@ -2,7 +2,8 @@
 use Rattle.std.proofs.Common.{◌≡◌, ℕ, Bool, true, false, List, [], ◌∷◌, ◌++◌, codes, sym, ◌∙◌, ap}
 use Rattle.std.specs.List.{onto_first}
 use Rattle.std.specs.Prelude.{cond, ◌==◌}
-use Rattle.pc_cert.specs.Written.{WrittenPair, WrittenSymbol, written_pair, written_node}
+use Rattle.pc_cert.specs.Written.{WrittenSymbol, written_pair, written_node}
+use Rattle.pc_cert.specs.Claims.{WrittenPair}
 use Rattle.pc_cert.specs.Texts.{is_path, IsReadText, IsSymbolText, pieces_of}
 use Rattle.pc_cert.proofs.Words.{heads}
 

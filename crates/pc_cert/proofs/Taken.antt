@@ -7,10 +7,11 @@ use Rattle.std.proofs.lemmas.List.{map-append, append-nil}
 use Rattle.std.proofs.lemmas.Slice.Eq.{bytes_eq-Decides}
 use Rattle.pc_sheet.specs.Sheet.{Sheet}
 use Rattle.pc_accept.specs.Accepts.{Claim, implied, inconsistent, repairs, unimplied, against}
-use Rattle.pc_cert.specs.Written.{nothing, heading, claims, begins, uses, assigns, derives, ends, WrittenClaim, written_implied, written_inconsistent, written_repairs, written_unimplied, written_against, WrittenLine, SaidLine}
-use Rattle.pc_cert.specs.Line.{IsClaimForm, IsCertificateForm, IsCertificateLine}
-use Rattle.pc_cert.specs.Texts.{texts_of}
-use Rattle.pc_cert.specs.Meaning.{IsClaimNamed, IsSaidLine}
+use Rattle.pc_cert.specs.Written.{nothing, heading, claims, begins, uses, assigns, derives, ends, WrittenLine, SaidLine}
+use Rattle.pc_cert.specs.Claims.{WrittenClaim, written_implied, written_inconsistent, written_repairs, written_unimplied, written_against, IsClaimForm, IsClaimNamed}
+use Rattle.pc_cert.specs.Line.{IsCertificateForm, IsCertificateLine}
+use Rattle.pc_cert.specs.Words.{texts_of}
+use Rattle.pc_cert.specs.Meaning.{IsSaidLine}
 use Rattle.pc_cert.specs.Order.{LineKind, empty_line, heading_line, target_line, set_line, use_line, value_line, numbered_line, end_line, kind_of, kind_of_claim, kind_of_written, kind_of_written_claim, sets_in, may_stand}
 use Rattle.pc_cert.specs.Standing.{order_of}
 use Rattle.pc_cert.specs.Text.{SaysOfSheet, AllSay, IsCertificateAtFault, formless, nameless, syntax, unknown_name, IsTextReading, fault_at, faulty}

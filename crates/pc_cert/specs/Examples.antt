@@ -1,10 +1,12 @@
 -- Examples of the definitions.
 use Rattle.std.specs.Prelude.{◌≡◌, Bool, true, false, List, [], ◌∷◌, ◌++◌, codes, ℕ, Err}
 use Rattle.std.specs.Str.Lines.{lines}
-use Rattle.pc_cert.specs.Texts.{texts_of, pieces_of, is_negated, without_negation, is_path}
+use Rattle.pc_cert.specs.Texts.{pieces_of, is_negated, without_negation, is_path}
+use Rattle.pc_cert.specs.Words.{texts_of}
 use Rattle.pc_cert.specs.Order.{LineKind, empty_line, heading_line, target_line, inconsistent_line, sets_line, set_line, use_line, value_line, numbered_line, end_line, all_may_stand}
 use Rattle.pc_cert.specs.Line.{IsCertificateLine}
-use Rattle.pc_cert.specs.Written.{nothing, heading, claims, begins, uses, derives, ends, written_inconsistent, written_repairs, WrittenPart, written_step, written_block, blocked, SaidLine}
+use Rattle.pc_cert.specs.Written.{nothing, heading, claims, begins, uses, derives, ends, WrittenPart, written_step, written_block, blocked, SaidLine}
+use Rattle.pc_cert.specs.Claims.{written_inconsistent, written_repairs}
 use Rattle.pc_cert.specs.Meaning.{IsPartNamed}
 use Rattle.pc_cert.specs.Text.{in_front, sets_from, place_meant}
 use Rattle.pc_cert.specs.Views.{AppearInOrder, IsCertTold}

@@ -3,8 +3,9 @@ use Rattle.std.specs.Prelude.{◌≡◌, ℕ, List, [], ◌∷◌, ◌++◌, map
 use Rattle.std.specs.Option.{option_map}
 use Rattle.pc_sheet.specs.Sheet.{Sheet, Universe}
 use Rattle.pc_sheet.specs.declared.ids.Entry.{Entry}
-use Rattle.pc_cert.specs.Written.{WrittenPair, WrittenLine, SaidLine}
-use Rattle.pc_cert.specs.Meaning.{IsPairNamed, IsSaidLine}
+use Rattle.pc_cert.specs.Written.{WrittenLine, SaidLine}
+use Rattle.pc_cert.specs.Claims.{WrittenPair, IsPairNamed}
+use Rattle.pc_cert.specs.Meaning.{IsSaidLine}
 use Rattle.pc_cert.specs.Order.{kind_of, sets_in}
 use Rattle.pc_cert.specs.Text.{claim_in, in_front, sets_from, uses_from, values_from, has_claim_or_entry, after_from, parts_from}
 use Rattle.pc_cert.specs.Views.{claim_of, set_of, said_of, numbered_part_of, places_of, AppearInOrder}

@@ -1,3 +1,5 @@
+pub mod Words
+pub mod Claims
 pub mod Written
 pub mod Texts
 pub mod Line

@@ -6,7 +6,8 @@ use denote.Ref.{Bor}
 use Rattle.pc_sheet.specs.declared.formula.Rule.{Rule}
 use Rattle.pc_sheet.specs.declared.nodes.NodePath.{NodePath}
 use Rattle.pc_formula.specs.Tree.{cell_of, value_of}
-use Rattle.pc_cert.specs.Written.{nothing, heading, claims, begins, uses, assigns, derives, ends, WrittenPair, WrittenPath, WrittenSymbol, written_pair, written_node, WrittenLiteral, WrittenClaim, written_implied, written_inconsistent, written_repairs, written_unimplied, written_against, WrittenPart, written_some, written_one, written_rule, written_node_clause, written_atom, written_step, written_block, WrittenLine}
+use Rattle.pc_cert.specs.Written.{nothing, heading, claims, begins, uses, assigns, derives, ends, WrittenPath, WrittenSymbol, written_pair, written_node, WrittenLiteral, WrittenPart, written_some, written_one, written_rule, written_node_clause, written_atom, written_step, written_block, WrittenLine}
+use Rattle.pc_cert.specs.Claims.{WrittenPair, WrittenClaim, written_implied, written_inconsistent, written_repairs, written_unimplied, written_against}
 use Rattle.pc_cert.specs.declared.tree.PairTree.{PairTree}
 use Rattle.pc_cert.specs.declared.tree.PathTree.{PathTree}
 use Rattle.pc_cert.specs.declared.tree.SymbolTree.{SymbolTree}

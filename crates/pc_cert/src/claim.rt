@@ -1,8 +1,7 @@
 // The readers of claims.
 ghost use Rattle.std.specs.Prelude.{◌≡◌, ◌↔◌, ◌∷◌, [], List, ℕ, IfOk, IsTrue, codes};
-ghost use Rattle.pc_cert.specs.Written.{WrittenClaim, WrittenPair};
-ghost use Rattle.pc_cert.specs.Line.{IsDenial, IsClaimForm};
-ghost use Rattle.pc_cert.specs.Texts.{SpellsThis, IsNameText};
+ghost use Rattle.pc_cert.specs.Claims.{WrittenClaim, WrittenPair, IsDenial, IsClaimForm};
+ghost use Rattle.pc_cert.specs.Words.{SpellsThis, IsNameText};
 ghost use Rattle.pc_cert.specs.Trees.{claim_of, seen};
 
 use crate::part::is_word;

@@ -1,7 +1,8 @@
 // What was read of a certificate so far.
-ghost use Rattle.std.specs.Prelude.{◌≡◌, ◌+◌, ◌<◌, ◌^◌, ◌∷◌, ◌++◌, [], ℕ, List, length, map, IfOk, MatchBool};
+ghost use Rattle.std.specs.Prelude.{◌≡◌, ◌+◌, ◌<◌, ◌^◌, ◌∷◌, ◌++◌, [], List, length, map, IfOk, MatchBool};
 ghost use Rattle.pc_cert.specs.Gathered.{IsGathered, IsSaidNext, AddsLine};
-ghost use Rattle.pc_cert.specs.Meaning.{IsSaidLine, IsPairNamed};
+ghost use Rattle.pc_cert.specs.Meaning.{IsSaidLine};
+ghost use Rattle.pc_cert.specs.Claims.{IsPairNamed};
 ghost use Rattle.pc_cert.specs.Order.{kind_of, sets_in};
 ghost use Rattle.pc_cert.specs.Trees.{claim_of, pair_of, part_of, line_of};
 ghost use Rattle.pc_sheet.specs.declared.ids.Entry.{Entry as TheEntry};

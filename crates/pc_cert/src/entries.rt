@@ -2,7 +2,8 @@
 ghost use Rattle.std.specs.Prelude.{◌≡◌, ◌↔◌, List, Some, map, IfOk};
 ghost use Rattle.std.specs.Option.{option_map};
 ghost use Rattle.pc_sheet.specs.declared.ids.Entry.{Entry};
-ghost use Rattle.pc_cert.specs.Meaning.{IsPairNamed, AreNamedEach};
+ghost use Rattle.pc_cert.specs.Meaning.{AreNamedEach};
+ghost use Rattle.pc_cert.specs.Claims.{IsPairNamed};
 ghost use Rattle.pc_cert.specs.Trees.{pair_of, entries_in};
 
 use crate::lookup::named_entry;

@@ -1,6 +1,7 @@
 // The readers of literals and of what they are about.
 ghost use Rattle.std.specs.Prelude.{◌≡◌, List, map, IfOk};
-ghost use Rattle.pc_cert.specs.Written.{WrittenSymbol, WrittenLiteral, WrittenPair};
+ghost use Rattle.pc_cert.specs.Written.{WrittenSymbol, WrittenLiteral};
+ghost use Rattle.pc_cert.specs.Claims.{WrittenPair};
 ghost use Rattle.pc_cert.specs.Texts.{starts_with_byte, without_negation, IsSymbolText, IsLiteralText, IsReadText, AreAll};
 ghost use Rattle.pc_cert.specs.Trees.{symbol_of, literal_of, pair_of, seen};
 

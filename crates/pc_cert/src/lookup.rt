@@ -8,10 +8,10 @@ ghost use Rattle.pc_accept.specs.Accepts.{Claim as PlainClaim};
 ghost use Rattle.pc_sheet.specs.declared.ids.CellId.{CellId};
 ghost use Rattle.pc_sheet.specs.declared.ids.ValueId.{ValueId};
 ghost use Rattle.pc_elaborate.specs.Elaboration.{IsCellNamed};
-ghost use Rattle.pc_cert.specs.Meaning.{IsPairNamed, AreValuesNamed, IsRuleNamed, IsTargetNamed, IsClaimNamed};
+ghost use Rattle.pc_cert.specs.Meaning.{AreValuesNamed};
+ghost use Rattle.pc_cert.specs.Claims.{IsPairNamed, IsRuleNamed, IsTargetNamed, IsClaimNamed, written_implied, written_unimplied, written_against};
 ghost use Rattle.pc_cert.specs.Trees.{claim_of, pair_of};
 ghost use Rattle.pc_cert.specs.Views.{claim_of as plain_claim};
-ghost use Rattle.pc_cert.specs.Written.{written_implied, written_unimplied, written_against};
 
 use crate::cert::Claim;
 use crate::tree::{ClaimTree, PairTree};

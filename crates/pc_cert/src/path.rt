@@ -1,8 +1,8 @@
 // The readers of names and paths.
 ghost use Rattle.std.specs.Prelude.{◌≡◌, ◌++◌, ◌==◌, ℕ, List, IfOk, codes};
-ghost use Rattle.std.specs.List.{slice_split};
 ghost use Rattle.pc_cert.specs.Written.{WrittenPath};
-ghost use Rattle.pc_cert.specs.Texts.{IsNameText, IsNumberText, IsPathText, AreAll, pieces_of};
+ghost use Rattle.pc_cert.specs.Texts.{IsNumberText, IsPathText, AreAll, pieces_of};
+ghost use Rattle.pc_cert.specs.Words.{IsNameText};
 ghost use Rattle.pc_cert.specs.Trees.{path_of, seen};
 
 use crate::number::read_number;

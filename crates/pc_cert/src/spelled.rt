@@ -1,9 +1,9 @@
 // The readers of texts that are split into tokens: cells, values, and cells with values.
 ghost use Rattle.std.specs.Prelude.{◌≡◌, Bool, IfOk};
 ghost use Rattle.pc_formula.specs.Tree.{Cell, Value, cell_of, value_of};
-ghost use Rattle.pc_cert.specs.Written.{WrittenPair};
-ghost use Rattle.pc_cert.specs.Texts.{SpellsThis, IsWholePair, IsCellText, IsValueText, IsReadText};
-ghost use Rattle.pc_cert.specs.Line.{IsWordPair, IsClaim, IsDenial, SpellsPair};
+ghost use Rattle.pc_cert.specs.Claims.{WrittenPair, IsWholePair, IsWordPair, IsClaim, IsDenial, SpellsPair};
+ghost use Rattle.pc_cert.specs.Texts.{IsCellText, IsValueText, IsReadText};
+ghost use Rattle.pc_cert.specs.Words.{SpellsThis};
 ghost use Rattle.pc_cert.specs.Trees.{pair_of, claimed_of};
 
 use crate::texts::Spelled;

@@ -1,10 +1,10 @@
 // The texts of a line, and how a text splits into tokens.
-ghost use Rattle.std.specs.Prelude.{◌≡◌, ◌↔◌, List, IfOk, MatchOption};
+ghost use Rattle.std.specs.Prelude.{◌≡◌, List, IfOk, MatchOption};
 ghost use Rattle.std.specs.Str.{IsUtf8};
 ghost use Rattle.std.specs.List.{AllByRecursion};
 ghost use Rattle.pc_token.specs.Token.{IsTokenOf};
 ghost use Rattle.pc_formula.specs.Word.{Word, words_of, HasWords, HasShortNames};
-ghost use Rattle.pc_cert.specs.Texts.{texts_of, SpellsWords};
+ghost use Rattle.pc_cert.specs.Words.{texts_of, SpellsWords};
 ghost use Rattle.pc_cert.specs.Trees.{seen};
 
 use pc_formula::{Refusal, Words, has_short_names};

@@ -18,9 +18,10 @@ use Rattle.pc_canonical.proofs.Cutting.{Ends, space, cut_name}
 use Rattle.pc_canonical.proofs.CuttingStatements.{all_letters, letters}
 use Rattle.pc_canonical.proofs.Signs.{cut_op}
 use Rattle.pc_canonical.proofs.Unbroken.{is_line_end, cuts_unbroken}
-use Rattle.pc_cert.specs.Written.{heading, claims, begins, uses, assigns, derives, ends, written_implied, written_inconsistent, written_repairs, written_unimplied, written_against, WrittenLine, SaidLine}
-use Rattle.pc_cert.specs.Texts.{texts_of, SpellsThis}
-use Rattle.pc_cert.specs.Line.{IsCertificateLine, IsWordPair, IsDenial, StartsWithText}
+use Rattle.pc_cert.specs.Written.{heading, claims, begins, uses, assigns, derives, ends, WrittenLine, SaidLine}
+use Rattle.pc_cert.specs.Claims.{written_implied, written_inconsistent, written_repairs, written_unimplied, written_against, IsWordPair, IsDenial, StartsWithText}
+use Rattle.pc_cert.specs.Words.{texts_of, SpellsThis}
+use Rattle.pc_cert.specs.Line.{IsCertificateLine}
 use Rattle.pc_cert.specs.Order.{kind_of, kind_of_written}
 use Rattle.pc_cert.specs.Meaning.{IsSaidLine}
 use Rattle.pc_cert_text.specs.CertificateText.{number_text, behind_blank, derivation_line_text, equality_text, claim_text, name_of_rule_at}

@@ -18,9 +18,11 @@ use Rattle.pc_writer.proofs.CellLemmas.{entered_cell, entered_value}
 use Rattle.pc_canonical.specs.Declarations.{written_value, written_cell}
 use Rattle.pc_canonical.proofs.Unbroken.{is_line_end}
 use Rattle.pc_cert.specs.Written.{WrittenPart, written_some, written_one, written_rule, written_node_clause, written_atom, written_step, written_block, CertificatePart, taken, blocked}
-use Rattle.pc_cert.specs.Texts.{texts_of, AreAll, IsReadText, IsNumberText, IsLiteralText}
+use Rattle.pc_cert.specs.Texts.{AreAll, IsReadText, IsNumberText, IsLiteralText}
+use Rattle.pc_cert.specs.Words.{texts_of}
 use Rattle.pc_cert.specs.Line.{FollowsPart, part_word}
-use Rattle.pc_cert.specs.Meaning.{AreNamedEach, IsPairNamed, IsLiteralNamed, IsPartNamed}
+use Rattle.pc_cert.specs.Meaning.{AreNamedEach, IsLiteralNamed, IsPartNamed}
+use Rattle.pc_cert.specs.Claims.{IsPairNamed}
 use Rattle.pc_cert_text.specs.CertificateText.{number_text, tight_cell_text, read_text, name_of_rule_at, path_text, literal_text, behind_blank, axiom_text, derivation_line_text}
 use Rattle.pc_cert_back.specs.Said.{part_of}
 use Rattle.pc_cert_back.proofs.Marks.{IsFree, free_join, number_plain, number_some, number_text_is, IsWordText, plain_word}

@@ -13,7 +13,8 @@ use Rattle.pc_token.specs.Token.{is_blank}
 use Rattle.pc_accept.specs.Literals.{Symbol, pair, node, Literal}
 use Rattle.pc_accept.specs.Writable.{IsPathOf, IsSymbolOf}
 use Rattle.pc_cert.specs.Written.{WrittenPath, WrittenSymbol, written_pair, written_node, WrittenLiteral}
-use Rattle.pc_cert.specs.Texts.{AreAll, IsNumberText, IsNameText, IsPathText, IsSymbolText, IsLiteralText, starts_with_byte, is_negated}
+use Rattle.pc_cert.specs.Texts.{AreAll, IsNumberText, IsPathText, IsSymbolText, IsLiteralText, starts_with_byte, is_negated}
+use Rattle.pc_cert.specs.Words.{IsNameText}
 use Rattle.pc_cert.specs.Meaning.{IsNodeNamed, IsSymbolNamed, IsLiteralNamed}
 use Rattle.pc_canonical.proofs.Cutting.{name_nonempty}
 use Rattle.pc_canonical.proofs.Scalars.{name_utf8}

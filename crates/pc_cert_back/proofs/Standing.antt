@@ -1,7 +1,7 @@
 -- The name of a rule stands for it.
 use Rattle.std.proofs.Common.{◌≡◌, ℕ, ◌<◌, length, Option, None, Some, slice_get, IsSomeAnd, refl}
 use Rattle.pc_sheet.specs.Sheet.{NamedStatement, Sheet}
-use Rattle.pc_cert.specs.Meaning.{IsRuleNamed}
+use Rattle.pc_cert.specs.Claims.{IsRuleNamed}
 use Rattle.pc_cert_text.specs.CertificateText.{name_of_found_rule, name_of_rule_at}
 use Rattle.pc_lemmas.proofs.Elements.{element_at}
 

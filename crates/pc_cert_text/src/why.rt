@@ -1,5 +1,5 @@
 //! Why a target is implied: the certificate of its reason, for whatever has reasons.
-ghost use Rattle.pc_reason.specs.Reasons.{IsTargetOf};
+ghost use Rattle.pc_reason.specs.Targets.{IsTargetIn};
 ghost use Rattle.pc_cert_text.specs.Why.{WritesWhy};
 
 use crate::certificate::write_reason;
@@ -15,7 +15,7 @@ pub fn write_why<R: Reasons, O: Sink>(
     target: Target,
     out: &mut O,
 ) -> Result<(), Failed>
-    requires { IsTargetOf (R.sheet reasons.now).universe target }
+    requires { IsTargetIn (R.sheet reasons.now).universe target }
     ensures { WritesWhy (R.sheet reasons.now) target O.given O.faults out.old out.new result }
 {
     match reasons.reason(target) {

@@ -1,23 +1,11 @@
--- What may be kept together, part by part: the parts of a sheet that have entries, and an assignment that fits.
+-- What may be kept together, part by part: the parts of a sheet that have entries, and their maximal sets.
 use Rattle.std.specs.Prelude.{◌≡◌, ℕ, List, map, Some, slice_get}
 use Rattle.pc_sheet.specs.Sheet.{Sheet}
-use Rattle.pc_sheet.specs.Entailment.{IsAssignment, Fits}
 use Rattle.pc_sheet.specs.declared.ids.CellId.{CellId}
-use Rattle.pc_sheet.specs.declared.ids.ValueId.{ValueId}
 use Rattle.pc_parts.specs.Parts.{Part}
-use Rattle.pc_parts.specs.Components.{parts_of}
 use Rattle.pc_parts.specs.PartSheets.{sheet_of}
-use Rattle.pc_parts.specs.Unions.{parts_with_entries}
 use Rattle.pc_world_list.specs.Worlds.{WorldView, AreExact}
-
--- an assignment of the sheet that makes every rule true
-pub record IsFitting (sheet : Sheet) (a : List ValueId) : Type 0 where
-  pub assigns : IsAssignment sheet.universe a
-  pub fits : Fits sheet a
-
--- those of the sheet's parts that have an entry on their cells, in the order of the parts
-abbrev pub chosen_parts : Sheet → List Part
-chosen_parts sheet = parts_with_entries sheet (parts_of sheet)
+use Rattle.pc_choices.specs.Chosen.{chosen_parts}
 
 -- the chosen part of that number
 abbrev pub IsChosen : Sheet → ℕ → Part → Type 0

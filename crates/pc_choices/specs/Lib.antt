@@ -1,4 +1,5 @@
 pub mod Choices
+pub mod Chosen
 pub mod FewSets
 pub mod RuleCertificates
 pub mod SetCertificates

@@ -1,6 +1,8 @@
 //! Whatever knows which entries could be kept together, part by part.
 ghost use Rattle.std.specs.Prelude.{◌≡◌, ◌<◌, length};
-ghost use Rattle.pc_choices.specs.Choices.{AreCellsOf, AreSetsOf, chosen_parts, IsFitting};
+ghost use Rattle.pc_choices.specs.Choices.{AreCellsOf, AreSetsOf};
+ghost use Rattle.pc_choices.specs.Chosen.{chosen_parts};
+ghost use Rattle.pc_reason.specs.Fitting.{IsFitting};
 
 use pc_logic::Assignment;
 use pc_reason::Reasons;

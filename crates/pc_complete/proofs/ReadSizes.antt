@@ -25,7 +25,7 @@ use Rattle.pc_parts.proofs.Divided.{apart_first, apart_rest}
 use Rattle.pc_parts.proofs.Found.{parts_are_found}
 use Rattle.pc_parts.proofs.Joining.{among_contains, contains_among}
 use Rattle.pc_parts.proofs.LeafReads.{leaves_read_the_cells}
-use Rattle.pc_choices.specs.Choices.{chosen_parts}
+use Rattle.pc_choices.specs.Chosen.{chosen_parts}
 use Rattle.pc_asked.specs.Asked.{asked}
 use Rattle.pc_ask.specs.Asking.{IsOnRead, Reads, ReadsPart}
 use Rattle.pc_ask.proofs.Lists.{any_there, filtered_is, there_any}

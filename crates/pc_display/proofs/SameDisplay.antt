@@ -19,7 +19,7 @@ use Rattle.pc_sheet.specs.declared.ids.ValueId.{ValueId}
 use Rattle.pc_sheet.specs.declared.ids.Entry.{Entry}
 use Rattle.pc_sheet.specs.declared.ids.Target.{Target}
 use Rattle.pc_writer.specs.Spelling.{cell_text, sort_of}
-use Rattle.pc_reason.specs.Reasons.{IsTargetOf}
+use Rattle.pc_reason.specs.Targets.{IsTargetIn}
 use Rattle.pc_display.specs.OneDisplay.{HasOneText, SheetHasOneDisplay}
 use Rattle.pc_display.specs.Supports.{IsSupportFor, IsReasoning, Reasoning}
 use Rattle.pc_display.specs.Show.{are_several, cell_lines, cells_below, conflict_line, conflict_of, have_conflict, head_line, listed_texts, reason_of, value_line, show_text}
@@ -61,7 +61,7 @@ module _ {X A : Type 0} (below : ℕ → List X) (item : ℕ → X) (none : belo
       ∙ sym (ap (map g) (more n) ∙ map-append g (below n) (item n ∷ []))
 
 module _ (sheet : Sheet) (formed : IsWellFormed sheet) (one other : Reasoning) (is : IsReasoning sheet one) (so : IsReasoning sheet other) where
-  same_at : (t : Target) → IsTargetOf sheet.universe t → one t ≡ other t
+  same_at : (t : Target) → IsTargetIn sheet.universe t → one t ≡ other t
   same_at t target = same_reason sheet t (one t) (other t) (is t target) (so t target)
 
   same_conflict : (e : Entry) → IsEntryOf sheet.universe e → conflict_of one e ≡ conflict_of other e

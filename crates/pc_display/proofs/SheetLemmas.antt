@@ -15,7 +15,7 @@ use Rattle.pc_sheet.specs.declared.ids.Entry.{Entry}
 use Rattle.pc_sheet.specs.declared.ids.Target.{Target}
 use Rattle.pc_writer.specs.Spelling.{sort_of}
 use Rattle.pc_writer.proofs.CellLemmas.{cell_size, entered_value}
-use Rattle.pc_reason.specs.Reasons.{IsTargetOf}
+use Rattle.pc_reason.specs.Targets.{IsTargetIn}
 use Rattle.pc_display.specs.Supports.{IsSupportFor, IsReasoning, Reasoning}
 use Rattle.pc_display.specs.Show.{conflict_of, have_conflict}
 use Rattle.pc_display.specs.inside.Entered.{HaveValuesOf}
@@ -52,7 +52,7 @@ module _ (sheet : Sheet) (formed : IsWellFormed sheet) where
       subst (All (IsEntryOf sheet.universe)) equal (sublist_all (IsEntryOf sheet.universe) sheet.entries r is.supports.among formed.entries.each)
 
 module _ (u : Universe) (c : CellId) (within : c.0 < length (cell_sizes u)) where
-  pub is_target : (v : ValueId) (holds : Bool) → v.0 < size_of u (sort_of u c) → IsTargetOf u (record { cell = c; value = v; holds = holds })
+  pub is_target : (v : ValueId) (holds : Bool) → v.0 < size_of u (sort_of u c) → IsTargetIn u (record { cell = c; value = v; holds = holds })
   is_target v holds below = let P : Option ℕ → Type 0 = λ found. IsSomeAnd found (λ n. v.0 < n) in subst P (sym (cell_size u c within)) below
 
   some_number : (m n : ℕ) → Some m ≡ Some n → m ≡ n

@@ -4,7 +4,7 @@ use Rattle.pc_sheet.specs.Sheet.{Sheet}
 use Rattle.pc_sheet.specs.Entailment.{IsImplied, IsLeastSupport}
 use Rattle.pc_sheet.specs.declared.ids.Entry.{Entry}
 use Rattle.pc_sheet.specs.declared.ids.Target.{Target}
-use Rattle.pc_reason.specs.Reasons.{IsTargetOf}
+use Rattle.pc_reason.specs.Targets.{IsTargetIn}
 
 -- a support, or none
 abbrev pub Reasoning : Type 0
@@ -17,4 +17,4 @@ IsSupportFor sheet t (Some s) = IsLeastSupport sheet s t
 
 -- of every target of the sheet
 abbrev pub IsReasoning : Sheet → Reasoning → Type 0
-IsReasoning sheet reason = (t : Target) → IsTargetOf sheet.universe t → IsSupportFor sheet t (reason t)
+IsReasoning sheet reason = (t : Target) → IsTargetIn sheet.universe t → IsSupportFor sheet t (reason t)

@@ -2,7 +2,7 @@
 ghost use Rattle.std.specs.Prelude.{◌≡◌};
 ghost use Rattle.std.specs.Option.{option_copied};
 ghost use Rattle.pc_sheet.specs.Sheet.{Sheet};
-ghost use Rattle.pc_reason.specs.Reasons.{IsTargetOf};
+ghost use Rattle.pc_reason.specs.Targets.{IsTargetIn};
 ghost use Rattle.pc_display.specs.Supports.{IsSupportFor};
 
 use pc_logic::Book;
@@ -20,7 +20,7 @@ pub trait Supports {
 
     /// The least support of the target, or `None` exactly where it isn't implied. It takes no memory.
     fn support(&self, target: Target) -> Option<&[Entry]>
-        requires { IsTargetOf (sheet self.now).universe target }
+        requires { IsTargetIn (sheet self.now).universe target }
         ensures { IsSupportFor (sheet self.now) target (option_copied result) };
 }
 

@@ -22,7 +22,8 @@ use Rattle.pc_ground.specs.Ground.{clauses, lit_of}
 use Rattle.pc_ground.specs.Naming.{names_of}
 use Rattle.pc_ground.specs.Laws.{ClausesAreOfAxioms, SymbolsAreVariables, VariablesHaveTheirPlaces, PairsAreVariables}
 use Rattle.pc_reason.specs.Derivation.{literal_named, line_named, AreLinesNamedBeside, entries_from}
-use Rattle.pc_reason.specs.Reasons.{IsTargetOf, Justification, certificate_of}
+use Rattle.pc_reason.specs.Reasons.{Justification, certificate_of}
+use Rattle.pc_reason.specs.Targets.{IsTargetIn}
 use Rattle.pc_reason.specs.Refutations.{certificate_against}
 use Rattle.pc_reason.specs.Written.{AcceptedReasonsAreWritable, AcceptedRefutationsAreWritable, DerivedLinesAreWritable}
 use Rattle.pc_justify.specs.Found.{clause_at_place, IsDerivedBeside, AreBlocksNamed, IsOfTarget}
@@ -86,7 +87,7 @@ module _ (of_axioms : ClausesAreOfAxioms) (symbols : SymbolsAreVariables) (place
 
 -- ---- a target
 
-module _ (places : VariablesHaveTheirPlaces) (pairs : PairsAreVariables) (sheet : Sheet) (t : Target) (support : List Entry) (is_target : IsTargetOf sheet.universe t)
+module _ (places : VariablesHaveTheirPlaces) (pairs : PairsAreVariables) (sheet : Sheet) (t : Target) (support : List Entry) (is_target : IsTargetIn sheet.universe t)
     (entries : (e : Entry) → Contains support e → IsEntryOf sheet.universe e) where
   abbrev allowed_for : List Literal
   allowed_for = map negated_entry support ++ literal_of_target t ∷ []

@@ -18,7 +18,8 @@ use Rattle.pc_ground.specs.Variables.{variable_count}
 use Rattle.pc_ground.specs.Ground.{clauses}
 use Rattle.pc_ground.specs.Naming.{names_of}
 use Rattle.pc_reason.specs.Derivation.{literal_named, line_named, AreLinesNamedBeside, AreLinesNamed, entries_from}
-use Rattle.pc_reason.specs.Reasons.{IsTargetOf, Justifies}
+use Rattle.pc_reason.specs.Reasons.{Justifies}
+use Rattle.pc_reason.specs.Targets.{IsTargetIn}
 use Rattle.pc_accept.specs.Writable.{AreLinesBeside, AreLinesOf, IsWritableCertificate}
 use Rattle.pc_reason.specs.Refutations.{certificate_against}
 use Rattle.pc_reason.specs.Written.{AreOfSheet}
@@ -37,7 +38,7 @@ NamedLinesDerive = (sheet : Sheet) (lines : List LogLine) → IsDerivation (clau
 -- accepted certificate, with whatever fitting assignment has the support. It can be written where the names are of what the sheet has.
 abbrev pub TrimmedLinesJustify : Type 0
 TrimmedLinesJustify = (sheet : Sheet) (t : Target) (support : List Entry) (shown : List ValueId) (log lines : List LogLine) (last : ℕ)
-    → IsWellFormed sheet → AreOfSheet sheet (names_of sheet) → IsTargetOf sheet.universe t → IsLeastSupport sheet support t → Shows sheet support shown
+    → IsWellFormed sheet → AreOfSheet sheet (names_of sheet) → IsTargetIn sheet.universe t → IsLeastSupport sheet support t → Shows sheet support shown
     → length log < 10 ^ 18 → IsDerivedAt sheet log last → IsOfTarget sheet support t (clause_at_place (clauses sheet) log last) → IsTrimmed log last [] lines
     → Justifies sheet (names_of sheet) t (record { support = support; shown = shown; lines = lines })
 

@@ -14,8 +14,8 @@ use Rattle.pc_sheet.specs.declared.ids.FamilyId.{FamilyId}
 use Rattle.pc_sheet.specs.declared.ids.ValueId.{ValueId}
 use Rattle.pc_sheet.specs.declared.ids.Entry.{Entry}
 use Rattle.pc_elaborate.specs.Elaboration.{StandsForValue, IsValueAmong, AreValuesOf, TakesArguments, IsCell, IsCellNamed}
-use Rattle.pc_cert.specs.Written.{WrittenPair}
-use Rattle.pc_cert.specs.Meaning.{IsPairNamed, AreNamedEach}
+use Rattle.pc_cert.specs.Claims.{WrittenPair, IsPairNamed}
+use Rattle.pc_cert.specs.Meaning.{AreNamedEach}
 
 -- ---- what a list has at a place
 

@@ -18,9 +18,10 @@ use Rattle.pc_cert.specs.declared.cert.CertLine.{CertLine}
 use Rattle.pc_cert.specs.declared.cert.SaidSet.{SaidSet}
 use Rattle.pc_cert.specs.declared.cert.CertPart.{CertPart}
 use Rattle.pc_cert.specs.declared.cert.CertPart.TheVariants as part
-use Rattle.pc_cert.specs.Written.{nothing, heading, claims, begins, uses, assigns, derives, ends, WrittenLine, WrittenClaim, written_against, WrittenPart, written_some, written_one, written_atom, CertificatePart, taken, derived, blocked, SaidLine}
+use Rattle.pc_cert.specs.Written.{nothing, heading, claims, begins, uses, assigns, derives, ends, WrittenLine, WrittenPart, written_some, written_one, written_atom, CertificatePart, taken, derived, blocked, SaidLine}
+use Rattle.pc_cert.specs.Claims.{WrittenClaim, written_against, IsClaimNamed}
 use Rattle.pc_cert.specs.Order.{LineKind, kind_of, sets_in}
-use Rattle.pc_cert.specs.Meaning.{IsAxiomNamed, IsPartNamed, IsClaimNamed, IsSaidLine}
+use Rattle.pc_cert.specs.Meaning.{IsAxiomNamed, IsPartNamed, IsSaidLine}
 use Rattle.pc_cert.specs.Text.{SetReading, CertificateReading, certificate, IsTextReading, whole, AllSay, SayTogether, in_front, sets_from, uses_from, values_from, parts_from, claim_in}
 use Rattle.pc_cert.specs.Views.{IsCertTold, symbols_of, reading_of, said_of, set_of, part_of, numbered_part_of, place_of, places_in, places_of, AppearInOrder, AreInFirstOrder}
 use Rattle.pc_cert.specs.ReadFor.{IsSaidOf, IsNamedIn, IsOverSheet, IsPartOver, IsSetSaidOf, IsBare, IsReadFor}

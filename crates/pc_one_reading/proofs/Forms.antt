@@ -6,9 +6,11 @@ use Rattle.std.proofs.lemmas.Slice.Eq.{bytes_eq-Decides}
 use Rattle.pc_token.specs.declared.token.Kind.TheVariants.{Equal}
 use Rattle.pc_formula.specs.Word.{Word, name}
 use Rattle.pc_formula.specs.Equation.{equality}
-use Rattle.pc_cert.specs.Written.{nothing, heading, claims, begins, uses, assigns, derives, ends, WrittenPair, WrittenClaim, written_implied, written_inconsistent, written_repairs, written_unimplied, written_against, WrittenLine}
-use Rattle.pc_cert.specs.Texts.{texts_of, IsWholePair, SpellsThis, IsNumberText}
-use Rattle.pc_cert.specs.Line.{IsWordPair, IsClaim, IsDenial, SpellsPair, IsClaimForm, IsCertificateForm, IsCertificateLine}
+use Rattle.pc_cert.specs.Written.{nothing, heading, claims, begins, uses, assigns, derives, ends, WrittenLine}
+use Rattle.pc_cert.specs.Claims.{WrittenPair, WrittenClaim, written_implied, written_inconsistent, written_repairs, written_unimplied, written_against, IsWholePair, IsWordPair, IsClaim, IsDenial, SpellsPair, IsClaimForm}
+use Rattle.pc_cert.specs.Texts.{IsNumberText}
+use Rattle.pc_cert.specs.Words.{texts_of, SpellsThis}
+use Rattle.pc_cert.specs.Line.{IsCertificateForm, IsCertificateLine}
 use Rattle.pc_one_reading.proofs.Words.{heads, tails, differ}
 use Rattle.pc_one_reading.proofs.Texts.{IsUnambiguous, pair_once, spelled_once, spelled_apart}
 use Rattle.pc_one_reading.proofs.Parts.{derivation_once}

@@ -15,8 +15,9 @@ use Rattle.pc_accept.specs.Accepts.{Claim, implied, inconsistent, repairs, unimp
 use Rattle.pc_accept.specs.Axioms.{axiom_some, axiom_one, axiom_rule, axiom_node, axiom_atom}
 use Rattle.pc_elaborate.specs.Elaboration.{IsCell, StandsForValue, IsCellNamed}
 use Rattle.pc_elaborate.specs.Laws.{HaveOneOutcome}
-use Rattle.pc_cert.specs.Written.{nothing, heading, claims, begins, uses, assigns, derives, ends, WrittenPair, WrittenPath, WrittenSymbol, written_pair, written_node, WrittenLiteral, WrittenClaim, written_implied, written_inconsistent, written_repairs, written_unimplied, written_against, WrittenPart, written_some, written_one, written_rule, written_node_clause, written_atom, written_step, written_block, WrittenLine, CertificatePart, taken, derived, blocked, SaidLine}
-use Rattle.pc_cert.specs.Meaning.{IsPairNamed, AreValuesNamed, IsRuleNamed, IsNodeNamed, IsSymbolNamed, IsLiteralNamed, AreNamedEach, IsPartNamed, IsTargetNamed, IsClaimNamed, IsSaidLine}
+use Rattle.pc_cert.specs.Written.{nothing, heading, claims, begins, uses, assigns, derives, ends, WrittenPath, WrittenSymbol, written_pair, written_node, WrittenLiteral, WrittenPart, written_some, written_one, written_rule, written_node_clause, written_atom, written_step, written_block, WrittenLine, CertificatePart, taken, derived, blocked, SaidLine}
+use Rattle.pc_cert.specs.Claims.{WrittenPair, WrittenClaim, written_implied, written_inconsistent, written_repairs, written_unimplied, written_against, IsPairNamed, IsRuleNamed, IsTargetNamed, IsClaimNamed}
+use Rattle.pc_cert.specs.Meaning.{AreValuesNamed, IsNodeNamed, IsSymbolNamed, IsLiteralNamed, AreNamedEach, IsPartNamed, IsSaidLine}
 
 -- ---- lists
 

@@ -3,7 +3,8 @@ use Rattle.std.proofs.Common.{◌≡◌, ◌≢◌, ℕ, List, [], ◌∷◌, �
 use Rattle.std.specs.Prelude.{codes}
 use Rattle.std.specs.List.{AllByRecursion}
 use Rattle.pc_formula.specs.Tree.{Cell, Value}
-use Rattle.pc_cert.specs.Written.{WrittenPair, WrittenPath, WrittenLiteral, WrittenPart, written_some, written_one, written_rule, written_node_clause, written_atom, written_step, written_block}
+use Rattle.pc_cert.specs.Written.{WrittenPath, WrittenLiteral, WrittenPart, written_some, written_one, written_rule, written_node_clause, written_atom, written_step, written_block}
+use Rattle.pc_cert.specs.Claims.{WrittenPair}
 use Rattle.pc_cert.specs.Texts.{IsCellText, IsValueText, IsReadText, IsNumberText, IsPathText, IsLiteralText, AreAll}
 use Rattle.pc_cert.specs.Line.{IsSomeForm, IsOneForm, IsNodeForm, IsAtomForm, IsStep, IsBlockForm, part_word, FollowsPart, IsPartForm, IsDerivationForm}
 use Rattle.pc_one_reading.proofs.Words.{heads, tails, differ}

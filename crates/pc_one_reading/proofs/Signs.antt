@@ -16,9 +16,8 @@ use Rattle.pc_formula.specs.Word.{Word, name, reserved, number, sign, word, word
 use Rattle.pc_formula.specs.Tree.{Cell, Value}
 use Rattle.pc_formula.specs.Value.{DerivesName, a_name, DerivesNumber, a_number, DerivesInt, natural, negative, DerivesValue, by_name, by_integer, Listed, last, next, InParentheses, enclosed, Arguments, no_argument, arguments, DerivesCell, a_cell}
 use Rattle.pc_formula.specs.Equation.{equality}
-use Rattle.pc_cert.specs.Written.{WrittenPair}
-use Rattle.pc_cert.specs.Texts.{texts_of, SpellsThis, IsNameText}
-use Rattle.pc_cert.specs.Line.{IsClaim, IsDenial}
+use Rattle.pc_cert.specs.Claims.{WrittenPair, IsClaim, IsDenial}
+use Rattle.pc_cert.specs.Words.{texts_of, SpellsThis, IsNameText}
 use Rattle.pc_one_reading.proofs.Words.{heads, tails, false_no_true, both_first, both_second}
 
 -- ---- what is derived is a front of the words

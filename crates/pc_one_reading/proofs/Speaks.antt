@@ -10,10 +10,11 @@ use Rattle.pc_sheet.specs.WellFormed.{IsEntryOf}
 use Rattle.pc_accept.specs.Literals.{Symbol, pair, node, Literal}
 use Rattle.pc_accept.specs.Axioms.{Axiom, axiom_some, axiom_one, axiom_rule, axiom_node, axiom_atom}
 use Rattle.pc_accept.specs.Accepts as accepts
-use Rattle.pc_cert.specs.Written.{nothing, heading, claims, begins, uses, assigns, derives, ends, WrittenLine, WrittenClaim, written_implied, written_inconsistent, written_repairs, written_unimplied, written_against, WrittenPart, WrittenSymbol, written_pair, written_node, WrittenLiteral, written_some, written_one, written_rule, written_node_clause, written_atom, written_step, written_block, CertificatePart, taken, derived, blocked, SaidLine}
+use Rattle.pc_cert.specs.Written.{nothing, heading, claims, begins, uses, assigns, derives, ends, WrittenLine, WrittenPart, WrittenSymbol, written_pair, written_node, WrittenLiteral, written_some, written_one, written_rule, written_node_clause, written_atom, written_step, written_block, CertificatePart, taken, derived, blocked, SaidLine}
+use Rattle.pc_cert.specs.Claims.{WrittenClaim, written_implied, written_inconsistent, written_repairs, written_unimplied, written_against, IsClaimNamed}
 use Rattle.pc_cert.specs.Order.{LineKind, empty_line, heading_line, use_line, value_line, numbered_line, end_line, set_line, kind_of, kind_of_claim, sets_in, is_set}
-use Rattle.pc_cert.specs.Meaning.{AreNamedEach, IsSymbolNamed, IsLiteralNamed, IsAxiomNamed, IsPartNamed, IsClaimNamed, IsSaidLine}
-use Rattle.pc_cert.specs.Text.{SetReading, CertificateReading, certificate, IsTextReading, whole, AllSay, SayTogether, in_front, sets_from, uses_from, values_from, parts_from, claim_in}
+use Rattle.pc_cert.specs.Meaning.{AreNamedEach, IsSymbolNamed, IsLiteralNamed, IsAxiomNamed, IsPartNamed, IsSaidLine}
+use Rattle.pc_cert.specs.Text.{CertificateReading, certificate, IsTextReading, whole, AllSay, SayTogether, in_front, sets_from, uses_from, values_from, parts_from, claim_in}
 use Rattle.pc_one_reading.specs.Laws.{IsSheetSymbol, IsSheetAxiom, IsPartOverSheet, IsSheetClaim, IsSheetSet, SpeaksOf, WhatIsReadSpeaksOfTheSheet}
 use Rattle.pc_one_reading.proofs.Entries.{each_at, cell_below, entry_of, entry_named, entries_named}
 

@@ -4,9 +4,10 @@ use Rattle.std.proofs.lemmas.List.Folds.{list_any-append}
 use Rattle.std.proofs.lemmas.Option.{same_Some}
 use Rattle.pc_sheet.specs.Sheet.{Sheet}
 use Rattle.pc_accept.specs.Accepts.{Claim, implied, inconsistent, repairs, unimplied, against}
-use Rattle.pc_cert.specs.Written.{nothing, heading, claims, begins, uses, assigns, derives, ends, WrittenClaim, written_implied, written_inconsistent, written_repairs, written_unimplied, written_against, WrittenLine, SaidLine}
+use Rattle.pc_cert.specs.Written.{nothing, heading, claims, begins, uses, assigns, derives, ends, WrittenLine, SaidLine}
+use Rattle.pc_cert.specs.Claims.{WrittenClaim, written_implied, written_inconsistent, written_repairs, written_unimplied, written_against, IsClaimNamed}
 use Rattle.pc_cert.specs.Order.{LineKind, kind_of, kind_of_claim, kind_of_written, kind_of_written_claim, is_on_sets, is_before_entries, is_claim, is_numbered, is_end, is_heading, has, lacks, has_value_since, sets_in, may_stand, all_may_stand}
-use Rattle.pc_cert.specs.Meaning.{IsClaimNamed, IsSaidLine}
+use Rattle.pc_cert.specs.Meaning.{IsSaidLine}
 use Rattle.pc_cert.specs.Text.{AllSay, in_front, sets_from, uses_from, values_from, claim_in}
 use Rattle.pc_one_reading.proofs.Words.{false_no_true, both_first, both_second}
 

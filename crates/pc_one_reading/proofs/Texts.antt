@@ -9,8 +9,10 @@ use Rattle.pc_formula.specs.Tree.{Cell, Value}
 use Rattle.pc_formula.specs.Front.{StopsLevel}
 use Rattle.pc_formula.specs.Value.{DerivesCell, DerivesValue}
 use Rattle.pc_formula.specs.Equation.{equality, IsEquation}
-use Rattle.pc_cert.specs.Written.{WrittenPair, WrittenPath, WrittenSymbol, written_pair, written_node, WrittenLiteral}
-use Rattle.pc_cert.specs.Texts.{IsWholeCell, IsWholeValue, IsWholePair, SpellsThis, IsCellText, IsValueText, IsReadText, IsNumberText, AreAll, pieces_of, IsPathText, without_negation, is_path, IsSymbolText, IsLiteralText}
+use Rattle.pc_cert.specs.Written.{WrittenPath, WrittenSymbol, written_pair, written_node, WrittenLiteral}
+use Rattle.pc_cert.specs.Claims.{WrittenPair, IsWholePair}
+use Rattle.pc_cert.specs.Texts.{IsWholeCell, IsWholeValue, IsCellText, IsValueText, IsReadText, IsNumberText, AreAll, pieces_of, IsPathText, without_negation, is_path, IsSymbolText, IsLiteralText}
+use Rattle.pc_cert.specs.Words.{SpellsThis}
 use Rattle.pc_one_reading.proofs.Words.{heads, tails, false_no_true}
 
 -- a line has one reading, and words start with one value and one cell and are one equation at most

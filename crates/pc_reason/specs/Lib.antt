@@ -1,5 +1,7 @@
 pub mod Derivation
+pub mod Fitting
 pub mod Reasons
 pub mod Refutations
 pub mod Shows
+pub mod Targets
 pub mod Written

@@ -1,7 +1,8 @@
 //! Whatever has a reason of each implied target: what displays and certificates are made from.
 ghost use Rattle.std.specs.Prelude.{◌≡◌};
 ghost use Rattle.pc_sheet.specs.Sheet.{Sheet};
-ghost use Rattle.pc_reason.specs.Reasons.{IsTargetOf, IsReasonFor};
+ghost use Rattle.pc_reason.specs.Reasons.{IsReasonFor};
+ghost use Rattle.pc_reason.specs.Targets.{IsTargetIn};
 
 use crate::reason::Reason;
 use pc_logic::Book;
@@ -19,6 +20,6 @@ pub trait Reasons {
     /// Why the target is implied: its least support, an assignment that makes every rule true and has the support, and a
     /// derivation that is accepted and can be written; `None` exactly where the target isn't implied. It takes no memory.
     fn reason(&self, target: Target) -> Option<Reason<'_>>
-        requires { IsTargetOf (sheet self.now).universe target }
+        requires { IsTargetIn (sheet self.now).universe target }
         ensures { IsReasonFor (sheet self.now) target result };
 }

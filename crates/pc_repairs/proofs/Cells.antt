@@ -20,7 +20,7 @@ use Rattle.pc_components.specs.Pairs.{entry_literal, target_literal, pair_var, I
 use Rattle.pc_components.specs.Used.{HasValues}
 use Rattle.pc_components.specs.View.{number_of}
 use Rattle.pc_parts.specs.Laws.{AgreeAt}
-use Rattle.pc_reason.specs.Reasons.{IsTargetOf}
+use Rattle.pc_reason.specs.Targets.{IsTargetIn}
 use Rattle.pc_searched.specs.Laws.{WholeIsSearched}
 use Rattle.pc_solver.specs.Answers.{Meets, truth_in}
 use Rattle.pc_solver.specs.Solver.{SolverView, AreOwn, clauses_used}
@@ -59,7 +59,7 @@ module _ (sheet : Sheet) (g : Grounded) (axioms : List ℕ) (variables : List Va
       let own : IsValueOfCell (cell_sizes sheet.universe) c x = subst (λ ns. IsValueOfCell ns c x) sizes_here below in
       (cell_there c (in_range (cell_sizes sheet.universe) c.0 x.0 own), own)
 
-  pub target_value : (target : Target) → IsTargetOf sheet.universe target → IsValueOfCell g.sizes target.cell target.value
+  pub target_value : (target : Target) → IsTargetIn sheet.universe target → IsValueOfCell g.sizes target.cell target.value
   target_value target is = subst (λ ns. IsValueOfCell ns target.cell target.value) (sym sizes_here) (value_below sheet.universe (record { cell = target.cell; value = target.value }) is)
 
   pub entry_value : (e : Entry) → Contains sheet.entries e → IsValueOfCell g.sizes e.cell e.value

@@ -1,5 +1,5 @@
 -- Assignments that are joined of one for each part have exactly the maximal sets of the whole.
-use Rattle.std.proofs.Common.{◌≡◌, ◌≢◌, ℕ, ◌<◌, ◌≤◌, ◌↔◌, ◌==◌, inl, inr, Bool, true, false, List, [], ◌∷◌, ◌++◌, filter, length, get_or, map, min, Option, None, Some, slice_get, All, AllPairs, Contains, arith, eqb-true, eq-eqb, ap, refl, sym, ◌∙◌, subst}
+use Rattle.std.proofs.Common.{◌≡◌, ◌≢◌, ℕ, ◌<◌, ◌≤◌, inl, inr, true, false, List, [], ◌∷◌, ◌++◌, length, map, Option, None, Some, slice_get, All, AllPairs, Contains, arith, eqb-true, eq-eqb, ap, refl, sym, ◌∙◌, subst}
 use Rattle.std.specs.List.{AllZip}
 use Rattle.std.proofs.lemmas.Bool.{cases_Bool, cases_lt, false≢true}
 use Rattle.std.proofs.lemmas.List.{length-map}
@@ -8,14 +8,14 @@ use Rattle.std.proofs.lemmas.List.Kept.{AllPairs-filter}
 use Rattle.std.proofs.lemmas.List.Sorted.{length_permutation}
 use Rattle.std.specs.List.Sorted.{IsPermutation}
 use Rattle.pc_sheet.specs.Sheet.{Sheet}
-use Rattle.pc_sheet.specs.Entailment.{cell_sizes, IsAssignment, Fits, Shows, HasAll, HasEntry, IsSublist}
+use Rattle.pc_sheet.specs.Entailment.{cell_sizes, IsAssignment, Fits, Shows, HasAll, HasEntry}
 use Rattle.pc_sheet.specs.MaximalSets.{ListsExactly, IsMaximalSet, AreRulesConsistent}
 use Rattle.pc_sheet.specs.Sizes.{product}
 use Rattle.pc_sheet.specs.WellFormed.{IsEntryOf, IsWellFormed}
 use Rattle.pc_sheet.specs.declared.ids.ValueId.{ValueId}
 use Rattle.pc_sheet.specs.declared.ids.Entry.{Entry}
 use Rattle.pc_laws.proofs.Contained.{filter_sub, sub_contained}
-use Rattle.pc_lemmas.proofs.Elements.{all_from, contains_first, contains_later, contains_cases, contains_none, contains_mapped, contains_map, kept, kept_is, zip_weaker}
+use Rattle.pc_lemmas.proofs.Elements.{all_from, contains_first, contains_later, contains_none, contains_mapped, contains_map, kept, kept_is}
 use Rattle.pc_parts.specs.Laws.{AgreeAt, AreDivided}
 use Rattle.pc_parts.specs.Parts.{Part, AreApart, IsDivision, cell_count}
 use Rattle.pc_parts.specs.Components.{parts_of}
@@ -31,7 +31,9 @@ use Rattle.pc_parts.proofs.LawsHold.{divisions_divide}
 use Rattle.pc_parts.proofs.PartsCells.{parts_are_of_its_cells}
 use Rattle.pc_parts.proofs.UnionsHold.{maximal_sets_are_unions}
 use Rattle.pc_world_list.specs.Worlds.{WorldView, set_of, AreExact}
-use Rattle.pc_choices.specs.Choices.{cell_number, chosen_parts, IsFitting}
+use Rattle.pc_choices.specs.Choices.{cell_number}
+use Rattle.pc_choices.specs.Chosen.{chosen_parts}
+use Rattle.pc_reason.specs.Fitting.{IsFitting}
 use Rattle.pc_choices.specs.FewSets.{HasManySets}
 use Rattle.pc_repairs.specs.inside.Joining.{IsCapped, IsPartSets, IsSized, had_by, is_had, is_value, joined_by, laid_by_world, laid_over, many_sets, world_had}
 use Rattle.pc_repairs.specs.declared.part_sets.PartSets.{PartSets}

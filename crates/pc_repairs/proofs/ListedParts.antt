@@ -1,17 +1,17 @@
 -- Parts as they are listed.
-use Rattle.std.proofs.Common.{◌≡◌, ℕ, zero, suc, ◌<◌, Bool, true, false, List, [], ◌∷◌, drop, filter, length, get_or, map, take, All, AllPairs, Contains, Some, slice_get, arith, ap, refl, sym, ◌∙◌, subst}
+use Rattle.std.proofs.Common.{◌≡◌, ℕ, ◌<◌, true, false, List, [], ◌∷◌, drop, length, get_or, map, All, AllPairs, Contains, Some, slice_get, arith, ap, refl, sym, ◌∙◌, subst}
 use Rattle.std.specs.List.{AllZip}
 use Rattle.std.specs.List.Sorted.{IsPermutation}
 use Rattle.std.proofs.lemmas.Bool.{false≢true}
 use Rattle.std.proofs.lemmas.List.Elements.{All-contains}
 use Rattle.pc_sheet.specs.Sheet.{Sheet}
-use Rattle.pc_sheet.specs.Entailment.{cell_sizes, IsSublist}
+use Rattle.pc_sheet.specs.Entailment.{IsSublist}
 use Rattle.pc_sheet.specs.MaximalSets.{ListsExactly, IsMaximalSet}
 use Rattle.pc_sheet.specs.WellFormed.{IsEntryOf, IsWellFormed}
 use Rattle.pc_sheet.specs.declared.ids.CellId.{CellId}
 use Rattle.pc_sheet.specs.declared.ids.Entry.{Entry}
 use Rattle.pc_laws.proofs.Contained.{filter_sub, sub_contained, sub_of_sub}
-use Rattle.pc_lemmas.proofs.Elements.{all_from, all_unmapped, contains_first, element_at, kept_is}
+use Rattle.pc_lemmas.proofs.Elements.{all_from, contains_first, element_at, kept_is}
 use Rattle.pc_parts.specs.Components.{parts_of}
 use Rattle.pc_parts.specs.Parts.{Part, cell_count}
 use Rattle.pc_parts.specs.PartSheets.{is_on, entries_on, sheet_of}
@@ -19,8 +19,9 @@ use Rattle.pc_parts.specs.Unions.{are_some, has_entries}
 use Rattle.pc_parts.proofs.Found.{parts_are_found}
 use Rattle.pc_parts.proofs.PartsCells.{parts_are_of_its_cells}
 use Rattle.pc_theory.proofs.Lists.{at_contained, at_within, zip_at, zip_length}
-use Rattle.pc_world_list.specs.Worlds.{WorldView, set_of}
-use Rattle.pc_choices.specs.Choices.{cell_number, chosen_parts, IsChosen}
+use Rattle.pc_world_list.specs.Worlds.{set_of}
+use Rattle.pc_choices.specs.Choices.{cell_number, IsChosen}
+use Rattle.pc_choices.specs.Chosen.{chosen_parts}
 use Rattle.pc_repairs.specs.Listed.{ComesFirst, IsListedPart, ListedPart}
 use Rattle.pc_repairs.specs.Listings.{aged_set}
 use Rattle.pc_repairs.specs.inside.Ages.{world_of}

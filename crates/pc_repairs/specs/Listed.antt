@@ -7,7 +7,7 @@ use Rattle.pc_sheet.specs.declared.ids.CellId.{CellId}
 use Rattle.pc_sheet.specs.declared.ids.Entry.{Entry}
 use Rattle.pc_parts.specs.Parts.{Part}
 use Rattle.pc_parts.specs.PartSheets.{sheet_of}
-use Rattle.pc_choices.specs.Choices.{chosen_parts}
+use Rattle.pc_choices.specs.Chosen.{chosen_parts}
 use Rattle.pc_writer.specs.Spelling.{cell_text, entries_text}
 use Rattle.pc_writer.specs.SheetText.{ended}
 

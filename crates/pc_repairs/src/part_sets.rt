@@ -1,7 +1,7 @@
 //! The maximal sets of each part that has entries, as they are lent.
 ghost use Rattle.std.specs.Prelude.{IfOk};
 ghost use Rattle.std.specs.List.{AllZip};
-ghost use Rattle.pc_choices.specs.Choices.{chosen_parts};
+ghost use Rattle.pc_choices.specs.Chosen.{chosen_parts};
 ghost use Rattle.pc_repairs.specs.inside.Joining.{IsPartSets};
 
 use pc_choices::Choices;

@@ -3,7 +3,7 @@
 ghost use Rattle.std.specs.Prelude.{◌≡◌, ◌↔◌, ◌<◌, ◌^◌, [], IfErr, IfOk, IsTrue, All, length, true};
 ghost use Rattle.pc_sheet.specs.Entailment.{HasTarget, IsAssignment};
 ghost use Rattle.pc_ground.specs.Grounded.{grounded};
-ghost use Rattle.pc_reason.specs.Reasons.{IsTargetOf};
+ghost use Rattle.pc_reason.specs.Targets.{IsTargetIn};
 ghost use Rattle.pc_ground.specs.Variables.{variable_count};
 ghost use Rattle.pc_solver.specs.Spending.{SpendsIn, StopSays};
 ghost use Rattle.pc_world_list.specs.Worlds.{AreExact, set_at};
@@ -66,7 +66,7 @@ fn add_lacking(
     requires task { IsTask task.book.now task.ground.now task.axioms.now task.variables.now task.cells.now }
     requires exact { AreExact task.book.now sets.now }
     requires place { place < length sets.now }
-    requires target { IsTargetOf task.book.now.universe target }
+    requires target { IsTargetIn task.book.now.universe target }
     requires holds { target.holds ≡ true }
     requires asked { IsAsked task.book.now [] search.old.solver log.old }
     requires shown { IsAssignment task.book.now.universe search.old.shown }
@@ -109,7 +109,7 @@ fn add_all(
 ) -> Result<bool, Stop>
     requires task { IsTask task.book.now task.ground.now task.axioms.now task.variables.now task.cells.now }
     requires exact { AreExact task.book.now sets.now }
-    requires target { IsTargetOf task.book.now.universe target }
+    requires target { IsTargetIn task.book.now.universe target }
     requires holds { target.holds ≡ true }
     requires asked { IsAsked task.book.now [] search.old.solver log.old }
     requires shown { IsAssignment task.book.now.universe search.old.shown }
@@ -145,7 +145,7 @@ pub fn lacking(
 ) -> Result<Option<Worlds>, Stop>
     requires ground { ground.now ≡ grounded book.now }
     requires exact { AreExact book.now sets.now }
-    requires target { IsTargetOf book.now.universe target }
+    requires target { IsTargetIn book.now.universe target }
     requires holds { target.holds ≡ true }
     requires new_log { log.old ≡ [] }
     requires few_learned { tally.old.learned < 2 ^ 120 }

@@ -1,5 +1,5 @@
 -- The targets that an edit searches again are enough, and what their search changes.
-use Rattle.std.proofs.Common.{◌≡◌, ℕ, ◌≤◌, inl, inr, Bool, true, false, List, [], map, filter, Contains, Option, None, Some, IfSome, slice_get, ap, refl, sym, ◌∙◌, subst}
+use Rattle.std.proofs.Common.{◌≡◌, ℕ, ◌≤◌, inl, inr, Bool, false, List, [], map, filter, Contains, Option, None, Some, IfSome, slice_get, ap, sym, ◌∙◌, subst}
 use Rattle.std.specs.List.{AllZip}
 use Rattle.std.proofs.lemmas.Bool.{cases_Bool}
 use Rattle.pc_sheet.specs.Sheet.{Sheet}
@@ -8,7 +8,7 @@ use Rattle.pc_sheet.specs.declared.ids.CellId.{CellId}
 use Rattle.pc_sheet.specs.declared.ids.Entry.{Entry}
 use Rattle.pc_sheet.specs.declared.ids.Target.{Target}
 use Rattle.pc_components.specs.View.{Kept, number_of, AreComponentsOf}
-use Rattle.pc_reason.specs.Reasons.{IsTargetOf, Justification}
+use Rattle.pc_reason.specs.Reasons.{Justification}
 use Rattle.pc_edits.specs.Edits.{edited, MayStay}
 use Rattle.pc_cache.specs.Rows.{TargetRow, row_of}
 use Rattle.pc_search.specs.Found.{steps_in, IsFound}

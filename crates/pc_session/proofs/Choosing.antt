@@ -1,20 +1,21 @@
 -- Which parts have entries, as marks.
 use Rattle.std.proofs.Common.{◌≡◌, ◌≢◌, ℕ, zero, suc, ◌+◌, ◌<◌, ◌==◌, inl, inr, Bool, true, false, cond, List, [], ◌∷◌, ◌++◌, filter, map, length, get_or, set, take, replicate, Contains, Some, slice_get, arith, eq-eqb, eqb-true, ap, refl, sym, ◌∙◌, subst}
-use Rattle.std.proofs.lemmas.Bool.{cases_Bool, cases_eq, false≢true}
+use Rattle.std.proofs.lemmas.Bool.{cases_Bool, false≢true}
 use Rattle.std.proofs.lemmas.List.{length-map, length-take-le, append-nil, take_more}
 use Rattle.std.proofs.lemmas.List.Elements.{filter-append, Contains-push}
 use Rattle.pc_sheet.specs.Sheet.{Sheet}
 use Rattle.pc_sheet.specs.declared.ids.CellId.{CellId}
 use Rattle.pc_sheet.specs.declared.ids.Entry.{Entry}
-use Rattle.pc_lemmas.proofs.Elements.{contains_first, contains_none, kept}
+use Rattle.pc_lemmas.proofs.Elements.{contains_none, kept}
 use Rattle.pc_lemmas.proofs.Options.{same_some}
 use Rattle.pc_parts.specs.Components.{parts_of}
 use Rattle.pc_parts.specs.Parts.{Part}
-use Rattle.pc_parts.specs.PartSheets.{is_on, entries_on}
+use Rattle.pc_parts.specs.PartSheets.{is_on}
 use Rattle.pc_parts.specs.Unions.{are_some, has_entries}
 use Rattle.pc_parts.proofs.Joining.{contains_among, lacks_among}
 use Rattle.pc_cache.specs.Rows.{TargetRow}
-use Rattle.pc_choices.specs.Choices.{AreCellsOf, AreSetsOf, chosen_parts, IsChosen, IsFitting}
+use Rattle.pc_choices.specs.Choices.{AreCellsOf, AreSetsOf, IsChosen}
+use Rattle.pc_choices.specs.Chosen.{chosen_parts}
 use Rattle.pc_components.specs.View.{number_of}
 use Rattle.pc_edits.specs.Edits.{IsEditOf, edited}
 use Rattle.pc_edits.proofs.OtherParts.{same_entries}
@@ -22,8 +23,7 @@ use Rattle.pc_theory.specs.Theories.{rules_alone, TheoryView, IsTheory, IsPartNu
 use Rattle.pc_theory.proofs.Lists.{none_some, at_within, zip_at, zip_length}
 use Rattle.pc_theory.proofs.OfWhole.{all_searched}
 use Rattle.pc_theory.proofs.Parted.{number_within}
-use Rattle.pc_search.specs.Parts.{AreWorldsOf, IsBase}
-use Rattle.pc_sheet.specs.declared.ids.ValueId.{ValueId}
+use Rattle.pc_search.specs.Parts.{AreWorldsOf}
 use Rattle.pc_world_list.specs.Worlds.{WorldView}
 use Rattle.pc_session.specs.inside.Chosen.{AreChosen, places_from, places_of}
 use Rattle.pc_session.specs.inside.Sessions.{IsSession}
@@ -171,9 +171,6 @@ places_more marks n below =
     ∙ (sym (places_push (take n marks) (get_or marks n false) 0) ∙ ap places_of (sym (take_more marks n false below)))
 
 -- ---- what a session lends
-
-pub fitting_of : (sheet : Sheet) (base : List ValueId) → IsBase sheet base → IsFitting sheet base
-fitting_of sheet base is = record { assigns = is.assigns; fits = is.fits }
 
 pub place_within : (sheet : Sheet) (theory : TheoryView) → IsTheory (rules_alone sheet) theory → (marks : List Bool) → AreChosen sheet marks → (i : ℕ) → i < length (chosen_parts sheet) → i < length (places_of marks)
 place_within sheet theory known marks are i below = omega (arith, below, many_chosen sheet theory known marks are)

@@ -11,7 +11,8 @@ use Rattle.pc_sheet.specs.declared.ids.Target.{Target}
 use Rattle.pc_parts.specs.Parts.{Part}
 use Rattle.pc_parts.specs.Components.{parts_of}
 use Rattle.pc_components.specs.View.{number_of}
-use Rattle.pc_reason.specs.Reasons.{IsTargetOf, Justification}
+use Rattle.pc_reason.specs.Reasons.{Justification}
+use Rattle.pc_reason.specs.Targets.{IsTargetIn}
 use Rattle.pc_edits.specs.Reasons.{IsRowFor, IsJustifying}
 use Rattle.pc_edits.specs.Edits.{IsTakenOf, MayStay}
 use Rattle.pc_edits.specs.Laws.{OtherPartsStay}
@@ -67,7 +68,7 @@ module _ (others : OtherPartsStay) (sheet : Sheet) (theory : TheoryView) (rows :
     (c : CellId) (gone : Entry → Bool) (of_cell : IsTakenOf c gone) (i : ℕ) (p : Part) (cells : List CellId) (numbered : IsPartNumbered (rules_alone sheet) i p) (has : Contains p.cells c.0) (are : p.cells ≡ map number_of cells) where
   pub unused_right : ((t : Target) → Contains (targets_on (cell_sizes sheet.universe) cells) t → is_stale gone false (row_of rows t) ≡ true → ⊥) → AreUnused gone rows
   unused_right none t j row =
-      let is : IsTargetOf sheet.universe t = (places t).0 (row_has rows t j row) in
+      let is : IsTargetIn sheet.universe t = (places t).0 (row_has rows t j row) in
       elim (among p.cells t.cell.0) [
         | inl on ↦
             let from = contains_mapped number_of cells t.cell.0 (subst (λ cs. Contains cs t.cell.0) are on) in
@@ -82,7 +83,7 @@ module _ (others : OtherPartsStay) (sheet : Sheet) (theory : TheoryView) (rows :
 -- no reason rests on entries that are in no least support
 pub spare_unused : (sheet : Sheet) (rows : List TargetRow) (gone : Entry → Bool) → HavePlaces sheet rows → IsJustifying sheet (row_of rows) → AreSpare sheet gone → AreUnused gone rows
 spare_unused sheet rows gone places reasons spare t j row =
-    let is : IsTargetOf sheet.universe t = (places t).0 (row_has rows t j row) in
+    let is : IsTargetIn sheet.universe t = (places t).0 (row_has rows t j row) in
     spare t j.support is (subst (IsRowFor sheet t) row (reasons t is)).least
 
 -- what is told where some target's reason rests on an entry that is taken away, and only there

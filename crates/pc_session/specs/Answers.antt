@@ -8,7 +8,8 @@ use Rattle.pc_sheet.specs.declared.ids.CellId.{CellId}
 use Rattle.pc_sheet.specs.declared.ids.Entry.{Entry}
 use Rattle.pc_sheet.specs.declared.ids.Target.{Target}
 use Rattle.pc_components.specs.View.{Kept}
-use Rattle.pc_reason.specs.Reasons.{IsTargetOf, Justification}
+use Rattle.pc_reason.specs.Reasons.{Justification}
+use Rattle.pc_reason.specs.Targets.{IsTargetIn}
 use Rattle.pc_edits.specs.Edits.{HasNone}
 use Rattle.pc_cache.specs.Rows.{TargetRow, row_of}
 use Rattle.pc_search.specs.Found.{steps_in}
@@ -37,7 +38,7 @@ IsUnchanged old new = (new ≡ record old { bytes = new.bytes }) × IsLeft old.r
 
 -- none of the entries that are gone is in the least support of an implied target
 abbrev pub AreSpare : Sheet → (Entry → Bool) → Type 0
-AreSpare sheet gone = (t : Target) (s : List Entry) → IsTargetOf sheet.universe t → IsLeastSupport sheet s t → HasNone gone s
+AreSpare sheet gone = (t : Target) (s : List Entry) → IsTargetIn sheet.universe t → IsLeastSupport sheet s t → HasNone gone s
 
 -- the entry stands, and no other of its cell
 abbrev pub StandsAlone : List Entry → Entry → Type 0

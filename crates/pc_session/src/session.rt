@@ -1,13 +1,13 @@
 //! Sessions.
 ghost use Rattle.std.specs.Prelude.{◌≡◌, ◌≤◌, ◌<◌, [], Contains, Err, IfErr, IfOk, None, Ok, OnErr, OnOk, Some, length, option_map};
-ghost use Rattle.pc_choices.specs.Choices.{AreCellsOf, AreSetsOf, chosen_parts, IsFitting};
+ghost use Rattle.pc_reason.specs.Fitting.{IsFitting};
 ghost use Rattle.pc_components.specs.View.{AreComponentsOf};
 ghost use Rattle.pc_cache.specs.Rows.{row_of};
 ghost use Rattle.pc_edits.specs.Edits.{HasNone, takes_none};
 ghost use Rattle.pc_ground.specs.Grounded.{grounded};
 ghost use Rattle.pc_logic.specs.Edits.{also_entered, entered, is_rival, is_same_entry, without_cell, without_entry};
-ghost use Rattle.pc_reason.specs.Reasons.{IsReasonFor, IsTargetOf, justification_of};
-ghost use Rattle.pc_search.specs.Parts.{IsBase};
+ghost use Rattle.pc_reason.specs.Reasons.{IsReasonFor, justification_of};
+ghost use Rattle.pc_reason.specs.Targets.{IsTargetIn};
 ghost use Rattle.pc_sheet.specs.Limits.{most_rules, most_weight};
 ghost use Rattle.pc_sheet.specs.MaximalSets.{AreRulesConsistent};
 ghost use Rattle.pc_sheet.specs.Sheet.{with_rule};
@@ -112,7 +112,7 @@ impl Session {
 
     /// An assignment that makes every rule true. It takes no memory.
     pub fn fitting(&self) -> &Assignment
-        ensures { IsBase self.now.sheet result.now }
+        ensures { IsFitting self.now.sheet result.now }
     {
         self.state.theory.fitting()
     }
@@ -283,7 +283,7 @@ impl Reasons for Session {
 
     /// Why the target is implied; `None` exactly where it isn't. It is what is kept, line for line.
     fn reason(&self, target: Target) -> Option<Reason<'_>>
-        requires { IsTargetOf self.now.sheet.universe target }
+        requires { IsTargetIn self.now.sheet.universe target }
         ensures right { IsReasonFor self.now.sheet target result }
         ensures kept { option_map justification_of result ≡ row_of self.now.rows target }
     {

@@ -1,6 +1,6 @@
 // What sessions keep of their targets, and its comparison with other sessions and with what trying finds.
 ghost use Rattle.std.specs.Prelude.{IsTrue};
-ghost use Rattle.pc_reason.specs.Reasons.{IsTargetOf};
+ghost use Rattle.pc_reason.specs.Targets.{IsTargetIn};
 
 use crate::edits::loaded;
 use pc_components::Components;
@@ -34,7 +34,7 @@ fn targets_of(alloc: Global, book: &Book) -> Result<Vec<Target>, AllocError> {
 
 // Whether the target's cell and value are the book's.
 fn is_target(book: &Book, target: Target) -> bool
-    ensures { IsTrue result → IsTargetOf book.now.universe target }
+    ensures { IsTrue result → IsTargetIn book.now.universe target }
 {
     usize::from(target.cell.0) < book.cells()
         && usize::from(target.value.0) < book.values_of(target.cell)

@@ -2,7 +2,7 @@
 use Rattle.std.proofs.Common.{◌≡◌, ℕ, Bool, refl, ap, subst, inl, None}
 use Rattle.pc_syntax.specs.Tree.{Cell, Value, asks_why, asks_json, asks_budget}
 use Rattle.pc_sheet.specs.Sheet.{Sheet}
-use Rattle.pc_reason.specs.Reasons.{IsTargetOf}
+use Rattle.pc_reason.specs.Targets.{IsTargetIn}
 use Rattle.pc_elaborate.specs.declared.fault.SortFault.TheVariants as fault
 use Rattle.pc_sheet.specs.declared.limits.Limited.TheVariants as limited
 use Rattle.pc_session.specs.Views.{SessionView}
@@ -19,7 +19,7 @@ pair_of state notes = (state, notes)
 -- a question in a session with the book
 pub explained_in : (s : SessionView) (n : Notes) (book : Sheet) (c : Cell) (v : Value) (holds : Bool) (reply : Told) → book ≡ s.sheet → Explains book (asks_why c v holds) reply → Obeys (state_of s, n) (asks_why c v holds) reply (state_of s, n)
 explained_in s n book c v holds reply is (by_page t task target) =
-    (subst (λ (b : Sheet). IsTaskOf b (asks_why c v holds) (shows (why_page t))) is task, subst (λ (b : Sheet). IsTargetOf b.universe t) is target, refl)
+    (subst (λ (b : Sheet). IsTaskOf b (asks_why c v holds) (shows (why_page t))) is task, subst (λ (b : Sheet). IsTargetIn b.universe t) is target, refl)
 explained_in s n book c v holds reply is (by_refusal why refused) = judged (subst (λ (b : Sheet). IsRefusalOf b (asks_why c v holds) why) is refused) refl refl
 
 -- the display as JSON

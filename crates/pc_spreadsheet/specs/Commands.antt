@@ -11,7 +11,7 @@ use Rattle.pc_sheet.specs.declared.ids.CellId.{CellId}
 use Rattle.pc_sheet.specs.declared.ids.Entry.{Entry}
 use Rattle.pc_sheet.specs.declared.ids.Target.{Target}
 use Rattle.pc_elaborate.specs.Elaboration.{IsEntryNamed}
-use Rattle.pc_reason.specs.Reasons.{IsTargetOf}
+use Rattle.pc_reason.specs.Targets.{IsTargetIn}
 use Rattle.pc_refusals.specs.declared.refusal.Counts.{Counts}
 use Rattle.pc_elaborate.specs.declared.fault.SortFault.{SortFault}
 use Rattle.pc_elaborate.specs.declared.fault.SortFault.TheVariants as sort_fault
@@ -68,7 +68,7 @@ pub data NotesSpent (sheet : Sheet) (cell : Option CellId) (spending : Spending)
 
 -- a question is a page, or it is refused; it wants no memory
 pub data Explains (sheet : Sheet) (a : Asked) : Told → Type 0 where
-  by_page : (t : Target) → IsTaskOf sheet a (shows (why_page t)) → IsTargetOf sheet.universe t → Explains sheet a (Shown (Why t))
+  by_page : (t : Target) → IsTaskOf sheet a (shows (why_page t)) → IsTargetIn sheet.universe t → Explains sheet a (Shown (Why t))
   by_refusal : (why : Refusal) → IsRefusalOf sheet a why → Explains sheet a (Refused why None)
 
 -- the display as JSON is a page, or there was no memory for it

@@ -3,7 +3,7 @@ use Rattle.std.specs.Prelude.{◌≡◌, ℕ, ◌-◌, List, AllPairs, codes, le
 use Rattle.pc_sheet.specs.Sheet.{Sheet, Statement}
 use Rattle.pc_sheet.specs.Entailment.{IsImplied}
 use Rattle.pc_sheet.specs.declared.ids.Target.{Target}
-use Rattle.pc_reason.specs.Reasons.{IsTargetOf}
+use Rattle.pc_reason.specs.Targets.{IsTargetIn}
 use Rattle.pc_reason.specs.Refutations.{IsAgainst}
 use Rattle.pc_accept.specs.Accepts.{Claim, repairs, unimplied, Certificate}
 use Rattle.pc_accept.specs.Sets.{GivenSet}
@@ -107,7 +107,7 @@ ProvesAsked sheet f p =
 -- certificate is of its maximal sets, or of a formula that is asked in it; and whether a target or a formula is implied is as the page says.
 abbrev pub CanShow : Page → State → Type 0
 CanShow (Json text) state = IsJson state.sheet (string_bytes text)
-CanShow (Why t) state = IsTargetOf state.sheet.universe t
+CanShow (Why t) state = IsTargetIn state.sheet.universe t
 CanShow (Listed text) state = IsListed state.sheet text.items
 CanShow (Proof proof) state = Certifies state.sheet Repairs proof
 CanShow (Implied t) state = IsImplied state.sheet t

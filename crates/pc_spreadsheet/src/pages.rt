@@ -5,14 +5,13 @@ ghost use Rattle.pc_repairs.specs.Listed.{ComesFirst};
 ghost use Rattle.pc_world_list.specs.Worlds.{set_of};
 ghost use Rattle.pc_choices.specs.FewSets.{AreMaximalSets};
 ghost use Rattle.pc_choices.specs.RuleCertificates.{GoesAgainst, IsAgainstRule};
-ghost use Rattle.pc_accept.specs.Accepts.{Certificate};
+ghost use Rattle.pc_accept.specs.Accepts.{Certificate, repairs};
 ghost use Rattle.pc_cert_text.specs.CertificateText.{certificate_text};
 ghost use Rattle.pc_sheet.specs.Sheet.{Statement};
 ghost use Rattle.pc_choices.specs.SetCertificates.{AreCertified, claim_on_sets};
 ghost use Rattle.pc_choices.specs.declared.set_proof.SetsClaim.TheVariants.{Lacking, Repairs};
-ghost use Rattle.pc_accept.specs.Accepts.{repairs};
 ghost use Rattle.pc_sheet.specs.Entailment.{IsImplied};
-ghost use Rattle.pc_reason.specs.Reasons.{IsTargetOf};
+ghost use Rattle.pc_reason.specs.Targets.{IsTargetIn};
 ghost use Rattle.pc_writer.specs.Writes.{Writes};
 ghost use Rattle.pc_spreadsheet.specs.Commands.{state_of};
 ghost use Rattle.pc_spreadsheet.specs.Pages.{CanShow, Certifies, IsCertificateAgainst, IsCertificateOnSets, IsAnsweredIn, IsPage, IsWhy, IsWhyNot, ProvesAsked};
@@ -69,7 +68,7 @@ fn write_line<O: Sink>(text: &String, out: &mut O) -> Result<(), Failed>
 
 // Writes why the target is implied, or that it isn't.
 fn explain<O: Sink>(session: &Session, target: Target, out: &mut O) -> Result<(), Failed>
-    requires { IsTargetOf session.now.sheet.universe target }
+    requires { IsTargetIn session.now.sheet.universe target }
     ensures { (text : List ℕ) × IsWhy session.now.sheet target text × Writes O.given O.faults out.old out.new result text }
 {
     match session.reason(target) {

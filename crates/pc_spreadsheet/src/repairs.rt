@@ -2,7 +2,7 @@
 ghost use Rattle.std.specs.Prelude.{◌≡◌, ◌∷◌, [], length, true};
 ghost use Rattle.pc_choices.specs.declared.set_proof.SetsClaim.TheVariants.{Lacking};
 ghost use Rattle.pc_ground.specs.Grounded.{grounded};
-ghost use Rattle.pc_reason.specs.Reasons.{IsTargetOf};
+ghost use Rattle.pc_reason.specs.Targets.{IsTargetIn};
 ghost use Rattle.pc_repairs.specs.Claims.{IsRightOn};
 ghost use Rattle.pc_repairs.specs.Whole.{AreAllSets};
 ghost use Rattle.pc_sheet.specs.Entailment.{IsImplied};
@@ -88,7 +88,7 @@ fn doubt(
     notes: &mut Spendings,
 ) -> Told
     requires all { AreAllSets session.now.sheet sets.now }
-    requires target { IsTargetOf session.now.sheet.universe target }
+    requires target { IsTargetIn session.now.sheet.universe target }
     requires holds { target.holds ≡ true }
     ensures { Doubts session.now.budget session.now.sheet target notes.old notes.new result }
 {
@@ -169,7 +169,7 @@ fn find_lacking(
 ) -> Told
     requires ground { searched.ground.now ≡ grounded searched.book.now }
     requires all { AreAllSets searched.book.now sets.now }
-    requires target { IsTargetOf searched.book.now.universe target }
+    requires target { IsTargetIn searched.book.now.universe target }
     requires holds { target.holds ≡ true }
     requires unimplied { ¬ IsImplied searched.book.now target }
     ensures { Doubts searched.entry.budget searched.entry.book.now target notes.old notes.new result }

@@ -5,7 +5,7 @@ ghost use Rattle.pc_sheet.specs.Entailment.{cell_sizes, IsImplied, IsLeastSuppor
 ghost use Rattle.pc_sheet.specs.Sizes.{size_of};
 ghost use Rattle.pc_sheet.specs.WellFormed.{IsEntryOf};
 ghost use Rattle.pc_writer.specs.Spelling.{sort_of};
-ghost use Rattle.pc_reason.specs.Reasons.{IsTargetOf};
+ghost use Rattle.pc_reason.specs.Targets.{IsTargetIn};
 ghost use Rattle.pc_spreadsheet.specs.Summary.{HasConflict, IsCount, IsSummary, pairs_of, that_has, values_of};
 
 use pc_reason::Reasons;
@@ -27,7 +27,7 @@ pub struct Summary {
 
 // Whether the target has a least support.
 fn is_implied(session: &Session, target: Target) -> bool
-    requires { IsTargetOf session.now.sheet.universe target }
+    requires { IsTargetIn session.now.sheet.universe target }
     ensures { MatchBool result ((s : List Entry) × IsLeastSupport session.now.sheet s target) (¬ IsImplied session.now.sheet target) }
 {
     match session.reason(target) {

@@ -8,7 +8,8 @@ use Rattle.pc_sheet.specs.Sheet.{Sheet}
 use Rattle.pc_sheet.specs.WellFormed.{IsWellFormed}
 use Rattle.pc_sheet.specs.declared.ids.Entry.{Entry}
 use Rattle.pc_accept.specs.Accepts.{Claim, implied, inconsistent, repairs, unimplied, against, Certificate}
-use Rattle.pc_cert.specs.Written.{claims, begins, uses, WrittenClaim, written_implied, written_inconsistent, written_repairs, written_unimplied, written_against, WrittenLine, SaidLine}
+use Rattle.pc_cert.specs.Written.{claims, begins, uses, WrittenLine, SaidLine}
+use Rattle.pc_cert.specs.Claims.{WrittenClaim, written_implied, written_inconsistent, written_repairs, written_unimplied, written_against}
 use Rattle.pc_cert.specs.Line.{IsCertificateLine}
 use Rattle.pc_cert.specs.Order.{LineKind, kind_of, kind_of_claim, kind_of_written, kind_of_written_claim, is_claim, is_heading, has, lacks, sets_in, may_stand}
 use Rattle.pc_cert.specs.Meaning.{IsSaidLine}

@@ -5,10 +5,8 @@ use Rattle.std.specs.Str.Lines.{lines}
 use Rattle.pc_sheet.specs.Sheet.{Sheet}
 use Rattle.pc_sheet.specs.declared.ids.Entry.{Entry}
 use Rattle.pc_accept.specs.Accepts.{Claim}
-use Rattle.pc_cert.specs.Written.{WrittenPair, WrittenClaim}
-use Rattle.pc_cert.specs.Texts.{texts_of}
-use Rattle.pc_cert.specs.Line.{StartsWithText, SpellsPair, IsClaimForm}
-use Rattle.pc_cert.specs.Meaning.{IsPairNamed, IsClaimNamed}
+use Rattle.pc_cert.specs.Claims.{WrittenPair, WrittenClaim, StartsWithText, SpellsPair, IsClaimForm, IsPairNamed, IsClaimNamed}
+use Rattle.pc_cert.specs.Words.{texts_of}
 
 -- the line says `use CELL = VALUE`
 abbrev pub IsUseLine : Sheet → List ℕ → Entry → Type 0

@@ -22,14 +22,15 @@ use Rattle.pc_components.specs.View.{Kept, number_of, AreComponentsOf}
 use Rattle.pc_kept.specs.Components.{AreKeptOf}
 use Rattle.pc_kept.specs.Laws.{NoneOfTheUsedIsContained}
 use Rattle.pc_justify.specs.Laws.{NamesAreOfTheirSheet}
-use Rattle.pc_reason.specs.Reasons.{IsTargetOf}
+use Rattle.pc_reason.specs.Targets.{IsTargetIn}
 use Rattle.pc_log.specs.Spans.{lines_of_span}
 use Rattle.pc_reason.specs.Refutations.{certificate_against, RefutesRules}
 use Rattle.pc_edits.specs.Reasons.{IsRowFor}
 use Rattle.pc_cache.specs.Rows.{TargetRow, row_after}
 use Rattle.pc_world_list.specs.Worlds.{WorldView}
 use Rattle.pc_solver.specs.Solver.{SuspendedView}
-use Rattle.pc_search.specs.Parts.{AreWorldsOf, IsBase}
+use Rattle.pc_search.specs.Parts.{AreWorldsOf}
+use Rattle.pc_reason.specs.Fitting.{IsFitting}
 use Rattle.pc_theory.specs.Theories.{rules_alone, IsTheory}
 use Rattle.pc_theory.specs.inside.Tasks.{AreSearchedParts, IsReady}
 use Rattle.pc_theory.specs.Spendings.{placed_of, learned_of, calls_of, LearnsWithin, IsSpentOn, IsSpendingOf, IsLawful}
@@ -46,7 +47,7 @@ use Rattle.pc_theory.proofs.OfWhole.{searched_parts, spent_whole}
 -- ---- the base
 
 pub base_fits : DivisionsDivide → (sheet : Sheet) (g : Grounded) (kept : Kept) (spent : ℕ) (base : List ValueId) (parts : List PartSpending) (solvers : List SuspendedView) → IsReady sheet g kept → AreStarted sheet kept spent base parts solvers
-    → length parts ≡ length kept.cells → IsBase sheet base
+    → length parts ≡ length kept.cells → IsFitting sheet base
 base_fits divide sheet g kept spent base parts solvers ready are many = record {
   assigns = are.assigns;
   fits = ((divide sheet (parts_of sheet) ready.division).fits base).1 (λ part has.
@@ -98,14 +99,14 @@ lawful_spent none sheet g kept budget spent parts s ready says is placed limited
 
 module _ (sheet : Sheet) (g : Grounded) (kept : Kept) (ready : IsReady sheet g kept) (worlds : List (List WorldView)) (changes : List TargetRow) (spent : ℕ) (parts : List PartSpending)
     (searched : AreSearched sheet kept (length kept.cells) worlds changes spent parts) where
-  cell_within : (t : Target) → IsTargetOf sheet.universe t → t.cell.0 < length (cell_sizes sheet.universe)
+  cell_within : (t : Target) → IsTargetIn sheet.universe t → t.cell.0 < length (cell_sizes sheet.universe)
   cell_within t is = by (slice_get (cell_sizes sheet.universe) t.cell.0) refl is
     where
       by : (o : Option ℕ) → slice_get (cell_sizes sheet.universe) t.cell.0 ≡ o → IsSomeAnd o (λ n. t.value.0 < n) → t.cell.0 < length (cell_sizes sheet.universe)
       by None at h = absurd h
       by (Some n) at h = at_within (cell_sizes sheet.universe) t.cell.0 n at
 
-  answered : (t : Target) → IsTargetOf sheet.universe t → IsRowFor sheet t (row_after changes t None)
+  answered : (t : Target) → IsTargetIn sheet.universe t → IsRowFor sheet t (row_after changes t None)
   answered t is =
       let there = ready.components.numbers t.cell.0 (cell_within t is) in
       let i = there.0 in
@@ -117,7 +118,7 @@ module _ (sheet : Sheet) (g : Grounded) (kept : Kept) (ready : IsReady sheet g k
       let make : ℕ → CellId = λ n. record { 0 = n } in
       searched.answered t is i cells.0 within cells.1 (subst (Contains cells.0) (ap make on.2) on.1)
 
-  pub found_in : NoneOfTheUsedIsContained → (budget : ℕ) (base : List ValueId) (s : Spending) → IsBase sheet base → s.parts.items ≡ parts → s.tally.placed ≡ spent → s.tally.learned ≡ sum_by learned_of parts → s.tally.calls ≡ sum_by calls_of parts
+  pub found_in : NoneOfTheUsedIsContained → (budget : ℕ) (base : List ValueId) (s : Spending) → IsFitting sheet base → s.parts.items ≡ parts → s.tally.placed ≡ spent → s.tally.learned ≡ sum_by learned_of parts → s.tally.calls ≡ sum_by calls_of parts
       → s.tally.limit ≡ budget → IsFoundIn sheet kept budget base worlds changes s
   found_in none budget base s is_base is placed learned calls limit = record {
     base_is = is_base;
@@ -133,7 +134,7 @@ module _ (sheet : Sheet) (g : Grounded) (kept : Kept) (ready : IsReady sheet g k
 
 -- ---- a theory
 
-pub theory_of : (sheet : Sheet) (g : Grounded) (whole kept : Kept) (base : List ValueId) → IsReady sheet g kept → AreComponentsOf (rules_alone sheet) whole → AreKeptOf (rules_alone sheet) whole kept → IsBase sheet base
+pub theory_of : (sheet : Sheet) (g : Grounded) (whole kept : Kept) (base : List ValueId) → IsReady sheet g kept → AreComponentsOf (rules_alone sheet) whole → AreKeptOf (rules_alone sheet) whole kept → IsFitting sheet base
     → IsTheory (rules_alone sheet) (record { ground = g; components = whole; searched = kept; base = base })
 theory_of sheet g whole kept base ready whole_are chosen is_base = record {
   ground = ready.ground_is ∙ sym (grounded_alone sheet);

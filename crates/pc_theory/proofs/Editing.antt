@@ -20,14 +20,14 @@ use Rattle.pc_solver.specs.Solver.{Problem, IsProblem, IsSolverLog}
 use Rattle.pc_solver.specs.Spending.{marked, SpendsOver}
 use Rattle.pc_searched.specs.Laws.{problem_of}
 use Rattle.pc_kept.specs.Laws.{KeptPartsAreSearched, NoneOfTheUsedIsContained}
-use Rattle.pc_search.specs.Parts.{IsPartOf, IsBase, AreWorldsOf, AreAskedOf, AreSearchedOf}
+use Rattle.pc_search.specs.Parts.{IsPartOf, AreWorldsOf, AreAskedOf, AreSearchedOf}
+use Rattle.pc_reason.specs.Fitting.{IsFitting}
 use Rattle.pc_search.specs.Spending.{IsSearchLog, AreFewWithTargets}
 use Rattle.pc_worlds.specs.Parts.{AddsLogs, marked_in}
 use Rattle.pc_search.proofs.SearchLemmas.{few_with, without_blocks}
 use Rattle.pc_theory.specs.Theories.{rules_alone, TheoryView, IsTheory, IsPartNumbered}
 use Rattle.pc_theory.specs.Targets.{targets_on, AreAsked}
 use Rattle.pc_theory.specs.inside.Tasks.{AreSearchedParts, IsReady, IsPartAt}
-use Rattle.pc_theory.specs.Spendings.{IsTouched}
 use Rattle.pc_theory.specs.inside.Spent.{IsSearchedLog, IsSearchedSpending, IsSearchedOn}
 use Rattle.pc_theory.proofs.OfWhole.{searched_parts, spent_whole}
 use Rattle.pc_theory.specs.Edits.{IsBlankOn, IsSpentAlone}
@@ -81,7 +81,7 @@ module _ (searched : KeptPartsAreSearched) (sheet : Sheet) (theory : TheoryView)
   pub ground_is : theory.ground ≡ grounded sheet
   ground_is = ready.ground_is
 
-  pub base_is : IsBase sheet theory.base
+  pub base_is : IsFitting sheet theory.base
   base_is = base_here sheet theory.base known.base
 
   pub problem_right : IsProblem theory.ground.variables problem

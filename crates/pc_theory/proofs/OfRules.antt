@@ -26,7 +26,7 @@ use Rattle.pc_kept.specs.Kept.{IsAmong, AreMeanings, IsLeftOut, AreKept}
 use Rattle.pc_kept.specs.Components.{AreKeptOf}
 use Rattle.pc_solver.specs.Forced.{IsForced}
 use Rattle.pc_reason.specs.Written.{AreOfSheet}
-use Rattle.pc_search.specs.Parts.{IsBase}
+use Rattle.pc_reason.specs.Fitting.{IsFitting}
 use Rattle.pc_theory.specs.Theories.{rules_alone}
 
 map_same : {X Y : Type 0} (f g : X → Y) → ((x : X) → f x ≡ g x) → (xs : List X) → map f xs ≡ map g xs
@@ -157,11 +157,11 @@ module _ (sheet : Sheet) where
     axioms = λ i d below. axiom_alone (get_or (names_of sheet).axioms i d) (h.axioms i d below);
   }
 
-  pub base_here : (base : List ValueId) → IsBase alone base → IsBase sheet base
+  pub base_here : (base : List ValueId) → IsFitting alone base → IsFitting sheet base
   base_here base h = record { assigns = h.assigns; fits = h.fits }
 
-  pub base_alone : (base : List ValueId) → IsBase sheet base → IsBase alone base
+  pub base_alone : (base : List ValueId) → IsFitting sheet base → IsFitting alone base
   base_alone base h = record { assigns = h.assigns; fits = h.fits }
 
-  pub consistent_by : (base : List ValueId) → IsBase sheet base → AreRulesConsistent sheet
+  pub consistent_by : (base : List ValueId) → IsFitting sheet base → AreRulesConsistent sheet
   consistent_by base h = (base, h.assigns, h.fits)

@@ -12,7 +12,7 @@ use Rattle.pc_sheet.specs.declared.ids.Target.{Target}
 use Rattle.pc_components.specs.Pairs.{size_at}
 use Rattle.pc_components.specs.View.{number_of}
 use Rattle.pc_parts.specs.Parts.{Part}
-use Rattle.pc_reason.specs.Reasons.{IsTargetOf}
+use Rattle.pc_reason.specs.Targets.{IsTargetIn}
 use Rattle.pc_search.specs.Parts.{IsTargetOn}
 use Rattle.pc_theory.specs.Targets.{target_of_value, targets_on_cell, targets_on, target_count}
 use Rattle.pc_theory.proofs.Lists.{all_in}
@@ -84,10 +84,10 @@ within_value (n ∷ ns) zero v h = h
 within_value (n ∷ ns) (suc c) v h = within_value ns c v h
 
 -- targets of the universe
-pub on_target : (u : Universe) (cells : List CellId) (t : Target) → Contains (targets_on (cell_sizes u) cells) t → Contains cells t.cell × IsTargetOf u t
+pub on_target : (u : Universe) (cells : List CellId) (t : Target) → Contains (targets_on (cell_sizes u) cells) t → Contains cells t.cell × IsTargetIn u t
 on_target u cells t h = let r = has_on (cell_sizes u) cells t h in (r.0, value_within (cell_sizes u) t.cell.0 t.value.0 r.1)
 
-pub target_on : (u : Universe) (cells : List CellId) (t : Target) → Contains cells t.cell → IsTargetOf u t → Contains (targets_on (cell_sizes u) cells) t
+pub target_on : (u : Universe) (cells : List CellId) (t : Target) → Contains cells t.cell → IsTargetIn u t → Contains (targets_on (cell_sizes u) cells) t
 target_on u cells t on is = on_has (cell_sizes u) cells t on (within_value (cell_sizes u) t.cell.0 t.value.0 is)
 
 -- and of the part with these cells

@@ -22,7 +22,8 @@ use Rattle.pc_solver.specs.declared.stop.Stop.{Stop}
 use Rattle.pc_solver.specs.declared.stop.Stop.TheVariants.{Spent, Memory}
 use Rattle.pc_searched.specs.Laws.{problem_of}
 use Rattle.pc_kept.specs.Laws.{KeptPartsAreSearched}
-use Rattle.pc_search.specs.Parts.{IsBase, IsPartOf, AreSearchedOf}
+use Rattle.pc_search.specs.Parts.{IsPartOf, AreSearchedOf}
+use Rattle.pc_reason.specs.Fitting.{IsFitting}
 use Rattle.pc_search.specs.Spending.{IsSearchLog, AreFewWithTargets}
 use Rattle.pc_worlds.specs.Parts.{AddsLogs, marked_in}
 use Rattle.pc_theory.specs.Theories.{rules_alone, TheoryView, IsTheory, IsPartNumbered}
@@ -45,7 +46,7 @@ pub popped : (logs rest : List (List LogLine)) (log only : List LogLine) → log
 popped logs [] log only one is = (refl, (let same : log ∷ [] ≡ only ∷ [] = sym is ∙ one in cc))
 popped logs (r ∷ rs) log only one is = absurd (omega (arith, ap length (sym one ∙ is), length-append rs (log ∷ [])))
 
-module _ (searched : KeptPartsAreSearched) (sheet : Sheet) (g : Grounded) (kept : Kept) (ready : IsReady sheet g kept) (base : List ValueId) (is_base : IsBase sheet base) (i : ℕ) (cells : List CellId) (used : List ℕ) (own : List Var)
+module _ (searched : KeptPartsAreSearched) (sheet : Sheet) (g : Grounded) (kept : Kept) (ready : IsReady sheet g kept) (base : List ValueId) (is_base : IsFitting sheet base) (i : ℕ) (cells : List CellId) (used : List ℕ) (own : List Var)
     (at_cells : slice_get kept.cells i ≡ Some cells) (at_used : slice_get kept.axioms i ≡ Some used) (at_own : slice_get kept.variables i ≡ Some own) where
   abbrev pub theory : TheoryView
   theory = record { ground = g; components = ready.whole; searched = kept; base = base }

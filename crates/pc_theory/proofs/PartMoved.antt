@@ -18,7 +18,8 @@ use Rattle.pc_sheet.specs.declared.ids.Target.{Target}
 use Rattle.pc_parts.specs.Parts.{Part}
 use Rattle.pc_parts.specs.PartSheets.{sheet_of}
 use Rattle.pc_components.specs.View.{Kept}
-use Rattle.pc_reason.specs.Reasons.{IsTargetOf, Justification}
+use Rattle.pc_reason.specs.Reasons.{Justification}
+use Rattle.pc_reason.specs.Targets.{IsTargetIn}
 use Rattle.pc_edits.specs.Reasons.{IsRowFor}
 use Rattle.pc_cache.specs.Rows.{TargetRow, row_after}
 use Rattle.pc_world_list.specs.Worlds.{WorldView}
@@ -141,7 +142,7 @@ module _ (sheet : Sheet) (kept : Kept) (n spent more : ℕ) (worlds : List (List
   now : (t : Target) → row_after changes_after t None ≡ row_after finds.finds.rows t (row_after changes t None)
   now t = ap (λ cs. row_after cs t None) finds.finds.added ∙ after_more changes finds.finds.rows t None
 
-  answered : (t : Target) → IsTargetOf sheet.universe t → (j : ℕ) (cells : List CellId) → j < n + 1 → slice_get kept.cells j ≡ Some cells → Contains cells t.cell → IsRowFor sheet t (row_after changes_after t None)
+  answered : (t : Target) → IsTargetIn sheet.universe t → (j : ℕ) (cells : List CellId) → j < n + 1 → slice_get kept.cells j ≡ Some cells → Contains cells t.cell → IsRowFor sheet t (row_after changes_after t None)
   answered t is j cells within at on =
       subst (IsRowFor sheet t) (sym (now t))
       (elim (comes sheet most ts finds.finds.rows finds.finds.each t (row_after changes t None)) [
@@ -181,7 +182,7 @@ module _ (sheet : Sheet) (kept : Kept) (n spent more : ℕ) (worlds : List (List
         subst (AreWorldsOf sheet p) (sym (get_early worlds found [] j (omega (arith, early, searched.count)))) (searched.worlds_of j p early at)
   ]
 
-  targets : (r : TargetRow) → Contains changes_after r → IsTargetOf sheet.universe r.target
+  targets : (r : TargetRow) → Contains changes_after r → IsTargetIn sheet.universe r.target
   targets r has = elim (Contains-append_cases changes finds.finds.rows r (subst (λ cs. Contains cs r) finds.finds.added has)) [
     | inl old ↦ searched.targets r old
     | inr new ↦ (on_target sheet.universe finds.cells r.target (change_of sheet most ts finds.finds.rows finds.finds.each r new)).1

@@ -12,13 +12,15 @@ use Rattle.pc_ground.specs.declared.ground.GroundFault.{GroundFault}
 use Rattle.pc_ground.specs.declared.ground.GroundFault.TheVariants as ground
 use Rattle.pc_parts.specs.Components.{parts_of}
 use Rattle.pc_components.specs.View.{Kept}
-use Rattle.pc_reason.specs.Reasons.{IsTargetOf, Justification}
+use Rattle.pc_reason.specs.Reasons.{Justification}
+use Rattle.pc_reason.specs.Targets.{IsTargetIn}
 use Rattle.pc_reason.specs.Refutations.{RefutesRules}
 use Rattle.pc_edits.specs.Reasons.{IsRowFor}
 use Rattle.pc_cache.specs.Rows.{TargetRow, row_after}
 use Rattle.pc_world_list.specs.Worlds.{WorldView}
 use Rattle.pc_search.specs.Found.{steps_in}
-use Rattle.pc_search.specs.Parts.{AreWorldsOf, IsBase}
+use Rattle.pc_search.specs.Parts.{AreWorldsOf}
+use Rattle.pc_reason.specs.Fitting.{IsFitting}
 use Rattle.pc_theory.specs.Theories.{rules_alone, TheoryView, IsTheory}
 use Rattle.pc_theory.specs.Spendings.{IsSpendingOf, IsLawful, LearnsWithin}
 use Rattle.pc_theory.specs.declared.spending.Spending.{Spending}
@@ -30,11 +32,11 @@ use Rattle.pc_theory.specs.declared.book.PartFault.TheVariants as part
 -- The assignment fits, each part has its worlds, and the changes give each target its row. No row has more steps than clauses were
 -- learned and calls made.
 pub record IsFoundIn (sheet : Sheet) (kept : Kept) (budget : ℕ) (base : List ValueId) (worlds : List (List WorldView)) (changes : List TargetRow) (s : Spending) : Type 0 where
-  pub base_is : IsBase sheet base
+  pub base_is : IsFitting sheet base
   pub worlds_of : AllZip (AreWorldsOf sheet) (parts_of (rules_alone sheet)) worlds
-  pub answered : (t : Target) → IsTargetOf sheet.universe t → IsRowFor sheet t (row_after changes t None)
+  pub answered : (t : Target) → IsTargetIn sheet.universe t → IsRowFor sheet t (row_after changes t None)
   pub few_steps : (t : Target) (k : Justification) → row_after changes t None ≡ Some k → steps_in k.lines ≤ s.tally.learned + s.tally.calls
-  pub targets : (r : TargetRow) → Contains changes r → IsTargetOf sheet.universe r.target
+  pub targets : (r : TargetRow) → Contains changes r → IsTargetIn sheet.universe r.target
   pub limit : s.tally.limit ≡ budget
   pub spends : IsSpendingOf sheet None s
   pub spare : LearnsWithin s.tally

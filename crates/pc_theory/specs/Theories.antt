@@ -11,7 +11,7 @@ use Rattle.pc_parts.specs.Components.{parts_of}
 use Rattle.pc_components.specs.View.{Kept, AreComponentsOf}
 use Rattle.pc_kept.specs.Components.{AreKeptOf}
 use Rattle.pc_reason.specs.Written.{AreOfSheet}
-use Rattle.pc_search.specs.Parts.{IsBase}
+use Rattle.pc_reason.specs.Fitting.{IsFitting}
 
 -- the sheet without its entries
 abbrev pub rules_alone : Sheet → Sheet
@@ -34,7 +34,7 @@ pub record IsTheory (rules : Sheet) (theory : TheoryView) : Type 0 where
   pub components : AreComponentsOf rules theory.components
   pub searched : AreKeptOf rules theory.components theory.searched
   pub division : IsDivision rules (parts_of rules)
-  pub base : IsBase rules theory.base
+  pub base : IsFitting rules theory.base
 
 -- the sheet's part of that number
 abbrev pub IsPartNumbered : Sheet → ℕ → Part → Type 0

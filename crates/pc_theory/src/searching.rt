@@ -1,6 +1,7 @@
 //! The search of all parts of a book.
 ghost use Rattle.std.specs.Prelude.{◌≡◌, ◌<◌, ◌≤◌, [], IfErr, IfOk, OnOk, length};
-ghost use Rattle.pc_search.specs.Parts.{AreWorldsOf, IsBase};
+ghost use Rattle.pc_search.specs.Parts.{AreWorldsOf};
+ghost use Rattle.pc_reason.specs.Fitting.{IsFitting};
 ghost use Rattle.pc_parts.specs.Parts.{Part};
 ghost use Rattle.pc_theory.specs.inside.Tasks.{IsReady};
 ghost use Rattle.pc_theory.specs.inside.Searching.{AreSearched, FindsIn, IsMoved, StopMoves, StopPlaces};
@@ -32,7 +33,7 @@ fn search_one(
     requires ready { IsReady fitted.task.book.now fitted.task.ground.now fitted.task.components.now }
     requires trails { trails.old ≡ fitted.task.ground.now.variables }
     requires number { place.old.part < length fitted.task.components.now.cells }
-    requires base { IsBase fitted.task.book.now fitted.base.now }
+    requires base { IsFitting fitted.task.book.now fitted.base.now }
     requires started { IsStarted fitted.task.book.now fitted.task.components.now place.old solver }
     requires part_of { place.old.tally.placed ≤ spent.old }
     requires within { spent.old ≤ fitted.task.budget }
@@ -91,7 +92,7 @@ pub(crate) fn search_parts(
     requires trails { trails.old ≡ fitted.task.ground.now.variables }
     requires started { AreStarted fitted.task.book.now fitted.task.components.now spent.old fitted.base.now parts.old.items solvers.items }
     requires many { length parts.old.items ≡ length fitted.task.components.now.cells }
-    requires base { IsBase fitted.task.book.now fitted.base.now }
+    requires base { IsFitting fitted.task.book.now fitted.base.now }
     requires blank { patch.old ≡ [] }
     requires within { spent.old ≤ fitted.task.budget }
     ensures searched { IfOk result (λ worlds. AreSearched fitted.entry.task.book.now fitted.entry.task.components.now (length fitted.entry.task.components.now.cells) worlds.items patch.new spent.new parts.new.items) }

@@ -14,7 +14,8 @@ use Rattle.pc_laws.proofs.Finding.{find, shown, is_display, computed}
 use Rattle.pc_lemmas.proofs.Elements.{contains_first, contains_none, all_from, kept, kept_is, kept_all}
 use Rattle.pc_logic.specs.Edits.{is_same_entry, agrees_with}
 use Rattle.pc_logic.proofs.EntryLemmas.{same_is, standing_found, found_standing}
-use Rattle.pc_reason.specs.Reasons.{IsTargetOf, Justification}
+use Rattle.pc_reason.specs.Reasons.{Justification}
+use Rattle.pc_reason.specs.Targets.{IsTargetIn}
 use Rattle.pc_cache.specs.Rows.{is_same_target}
 use Rattle.pc_edits.specs.Edits.{takes_none, HasNone}
 use Rattle.pc_search.specs.Found.{steps_in}
@@ -184,7 +185,7 @@ by_found t (Some w) found is s l = subst AreOfFirst (sym (same_least with_views 
 abbrev at : ℕ → ℕ → Bool → Target
 at c v b = record { cell = record { 0 = c }; value = record { 0 = v }; holds = b }
 
-each_found : (c v : ℕ) (b : Bool) → IsTargetOf with_views.universe (at c v b) → is_of_first (find with_views (at c v b)) ≡ true
+each_found : (c v : ℕ) (b : Bool) → IsTargetIn with_views.universe (at c v b) → is_of_first (find with_views (at c v b)) ≡ true
 each_found zero zero true h = refl
 each_found zero zero false h = refl
 each_found zero (suc zero) true h = refl
@@ -216,7 +217,7 @@ least_of c v s is = All-head (λ p. IsShownFor with_views p.0 p.1) (target c v, 
 first_isnt : (gone : Entry → Bool) (e : Entry) → HasNone gone (e ∷ []) → gone e ≡ false
 first_isnt gone e h = All-head (λ f. gone f ≡ false) e [] h
 
-needed : (gone : Entry → Bool) (v : ValueId) → IsTargetOf with_views.universe (target 1 v) → IsLeastSupport with_views (entry 0 v ∷ []) (target 1 v) → gone (entry 0 v) ≡ true → ¬ AreSpare with_views gone
+needed : (gone : Entry → Bool) (v : ValueId) → IsTargetIn with_views.universe (target 1 v) → IsLeastSupport with_views (entry 0 v ∷ []) (target 1 v) → gone (entry 0 v) ≡ true → ¬ AreSpare with_views gone
 needed gone v of_sheet l is spare = false≢true (sym (first_isnt gone (entry 0 v) (spare (target 1 v) (entry 0 v ∷ []) of_sheet l)) ∙ is)
 
 pub worked_spare : WorkedSpare

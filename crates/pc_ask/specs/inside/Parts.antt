@@ -17,7 +17,7 @@ use Rattle.pc_parts.specs.Components.{parts_of}
 use Rattle.pc_components.specs.Pairs.{IsValueOfCell}
 use Rattle.pc_components.specs.PartAxioms.{AreAxiomsOf, AreVariablesOf}
 use Rattle.pc_components.specs.View.{number_of, variable_number}
-use Rattle.pc_choices.specs.Choices.{IsFitting}
+use Rattle.pc_reason.specs.Fitting.{IsFitting}
 use Rattle.pc_asked.specs.Asked.{asked}
 use Rattle.pc_searched.specs.Laws.{problem_of}
 use Rattle.pc_solver.specs.Clauses.{IsOverOwn}

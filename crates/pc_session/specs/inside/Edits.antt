@@ -5,7 +5,8 @@ use Rattle.pc_sheet.specs.declared.ids.CellId.{CellId}
 use Rattle.pc_sheet.specs.declared.ids.Entry.{Entry}
 use Rattle.pc_sheet.specs.declared.ids.Target.{Target}
 use Rattle.pc_parts.specs.Parts.{Part}
-use Rattle.pc_reason.specs.Reasons.{IsTargetOf, Justification}
+use Rattle.pc_reason.specs.Reasons.{Justification}
+use Rattle.pc_reason.specs.Targets.{IsTargetIn}
 use Rattle.pc_edits.specs.Reasons.{IsRowFor}
 use Rattle.pc_edits.specs.Edits.{HasNone, edited, MayStay}
 use Rattle.pc_cache.specs.Rows.{TargetRow, bytes_of_rows, row_of, row_after}
@@ -23,7 +24,7 @@ after rows changes t = row_after changes t (row_of rows t)
 -- what the changes are, where the part has these cells
 pub record AreChanges (sheet : Sheet) (rows : List TargetRow) (gone : Entry → Bool) (added : List Entry) (cells : List ℕ) (changes : List TargetRow) (most : ℕ) : Type 0 where
   -- a target was searched again, or keeps what it had, which may stay
-  pub each : (t : Target) → IsTargetOf sheet.universe t
+  pub each : (t : Target) → IsTargetIn sheet.universe t
       → IsRowFor (edited sheet gone added) t (after rows changes t) ⊎ ((after rows changes t ≡ row_of rows t) × MayStay cells gone added t (row_of rows t))
   -- a reason whose support has none of the entries that are gone stays as it was
   pub stays : (t : Target) (j : Justification) → row_of rows t ≡ Some j → HasNone gone j.support → after rows changes t ≡ Some j
@@ -31,7 +32,7 @@ pub record AreChanges (sheet : Sheet) (rows : List TargetRow) (gone : Entry → 
   pub others : (t : Target) → ¬ Contains cells t.cell.0 → after rows changes t ≡ row_of rows t
   -- a new reason has at most so many steps
   pub steps : (t : Target) (j : Justification) → after rows changes t ≡ Some j → (row_of rows t ≡ Some j) ⊎ (steps_in j.lines ≤ most)
-  pub targets : (r : TargetRow) → Contains changes r → IsTargetOf sheet.universe r.target
+  pub targets : (r : TargetRow) → Contains changes r → IsTargetIn sheet.universe r.target
   -- and the new reasons count for no more bytes than all
   pub bytes : (all : List TargetRow) → ((t : Target) → row_of all t ≡ after rows changes t) → bytes_of_rows changes ≤ bytes_of_rows all
 

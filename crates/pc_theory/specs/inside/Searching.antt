@@ -6,7 +6,8 @@ use Rattle.pc_sheet.specs.declared.ids.CellId.{CellId}
 use Rattle.pc_sheet.specs.declared.ids.Target.{Target}
 use Rattle.pc_parts.specs.Parts.{Part}
 use Rattle.pc_components.specs.View.{Kept}
-use Rattle.pc_reason.specs.Reasons.{IsTargetOf, Justification}
+use Rattle.pc_reason.specs.Reasons.{Justification}
+use Rattle.pc_reason.specs.Targets.{IsTargetIn}
 use Rattle.pc_edits.specs.Reasons.{IsRowFor}
 use Rattle.pc_cache.specs.Rows.{TargetRow, row_after}
 use Rattle.pc_world_list.specs.Worlds.{WorldView}
@@ -53,7 +54,7 @@ work_of parts = sum_by learned_of parts + sum_by calls_of parts
 pub record AreSearched (sheet : Sheet) (kept : Kept) (n : ℕ) (worlds : List (List WorldView)) (changes : List TargetRow) (spent : ℕ) (parts : List PartSpending) : Type 0 where
   pub count : length worlds ≡ n
   pub worlds_of : (j : ℕ) (p : Part) → j < n → IsPartNumbered (rules_alone sheet) j p → AreWorldsOf sheet p (slice_index_or worlds j [])
-  pub answered : (t : Target) → IsTargetOf sheet.universe t → (j : ℕ) (cells : List CellId) → j < n → slice_get kept.cells j ≡ Some cells → Contains cells t.cell → IsRowFor sheet t (row_after changes t None)
+  pub answered : (t : Target) → IsTargetIn sheet.universe t → (j : ℕ) (cells : List CellId) → j < n → slice_get kept.cells j ≡ Some cells → Contains cells t.cell → IsRowFor sheet t (row_after changes t None)
   pub only : (t : Target) (k : Justification) → row_after changes t None ≡ Some k → steps_in k.lines ≤ work_of parts
-  pub targets : (r : TargetRow) → Contains changes r → IsTargetOf sheet.universe r.target
+  pub targets : (r : TargetRow) → Contains changes r → IsTargetIn sheet.universe r.target
   pub places : ArePlaces sheet kept spent parts

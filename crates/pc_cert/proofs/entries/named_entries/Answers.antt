@@ -1,4 +1,4 @@
-use Rattle.pc_cert.specs.Meaning.{IsPairNamed}
+use Rattle.pc_cert.specs.Claims.{IsPairNamed}
 use Rattle.pc_cert.specs.Trees.{pair_of}
 use Rattle.pc_cert.proofs.EachNamed.{starts, one_more, stopped, finished}
 use Rattle.pc_cert.proofs.entries.named_entries.Goals as goal

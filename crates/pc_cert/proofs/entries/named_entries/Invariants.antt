@@ -1,6 +1,7 @@
 use Rattle.std.proofs.Common.{◌≡◌, ◌↔◌, List, take, map}
 use Rattle.pc_sheet.specs.declared.ids.Entry.{Entry}
-use Rattle.pc_cert.specs.Meaning.{IsPairNamed, AreNamedEach}
+use Rattle.pc_cert.specs.Meaning.{AreNamedEach}
+use Rattle.pc_cert.specs.Claims.{IsPairNamed}
 use Rattle.pc_cert.specs.Trees.{pair_of}
 use Rattle.pc_cert.proofs.entries.named_entries.Given as goal
 

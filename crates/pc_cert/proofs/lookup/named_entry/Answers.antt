@@ -1,5 +1,5 @@
 use Rattle.pc_formula.specs.Tree.{cell_of, value_of}
-use Rattle.pc_cert.specs.Meaning.{IsPairNamed}
+use Rattle.pc_cert.specs.Claims.{IsPairNamed}
 use Rattle.pc_cert.specs.Trees.{pair_of}
 use Rattle.pc_cert.proofs.Found.{none_is, cell_never, value_never, entry_is}
 use Rattle.pc_cert.proofs.lookup.named_entry.Goals as goal

@@ -2,7 +2,7 @@ use Rattle.std.proofs.Common.{◌≡◌, Err, sym, ◌∙◌, ap, subst}
 use Rattle.std.proofs.lemmas.Result.{err_from_is_err_and}
 use Rattle.pc_formula.specs.declared.refusal.Refusal.TheVariants.{Syntax}
 use Rattle.pc_formula.specs.Equation.{equality}
-use Rattle.pc_cert.specs.Texts.{IsWholePair}
+use Rattle.pc_cert.specs.Claims.{IsWholePair}
 use Rattle.pc_cert.proofs.Words.{tails}
 use Rattle.pc_cert.proofs.spelled.claim_words.Goals as goal
 

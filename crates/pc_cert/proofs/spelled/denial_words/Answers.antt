@@ -1,7 +1,7 @@
 use Rattle.std.proofs.Common.{◌∷◌, codes, sym, ◌∙◌, subst}
 use Rattle.pc_token.specs.declared.token.Kind.TheVariants.{Equal}
 use Rattle.pc_formula.specs.Word.{name}
-use Rattle.pc_cert.specs.Texts.{IsWholePair}
+use Rattle.pc_cert.specs.Claims.{IsWholePair}
 use Rattle.pc_cert.proofs.Words.{tails}
 use Rattle.pc_cert.proofs.spelled.denial_words.Goals as goal
 

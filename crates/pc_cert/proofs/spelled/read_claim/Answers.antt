@@ -1,7 +1,7 @@
 use Rattle.std.proofs.Common.{◌≡◌, Err, ap}
 use Rattle.std.proofs.lemmas.Result.{err_from_is_err_and}
 use Rattle.pc_formula.specs.declared.refusal.Refusal.TheVariants.{Syntax}
-use Rattle.pc_cert.specs.Line.{IsClaim}
+use Rattle.pc_cert.specs.Claims.{IsClaim}
 use Rattle.pc_cert.specs.Trees.{claimed_of}
 use Rattle.pc_cert.proofs.Spelling.{spells_this, spells_nothing}
 use Rattle.pc_cert.proofs.spelled.read_claim.Goals as goal

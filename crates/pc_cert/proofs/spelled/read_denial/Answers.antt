@@ -1,4 +1,4 @@
-use Rattle.pc_cert.specs.Line.{IsDenial}
+use Rattle.pc_cert.specs.Claims.{IsDenial}
 use Rattle.pc_cert.proofs.Spelling.{spells_nothing}
 use Rattle.pc_cert.proofs.spelled.read_denial.Goals as goal
 

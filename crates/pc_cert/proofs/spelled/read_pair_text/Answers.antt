@@ -2,7 +2,7 @@ use Rattle.std.proofs.Common.{◌≡◌, Err, ap}
 use Rattle.std.proofs.lemmas.Result.{err_from_is_err_and}
 use Rattle.pc_formula.specs.declared.refusal.Refusal.TheVariants.{Syntax}
 use Rattle.pc_token.specs.declared.token.Kind.TheVariants.{Equal}
-use Rattle.pc_cert.specs.Texts.{IsWholePair}
+use Rattle.pc_cert.specs.Claims.{IsWholePair}
 use Rattle.pc_cert.specs.Trees.{pair_of}
 use Rattle.pc_cert.proofs.Spelling.{spells_this, spells_nothing}
 use Rattle.pc_cert.proofs.spelled.read_pair_text.Goals as goal

@@ -1,6 +1,6 @@
 use Rattle.std.proofs.Common.{sym, ◌∙◌, subst}
 use Rattle.pc_token.specs.declared.token.Kind.TheVariants.{Equal}
-use Rattle.pc_cert.specs.Texts.{IsWholePair}
+use Rattle.pc_cert.specs.Claims.{IsWholePair}
 use Rattle.pc_cert.proofs.Words.{tails}
 use Rattle.pc_cert.proofs.spelled.word_pair.Goals as goal
 
