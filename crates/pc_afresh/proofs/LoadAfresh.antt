@@ -6,7 +6,8 @@ use Rattle.pc_writer.specs.SheetText.{ended}
 use Rattle.pc_sortcheck.specs.Declaring.{ReadsAs}
 use Rattle.pc_canonical.specs.Declared.{TextsReadBack}
 use Rattle.pc_display.specs.OneDisplay.{HasOneText, SheetHasOneDisplay}
-use Rattle.pc_spreadsheet.specs.Judgement.{State, Starts, SheetVerdict, opens, rejects, PageKind, lines_page, grid_page, json_page, text_page, why_page, repairs_page, proof_page, whynot_page, ask_page}
+use Rattle.pc_spreadsheet.specs.Judgement.{SheetVerdict, opens, rejects}
+use Rattle.pc_spreadsheet.specs.Tasks.{State, Starts, PageKind, lines_page, grid_page, json_page, text_page, why_page, repairs_page, proof_page, whynot_page, ask_page}
 use Rattle.pc_spreadsheet.specs.Pages.{PageSays}
 use Rattle.pc_spreadsheet.specs.Laws.{TextsHaveOneVerdict}
 use Rattle.pc_afresh.specs.Afresh.{IsOpen, StartsAreOpen, TranscriptsKeepOpen, DumpsStartAgain, IsDisplay, SaysOnly, DisplayTheSame, LoadedAfreshShowsTheSame, RunsLoadAfresh}

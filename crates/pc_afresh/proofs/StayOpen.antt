@@ -12,7 +12,7 @@ use Rattle.pc_logic.specs.Edits.{without_rule}
 use Rattle.pc_lines.specs.Lines as a_line
 use Rattle.pc_syntax.specs.Tree.{Asked}
 use Rattle.pc_transcript.specs.Answer.{Answer, silent, accepted, shown, refused, no_memory}
-use Rattle.pc_spreadsheet.specs.Judgement.{State, IsLight, Task, entering, entering_beside, clearing, removing, adding, dropping, budgeting, asking, showing, showing_grid, showing_json, dumping, listing, proving, doubting, inquiring, IsTaskOf, IsEdit, state_after}
+use Rattle.pc_spreadsheet.specs.Tasks.{State, IsLight, Task, entering, entering_beside, clearing, removing, adding, dropping, budgeting, asking, showing, showing_grid, showing_json, dumping, listing, proving, doubting, inquiring, IsTaskOf, IsEdit, state_after}
 use Rattle.pc_spreadsheet.specs.Allowed.{Notes, Allows, as_judged, as_contradiction, as_spent, as_proof_spent, as_ask_spent}
 use Rattle.pc_spreadsheet.specs.Laws.{StartsAreWellFormed, AnswersKeepForm}
 use Rattle.pc_afresh.specs.Afresh.{IsOpen, StartsAreOpen, AnswersKeepOpen, TranscriptsKeepOpen}

@@ -5,9 +5,10 @@ use Rattle.pc_sheet.specs.MaximalSets.{AreRulesConsistent}
 use Rattle.pc_sheet.specs.WellFormed.{IsWellFormed}
 use Rattle.pc_transcript.specs.Answer.{Answer}
 use Rattle.pc_transcript.specs.Transcript.{Transcript, Legal}
-use Rattle.pc_spreadsheet.specs.Judgement.{State, IsLight, Starts, PageKind, lines_page, grid_page, json_page, text_page}
+use Rattle.pc_spreadsheet.specs.Tasks.{State, IsLight, Starts, PageKind, lines_page, grid_page, json_page, text_page}
 use Rattle.pc_spreadsheet.specs.Allowed.{Notes, Allows}
 use Rattle.pc_spreadsheet.specs.Pages.{PageSays}
+use Rattle.pc_afresh.specs.Again.{StartsAgain}
 
 -- ---- the sheets of a run
 
@@ -30,11 +31,6 @@ abbrev pub TranscriptsKeepOpen : Type 0
 TranscriptsKeepOpen = (old new : State × Notes) (transcript : Transcript) → IsOpen old.0.sheet → Legal Allows old transcript new → IsOpen new.0.sheet
 
 -- ---- loaded afresh
-
--- With any budget a run starts from the text, with this sheet and no other.
-pub record StartsAgain (text : List ℕ) (sheet : Sheet) : Type 0 where
-  pub starts : (budget : ℕ) → Starts budget text (record { sheet = sheet; budget = budget })
-  pub only : (budget : ℕ) (state : State) → Starts budget text state → state.sheet ≡ sheet
 
 -- what such a sheet is dumped as starts a run again
 abbrev pub DumpsStartAgain : Type 0

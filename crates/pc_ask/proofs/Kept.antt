@@ -1,5 +1,5 @@
 -- What is kept in the end, in the order of the sheet's entries.
-use Rattle.std.proofs.Common.{List, ℕ, All, Contains}
+use Rattle.std.proofs.Common.{List, All, Contains}
 use Rattle.std.proofs.lemmas.List.Elements.{All-contains}
 use Rattle.pc_lemmas.proofs.Elements.{all_from, kept, kept_is}
 use Rattle.pc_laws.proofs.Contained.{all_contained}

@@ -1,7 +1,7 @@
 -- What is kept in the end is the least support.
-use Rattle.std.proofs.Common.{◌≡◌, ◌≢◌, ℕ, ◌+◌, ◌&&◌, ◌==◌, inl, inr, Bool, true, List, [], ◌∷◌, ◌++◌, filter, length, take, take_all, drop, Some, slice_get, All, Contains, arith, eqb-true, eq-eqb, ap, refl, sym, ◌∙◌, subst}
+use Rattle.std.proofs.Common.{◌≡◌, ◌≢◌, ℕ, ◌+◌, ◌&&◌, ◌==◌, inl, inr, Bool, true, List, [], ◌∷◌, ◌++◌, filter, length, take, take_all, drop, Some, slice_get, Contains, arith, eqb-true, eq-eqb, ap, refl, sym, ◌∙◌, subst}
 use Rattle.std.proofs.lemmas.Bool.{cases_eq, cases_lt, and_parts}
-use Rattle.std.proofs.lemmas.List.Elements.{All-nil, All-cons, All-append, All-contains, Contains-append_left, Contains-append_right, Contains-append_cases}
+use Rattle.std.proofs.lemmas.List.Elements.{All-nil, All-cons, All-append, All-contains, Contains-append_left, Contains-append_right}
 use Rattle.std.proofs.lemmas.List.Kept.{AllPairs-filter}
 use Rattle.pc_lemmas.proofs.Elements.{contains_first, all_from, all_left, kept, kept_is}
 use Rattle.pc_lemmas.proofs.Options.{same_some}
@@ -14,14 +14,13 @@ use Rattle.pc_sheet.specs.Truth.{Holds}
 use Rattle.pc_sheet.specs.Entailment.{Fits, HasEntry, HasAll, IsAssignment, IsConsistent, IsLess, IsSublist, Shows}
 use Rattle.pc_sheet.specs.MaximalSets.{IsContained}
 use Rattle.pc_sheet.specs.WellFormed.{AreDifferent}
-use Rattle.pc_sheet.specs.declared.ids.CellId.{CellId}
 use Rattle.pc_sheet.specs.declared.ids.ValueId.{ValueId}
 use Rattle.pc_sheet.specs.declared.ids.Entry.{Entry}
 use Rattle.pc_asked.specs.Asked.{EntailsStatement, SupportsStatement, IsStatementImplied, IsLeastForStatement, denial, asked}
 use Rattle.pc_repairs.specs.inside.Joining.{had_by, is_had}
-use Rattle.pc_ask.specs.inside.Narrowing.{left_of, LacksWitness, IsNeeded, IsNarrowed}
+use Rattle.pc_ask.specs.inside.Narrowing.{left_of, LacksWitness, IsNarrowed}
 use Rattle.pc_ask.proofs.Lists.{there_any, any_there}
-use Rattle.pc_ask.proofs.Places.{place_of, at_take, take_there, at_drop, drop_there, there_at, not_both, behind}
+use Rattle.pc_ask.proofs.Places.{place_of, at_take, take_there, at_drop, drop_there, not_both, behind}
 use Rattle.pc_ask.proofs.Narrowed.{is_had_of, fewer_stand}
 
 -- ---- entries by their numbers

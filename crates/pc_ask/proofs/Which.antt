@@ -1,5 +1,5 @@
 -- Which part of an asked sheet has what is asked.
-use Rattle.std.proofs.Common.{◌≡◌, ◌↔◌, ℕ, zero, suc, ◌+◌, ◌-◌, ◌<◌, ◌==◌, Bool, false, List, [], ◌∷◌, ◌++◌, length, get_or, map, None, Some, slice_get, Contains, arith, ap, refl, sym, ◌∙◌, subst, length-append}
+use Rattle.std.proofs.Common.{◌≡◌, ℕ, zero, suc, ◌+◌, ◌-◌, ◌<◌, ◌==◌, Bool, false, List, [], ◌∷◌, ◌++◌, length, get_or, map, Some, slice_get, Contains, arith, ap, refl, sym, ◌∙◌, subst, length-append}
 use Rattle.std.specs.List.{AllZip}
 use Rattle.std.proofs.lemmas.Bool.{false≢true}
 use Rattle.std.proofs.lemmas.List.{length-map, map-append}
@@ -13,7 +13,7 @@ use Rattle.pc_sheet.specs.WellFormed.{IsWellFormed}
 use Rattle.pc_sheet.specs.declared.ids.CellId.{CellId}
 use Rattle.pc_ground.specs.Ground.{clauses}
 use Rattle.pc_parts.specs.Pieces.{Piece, piece, pieces, ReadsCell}
-use Rattle.pc_parts.specs.Parts.{Part, IsDivision, ReadsNoCell, cell_count, part_without_cells}
+use Rattle.pc_parts.specs.Parts.{Part, ReadsNoCell, cell_count, part_without_cells}
 use Rattle.pc_parts.specs.Leaves.{LeavesReadTheCells, cells_of}
 use Rattle.pc_parts.specs.Components.{parts_of}
 use Rattle.pc_parts.proofs.Divided.{same_part}
@@ -23,7 +23,6 @@ use Rattle.pc_parts.proofs.PartsCells.{parts_are_of_its_cells}
 use Rattle.pc_components.specs.PartAxioms.{AreAxiomsOf, AreVariablesOf}
 use Rattle.pc_components.specs.View.{Kept, AreComponentsOf, IsInPart, cells_of_part, number_of, variable_number}
 use Rattle.pc_asked.specs.Asked.{asked}
-use Rattle.pc_ask.specs.Asking.{IsAskedPart}
 use Rattle.pc_ask.specs.inside.Parts.{IsAskedOver, IsAskedAt}
 use Rattle.pc_ask.specs.inside.Reading.{AreLastReads}
 use Rattle.pc_ask.proofs.Reading.{at_last, last_is, pieces_pushed}

@@ -8,7 +8,8 @@ use Rattle.pc_sortcheck.specs.Laws.{SheetsAreWellFormed}
 use Rattle.pc_refusals.specs.declared.refusal.Refusal.{Refusal}
 use Rattle.pc_refusals.specs.declared.refusal.SheetRefusal.{SheetRefusal}
 use Rattle.pc_transcript.specs.Answer.{Answer, silent, accepted, shown, refused, no_memory}
-use Rattle.pc_spreadsheet.specs.Judgement.{State, Task, IsTaskOf, entering, entering_beside, clearing, removing, adding, dropping, budgeting, asking, showing, showing_grid, showing_json, dumping, listing, proving, doubting, inquiring, state_after, enters, enters_beside, clears, removes, adds, drops, budgets, shows, IsEdit, Verdict, nothing, does, refuses, contradicts, IsVerdictOn, opens, rejects, IsRejected}
+use Rattle.pc_spreadsheet.specs.Judgement.{Verdict, nothing, does, refuses, contradicts, IsVerdictOn, opens, rejects, IsRejected}
+use Rattle.pc_spreadsheet.specs.Tasks.{State, Task, IsTaskOf, entering, entering_beside, clearing, removing, adding, dropping, budgeting, asking, showing, showing_grid, showing_json, dumping, listing, proving, doubting, inquiring, state_after, enters, enters_beside, clears, removes, adds, drops, budgets, shows, IsEdit}
 use Rattle.pc_spreadsheet.specs.Allowed.{Notes, Allows, RefusesLine, as_judged, as_contradiction, as_spent, as_proof_spent, as_ask_spent, RefusesText, for_fault, for_weight, for_rules, for_search}
 use Rattle.pc_spreadsheet.specs.Laws.{LinesHaveOneVerdict, TextsHaveOneVerdict, AnswersKeepForm}
 use Rattle.pc_complete.specs.Complete.{HasEnough, IsDone, Tells, IsAsJudged, LinesAreAnsweredInFull, TranscriptsAreInFull, HasEnoughFor, TextsAreRefusedInFull, TextsOfEnoughAreOpened}

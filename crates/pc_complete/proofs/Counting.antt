@@ -23,7 +23,8 @@ use Rattle.pc_session.specs.Views as session
 use Rattle.pc_refusals.specs.declared.refusal.Counts.{Counts}
 use Rattle.pc_refusals.specs.declared.refusal.SheetRefusal.{SheetRefusal}
 use Rattle.pc_refusals.specs.declared.refusal.Refusal.TheVariants.{TooLarge, Inconsistent, Spent}
-use Rattle.pc_spreadsheet.specs.Judgement.{State, of_whole}
+use Rattle.pc_spreadsheet.specs.Judgement.{of_whole}
+use Rattle.pc_spreadsheet.specs.Tasks.{State}
 use Rattle.pc_spreadsheet.specs.Allowed.{Notes, IsLawfullySpent, IsWholeSpent, IsAskSpent, LineSpends, LineProofSpends, LineAskSpends, RefusesText, for_fault, for_weight, for_rules, for_search}
 use Rattle.pc_complete.specs.Counts.{AreFew, IsCounted, IsCountedOnPart, TalliesAreCounted, IsToldSpent, IsToldSpentWhole, IsToldSpentAsking, TellsOfEdit, TellsOfProof, TellsOfAsking, TellsOfLoad, ToldCountsAreBounded}
 use Rattle.pc_complete.proofs.Spending.{too_little, search_formed, one_log_learns_few}

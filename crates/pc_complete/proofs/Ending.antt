@@ -19,7 +19,7 @@ use Rattle.pc_transcript.specs.Answer.{Answer, is_refused as was_refused, is_no_
 use Rattle.pc_transcript.specs.Transcript.{worse_of}
 use Rattle.pc_transcript.specs.Course as course
 use Rattle.pc_transcript.specs.Course.{events_of, AnswersLines, awaits_line, awaits_end, has_answer, has_all, FromSheet, is_refused, answers, FromInput, awaits_sheet, keeps_sheet, has_sheet, Replay, needs_room, from_input, Edit, awaits_file, has_file}
-use Rattle.pc_spreadsheet.specs.Judgement.{Starts}
+use Rattle.pc_spreadsheet.specs.Tasks.{Starts}
 use Rattle.pc_spreadsheet.specs.Allowed.{Notes, Allows, RefusesText}
 use Rattle.pc_replay.specs.Course as asked
 use Rattle.pc_replay.specs.Course.{CourseIn}

@@ -13,7 +13,7 @@ use Rattle.pc_course.specs.Runs.{Comes, on_course, past_limit, without_memory, R
 use Rattle.pc_transcript.specs.Answer.{is_refused as was_refused, is_no_memory}
 use Rattle.pc_transcript.specs.Course as course
 use Rattle.pc_transcript.specs.Course.{AnswersLines, awaits_line, awaits_end, has_answer, has_all, FromSheet, is_refused, answers, Edit, awaits_file, has_file}
-use Rattle.pc_spreadsheet.specs.Judgement.{State, Starts}
+use Rattle.pc_spreadsheet.specs.Tasks.{State, Starts}
 use Rattle.pc_spreadsheet.specs.Allowed.{Notes, Allows, RefusesText}
 use Rattle.pc_replay.specs.Course as asked
 use Rattle.pc_complete.specs.Complete.{HasEnoughFor, TextsOfEnoughAreOpened}

@@ -21,8 +21,9 @@ use Rattle.pc_course_laws.proofs.JournalCauses.{posts_calmly}
 use Rattle.pc_course_laws.specs.Flat.{taken_in}
 use Rattle.pc_transcript.specs.Answer.{Answer, is_refused as was_refused, is_no_memory}
 use Rattle.pc_journal.specs.Course as journal
-use Rattle.pc_journal.specs.Course.{AnswersHeld, AnswersPosts, lines_of_posts, PostText, Posts}
-use Rattle.pc_spreadsheet.specs.Judgement.{State, Starts}
+use Rattle.pc_journal.specs.Course.{AnswersHeld, AnswersPosts, PostText, Posts}
+use Rattle.pc_journal.specs.PostLines.{lines_of_posts}
+use Rattle.pc_spreadsheet.specs.Tasks.{State, Starts}
 use Rattle.pc_spreadsheet.specs.Allowed.{Notes, Allows, RefusesText}
 use Rattle.pc_replay.specs.Course as asked
 use Rattle.pc_complete.specs.Complete.{HasEnoughFor, TextsOfEnoughAreOpened}

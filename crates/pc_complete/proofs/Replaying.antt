@@ -11,7 +11,7 @@ use Rattle.pc_course.specs.Stages.{Stage}
 use Rattle.pc_course.specs.Runs.{Ran}
 use Rattle.pc_course_laws.proofs.FlatLemmas.{happened-split}
 use Rattle.pc_transcript.specs.Course.{IsSheetTaken, FromInput, awaits_sheet, keeps_sheet, has_sheet, Replay, needs_room, from_input}
-use Rattle.pc_spreadsheet.specs.Judgement.{State, Starts}
+use Rattle.pc_spreadsheet.specs.Tasks.{State, Starts}
 use Rattle.pc_spreadsheet.specs.Allowed.{Notes, Allows, RefusesText}
 use Rattle.pc_replay.specs.Course as asked
 use Rattle.pc_complete.specs.Complete.{HasEnoughFor, TextsOfEnoughAreOpened}

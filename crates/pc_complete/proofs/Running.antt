@@ -11,8 +11,9 @@ use Rattle.pc_transcript.specs.Transcript.{Transcript, Legal}
 use Rattle.pc_transcript.specs.Course as course
 use Rattle.pc_transcript.specs.Course.{AnswersLines, awaits_line, awaits_end, has_answer, has_all, FromSheet, is_refused, answers, FromInput, awaits_sheet, keeps_sheet, has_sheet, Replay, needs_room, from_input, Edit, awaits_file, has_file}
 use Rattle.pc_journal.specs.Course as journal
+use Rattle.pc_journal.specs.PostLines.{lines_of_posts}
 use Rattle.pc_journal.specs.Course.{AnswersHeld, PostText, Posts}
-use Rattle.pc_spreadsheet.specs.Judgement.{State, Starts}
+use Rattle.pc_spreadsheet.specs.Tasks.{State, Starts}
 use Rattle.pc_spreadsheet.specs.Allowed.{Notes, Allows, RefusesText}
 use Rattle.pc_spreadsheet.specs.Laws.{StartsAreWellFormed, AnswersKeepForm}
 use Rattle.pc_replay.specs.Course as asked
@@ -72,7 +73,7 @@ module _ (lines : LinesAreAnsweredInFull) (transcripts : TranscriptsAreInFull) (
   posts_to start formed some old new events stage (journal.awaits_journal is) = journal.awaits_journal is
   posts_to start formed some old new events stage (journal.needs_memory taken few is) = journal.needs_memory taken few is
   posts_to start formed some old new events stage (journal.is_refused text line fault small at_fault is) = journal.is_refused text line fault small at_fault is
-  posts_to start formed some old new events stage (journal.has_journal text a more small reads h is) = journal.has_journal text a more small reads (held_to start new (journal.lines_of_posts a) more stage formed some h) is
+  posts_to start formed some old new events stage (journal.has_journal text a more small reads h is) = journal.has_journal text a more small reads (held_to start new (lines_of_posts a) more stage formed some h) is
 
   module _ (texts : TextsAreRefusedInFull) (first : StartsAreWellFormed) (budget : ℕ) (some : 1 ≤ budget) where
     sheet_to : (text : List ℕ) (notes notes' : Notes) (events : List Event) (stage : Stage) → FromSheet (Starts budget) (RefusesText budget) Allows text notes events stage notes' → FromSheet (Starts budget) (RefusesInFull budget) AllowsInFull text notes events stage notes'

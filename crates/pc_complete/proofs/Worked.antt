@@ -9,7 +9,9 @@ use Rattle.pc_refusals.specs.declared.refusal.Refusal.{Refusal}
 use Rattle.pc_refusals.specs.declared.refusal.Refusal.TheVariants.{Spent}
 use Rattle.pc_load.specs.Refusals.{IsSortRefusal}
 use Rattle.pc_transcript.specs.Answer.{refused}
-use Rattle.pc_spreadsheet.specs.Judgement.{State, Task, enters, enters_beside, clears, removes, adds, drops, budgets, shows, nothing, does, refuses, contradicts, IsRefusalOf, by_fault, without_entry, without_that, of_old_name, of_no_rule, too_large, too_many_sets, too_many_for, of_rule_ask, too_large_asked, IsRefused, for_utf8, for_depth, for_syntax, for_asked}
+use Rattle.pc_spreadsheet.specs.Judgement.{nothing, does, refuses, contradicts}
+use Rattle.pc_spreadsheet.specs.Refused.{IsRefusalOf, by_fault, without_entry, without_that, of_old_name, of_no_rule, too_large, too_many_sets, too_many_for, of_rule_ask, too_large_asked, IsRefused, for_utf8, for_depth, for_syntax, for_asked}
+use Rattle.pc_spreadsheet.specs.Tasks.{State, Task, enters, enters_beside, clears, removes, adds, drops, budgets, shows}
 use Rattle.pc_complete.specs.Complete.{IsDone}
 use Rattle.pc_complete.specs.Worked.{WorkedBudgets, NoVerdictIsSpent}
 

@@ -10,7 +10,8 @@ use Rattle.pc_refusals.specs.declared.refusal.SheetRefusal.{SheetRefusal}
 use Rattle.pc_refusals.specs.declared.refusal.Refusal.TheVariants.{Inconsistent}
 use Rattle.pc_transcript.specs.Answer.{Answer, silent, accepted, shown, refused, no_memory}
 use Rattle.pc_transcript.specs.Transcript.{Transcript, Legal}
-use Rattle.pc_spreadsheet.specs.Judgement.{State, IsLight, Task, shows, Verdict, nothing, does, refuses, contradicts, IsVerdictOn, Starts, IsRejected}
+use Rattle.pc_spreadsheet.specs.Judgement.{Verdict, nothing, does, refuses, contradicts, IsVerdictOn, IsRejected}
+use Rattle.pc_spreadsheet.specs.Tasks.{State, IsLight, Task, shows, Starts}
 use Rattle.pc_spreadsheet.specs.Allowed.{Notes, NeedsSearch, NeedsProof, NeedsAnswer, Allows, RefusesText}
 use Rattle.pc_spreadsheet.specs.Pages.{PageSays, IsCertificateAgainst}
 use Rattle.pc_complete.specs.Enough.{IsEnough, IsEnoughToProve, IsEnoughToAsk}

@@ -22,7 +22,8 @@ use Rattle.pc_enough.specs.Enough.{sum_of_touched, most_learned, IsMostCalls}
 use Rattle.pc_session.specs.Views as session
 use Rattle.pc_refusals.specs.declared.refusal.Counts.{Counts}
 use Rattle.pc_refusals.specs.declared.refusal.Refusal.TheVariants.{Spent}
-use Rattle.pc_spreadsheet.specs.Judgement.{State, of_whole}
+use Rattle.pc_spreadsheet.specs.Judgement.{of_whole}
+use Rattle.pc_spreadsheet.specs.Tasks.{State}
 use Rattle.pc_spreadsheet.specs.Allowed.{Notes, NeedsSearch, LineSpends, NeedsProof, LineProofSpends, NeedsAnswer, LineAskSpends, RefusesText}
 use Rattle.pc_complete.specs.Enough.{IsTooLittle}
 

@@ -8,7 +8,7 @@ use Rattle.pc_refusals.specs.declared.status.Status.{Status}
 use Rattle.pc_refusals.specs.declared.status.Status.TheVariants.{TooLong, SheetRefused}
 use Rattle.pc_course.specs.Events.{Outside}
 use Rattle.pc_transcript.specs.SheetPart.{IsSheetPart}
-use Rattle.pc_spreadsheet.specs.Judgement.{State, Starts}
+use Rattle.pc_spreadsheet.specs.Tasks.{State, Starts}
 use Rattle.pc_spreadsheet.specs.Allowed.{Notes}
 use Rattle.pc_replay.specs.Course.{Runs}
 use Rattle.pc_complete.specs.Complete.{HasEnoughFor}

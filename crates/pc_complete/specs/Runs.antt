@@ -12,7 +12,7 @@ use Rattle.pc_course.specs.Stages.{Stage, needs, ends_with}
 use Rattle.pc_course.specs.Runs.{Ran}
 use Rattle.pc_transcript.specs.Course.{Replay, Edit}
 use Rattle.pc_journal.specs.Course.{Posts}
-use Rattle.pc_spreadsheet.specs.Judgement.{State, Starts}
+use Rattle.pc_spreadsheet.specs.Tasks.{State, Starts}
 use Rattle.pc_spreadsheet.specs.Allowed.{Notes}
 use Rattle.pc_replay.specs.Course.{usage_text, CourseIn, IsMostAhead, Runs}
 use Rattle.pc_complete.specs.Complete.{AllowsInFull, RefusesInFull, HasEnoughFor}

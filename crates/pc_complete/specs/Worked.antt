@@ -6,7 +6,8 @@ use Rattle.pc_enough.specs.Enough.{enough_for_all}
 use Rattle.pc_refusals.specs.declared.refusal.Counts.{Counts}
 use Rattle.pc_refusals.specs.declared.refusal.Refusal.TheVariants.{Spent}
 use Rattle.pc_transcript.specs.Answer.{refused}
-use Rattle.pc_spreadsheet.specs.Judgement.{State, Verdict, IsVerdictOn}
+use Rattle.pc_spreadsheet.specs.Judgement.{Verdict, IsVerdictOn}
+use Rattle.pc_spreadsheet.specs.Tasks.{State}
 use Rattle.pc_complete.specs.Enough.{IsEnough, IsTooLittle}
 use Rattle.pc_complete.specs.Complete.{Tells}
 

@@ -9,6 +9,7 @@ use Rattle.pc_transcript.specs.Answer.{Answer, is_refused as was_refused, is_no_
 use Rattle.pc_transcript.specs.Transcript.{Transcript}
 use Rattle.pc_collab.specs.Journal.{Post}
 use Rattle.pc_journal.specs.Course as journal
+use Rattle.pc_journal.specs.PostLines.{lines_of_posts}
 use Rattle.pc_journal.specs.Course.{answers_told, AnswersHeld, MergeBoth, MergeText, Merge, PostText, Posts}
 use Rattle.pc_course_laws.proofs.CauseLemmas.{AreCalm, IsFine, EndsFine, worse_fine}
 
@@ -66,7 +67,7 @@ module _ {S N : Type 0} (IsSheet : List ℕ → S → Type 0) (Refuses : List �
   post_calmly notes text events stage notes' (journal.needs_sheet_memory is) = (subst AreCalm (sym is) tt, tt)
   post_calmly notes text events stage notes' (journal.sheet_is_refused why more has is) = (subst AreCalm (sym is) tt, refused_fine)
   post_calmly notes text events stage notes' (journal.has_sheet start end is h) =
-      input_calmly (journal.AnswersPosts Allows (start, notes)) (λ a. held_calmly Allows (start, notes) (journal.lines_of_posts a)) (start, notes) events stage (end, notes') h
+      input_calmly (journal.AnswersPosts Allows (start, notes)) (λ a. held_calmly Allows (start, notes) (lines_of_posts a)) (start, notes) events stage (end, notes') h
 
   pub posts_calmly : (file : List ℕ) (notes : N) (events : List Event) (stage : Stage) (notes' : N) → Posts IsSheet Refuses Allows file notes events stage notes' → AreCalm events × EndsFine stage
   posts_calmly file notes events stage notes' h = file_calmly _ file (PostText IsSheet Refuses Allows notes) (post_calmly notes) notes events stage notes' h

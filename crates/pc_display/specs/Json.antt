@@ -14,6 +14,7 @@ use Rattle.pc_sheet.specs.declared.ids.CellId.{CellId}
 use Rattle.pc_sheet.specs.declared.ids.ValueId.{ValueId}
 use Rattle.pc_sheet.specs.declared.ids.Entry.{Entry}
 use Rattle.pc_writer.specs.Spelling.{value_text, cell_text, entry_text, sort_of}
+use Rattle.pc_writer.specs.SheetText.{ended}
 use Rattle.pc_display.specs.Supports.{Reasoning, IsReasoning}
 use Rattle.pc_display.specs.Show.{conflict_of, reason_of, cells_below}
 
@@ -91,3 +92,7 @@ IsJson sheet text = (reason : Reasoning) × IsReasoning sheet reason × (text �
 -- what a text gives back that is read as JSON
 abbrev pub IsJsonData : Sheet → Data → Type 0
 IsJsonData sheet found = (reason : Reasoning) × IsReasoning sheet reason × (found ≡ sheet_data sheet reason)
+
+-- the display as JSON, and a line feed
+abbrev pub IsJsonLine : Sheet → List ℕ → Type 0
+IsJsonLine sheet text = (found : List ℕ) × IsJson sheet found × (text ≡ ended found)

@@ -7,7 +7,7 @@ use Rattle.pc_lines.specs.Lines.{HasNoEnd, line_text_of}
 use Rattle.pc_lines.proofs.Ends.{text_of-open}
 use Rattle.pc_collab.specs.declared.TheConstants.{TEXT_LIMIT}
 use Rattle.pc_collab.specs.Journal.{Post, IsPost, IsJournal, IsOneLine}
-use Rattle.pc_journal.specs.Course.{lines_of_posts}
+use Rattle.pc_journal.specs.PostLines.{lines_of_posts}
 
 no_end : (text : List ℕ) → IsOneLine text → HasNoEnd text
 no_end text one = All-weaker (λ b. (b ≢ 10) × (b ≢ 13)) (λ b. b ≢ 10) (λ b is. is.0) text one

@@ -1,6 +1,6 @@
 -- The courses of the runs that merge journals and that answer a journal's posts: what happens where every device obeys and memory is there, and
 -- what comes next.
-use Rattle.std.specs.Prelude.{◌≡◌, ◌≤◌, ℕ, List, [], ◌∷◌, ◌++◌, codes, length, map}
+use Rattle.std.specs.Prelude.{◌≡◌, ◌≤◌, ℕ, List, [], ◌∷◌, ◌++◌, length, map}
 use Rattle.pc_collab.specs.declared.TheConstants.{JOURNAL_LIMIT}
 use Rattle.pc_collab.specs.Journal.{Post}
 use Rattle.pc_collab.specs.Reading.{IsTextOf, LineFault, IsFirstFault}
@@ -17,6 +17,7 @@ use Rattle.pc_course.specs.Stages.{rest_within, sheet_file, Stage, takes, needs,
 use Rattle.pc_transcript.specs.Answer.{Answer, answer_text}
 use Rattle.pc_transcript.specs.Transcript.{Transcript, Legal, lines, status_of}
 use Rattle.pc_journal.specs.Told.{from_file, from_input, refused_text, differ_text}
+use Rattle.pc_journal.specs.PostLines.{lines_of_posts}
 
 -- ---- what both begin with
 
@@ -52,10 +53,6 @@ abbrev pub Merge : List ℕ → List Event → Stage → Unit {0} → Type 0
 Merge file = FromFile memory_text file MergeText tt
 
 -- ---- the mode `posts`
-
--- the command lines of a journal: the texts of its posts, and `show` at last
-abbrev pub lines_of_posts : List Post → List (List ℕ)
-lines_of_posts posts = map (λ p. p.text) posts ++ codes "show" ∷ []
 
 -- the answers are told one by one
 abbrev pub answers_told : Transcript → List Event

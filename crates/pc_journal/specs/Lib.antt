@@ -1,4 +1,5 @@
 pub mod Told
 pub mod Course
+pub mod PostLines
 pub mod Examples
 pub mod inside

@@ -14,9 +14,11 @@ use Rattle.pc_refusals.specs.declared.refusal.Refusal.TheVariants.{Inconsistent}
 use Rattle.pc_transcript.specs.Answer.{Answer, silent, accepted, shown, refused, no_memory}
 use Rattle.pc_transcript.specs.Transcript.{Transcript, Legal, lines}
 use Rattle.pc_display.specs.OneDisplay.{SheetHasOneDisplay}
-use Rattle.pc_journal.specs.Course.{lines_of_posts}
-use Rattle.pc_spreadsheet.specs.Judgement.{State, Task, enters, enters_beside, clears, removes, adds, drops, budgets, shows, PageKind, IsTaskOf, IsTask, IsEdit, state_after, IsRefusalOf, MakesContradiction, IsRefused, for_utf8, for_depth, for_syntax, for_asked, Verdict, nothing, does, refuses, contradicts, IsVerdictOn, Starts, opens}
-use Rattle.pc_spreadsheet.specs.Judgement as judged
+use Rattle.pc_journal.specs.PostLines.{lines_of_posts}
+use Rattle.pc_spreadsheet.specs.Judgement.{Verdict, nothing, does, refuses, contradicts, IsVerdictOn, opens}
+use Rattle.pc_spreadsheet.specs.Refused.{IsRefusalOf, MakesContradiction, IsRefused, for_utf8, for_depth, for_syntax, for_asked}
+use Rattle.pc_spreadsheet.specs.Tasks.{State, Task, enters, enters_beside, clears, removes, adds, drops, budgets, shows, PageKind, IsTaskOf, IsTask, IsEdit, state_after, Starts}
+use Rattle.pc_spreadsheet.specs.Tasks as tasks
 use Rattle.pc_spreadsheet.specs.Allowed.{Notes, Allows, RefusesLine, as_judged, as_contradiction, as_spent, as_proof_spent, as_ask_spent}
 use Rattle.pc_spreadsheet.specs.Pages.{PageSays, IsCertificateAgainst}
 use Rattle.pc_spreadsheet.specs.Laws.{LinesHaveOneVerdict, TextsHaveOneVerdict, AnswersKeepForm}
@@ -113,9 +115,9 @@ both_are state line answer x y one two =
     subst (λ (a : Answer). SayTheSame state line a y) (sym one) (subst (λ (a : Answer). SayTheSame state line answer a) (sym two) (equal answer))
 
 display_or_not : (kind : PageKind) → IsDisplay kind ⊎ ¬ IsDisplay kind
-display_or_not judged.lines_page = inl tt
-display_or_not judged.grid_page = inl tt
-display_or_not judged.json_page = inl tt
+display_or_not tasks.lines_page = inl tt
+display_or_not tasks.grid_page = inl tt
+display_or_not tasks.json_page = inl tt
 display_or_not kind = inr (λ is. is)
 
 module _ (one : SheetHasOneDisplay) (state : State) (line : List ℕ) (formed : IsWellFormed state.sheet) where

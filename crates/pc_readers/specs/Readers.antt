@@ -9,8 +9,9 @@ use Rattle.pc_refusals.specs.declared.refusal.Refusal.{Refusal}
 use Rattle.pc_refusals.specs.declared.refusal.Refusal.TheVariants.{Inconsistent, Spent}
 use Rattle.pc_transcript.specs.Answer.{Answer, shown, refused, no_memory}
 use Rattle.pc_transcript.specs.Transcript.{Transcript, Legal, lines}
-use Rattle.pc_journal.specs.Course.{lines_of_posts}
-use Rattle.pc_spreadsheet.specs.Judgement.{State, shows, PageKind, IsTask, IsContradiction, Starts}
+use Rattle.pc_journal.specs.PostLines.{lines_of_posts}
+use Rattle.pc_spreadsheet.specs.Refused.{IsContradiction}
+use Rattle.pc_spreadsheet.specs.Tasks.{State, shows, PageKind, IsTask, Starts}
 use Rattle.pc_spreadsheet.specs.Allowed.{Notes, Allows}
 use Rattle.pc_spreadsheet.specs.Pages.{PageSays, IsCertificateAgainst}
 use Rattle.pc_afresh.specs.Afresh.{IsDisplay, DisplayTheSame}

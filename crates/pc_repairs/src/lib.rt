@@ -22,5 +22,4 @@ pub use listing::{ListFault, Listing, list};
 pub use part_sets::{PartSets, sets_by_part};
 pub use proving::prove;
 pub use refuting::refute;
-pub use task::{Numbers, Task};
 pub use unimplied::lacking;

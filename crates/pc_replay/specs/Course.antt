@@ -13,7 +13,7 @@ use Rattle.pc_transcript.specs.Course.{Replay, Edit}
 use Rattle.pc_judge.specs.Course.{Check}
 use Rattle.pc_journal.specs.Course.{Merge, Posts}
 use Rattle.pc_demo.specs.Course.{Demo}
-use Rattle.pc_spreadsheet.specs.Judgement.{Starts}
+use Rattle.pc_spreadsheet.specs.Tasks.{Starts}
 use Rattle.pc_spreadsheet.specs.Allowed.{Notes, Allows, RefusesText}
 
 abbrev pub usage_text : List ℕ

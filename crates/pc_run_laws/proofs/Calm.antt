@@ -9,7 +9,7 @@ use Rattle.pc_judge.specs.Course.{Check}
 use Rattle.pc_demo.specs.Course as demo
 use Rattle.pc_demo.specs.Course.{Demo}
 use Rattle.pc_demo.specs.Demonstration.{told_of}
-use Rattle.pc_spreadsheet.specs.Judgement.{Starts}
+use Rattle.pc_spreadsheet.specs.Tasks.{Starts}
 use Rattle.pc_spreadsheet.specs.Allowed.{Notes, Allows, RefusesText}
 use Rattle.pc_replay.specs.Course.{CourseIn, Course, without_fit, needs_memory, as_asked}
 use Rattle.pc_course_laws.proofs.CauseLemmas.{AreCalm, IsFine, EndsFine, replay_calmly, edit_calmly}

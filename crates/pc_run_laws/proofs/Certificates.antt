@@ -16,7 +16,7 @@ use Rattle.pc_judge.specs.declared.told.Told.{Told}
 use Rattle.pc_judge.specs.Judged.{IsJudged, judged_text, status_of_told}
 use Rattle.pc_judge.specs.Course as check
 use Rattle.pc_judge.specs.Course.{Check}
-use Rattle.pc_spreadsheet.specs.Judgement.{Starts}
+use Rattle.pc_spreadsheet.specs.Tasks.{Starts}
 use Rattle.pc_spreadsheet.specs.Allowed.{Notes, Allows, RefusesText}
 use Rattle.pc_replay.specs.Course.{CourseIn, Course, without_fit, needs_memory, as_asked, most_ahead}
 use Rattle.pc_run_laws.specs.ByStatus.{CertificatesAreRefused}

@@ -18,7 +18,7 @@ use Rattle.pc_journal.specs.Course as journal
 use Rattle.pc_journal.specs.Course.{answers_told, Merge, Posts}
 use Rattle.pc_demo.specs.Course as demo
 use Rattle.pc_demo.specs.Course.{Demo}
-use Rattle.pc_spreadsheet.specs.Judgement.{State, Starts}
+use Rattle.pc_spreadsheet.specs.Tasks.{State, Starts}
 use Rattle.pc_spreadsheet.specs.Allowed.{Notes, Allows, RefusesText}
 use Rattle.pc_replay.specs.Course.{CourseIn, Course, as_asked}
 use Rattle.pc_run_laws.specs.Statuses.{IsOneMore, told_by, FailsToTell, at_last, at_loaded, at_answer, WritesFail}

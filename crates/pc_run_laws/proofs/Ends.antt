@@ -20,10 +20,11 @@ use Rattle.pc_judge.specs.Course as check
 use Rattle.pc_judge.specs.Course.{Check}
 use Rattle.pc_collab.specs.Journal.{Post}
 use Rattle.pc_journal.specs.Course as journal
+use Rattle.pc_journal.specs.PostLines.{lines_of_posts}
 use Rattle.pc_journal.specs.Course.{AnswersHeld, MergeBoth, MergeText, Merge, PostText, Posts}
 use Rattle.pc_demo.specs.Course as demo
 use Rattle.pc_demo.specs.Course.{Demo}
-use Rattle.pc_spreadsheet.specs.Judgement.{Starts}
+use Rattle.pc_spreadsheet.specs.Tasks.{Starts}
 use Rattle.pc_spreadsheet.specs.Allowed.{Notes, Allows, RefusesText}
 use Rattle.pc_replay.specs.Course.{CourseIn}
 
@@ -107,7 +108,7 @@ module _ (P : Status → Type 0) (common : HasCommon P) where
     post_text_in text notes events stage notes' (journal.needs_sheet_memory is) = tt
     post_text_in text notes events stage notes' (journal.sheet_is_refused why more has is) = common.sheet_refused
     post_text_in text notes events stage notes' (journal.has_sheet start end is h) =
-        journal_in (journal.AnswersPosts A (start, notes)) (λ a. held_in A (start, notes) (journal.lines_of_posts a)) (start, notes) events stage (end, notes') h
+        journal_in (journal.AnswersPosts A (start, notes)) (λ a. held_in A (start, notes) (lines_of_posts a)) (start, notes) events stage (end, notes') h
 
     pub posts_in : (file : List ℕ) (notes : N) (events : List Event) (stage : Stage) (notes' : N) → Posts IsSheet Refuses A file notes events stage notes' → EndsIn P stage
     posts_in file notes events stage notes' (journal.needs_file_memory is) = tt

@@ -13,10 +13,11 @@ use Rattle.pc_judge.specs.Course as check
 use Rattle.pc_judge.specs.Course.{Check}
 use Rattle.pc_collab.specs.Journal.{Post}
 use Rattle.pc_journal.specs.Course as journal
+use Rattle.pc_journal.specs.PostLines.{lines_of_posts}
 use Rattle.pc_journal.specs.Course.{AnswersHeld, MergeBoth, MergeText, Merge, PostText, Posts}
 use Rattle.pc_demo.specs.Course as demo
 use Rattle.pc_demo.specs.Course.{Demo}
-use Rattle.pc_spreadsheet.specs.Judgement.{State, Starts}
+use Rattle.pc_spreadsheet.specs.Tasks.{State, Starts}
 use Rattle.pc_spreadsheet.specs.Allowed.{Notes, Allows, RefusesText}
 use Rattle.pc_replay.specs.Course as asked
 use Rattle.pc_replay.specs.Course.{CourseIn, Course, without_fit, as_asked}
@@ -109,7 +110,7 @@ module _ (budget : ℕ) where
   post_text_at text notes notes' events stage (journal.needs_sheet_memory is) = inl refl
   post_text_at text notes notes' events stage (journal.sheet_is_refused why more has is) = tt
   post_text_at text notes notes' events stage (journal.has_sheet start end is h) =
-      journal_by (journal.AnswersPosts Allows (start, notes)) (λ a. held_at (start, notes) (journal.lines_of_posts a)) (start, notes) (end, notes') events stage h
+      journal_by (journal.AnswersPosts Allows (start, notes)) (λ a. held_at (start, notes) (lines_of_posts a)) (start, notes) (end, notes') events stage h
 
   posts_at : (file : List ℕ) (notes notes' : Notes) (events : List Event) (stage : Stage) → Posts (Starts budget) (RefusesText budget) Allows file notes events stage notes' → RestAt stage
   posts_at file notes notes' events stage (journal.needs_file_memory is) = inl refl

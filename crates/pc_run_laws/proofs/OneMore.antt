@@ -2,7 +2,7 @@
 use Rattle.std.proofs.Common.{◌≡◌, ℕ, List, ap, inl, inr}
 use Rattle.pc_refusals.specs.declared.refusal.Refusal.{Refusal}
 use Rattle.pc_transcript.specs.Answer.{Answer, silent, accepted, shown, refused, no_memory}
-use Rattle.pc_spreadsheet.specs.Judgement.{State}
+use Rattle.pc_spreadsheet.specs.Tasks.{State}
 use Rattle.pc_spreadsheet.specs.Allowed.{Notes, Allows, RefusesLine, as_judged, as_contradiction, as_spent, as_proof_spent, as_ask_spent}
 use Rattle.pc_run_laws.specs.Statuses.{IsOneMore}
 

@@ -24,10 +24,11 @@ use Rattle.pc_judge.specs.Judged.{IsJudged, judged_text, status_of_told}
 use Rattle.pc_judge.specs.Course as check
 use Rattle.pc_judge.specs.Course.{Check}
 use Rattle.pc_journal.specs.Course as journal
-use Rattle.pc_journal.specs.Course.{lines_of_posts, AnswersHeld, AnswersPosts, MergeBoth, MergeText, Merge, PostText, Posts}
+use Rattle.pc_journal.specs.Course.{AnswersHeld, AnswersPosts, MergeBoth, MergeText, Merge, PostText, Posts}
+use Rattle.pc_journal.specs.PostLines.{lines_of_posts}
 use Rattle.pc_demo.specs.Course as demo
 use Rattle.pc_demo.specs.Course.{Demo}
-use Rattle.pc_spreadsheet.specs.Judgement.{State, Starts}
+use Rattle.pc_spreadsheet.specs.Tasks.{State, Starts}
 use Rattle.pc_spreadsheet.specs.Allowed.{Notes, Allows, RefusesText}
 use Rattle.pc_replay.specs.Course.{CourseIn}
 use Rattle.pc_run_laws.specs.Statuses.{AnswersInput, AnswersAll, of_input, on_file, of_posts, of_blocks, RefusesSheet, refuses_input, refuses_file, refuses_to_post, refuses_blocks, refuses_to_check, no_journal_of_file, no_journal_of_input, refuses_both, TakesLines, TakesIn}

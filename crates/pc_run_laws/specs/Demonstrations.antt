@@ -9,7 +9,7 @@ use Rattle.pc_refusals.specs.Endings.{Printing, printed, sheet_memory_text, IsPr
 use Rattle.pc_course.specs.Events.{Outside}
 use Rattle.pc_transcript.specs.Answer.{Answer}
 use Rattle.pc_transcript.specs.Transcript.{Transcript, status_of}
-use Rattle.pc_spreadsheet.specs.Judgement.{State}
+use Rattle.pc_spreadsheet.specs.Tasks.{State}
 use Rattle.pc_spreadsheet.specs.Allowed.{Notes, Allows, RefusesText}
 use Rattle.pc_demo.specs.Demonstration.{clear_line, Clears, told_of, told_in, SumsUp, Loads}
 

@@ -30,10 +30,11 @@ use Rattle.pc_transcript.specs.Transcript.{Transcript, Legal, lines, input_of}
 use Rattle.pc_transcript.specs.Course.{events_of, IsSheetTaken}
 use Rattle.pc_judge.specs.declared.told.Told.TheVariants.{Verdict}
 use Rattle.pc_judge.specs.Judged.{IsJudged, judged_text}
-use Rattle.pc_journal.specs.Course.{lines_of_posts, answers_told}
+use Rattle.pc_journal.specs.Course.{answers_told}
+use Rattle.pc_journal.specs.PostLines.{lines_of_posts}
 use Rattle.pc_journal.specs.Told.{from_file, from_input, refused_text, differ_text}
 use Rattle.pc_demo.specs.Demonstration.{Clears, told_of, SumsUp, Loads}
-use Rattle.pc_spreadsheet.specs.Judgement.{State, Starts}
+use Rattle.pc_spreadsheet.specs.Tasks.{State, Starts}
 use Rattle.pc_spreadsheet.specs.Allowed.{Notes, Allows, RefusesText}
 use Rattle.pc_session.specs.NoteViews.{NoteView}
 use Rattle.pc_replay.specs.Course.{CourseIn, Course, Runs}

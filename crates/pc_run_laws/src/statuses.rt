@@ -11,7 +11,7 @@ ghost use Rattle.pc_run_laws.specs.Checks.{Checked, ChecksEndAsJudged};
 ghost use Rattle.pc_run_laws.specs.Demonstrations.{Demonstrated};
 ghost use Rattle.pc_run_laws.specs.Statuses.{DoneIsSo, LimitsArePassed, ReadsFail, SheetsAreRefused, SomeAreRefused, WritesFail};
 ghost use Rattle.pc_spreadsheet.specs.Allowed.{Allows, Notes};
-ghost use Rattle.pc_spreadsheet.specs.Judgement.{State};
+ghost use Rattle.pc_spreadsheet.specs.Tasks.{State};
 ghost use Rattle.pc_token.specs.Line.{IsOneName};
 ghost use Rattle.pc_transcript.specs.Answer.{no_memory};
 

@@ -21,7 +21,8 @@ use Rattle.pc_theory.proofs.OfRules.{base_here, consistent_by}
 use Rattle.pc_session.specs.Causes.{IsLoadCause}
 use Rattle.pc_session.specs.inside.Refusals.{IsSameRefusal}
 use Rattle.pc_session.specs.inside.Sessions.{IsSession}
-use Rattle.pc_session.specs.Rules.{IsNewName, IsRuleAt, IsRuleCause, IsAddCause, IsDropCause}
+use Rattle.pc_session.specs.Rules.{IsRuleCause, IsAddCause, IsDropCause}
+use Rattle.pc_session.specs.RuleNames.{IsNewName, IsRuleAt}
 use Rattle.pc_session.specs.declared.refused.LoadRefused.{LoadRefused}
 use Rattle.pc_session.specs.declared.refused.LoadRefused.TheVariants as load
 use Rattle.pc_session.specs.declared.refused.EditRefused.{EditRefused}

@@ -1,21 +1,14 @@
--- Rules by their names, and why a rule isn't added or dropped.
-use Rattle.std.specs.Prelude.{◌≡◌, ◌≢◌, ℕ, ◌<◌, ◌≤◌, List, All, None, length, slice_index_or}
+-- Why a rule isn't added or dropped.
+use Rattle.std.specs.Prelude.{◌≡◌, ℕ, ◌<◌, ◌≤◌, List, None}
 use Rattle.pc_sheet.specs.Limits.{most_weight}
 use Rattle.pc_sheet.specs.Sheet.{Sheet, NamedStatement, with_rule}
 use Rattle.pc_sheet.specs.Weight.{weight}
 use Rattle.pc_sheet.specs.MaximalSets.{AreRulesConsistent}
 use Rattle.pc_logic.specs.Edits.{without_rule}
 use Rattle.pc_theory.specs.Spendings.{IsLawful}
+use Rattle.pc_session.specs.RuleNames.{IsNewName, IsRuleAt}
 use Rattle.pc_session.specs.declared.refused.EditRefused.{EditRefused}
 use Rattle.pc_session.specs.declared.refused.EditRefused.TheVariants as edit
-
--- no rule of that name stands
-abbrev pub IsNewName : List NamedStatement → List ℕ → Type 0
-IsNewName rules name = All (λ r. r.name ≢ name) rules
-
--- the rule of that name stands at that place
-abbrev pub IsRuleAt : List NamedStatement → List ℕ → ℕ → Type 0
-IsRuleAt rules name k = (k < length rules) × ((d : NamedStatement) → (slice_index_or rules k d).name ≡ name)
 
 -- the rule of that name is gone
 abbrev pub IsDropped : Sheet → List ℕ → Sheet → Type 0

@@ -1,5 +1,5 @@
 -- What comes of asking a formula.
-use Rattle.std.proofs.Common.{◌≡◌, ◌≢◌, ℕ, ◌+◌, ◌*◌, ◌-◌, ◌<◌, ◌≤◌, Bool, true, false, Result, Ok, Err, List, [], ◌∷◌, ◌++◌, None, Some, length, refl, sym, ap, ap₂, subst, arith, inl, inr, ◌∙◌}
+use Rattle.std.proofs.Common.{◌≡◌, ℕ, ◌+◌, ◌*◌, ◌-◌, ◌<◌, ◌≤◌, Bool, true, false, Result, Ok, Err, List, [], ◌∷◌, ◌++◌, None, length, refl, sym, ap, ap₂, subst, arith, inl, inr, ◌∙◌}
 use Rattle.std.specs.Prelude.{codes, cond, nat_lt, Box, IfErr, IfOk, MatchResult}
 use Rattle.std.specs.declared.alloc.Global.{Global}
 use Rattle.pc_sheet.specs.Views.{rule_of, statement_of}
@@ -14,13 +14,12 @@ use Rattle.pc_formula.specs.Tree as written
 use Rattle.pc_syntax.specs.Tree.{not, asks_ask}
 use Rattle.pc_lits.specs.declared.tally.Tally.{Tally}
 use Rattle.pc_log.specs.Lines.{LogLine}
-use Rattle.pc_sheet.specs.Sheet.{Universe, Sheet, Statement, NamedStatement, negation, with_rule}
+use Rattle.pc_sheet.specs.Sheet.{Sheet, Statement, NamedStatement, negation, with_rule}
 use Rattle.pc_sheet.specs.Nesting.{nesting_of, tightness, parentheses}
 use Rattle.pc_sheet.specs.WellFormed.{IsWellFormed}
 use Rattle.pc_sheet.specs.WellSorted.{IsWellSorted}
 use Rattle.pc_sheet.specs.Limits.{most_weight}
 use Rattle.pc_sheet.specs.Weight.{weight}
-use Rattle.pc_sheet.specs.declared.ids.Entry.{Entry}
 use Rattle.pc_asked.specs.Asked.{ask_name, denial, asked}
 use Rattle.pc_accept.specs.Accepts.{Certificate}
 use Rattle.pc_choices.specs.RuleCertificates.{GoesAgainst, IsAgainstRule}
@@ -39,16 +38,16 @@ use Rattle.pc_theory.specs.WholeSpendings.{IsSpentWhole}
 use Rattle.pc_repairs.specs.Searches.{IsWholeSearch}
 use Rattle.pc_ask.specs.Asking.{AreReadSizes, IsAnswer}
 use Rattle.pc_ask.specs.declared.answer.Answer.{Answer}
-use Rattle.pc_session.specs.Rules.{IsNewName, IsRuleAt}
+use Rattle.pc_session.specs.RuleNames.{IsNewName, IsRuleAt}
 use Rattle.pc_session.specs.Views.{SessionView}
 use Rattle.pc_session.specs.Views as session
-use Rattle.pc_refusals.specs.declared.refusal.Counts.{Counts}
 use Rattle.pc_refusals.specs.declared.refusal.Refusal.TheVariants.{DuplicateRule}
 use Rattle.pc_transcript.specs.declared.machine.Reply.TheVariants.{Refused}
 use Rattle.pc_spreadsheet.specs.declared.page.AskProof.{AskProof}
-use Rattle.pc_spreadsheet.specs.Judgement.{State, shows, ask_page, IsDenial, IsNewDenial, IsLight, IsTaskOf, inquiring, of_rule_ask, too_large_asked}
+use Rattle.pc_spreadsheet.specs.Refused.{of_rule_ask, too_large_asked}
+use Rattle.pc_spreadsheet.specs.Tasks.{State, shows, ask_page, IsDenial, IsNewDenial, IsLight, IsTaskOf, inquiring}
 use Rattle.pc_spreadsheet.specs.Pages.{ProvesAsked, IsAnsweredIn, by_support}
-use Rattle.pc_spreadsheet.specs.Allowed.{Notes, told_counts_of, IsAskSpent, to_answer}
+use Rattle.pc_spreadsheet.specs.Allowed.{Notes, to_answer}
 use Rattle.pc_spreadsheet.specs.Commands.{Told, state_of, Obeys, judged, ask_spent}
 use Rattle.pc_spreadsheet.specs.inside.Repairs.{HasSpent, NotesWhole, noted, not_noted}
 use Rattle.pc_spreadsheet.specs.inside.Asking.{Answers, by_lines, by_lack, by_weight, by_search, by_want, Certified, with_lines, without_room}

@@ -14,7 +14,8 @@ use Rattle.pc_refusals.specs.declared.refusal.Refusal.{Refusal}
 use Rattle.pc_transcript.specs.declared.machine.Reply.TheVariants.{Silent, Accepted, Shown, Refused, Memory}
 use Rattle.pc_transcript.specs.Answer.{Answer, silent, IsToldBehind, IsAnswer, CanBeTold}
 use Rattle.pc_sheet.specs.Sheet.{Sheet}
-use Rattle.pc_spreadsheet.specs.Judgement.{State, for_utf8, for_depth, for_syntax, for_asked}
+use Rattle.pc_spreadsheet.specs.Refused.{for_utf8, for_depth, for_syntax, for_asked}
+use Rattle.pc_spreadsheet.specs.Tasks.{State}
 use Rattle.pc_spreadsheet.specs.Pages.{IsPage, CanShow, IsCertificateAgainst, kind_of}
 use Rattle.pc_spreadsheet.specs.Allowed.{Notes, Allows, RefusesLine, as_judged, as_contradiction, as_spent, as_proof_spent, as_ask_spent}
 use Rattle.pc_spreadsheet.specs.Commands.{Told, MayWantMemory, Obeys, RefusesAsked, judged, contradicted, spent, proof_spent, ask_spent, reply_to}

@@ -15,14 +15,15 @@ use Rattle.pc_theory.specs.Spendings.{IsLawful}
 use Rattle.pc_theory.specs.declared.spending.Spending.{Spending}
 use Rattle.pc_session.specs.Views.{SessionView}
 use Rattle.pc_session.specs.Answers.{AreSpare, StandsAlone}
-use Rattle.pc_session.specs.Rules.{IsNewName, IsRuleAt, IsDropped, IsAddCause, IsDropCause}
+use Rattle.pc_session.specs.Rules.{IsDropped, IsAddCause, IsDropCause}
+use Rattle.pc_session.specs.RuleNames.{IsNewName, IsRuleAt}
 use Rattle.pc_session.specs.Causes.{IsEntryCause, IsRemovalCause}
 use Rattle.pc_session.specs.declared.refused.EditRefused.{EditRefused}
 use Rattle.pc_session.specs.declared.refused.EditRefused.TheVariants as edit
 use Rattle.pc_transcript.specs.declared.machine.Reply.TheVariants.{Accepted, Refused, Memory}
-use Rattle.pc_refusals.specs.declared.refusal.Refusal.{Refusal}
 use Rattle.pc_refusals.specs.declared.refusal.Refusal.TheVariants.{TooLarge, Inconsistent, NoEntry, DuplicateRule, NoRule}
-use Rattle.pc_spreadsheet.specs.Judgement.{State, IsLight, enters, enters_beside, clears, removes, adds, drops, IsRuleOf, IsNewRule, entering, entering_beside, clearing, removing, adding, dropping, IsRefusalOf, without_entry as lacks_entry, without_that, of_old_name, of_no_rule, too_large, contradicting}
+use Rattle.pc_spreadsheet.specs.Refused.{IsRefusalOf, without_entry as lacks_entry, without_that, of_old_name, of_no_rule, too_large, contradicting}
+use Rattle.pc_spreadsheet.specs.Tasks.{State, IsLight, enters, enters_beside, clears, removes, adds, drops, IsRuleOf, IsNewRule, entering, entering_beside, clearing, removing, adding, dropping}
 use Rattle.pc_spreadsheet.specs.Allowed.{Notes, NeedsSearch, to_enter, to_enter_beside, to_clear, to_remove, to_add, to_drop}
 use Rattle.pc_spreadsheet.specs.Commands.{Told, state_of, parted, NotesSpent, noted, not_noted, MayWantMemory, Obeys, judged, contradicted, spent}
 use Rattle.pc_spreadsheet.proofs.Places.{placed_or_new, has_or_lacks, lacks_none, stands_or_not, lacks_that}

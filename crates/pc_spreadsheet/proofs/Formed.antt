@@ -2,16 +2,15 @@
 use Rattle.std.proofs.Common.{◌≡◌, not, sym, subst}
 use Rattle.pc_syntax.specs.Tree.{Asked}
 use Rattle.pc_sheet.specs.Cells.{CellsAreNumberedInOrder}
-use Rattle.pc_sheet.specs.WellFormed.{IsWellFormed}
+use Rattle.pc_sheet.specs.WellFormed.{IsWellFormed, is_of_cell}
 use Rattle.pc_logic.specs.Edits.{added_to, entered_to, without_one, cleared, is_same_entry}
-use Rattle.pc_sheet.specs.WellFormed.{is_of_cell}
 use Rattle.pc_logic.proofs.BookLemmas.{with_entries}
 use Rattle.pc_logic.proofs.EditLemmas.{rules_stay}
 use Rattle.pc_logic.proofs.EntryLemmas.{entries_stay, entries_beside, entries_kept}
 use Rattle.pc_one_reading.proofs.Entries.{entry_of}
 use Rattle.pc_transcript.specs.Answer.{silent, accepted, shown, refused, no_memory}
 use Rattle.pc_sortcheck.specs.Laws.{SheetsAreWellFormed}
-use Rattle.pc_spreadsheet.specs.Judgement.{State, Task, entering, entering_beside, clearing, removing, adding, dropping, budgeting, asking, showing, showing_grid, showing_json, dumping, listing, proving, doubting, inquiring, IsTaskOf, IsEdit, state_after}
+use Rattle.pc_spreadsheet.specs.Tasks.{State, Task, entering, entering_beside, clearing, removing, adding, dropping, budgeting, asking, showing, showing_grid, showing_json, dumping, listing, proving, doubting, inquiring, IsTaskOf, IsEdit, state_after}
 use Rattle.pc_spreadsheet.specs.Allowed.{Notes, as_judged, as_contradiction, as_spent, as_proof_spent, as_ask_spent}
 use Rattle.pc_spreadsheet.specs.Laws.{StartsAreWellFormed, AnswersKeepForm}
 use Rattle.pc_spreadsheet.proofs.Rules.{formed_with}

@@ -16,7 +16,8 @@ use Rattle.pc_refusals.specs.declared.refusal.SheetRefusal.{SheetRefusal}
 use Rattle.pc_transcript.specs.Answer.{IsToldBehind}
 use Rattle.pc_load.specs.Outcome.{HasFault}
 use Rattle.pc_sortcheck.specs.Declaring.{ReadsAs}
-use Rattle.pc_spreadsheet.specs.Judgement.{State, IsLight, Starts, of_whole}
+use Rattle.pc_spreadsheet.specs.Judgement.{of_whole}
+use Rattle.pc_spreadsheet.specs.Tasks.{State, IsLight, Starts}
 use Rattle.pc_spreadsheet.specs.Pages.{IsCertificateAgainst}
 use Rattle.pc_spreadsheet.specs.Allowed.{Notes, told_counts_of, RefusesText, for_fault, for_weight, for_rules, for_search}
 use Rattle.pc_spreadsheet.specs.inside.Loading.{IsNotLoaded, NotesLoad, noted, not_noted, IsRefusedBook, too_large, contradictory, spent, OpensAs}

@@ -34,7 +34,8 @@ use Rattle.pc_session.specs.Views as session
 use Rattle.pc_refusals.specs.declared.refusal.Counts.{Counts}
 use Rattle.pc_transcript.specs.declared.machine.Reply.TheVariants.{Refused}
 use Rattle.pc_refusals.specs.declared.refusal.Refusal.TheVariants.{TooManySets}
-use Rattle.pc_spreadsheet.specs.Judgement.{State, entry_of_target, listing, proving, doubting, too_many_sets, too_many_for}
+use Rattle.pc_spreadsheet.specs.Refused.{too_many_sets, too_many_for}
+use Rattle.pc_spreadsheet.specs.Tasks.{State, entry_of_target, listing, proving, doubting}
 use Rattle.pc_spreadsheet.specs.Allowed.{Notes, told_counts_of, IsWholeSpent, to_prove, to_doubt}
 use Rattle.pc_spreadsheet.specs.Commands.{Told, state_of, Obeys, judged, proof_spent}
 use Rattle.pc_spreadsheet.specs.inside.Repairs.{ListsRepairs, by_listing, for_memory, HasSpent, NotesWhole, noted, not_noted, Proves, by_certificate, by_search, for_room, Doubts, by_proof, by_reason, by_spending, for_want}

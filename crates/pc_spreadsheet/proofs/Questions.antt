@@ -9,7 +9,8 @@ use Rattle.pc_session.specs.Views.{SessionView}
 use Rattle.pc_transcript.specs.declared.machine.Reply.TheVariants.{Accepted, Refused}
 use Rattle.pc_sheet.specs.declared.limits.Limited.TheVariants.{Budget}
 use Rattle.pc_refusals.specs.declared.refusal.Refusal.TheVariants.{Limit}
-use Rattle.pc_spreadsheet.specs.Judgement.{State, IsBudget, budgets, budgeting, shows, why_page, showing_json, IsTaskOf, IsRefusalOf, by_fault}
+use Rattle.pc_spreadsheet.specs.Refused.{IsRefusalOf, by_fault}
+use Rattle.pc_spreadsheet.specs.Tasks.{State, IsBudget, budgets, budgeting, shows, why_page, showing_json, IsTaskOf}
 use Rattle.pc_spreadsheet.specs.Allowed.{Notes}
 use Rattle.pc_spreadsheet.specs.Commands.{Told, state_of, Explains, by_page, by_refusal, ShowsJson, by_text, for_memory, Obeys, judged}
 

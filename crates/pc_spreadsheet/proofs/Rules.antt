@@ -15,8 +15,8 @@ use Rattle.pc_elaborate.specs.declared.fault.SortFault.{SortFault}
 use Rattle.pc_elaborate.specs.Elaboration.{IsStatement}
 use Rattle.pc_elaborate.specs.Tests.{no_test}
 use Rattle.pc_sortcheck.specs.DeclarationFaults.{IsRuleFault}
-use Rattle.pc_session.specs.Rules.{IsNewName, IsRuleAt}
-use Rattle.pc_spreadsheet.specs.Judgement.{IsRuleOf, IsNewRule}
+use Rattle.pc_session.specs.RuleNames.{IsNewName, IsRuleAt}
+use Rattle.pc_spreadsheet.specs.Tasks.{IsRuleOf, IsNewRule}
 use Rattle.pc_spreadsheet.proofs.Places.{one_place}
 use Rattle.pc_spreadsheet.proofs.Telling.{below_limit}
 

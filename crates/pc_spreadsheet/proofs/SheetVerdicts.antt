@@ -5,7 +5,8 @@ use Rattle.pc_sheet.specs.MaximalSets.{AreRulesConsistent}
 use Rattle.pc_refusals.specs.declared.refusal.SheetRefusal.{SheetRefusal}
 use Rattle.pc_load.specs.Laws.{TextsHaveOneOutcome}
 use Rattle.pc_load.proofs.Loading.{none_read, one_sheet, one_fault}
-use Rattle.pc_spreadsheet.specs.Judgement.{State, IsLight, IsTooLarge, IsContradictory, IsRejected, Starts, SheetVerdict, opens, rejects, IsSheetVerdict}
+use Rattle.pc_spreadsheet.specs.Judgement.{IsTooLarge, IsContradictory, IsRejected, SheetVerdict, opens, rejects, IsSheetVerdict}
+use Rattle.pc_spreadsheet.specs.Tasks.{State, IsLight, Starts}
 use Rattle.pc_spreadsheet.specs.Laws.{TextsHaveOneVerdict}
 
 abbrev state_of : Sheet → ℕ → State

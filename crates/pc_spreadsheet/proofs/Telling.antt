@@ -11,7 +11,8 @@ use Rattle.pc_elaborate.specs.Tests.{no_test}
 use Rattle.pc_elaborate.specs.Told.{IsFaultOf}
 use Rattle.pc_sortcheck.specs.DeclarationFaults.{IsRuleFault}
 use Rattle.pc_load.proofs.Telling.{fails}
-use Rattle.pc_spreadsheet.specs.Judgement.{State, IsAskedFault, by_fault}
+use Rattle.pc_spreadsheet.specs.Refused.{IsAskedFault, by_fault}
+use Rattle.pc_spreadsheet.specs.Tasks.{State}
 use Rattle.pc_spreadsheet.specs.Allowed.{Notes}
 use Rattle.pc_spreadsheet.specs.Commands.{Told, IsToldAs, as_refusal, as_memory, MayWantMemory, Obeys, judged, Explains, by_refusal}
 

@@ -26,8 +26,10 @@ use Rattle.pc_refusals.specs.declared.refusal.Refusal.{Refusal}
 use Rattle.pc_refusals.specs.declared.refusal.Refusal.TheVariants.{NotUtf8, Syntax, TooDeep}
 use Rattle.pc_load.specs.Refusals.{IsSortRefusal}
 use Rattle.pc_load.proofs.OneRefusal.{one_refusal, some_is}
-use Rattle.pc_spreadsheet.specs.Judgement.{State, IsLight, Task, enters, enters_beside, clears, removes, adds, drops, shows, why_page, whynot_page, ask_page, HasEntryOf, IsRuleOf, IsDenial, IsTaskOf, entering, entering_beside, clearing, removing, adding, dropping, budgeting, asking, showing, showing_grid, showing_json, dumping, listing, proving, doubting, inquiring, IsAskedFault, IsRefusalOf, by_fault, without_entry, without_that, of_old_name, of_no_rule, too_large, too_many_sets, too_many_for, of_rule_ask, too_large_asked, MakesContradiction, contradicting, IsRefused, for_utf8, for_depth, for_syntax, for_asked, Verdict, nothing, does, refuses, contradicts, IsVerdictOn}
-use Rattle.pc_spreadsheet.specs.Judgement as judgement
+use Rattle.pc_spreadsheet.specs.Judgement.{Verdict, nothing, does, refuses, contradicts, IsVerdictOn}
+use Rattle.pc_spreadsheet.specs.Refused.{IsAskedFault, IsRefusalOf, by_fault, without_entry, without_that, of_old_name, of_no_rule, too_large, too_many_sets, too_many_for, of_rule_ask, too_large_asked, MakesContradiction, contradicting, IsRefused, for_utf8, for_depth, for_syntax, for_asked}
+use Rattle.pc_spreadsheet.specs.Tasks.{State, IsLight, Task, enters, enters_beside, clears, removes, adds, drops, shows, why_page, whynot_page, ask_page, HasEntryOf, IsRuleOf, IsDenial, IsTaskOf, entering, entering_beside, clearing, removing, adding, dropping, budgeting, asking, showing, showing_grid, showing_json, dumping, listing, proving, doubting, inquiring}
+use Rattle.pc_spreadsheet.specs.Tasks as tasks
 use Rattle.pc_spreadsheet.proofs.Places.{not_new, one_place}
 use Rattle.pc_spreadsheet.specs.Laws.{LinesHaveOneVerdict}
 
@@ -166,14 +168,14 @@ module _ (sheet : Sheet) (one : HaveOneOutcome sheet.universe) (formed : IsWellF
   task_never (adding {n = n} {f = f} r new light consistent) e = rule_of_never n f r new.0 e
   task_never (dropping place at) e = λ fails. fails
   task_never (budgeting within) e = test_never within e
-  task_never (asking {c = c} {v = v} t named holds) e = entry_never c v (judgement.entry_of_target t) named e
+  task_never (asking {c = c} {v = v} t named holds) e = entry_never c v (tasks.entry_of_target t) named e
   task_never showing e = λ fails. fails
   task_never showing_grid e = λ fails. fails
   task_never showing_json e = λ fails. fails
   task_never dumping e = λ fails. fails
   task_never listing e = λ fails. fails
   task_never (proving few) e = λ fails. fails
-  task_never (doubting {c = c} {v = v} t named holds few) e = entry_never c v (judgement.entry_of_target t) named e
+  task_never (doubting {c = c} {v = v} t named holds few) e = entry_never c v (tasks.entry_of_target t) named e
   task_never (inquiring {f = f} s new light) e = rule_of_never ask_name (not f) (denial s) new.0 e
 
   contradiction_never : {a : Asked} {r : NamedStatement} → MakesContradiction sheet a r → (e : SortFault) → ¬ IsAskedFault sheet a e
@@ -189,7 +191,7 @@ module _ (sheet : Sheet) (one : HaveOneOutcome sheet.universe) (formed : IsWellF
   task_is (dropping {n = n} i x) (dropping j y) = ap drops (one_place sheet n no_rule i j formed x y)
   task_is (budgeting x) (budgeting y) = refl
   task_is (asking {c = c} {v = v} t x holds) (asking u y holding) =
-      ap₂ asked_why (entry_is c v (judgement.entry_of_target t) (judgement.entry_of_target u) x y) (holds ∙ sym holding)
+      ap₂ asked_why (entry_is c v (tasks.entry_of_target t) (tasks.entry_of_target u) x y) (holds ∙ sym holding)
   task_is showing showing = refl
   task_is showing_grid showing_grid = refl
   task_is showing_json showing_json = refl
@@ -197,7 +199,7 @@ module _ (sheet : Sheet) (one : HaveOneOutcome sheet.universe) (formed : IsWellF
   task_is listing listing = refl
   task_is (proving few) (proving few') = refl
   task_is (doubting {c = c} {v = v} t x holds few) (doubting u y holding few') =
-      ap₂ asked_whynot (entry_is c v (judgement.entry_of_target t) (judgement.entry_of_target u) x y) (holds ∙ sym holding)
+      ap₂ asked_whynot (entry_is c v (tasks.entry_of_target t) (tasks.entry_of_target u) x y) (holds ∙ sym holding)
   task_is (inquiring {f = f} s x light) (inquiring t y light') = ap (asked_page sheet) (denied_is f s t x.0 y.0)
 
   -- two refusals are one

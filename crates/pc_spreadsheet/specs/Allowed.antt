@@ -21,7 +21,7 @@ use Rattle.pc_theory.specs.WholeSpendings.{IsSpentWhole}
 use Rattle.pc_theory.specs.declared.spending.Spending.{Spending}
 use Rattle.pc_session.specs.Answers.{AreSpare, StandsAlone}
 use Rattle.pc_session.specs.NoteViews.{NoteView}
-use Rattle.pc_session.specs.Rules.{IsRuleAt}
+use Rattle.pc_session.specs.RuleNames.{IsRuleAt}
 use Rattle.pc_session.specs.Views as session
 use Rattle.pc_load.specs.Outcome.{HasFault}
 use Rattle.pc_refusals.specs.declared.refusal.Counts.{Counts}
@@ -29,7 +29,9 @@ use Rattle.pc_refusals.specs.declared.refusal.SheetRefusal.{SheetRefusal}
 use Rattle.pc_refusals.specs.declared.refusal.Refusal.{Refusal}
 use Rattle.pc_refusals.specs.declared.refusal.Refusal.TheVariants.{TooLarge, Inconsistent, Spent}
 use Rattle.pc_transcript.specs.Answer.{Answer, silent, accepted, shown, refused, no_memory}
-use Rattle.pc_spreadsheet.specs.Judgement.{State, IsLight, IsTooLarge, IsContradictory, of_whole, Task, shows, entry_of_target, PageKind, HasEntryOf, IsNewRule, IsNewDenial, AsksNothing, IsTask, IsEdit, state_after, IsRefused, IsContradiction}
+use Rattle.pc_spreadsheet.specs.Judgement.{IsTooLarge, IsContradictory, of_whole}
+use Rattle.pc_spreadsheet.specs.Refused.{IsRefused, IsContradiction}
+use Rattle.pc_spreadsheet.specs.Tasks.{State, IsLight, Task, shows, entry_of_target, PageKind, HasEntryOf, IsNewRule, IsNewDenial, AsksNothing, IsTask, IsEdit, state_after}
 use Rattle.pc_spreadsheet.specs.Pages.{PageSays, IsCertificateAgainst}
 
 -- ---- what is spent

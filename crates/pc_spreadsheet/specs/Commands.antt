@@ -26,7 +26,8 @@ use Rattle.pc_refusals.specs.declared.refusal.Refusal.{Refusal}
 use Rattle.pc_refusals.specs.declared.refusal.Refusal.TheVariants.{NotUtf8, Syntax, TooDeep, TooLarge, Inconsistent, Spent, NoEntry, DuplicateRule, NoRule}
 use Rattle.pc_display.specs.Json.{IsJson}
 use Rattle.pc_load.specs.Refusals.{IsSortRefusal}
-use Rattle.pc_spreadsheet.specs.Judgement.{State, Task, shows, why_page, IsTaskOf, IsEdit, state_after, MakesContradiction, IsRefusalOf}
+use Rattle.pc_spreadsheet.specs.Refused.{MakesContradiction, IsRefusalOf}
+use Rattle.pc_spreadsheet.specs.Tasks.{State, Task, shows, why_page, IsTaskOf, IsEdit, state_after}
 use Rattle.pc_spreadsheet.specs.Pages.{CanShow, kind_of}
 use Rattle.pc_spreadsheet.specs.Allowed.{Notes, told_counts_of, NeedsSearch, SpendsFor, ProofSpends, AskSpends}
 use Rattle.pc_spreadsheet.specs.declared.page.Page.{Page}

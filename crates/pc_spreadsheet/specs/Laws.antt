@@ -3,7 +3,8 @@ use Rattle.std.specs.Prelude.{◌≡◌, ℕ, List}
 use Rattle.pc_sheet.specs.Sheet.{Sheet}
 use Rattle.pc_sheet.specs.WellFormed.{IsWellFormed}
 use Rattle.pc_transcript.specs.Answer.{Answer}
-use Rattle.pc_spreadsheet.specs.Judgement.{State, Verdict, IsVerdictOn, SheetVerdict, IsSheetVerdict, Starts}
+use Rattle.pc_spreadsheet.specs.Judgement.{Verdict, IsVerdictOn, SheetVerdict, IsSheetVerdict}
+use Rattle.pc_spreadsheet.specs.Tasks.{State, Starts}
 use Rattle.pc_spreadsheet.specs.Allowed.{Notes, Allows}
 use Rattle.pc_spreadsheet.specs.Summary.{IsSummary}
 use Rattle.pc_spreadsheet.specs.declared.summary.Summary.{Summary}

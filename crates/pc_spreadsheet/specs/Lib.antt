@@ -3,6 +3,8 @@ pub mod Commands
 pub mod Judgement
 pub mod Laws
 pub mod Pages
+pub mod Refused
 pub mod State
 pub mod Summary
+pub mod Tasks
 pub mod inside

@@ -20,10 +20,10 @@ use Rattle.pc_asked.specs.Asked.{IsStatementImplied, IsLeastForStatement, asked}
 use Rattle.pc_writer.specs.SheetText.{sheet_text, ended}
 use Rattle.pc_display.specs.Show.{IsShown}
 use Rattle.pc_display.specs.Grid.{IsGrid}
-use Rattle.pc_display.specs.Json.{IsJson}
+use Rattle.pc_display.specs.Json.{IsJson, IsJsonLine}
 use Rattle.pc_cert_text.specs.CertificateText.{certificate_text}
 use Rattle.pc_cert_text.specs.Why.{IsFor}
-use Rattle.pc_spreadsheet.specs.Judgement.{State, PageKind, lines_page, grid_page, json_page, text_page, why_page, repairs_page, proof_page, whynot_page, ask_page}
+use Rattle.pc_spreadsheet.specs.Tasks.{State, PageKind, lines_page, grid_page, json_page, text_page, why_page, repairs_page, proof_page, whynot_page, ask_page}
 use Rattle.pc_spreadsheet.specs.declared.page.AskProof.{AskProof}
 use Rattle.pc_spreadsheet.specs.declared.page.Page.{Page}
 use Rattle.pc_spreadsheet.specs.declared.page.Page.TheVariants.{Display, Grid, Json, SheetText, Why, Listed, Proof, Implied, Unimplied, Answered, Unanswered}
@@ -60,10 +60,6 @@ pub data IsAnswered (sheet : Sheet) (f : Statement) (text : List ℕ) : Type 0 w
 -- the same of the formula that is asked in a sheet with one rule more
 abbrev pub IsAnsweredIn : Sheet → Sheet → List ℕ → Type 0
 IsAnsweredIn sheet made text = (f : Statement) × (made ≡ asked sheet f) × IsAnswered sheet f text
-
--- the display as JSON, and a line feed
-abbrev pub IsJsonLine : Sheet → List ℕ → Type 0
-IsJsonLine sheet text = (found : List ℕ) × IsJson sheet found × (text ≡ ended found)
 
 -- what a page of this kind says of a sheet
 abbrev pub PageSays : PageKind → Sheet → List ℕ → Type 0

@@ -16,7 +16,7 @@ ghost use Rattle.pc_sortcheck.specs.DeclarationFaults.{IsRuleFault};
 ghost use Rattle.pc_syntax.specs.Command.{most_asked_nesting};
 ghost use Rattle.pc_syntax.specs.Tree.{asks_ask, formula_of};
 ghost use Rattle.pc_spreadsheet.specs.Commands.{Obeys, state_of};
-ghost use Rattle.pc_spreadsheet.specs.Judgement.{IsDenial};
+ghost use Rattle.pc_spreadsheet.specs.Tasks.{IsDenial};
 ghost use Rattle.pc_spreadsheet.specs.inside.Asking.{Answers, Certified};
 
 use crate::edits::place_of;

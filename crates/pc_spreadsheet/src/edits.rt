@@ -9,9 +9,9 @@ ghost use Rattle.pc_sheet.specs.Views.{rule_of};
 ghost use Rattle.pc_sheet.specs.WellFormed.{IsEntryOf};
 ghost use Rattle.pc_syntax.specs.Tree.{asks_also, asks_clear, asks_clear_one, asks_drop, asks_enter, asks_rule, cell_of, formula_of, value_of};
 ghost use Rattle.pc_theory.specs.Spendings.{IsLawful};
-ghost use Rattle.pc_session.specs.Rules.{IsNewName, IsRuleAt};
+ghost use Rattle.pc_session.specs.RuleNames.{IsNewName, IsRuleAt};
 ghost use Rattle.pc_spreadsheet.specs.Commands.{NotesSpent, Obeys, state_of};
-ghost use Rattle.pc_spreadsheet.specs.Judgement.{IsNewRule};
+ghost use Rattle.pc_spreadsheet.specs.Tasks.{IsNewRule};
 
 use crate::made::{with_entered, without_cell};
 use crate::refusal::refuse;

@@ -1,7 +1,8 @@
 //! The spreadsheet that a sheet's text gives.
 ghost use Rattle.std.specs.Prelude.{◌≡◌, ◌≤◌, None, length, MatchResult};
 ghost use Rattle.pc_theory.specs.Spendings.{IsLawful};
-ghost use Rattle.pc_spreadsheet.specs.Judgement.{Starts, of_whole};
+ghost use Rattle.pc_spreadsheet.specs.Judgement.{of_whole};
+ghost use Rattle.pc_spreadsheet.specs.Tasks.{Starts};
 ghost use Rattle.pc_spreadsheet.specs.inside.Loading.{IsNotLoaded, NotesLoad, OpensAs};
 ghost use Rattle.pc_transcript.specs.declared.machine.LoadStop.TheVariants.{Refused};
 

@@ -1,6 +1,5 @@
 -- What is printed for a line, by what may answer it; and which edits are accepted, by what is printed.
-use Rattle.std.proofs.Common.{◌≡◌, ℕ, List, [], ◌∷◌, ◌++◌, ◌<◌, length, map, codes, true, refl, sym, ◌∙◌, ap, subst, inl, inr, ◌⊎◌, append-nil}
-use Rattle.std.proofs.Common.{arith}
+use Rattle.std.proofs.Common.{◌≡◌, ℕ, List, [], ◌∷◌, ◌++◌, ◌<◌, length, map, codes, true, refl, sym, ◌∙◌, ap, subst, inl, inr, ◌⊎◌, append-nil, arith}
 use Rattle.pc_lines.specs.Lines.{line_text_of}
 use Rattle.pc_syntax.specs.Tree.{Asked, asks_enter, asks_also, asks_clear, asks_clear_one, asks_rule, asks_drop, asks_prove_repairs, asks_whynot, asks_ask}
 use Rattle.pc_syntax.specs.Command.{CommandReading, no_command, IsCommandReading, asks}
@@ -18,18 +17,20 @@ use Rattle.pc_cert_text.specs.CertificateText.{certificate_text}
 use Rattle.pc_cert_back.specs.ReadBack.{CertificatesReadBack, HasForm}
 use Rattle.pc_display.specs.Show.{IsShown}
 use Rattle.pc_display.specs.Grid.{IsGrid}
-use Rattle.pc_display.specs.Json.{IsJson}
+use Rattle.pc_display.specs.Json.{IsJson, IsJsonLine}
 use Rattle.pc_display.specs.OneDisplay.{HasOneText, SheetHasOneDisplay}
 use Rattle.pc_one_reading.specs.Laws.{LinesHaveOneForm, FormsSayOneThing, WhatIsReadIsBare}
 use Rattle.pc_refusals.specs.declared.refusal.Counts.{Counts}
 use Rattle.pc_refusals.specs.declared.refusal.Refusal.{Refusal}
 use Rattle.pc_refusals.specs.declared.refusal.Refusal.TheVariants.{Inconsistent, Spent}
 use Rattle.pc_refusals.specs.Refusals.{refusal_text}
-use Rattle.pc_judge.specs.Laws.{IsAcceptedText}
+use Rattle.pc_judge.specs.AcceptedText.{IsAcceptedText}
 use Rattle.pc_transcript.specs.Transcript.{Transcript, Legal}
 use Rattle.pc_transcript.specs.Answer.{Answer, silent, accepted, shown, refused, no_memory, answer_text}
-use Rattle.pc_spreadsheet.specs.Judgement.{State, Task, enters, enters_beside, clears, removes, adds, drops, shows, lines_page, grid_page, json_page, text_page, why_page, repairs_page, proof_page, whynot_page, ask_page, IsTaskOf, entering, entering_beside, clearing, removing, adding, dropping, budgeting, asking, showing, showing_grid, showing_json, dumping, listing, proving, doubting, inquiring, MakesContradiction, contradicting, AsksNothing, IsTask, IsEdit, state_after, IsContradiction, IsRefused, nothing, does, refuses, contradicts, IsVerdictOn}
-use Rattle.pc_spreadsheet.specs.Pages.{IsJsonLine, IsWhy, certified, not_implied, uses_of, IsCertificateOnSets, IsWhyNot, shown_unimplied, implied as is_so_implied, IsAnswered, by_support as by_least_support, by_none, PageSays, IsCertificateAgainst}
+use Rattle.pc_spreadsheet.specs.Judgement.{nothing, does, refuses, contradicts, IsVerdictOn}
+use Rattle.pc_spreadsheet.specs.Refused.{MakesContradiction, contradicting, IsContradiction, IsRefused}
+use Rattle.pc_spreadsheet.specs.Tasks.{State, Task, enters, enters_beside, clears, removes, adds, drops, shows, lines_page, grid_page, json_page, text_page, why_page, repairs_page, proof_page, whynot_page, ask_page, IsTaskOf, entering, entering_beside, clearing, removing, adding, dropping, budgeting, asking, showing, showing_grid, showing_json, dumping, listing, proving, doubting, inquiring, AsksNothing, IsTask, IsEdit, state_after}
+use Rattle.pc_spreadsheet.specs.Pages.{IsWhy, certified, not_implied, uses_of, IsCertificateOnSets, IsWhyNot, shown_unimplied, implied as is_so_implied, IsAnswered, by_support as by_least_support, by_none, PageSays, IsCertificateAgainst}
 use Rattle.pc_spreadsheet.specs.Allowed.{Notes, IsLawfullySpent, IsWholeSpent, IsAskSpent, Allows, NeedsSearch, to_enter, to_enter_beside, to_clear, to_remove, to_add, to_drop, NeedsProof, to_prove, to_doubt, NeedsAnswer, to_answer, RefusesLine, as_judged, as_contradiction, as_spent, as_proof_spent, as_ask_spent}
 use Rattle.pc_asked.specs.Asked.{ask_name, denial, asked}
 use Rattle.pc_spreadsheet.proofs.Rules.{formed_with}

@@ -21,9 +21,10 @@ use Rattle.pc_judge.specs.Judged.{IsJudged, judged_text, status_of_told}
 use Rattle.pc_judge.specs.Course as check
 use Rattle.pc_judge.specs.Course.{Check}
 use Rattle.pc_journal.specs.Course as journal
-use Rattle.pc_journal.specs.Course.{lines_of_posts, answers_told, AnswersHeld, AnswersPosts, MergeBoth, MergeText, Merge, PostText, Posts}
+use Rattle.pc_journal.specs.Course.{answers_told, AnswersHeld, AnswersPosts, MergeBoth, MergeText, Merge, PostText, Posts}
+use Rattle.pc_journal.specs.PostLines.{lines_of_posts}
 use Rattle.pc_journal.specs.Told.{from_file, from_input, refused_text}
-use Rattle.pc_spreadsheet.specs.Judgement.{State, Starts}
+use Rattle.pc_spreadsheet.specs.Tasks.{State, Starts}
 use Rattle.pc_spreadsheet.specs.Allowed.{Notes, Allows, RefusesText}
 use Rattle.pc_theorem.specs.Theorem.{BeginsWith}
 

@@ -36,9 +36,12 @@ use Rattle.pc_load.specs.Outcome as outcome
 use Rattle.pc_judge.specs.declared.told.Told.{Told}
 use Rattle.pc_judge.specs.declared.told.Told.TheVariants as told_so
 use Rattle.pc_judge.specs.Judged.{IsJudged, judged_text, status_of_told}
-use Rattle.pc_judge.specs.Laws.{IsAcceptedText, AcceptedTextIsAccepts, JudgementsAreOne}
-use Rattle.pc_journal.specs.Course.{lines_of_posts, answers_told}
-use Rattle.pc_spreadsheet.specs.Judgement.{State, Task, shows, lines_page, text_page, IsTask, IsContradiction}
+use Rattle.pc_judge.specs.Laws.{AcceptedTextIsAccepts, JudgementsAreOne}
+use Rattle.pc_judge.specs.AcceptedText.{IsAcceptedText}
+use Rattle.pc_journal.specs.Course.{answers_told}
+use Rattle.pc_journal.specs.PostLines.{lines_of_posts}
+use Rattle.pc_spreadsheet.specs.Refused.{IsContradiction}
+use Rattle.pc_spreadsheet.specs.Tasks.{State, Task, shows, lines_page, text_page, IsTask}
 use Rattle.pc_spreadsheet.specs.Allowed.{Notes, Allows, RefusesLine}
 use Rattle.pc_spreadsheet.specs.Pages.{uses_of}
 use Rattle.pc_spreadsheet.specs.Laws.{LinesHaveOneVerdict}

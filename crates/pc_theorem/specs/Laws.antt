@@ -6,9 +6,9 @@ use Rattle.pc_refusals.specs.declared.status.Status.TheVariants.{CertRefused}
 use Rattle.pc_course.specs.Events.{Outside}
 use Rattle.pc_course.specs.Runs.{Ran}
 use Rattle.pc_words.specs.Words.{Mode, checks, merges}
-use Rattle.pc_judge.specs.Laws.{IsAcceptedText}
+use Rattle.pc_judge.specs.AcceptedText.{IsAcceptedText}
 use Rattle.pc_spreadsheet.specs.Allowed.{Notes}
-use Rattle.pc_spreadsheet.specs.Judgement.{Task, shows, lines_page, text_page}
+use Rattle.pc_spreadsheet.specs.Tasks.{Task, shows, lines_page, text_page}
 use Rattle.pc_replay.specs.Course.{CourseIn, Runs}
 use Rattle.pc_theorem.specs.Theorem.{Run, IsCheckOf, IsMergeOf, IsSession, IsSessionOf, AnswersCommands, EndedWell, Course, StandsBehind, AreAccepted, LineAsks, state_after_all, IsTold, KeepsItsWord}
 

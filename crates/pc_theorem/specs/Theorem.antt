@@ -32,12 +32,13 @@ use Rattle.pc_refusals.specs.declared.status.Status.{Status}
 use Rattle.pc_refusals.specs.declared.status.Status.TheVariants.{Done, SomeRefused, SheetRefused, CertRefused}
 use Rattle.pc_course.specs.Events.{Outside}
 use Rattle.pc_transcript.specs.SheetPart.{IsSheetPart}
-use Rattle.pc_journal.specs.Course.{lines_of_posts}
+use Rattle.pc_journal.specs.PostLines.{lines_of_posts}
 use Rattle.pc_words.specs.Words.{Mode, replays, edits, checks, merges, posts, Request, FitsWords}
-use Rattle.pc_spreadsheet.specs.Judgement.{State, Starts, Task, budgets, shows, lines_page, grid_page, json_page, text_page, why_page, repairs_page, proof_page, whynot_page, ask_page, AsksNothing, IsTask, IsEdit, state_after, IsContradiction, IsRefused}
-use Rattle.pc_spreadsheet.specs.Pages.{IsJsonLine}
-use Rattle.pc_afresh.specs.Afresh.{StartsAgain}
-use Rattle.pc_judge.specs.Laws.{IsAcceptedText}
+use Rattle.pc_spreadsheet.specs.Refused.{IsContradiction, IsRefused}
+use Rattle.pc_spreadsheet.specs.Tasks.{State, Starts, Task, budgets, shows, lines_page, grid_page, json_page, text_page, why_page, repairs_page, proof_page, whynot_page, ask_page, AsksNothing, IsTask, IsEdit, state_after}
+use Rattle.pc_display.specs.Json.{IsJsonLine}
+use Rattle.pc_afresh.specs.Again.{StartsAgain}
+use Rattle.pc_judge.specs.AcceptedText.{IsAcceptedText}
 use Rattle.pc_theorem.specs.Certificates.{Claims}
 
 -- A run whose devices tell their bytes: its words, what the shelf's files and the input had, what was printed, and how it ended.

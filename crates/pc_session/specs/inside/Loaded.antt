@@ -6,7 +6,7 @@ use Rattle.pc_sheet.specs.MaximalSets.{AreRulesConsistent}
 use Rattle.pc_sheet.specs.Weight.{weight}
 use Rattle.pc_logic.specs.Edits.{without_rule}
 use Rattle.pc_session.specs.Answers.{Steps}
-use Rattle.pc_session.specs.Rules.{IsRuleAt}
+use Rattle.pc_session.specs.RuleNames.{IsRuleAt}
 use Rattle.pc_session.specs.inside.Chosen.{AreChosen}
 use Rattle.pc_session.specs.inside.States.{IsState}
 use Rattle.pc_session.specs.Views.{counts_of, IsTallyOf}

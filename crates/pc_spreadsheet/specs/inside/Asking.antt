@@ -1,16 +1,14 @@
 -- What is done at a command that asks a formula.
-use Rattle.std.specs.Prelude.{◌≡◌, ℕ, ◌<◌, List}
+use Rattle.std.specs.Prelude.{◌≡◌, ℕ, ◌<◌}
 use Rattle.std.specs.declared.option.Option.TheVariants.{None}
 use Rattle.pc_sheet.specs.Sheet.{Sheet, Statement}
 use Rattle.pc_sheet.specs.Limits.{most_weight}
 use Rattle.pc_sheet.specs.Weight.{weight}
-use Rattle.pc_sheet.specs.declared.ids.Entry.{Entry}
-use Rattle.pc_sheet.specs.declared.ids.ValueId.{ValueId}
 use Rattle.pc_asked.specs.Asked.{IsStatementImplied, asked}
 use Rattle.pc_refusals.specs.declared.refusal.Counts.{Counts}
 use Rattle.pc_refusals.specs.declared.refusal.Refusal.TheVariants.{TooLarge, Spent}
 use Rattle.pc_transcript.specs.declared.machine.Reply.TheVariants.{Shown, Refused, Memory}
-use Rattle.pc_spreadsheet.specs.Judgement.{IsLight}
+use Rattle.pc_spreadsheet.specs.Tasks.{IsLight}
 use Rattle.pc_spreadsheet.specs.Pages.{ProvesAsked}
 use Rattle.pc_spreadsheet.specs.Allowed.{Notes, IsAskSpent}
 use Rattle.pc_spreadsheet.specs.Commands.{Told}

@@ -14,7 +14,8 @@ use Rattle.pc_refusals.specs.declared.refusal.Counts.{Counts}
 use Rattle.pc_refusals.specs.declared.refusal.SheetRefusal.{SheetRefusal}
 use Rattle.pc_refusals.specs.declared.refusal.Refusal.TheVariants.{TooLarge, Inconsistent, Spent}
 use Rattle.pc_transcript.specs.Answer.{StopsBy}
-use Rattle.pc_spreadsheet.specs.Judgement.{State, IsLight, of_whole}
+use Rattle.pc_spreadsheet.specs.Judgement.{of_whole}
+use Rattle.pc_spreadsheet.specs.Tasks.{State, IsLight}
 use Rattle.pc_spreadsheet.specs.Pages.{IsCertificateAgainst}
 use Rattle.pc_spreadsheet.specs.Allowed.{Notes, told_counts_of, IsLawfullySpent, RefusesText}
 

@@ -1,8 +1,7 @@
-use Rattle.std.proofs.Common.{◌≡◌, ◌∙◌, All, ap, subst, sym}
+use Rattle.std.proofs.Common.{◌∙◌, All, ap, subst, sym}
 use Rattle.pc_accept.specs.Sets.{those_in}
 use Rattle.pc_ask.specs.inside.Parts.{IsAskable}
 use Rattle.pc_sheet.specs.Entailment.{HasAll, IsConsistent}
-use Rattle.pc_sheet.specs.declared.ids.Entry.{Entry}
 use Rattle.pc_ask.specs.Asking.{IsDeniedAt}
 use Rattle.pc_ask.specs.inside.Narrowing.{RefuteSays}
 use Rattle.pc_ask.specs.inside.Shown.{HasShown}

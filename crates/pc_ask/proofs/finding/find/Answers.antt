@@ -1,4 +1,4 @@
-use Rattle.std.proofs.Common.{◌≡◌, ◌+◌, ◌*◌, ◌^◌, Vec, Global, List, length, arith, subst, sym}
+use Rattle.std.proofs.Common.{◌+◌, ◌*◌, ◌^◌, Vec, Global, length, arith, subst, sym}
 use Rattle.pc_sheet.specs.declared.ids.Entry.{Entry}
 use Rattle.pc_support.proofs.NarrowingLemmas.{at_none, at_some}
 use Rattle.pc_support.proofs.SpendingLemmas.{spends_on}

@@ -1,4 +1,4 @@
-use Rattle.std.proofs.Common.{◌≡◌, ◌+◌, ◌∷◌, ◌++◌, List, [], get_or, subst, sym}
+use Rattle.std.proofs.Common.{◌+◌, List, get_or, subst, sym}
 use Rattle.std.proofs.lemmas.Option.{slice_get-get_or}
 use Rattle.pc_sheet.specs.declared.ids.Entry.{Entry}
 use Rattle.pc_ask.specs.inside.Choices.{AreAmong, AreNarrowed, SomeSays}

@@ -1,4 +1,4 @@
-use Rattle.std.proofs.Common.{◌≡◌, ◌+◌, ◌-◌, ◌*◌, ◌<◌, ◌≤◌, ◌^◌, length, arith, subst, sym, refl}
+use Rattle.std.proofs.Common.{◌≡◌, ◌-◌, ◌*◌, ◌^◌, length, arith, subst}
 use Rattle.pc_support.proofs.SpendingLemmas.{one_more_place, spends_on, up_to_all, up_to_here}
 use Rattle.pc_ask.specs.inside.Choices.{AreNarrowed}
 use Rattle.pc_ask.proofs.Searched.{none_spent, within_more}

@@ -1,4 +1,4 @@
-use Rattle.std.proofs.Common.{◌≤◌, ◌*◌, ◌-◌, [], length}
+use Rattle.std.proofs.Common.{◌≤◌, ◌*◌, ◌-◌, length}
 use Rattle.pc_solver.specs.Spending.{SpendsIn}
 use Rattle.pc_ask.specs.inside.Parts.{IsAsked}
 use Rattle.pc_ask.specs.inside.Choices.{AreNarrowed}

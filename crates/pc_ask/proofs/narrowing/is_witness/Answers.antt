@@ -1,7 +1,6 @@
 use Rattle.std.proofs.Common.{◌∙◌, All, refl, subst, sym}
 use Rattle.std.proofs.lemmas.Bool.{false≢true}
 use Rattle.pc_ask.specs.inside.Parts.{IsAskable}
-use Rattle.pc_sheet.specs.declared.ids.Entry.{Entry}
 use Rattle.pc_ask.proofs.Searched.{none_spent}
 use Rattle.pc_ask.proofs.Witnesses.{left_all, one_told}
 use Rattle.pc_ask.proofs.narrowing.is_witness.Goals as goal

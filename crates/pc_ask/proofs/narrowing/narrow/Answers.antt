@@ -1,4 +1,4 @@
-use Rattle.std.proofs.Common.{◌+◌, ◌*◌, ◌^◌, ◌∙◌, List, [], length, arith, refl, subst, sym}
+use Rattle.std.proofs.Common.{◌*◌, ◌^◌, ◌∙◌, List, [], length, arith, refl, subst, sym}
 use Rattle.pc_sheet.specs.declared.ids.Entry.{Entry}
 use Rattle.pc_support.proofs.SpendingLemmas.{once_more, spends_on}
 use Rattle.pc_ask.specs.inside.Choices.{AreNarrowed, SomeSays}

@@ -1,4 +1,4 @@
-use Rattle.std.proofs.Common.{◌<◌, ◌^◌, ◌∙◌, All, List, ap, length, subst, sym}
+use Rattle.std.proofs.Common.{◌<◌, ◌^◌, ◌∙◌, List, ap, length, subst, sym}
 use Rattle.pc_ground.specs.GroundView.{Grounded}
 use Rattle.pc_lits.specs.declared.literal.Lit.{Lit}
 use Rattle.pc_ask.specs.inside.Parts.{AreAxiomsOver}

@@ -2,7 +2,7 @@ use Rattle.std.proofs.Common.{◌≡◌, ℕ, suc, ◌+◌, ◌≤◌, List, [],
 use Rattle.pc_port.specs.Port.{Rose}
 use Rattle.pc_collab.specs.Journal.{Post}
 use Rattle.pc_transcript.specs.Answer.{Serves, ServesInPart}
-use Rattle.pc_journal.specs.Course.{lines_of_posts}
+use Rattle.pc_journal.specs.PostLines.{lines_of_posts}
 use Rattle.pc_journal.specs.inside.Did.{Progress}
 use Rattle.pc_journal.proofs.Held.{one_more, all_answered, cut}
 use Rattle.pc_journal.proofs.Texts.{stands_there, holds, holds_show, own_show}

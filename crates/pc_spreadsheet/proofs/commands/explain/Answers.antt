@@ -1,7 +1,7 @@
 use Rattle.std.proofs.Common.{refl}
 use Rattle.pc_syntax.specs.Tree.{asks_why, cell_of, value_of}
 use Rattle.pc_sheet.specs.declared.ids.Target.{Target}
-use Rattle.pc_spreadsheet.specs.Judgement.{asking}
+use Rattle.pc_spreadsheet.specs.Tasks.{asking}
 use Rattle.pc_spreadsheet.specs.Commands.{by_page}
 use Rattle.pc_spreadsheet.proofs.Ample.{entry_ample}
 use Rattle.pc_spreadsheet.proofs.Telling.{not_explained}

@@ -1,6 +1,6 @@
 use Rattle.std.proofs.Common.{refl}
 use Rattle.pc_syntax.specs.Tree.{cell_of, value_of}
-use Rattle.pc_spreadsheet.specs.Judgement.{showing, showing_grid, dumping}
+use Rattle.pc_spreadsheet.specs.Tasks.{showing, showing_grid, dumping}
 use Rattle.pc_spreadsheet.proofs.Proving.{repairs_listed}
 use Rattle.pc_spreadsheet.proofs.Questions.{explained_in, shown_json}
 use Rattle.pc_spreadsheet.proofs.commands.obey.Goals as goal

@@ -2,7 +2,8 @@ use Rattle.std.proofs.Common.{sym, subst, ◌∙◌}
 use Rattle.pc_syntax.specs.Tree.{asks_rule, formula_of}
 use Rattle.pc_sheet.specs.Views.{rule_of}
 use Rattle.pc_formula.specs.Nesting as written
-use Rattle.pc_session.specs.Rules.{IsAddCause, IsNewName}
+use Rattle.pc_session.specs.Rules.{IsAddCause}
+use Rattle.pc_session.specs.RuleNames.{IsNewName}
 use Rattle.pc_spreadsheet.specs.Commands.{state_of}
 use Rattle.pc_spreadsheet.proofs.Telling.{refused_in}
 use Rattle.pc_spreadsheet.proofs.Editing.{added_so, adding_told, adding_lawful, adding_spent_by, of_spent}
