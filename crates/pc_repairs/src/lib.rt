@@ -17,9 +17,17 @@ mod refuting;
 mod task;
 mod unimplied;
 
-pub use joining::{MOST_SETS, had_by, is_had, join_parts, whole};
+// Listing part by part
+
 pub use listing::{ListFault, Listing, list};
+
+// Sets of parts, joined to those of the whole book
+
+pub use joining::{MOST_SETS, had_by, is_had, join_parts, whole};
 pub use part_sets::{PartSets, sets_by_part};
+
+// Certificates: that there are no more sets, and of what these don't imply
+
 pub use proving::prove;
 pub use refuting::refute;
 pub use unimplied::lacking;

@@ -66,6 +66,8 @@ impl Model for Session {
 }
 
 impl Session {
+    // Making
+
     /// Loads a book: grounds its rules, divides them into parts, and finds the worlds of each part and the reason of each
     /// implied target.
     pub fn load(alloc: Global, book: Book, budget: u64) -> Result<Session, LoadRefused>
@@ -87,20 +89,13 @@ impl Session {
         })
     }
 
+    // Reading
+
     /// The tally of the last accepted edit or of the load. It takes no memory.
     pub fn tally(&self) -> Tally
         ensures { counts_of result ≡ self.now.tally }
     {
         self.state.tally
-    }
-
-    /// Sets the budget of the edits from now on. It takes no memory.
-    pub fn set_budget(&mut self, budget: u64)
-        requires at_least { 1 ≤ budget }
-        requires at_most { budget ≤ 1000000000000 }
-        ensures { self.new ≡ record self.old { budget = budget } }
-    {
-        self.budget = budget;
     }
 
     /// The parts of the book. It takes no memory.
@@ -125,13 +120,6 @@ impl Session {
         self.state.theory.ground()
     }
 
-    /// The budget of the edits. It takes no memory.
-    pub fn budget(&self) -> u64
-        ensures { result ≡ self.now.budget }
-    {
-        self.budget
-    }
-
     /// How many bytes the lines count for in which derivations are kept: 16 each, 4 for each literal and 8 for each hint. It
     /// takes no memory.
     pub fn arena_bytes(&self) -> u128
@@ -139,6 +127,26 @@ impl Session {
     {
         self.state.cache.arena_bytes()
     }
+
+    // The budget of edits
+
+    /// The budget of the edits. It takes no memory.
+    pub fn budget(&self) -> u64
+        ensures { result ≡ self.now.budget }
+    {
+        self.budget
+    }
+
+    /// Sets the budget of the edits from now on. It takes no memory.
+    pub fn set_budget(&mut self, budget: u64)
+        requires at_least { 1 ≤ budget }
+        requires at_most { budget ≤ 1000000000000 }
+        ensures { self.new ≡ record self.old { budget = budget } }
+    {
+        self.budget = budget;
+    }
+
+    // Entries
 
     /// Enters a value: the cell's other entries go. Where it stands it keeps its place, else it becomes the newest. Where it
     /// stands alone nothing changes, no memory is taken, and the answer is always Ok.
@@ -243,6 +251,8 @@ impl Session {
             Taken::One(entry),
         )
     }
+
+    // Rules
 
     /// Adds a rule as the last one. Everything is made anew, as by a load.
     pub fn add_rule(&mut self, rule: Rule) -> Result<(), EditRefused>
