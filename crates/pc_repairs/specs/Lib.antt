@@ -2,6 +2,7 @@ pub mod Blocks
 pub mod Claims
 pub mod Lacking
 pub mod Listed
+pub mod ListedSheet
 pub mod Listings
 pub mod Searches
 pub mod Whole

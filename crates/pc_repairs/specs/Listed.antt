@@ -1,13 +1,12 @@
--- The text that lists what could be kept together, part by part.
+-- What could be kept together, part by part: the order of sets, what is listed of a part, and the text.
 use Rattle.std.specs.Prelude.{◌≡◌, ◌↔◌, ℕ, List, [], ◌∷◌, ◌++◌, codes, AllPairs, Contains}
-use Rattle.std.specs.List.{AllZip, flat_map}
+use Rattle.std.specs.List.{flat_map}
 use Rattle.pc_sheet.specs.Sheet.{Universe, Sheet}
 use Rattle.pc_sheet.specs.MaximalSets.{ListsExactly, IsMaximalSet}
 use Rattle.pc_sheet.specs.declared.ids.CellId.{CellId}
 use Rattle.pc_sheet.specs.declared.ids.Entry.{Entry}
 use Rattle.pc_parts.specs.Parts.{Part}
 use Rattle.pc_parts.specs.PartSheets.{sheet_of}
-use Rattle.pc_choices.specs.Chosen.{chosen_parts}
 use Rattle.pc_writer.specs.Spelling.{cell_text, entries_text}
 use Rattle.pc_writer.specs.SheetText.{ended}
 
@@ -37,10 +36,6 @@ pub record IsListedPart (sheet : Sheet) (part : Part) (listed : ListedPart) : Ty
   pub exact : ListsExactly (List Entry) (IsMaximalSet (sheet_of sheet part)) listed.sets
   pub order : AllPairs (ComesFirst sheet.entries) listed.sets
 
--- each part that has an entry on its cells, in the order of parts
-abbrev pub IsListing : Sheet → List ListedPart → Type 0
-IsListing sheet listing = AllZip (IsListedPart sheet) (chosen_parts sheet) listing
-
 -- ---- its text
 
 abbrev pub keep_text : Universe → List Entry → List ℕ
@@ -56,7 +51,3 @@ part_lines u listed = ended (codes "part " ++ cell_text u listed.cell) ++ flat_m
 
 abbrev pub listing_text : Universe → List ListedPart → List ℕ
 listing_text u listing = flat_map (part_lines u) listing
-
--- the listing of the sheet
-abbrev pub IsListed : Sheet → List ℕ → Type 0
-IsListed sheet text = (listing : List ListedPart) × IsListing sheet listing × (text ≡ listing_text sheet.universe listing)

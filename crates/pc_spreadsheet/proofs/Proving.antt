@@ -22,7 +22,8 @@ use Rattle.pc_cert_text.specs.CertificateText.{certificate_text}
 use Rattle.pc_spreadsheet.specs.Pages.{uses_of, IsCertificateOnSets}
 use Rattle.pc_theory.specs.WholeSpendings.{IsWholeLog, IsSpentWhole}
 use Rattle.pc_repairs.specs.Lacking.{AreLacking}
-use Rattle.pc_repairs.specs.Listed.{ComesFirst, IsListed}
+use Rattle.pc_repairs.specs.Listed.{ComesFirst}
+use Rattle.pc_repairs.specs.ListedSheet.{IsListed}
 use Rattle.pc_repairs.specs.declared.listing.ListFault.{ListFault}
 use Rattle.pc_repairs.specs.declared.listing.ListFault.TheVariants.{Memory}
 use Rattle.pc_writer.specs.Writes.{Writes}

@@ -15,7 +15,8 @@ use Rattle.pc_choices.specs.RuleCertificates.{GoesAgainst, IsAgainstRule}
 use Rattle.pc_choices.specs.SetCertificates.{IsOnSets, SetParts, AreCertified}
 use Rattle.pc_choices.specs.declared.set_proof.SetsClaim.{SetsClaim}
 use Rattle.pc_choices.specs.declared.set_proof.SetsClaim.TheVariants.{Repairs, Lacking}
-use Rattle.pc_repairs.specs.Listed.{ComesFirst, IsListed}
+use Rattle.pc_repairs.specs.Listed.{ComesFirst}
+use Rattle.pc_repairs.specs.ListedSheet.{IsListed}
 use Rattle.pc_asked.specs.Asked.{IsStatementImplied, IsLeastForStatement, asked}
 use Rattle.pc_writer.specs.SheetText.{sheet_text, ended}
 use Rattle.pc_display.specs.Show.{IsShown}

@@ -10,7 +10,8 @@ use Rattle.pc_parts.specs.Components.{parts_of, PartsAreFound}
 use Rattle.pc_parts.specs.PartSheets.{sheet_of}
 use Rattle.pc_parts.specs.Unions.{parts_with_entries, MaximalSetsAreUnions}
 use Rattle.pc_parts.specs.Laws.{PartsAreADivision, PartsAreDetermined}
-use Rattle.pc_repairs.specs.Listed.{ComesFirst, ListedPart, IsListedPart, listing_text, IsListed}
+use Rattle.pc_repairs.specs.Listed.{ComesFirst, ListedPart, IsListedPart, listing_text}
+use Rattle.pc_repairs.specs.ListedSheet.{IsListed}
 use Rattle.pc_afresh.specs.Afresh.{IsOpen}
 use Rattle.pc_theorem.specs.Theorem.{IsTheText, IsListing}
 

@@ -5,7 +5,8 @@ use Rattle.pc_laws.specs.Examples.{red, green, entry, chain, two_pairs, never_re
 use Rattle.pc_parts.specs.Parts.{Part}
 use Rattle.pc_accept.specs.SetExamples.{two_ends}
 use Rattle.pc_choices.specs.Chosen.{chosen_parts}
-use Rattle.pc_repairs.specs.Listed.{ComesFirst, ListedPart, IsListedPart, IsListed}
+use Rattle.pc_repairs.specs.Listed.{ComesFirst, ListedPart, IsListedPart}
+use Rattle.pc_repairs.specs.ListedSheet.{IsListed}
 use Rattle.pc_worked_laws.specs.Several.{cell_of}
 
 -- of the part whose first cell is the first

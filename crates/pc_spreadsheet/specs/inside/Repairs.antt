@@ -10,7 +10,7 @@ use Rattle.pc_sheet.specs.declared.ids.Target.{Target}
 use Rattle.pc_choices.specs.SetCertificates.{SetParts}
 use Rattle.pc_theory.specs.Spendings.{LearnsWithin}
 use Rattle.pc_theory.specs.WholeSpendings.{IsWholeSpending}
-use Rattle.pc_repairs.specs.Listed.{IsListed}
+use Rattle.pc_repairs.specs.ListedSheet.{IsListed}
 use Rattle.pc_session.specs.Views as session
 use Rattle.pc_refusals.specs.declared.refusal.Counts.{Counts}
 use Rattle.pc_refusals.specs.declared.refusal.Refusal.TheVariants.{Spent}
