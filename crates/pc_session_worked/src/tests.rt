@@ -137,6 +137,8 @@ begin
 ---
 * budget 50 => searched 0123456
 * rule apart : forall x:pigeon . forall y:pigeon . x = y | nest(x) != nest(y) => spent 50 0 1 0123456
+* budget 5000 => searched 0123456
+* rule apart : forall x:pigeon . forall y:pigeon . x = y | nest(x) != nest(y) => spent 5000 372 1 0123456
 * budget 1000000000 => searched 0123456
 * rule apart : forall x:pigeon . forall y:pigeon . x = y | nest(x) != nest(y) => inconsistent 0123456
 ";
@@ -288,6 +290,15 @@ cell nest(pigeon) : hole
 rule apart : forall x:pigeon . forall y:pigeon . x = y | nest(x) != nest(y)
 begin
 --- spent 50 0 1
+===
+5000
+sheet 1
+sort pigeon = 1 .. 7
+sort hole = 1 .. 6
+cell nest(pigeon) : hole
+rule apart : forall x:pigeon . forall y:pigeon . x = y | nest(x) != nest(y)
+begin
+--- spent 5000 372 1
 ===
 1000000000
 sheet 1
