@@ -1,29 +1,30 @@
 -- From a run's events to what it said by its status.
-use Rattle.std.proofs.Common.{◌≡◌, ◌≢◌, ℕ, ◌<◌, ◌≤◌, Bool, true, false, List, [], ◌∷◌, ◌++◌, length, refl, sym, ◌∙◌, ap, subst, arith, inl, inr, Option, All, append_assoc, append-nil, take}
+use Rattle.std.proofs.Common.{◌≡◌, ◌≢◌, ℕ, ◌≤◌, Bool, true, false, List, [], ◌∷◌, ◌++◌, length, refl, sym, ◌∙◌, ap, subst, arith, inl, inr, Option, All, append_assoc, append-nil, take}
 use Rattle.std.specs.List.{list_any}
 use Rattle.std.specs.Io.KnownBytes.{Consumes, Appends, IsAtEnd}
 use Rattle.std.proofs.KnownBytes.{Consumes-nil}
-use Rattle.std.proofs.lemmas.List.{length_push}
 use Rattle.std.proofs.lemmas.List.Concat.{flat_map-append}
-use Rattle.std.proofs.lemmas.List.Elements.{All-weaker, All-nil}
+use Rattle.std.proofs.lemmas.List.Elements.{All-nil}
 use Rattle.pc_port.specs.declared.TheConstants.{CHUNK}
-use Rattle.pc_lines.specs.Lines.{before_end, IsWholeLine, IsOpenLine}
+use Rattle.pc_lines.specs.Lines.{IsWholeLine, IsOpenLine}
 use Rattle.pc_refusals.specs.declared.status.Status.{Status}
-use Rattle.pc_refusals.specs.declared.status.Status.TheVariants.{SheetRefused, ReadFault, WriteFault, Memory, TooLong}
+use Rattle.pc_refusals.specs.declared.status.Status.TheVariants.{ReadFault, WriteFault, Memory}
 use Rattle.pc_refusals.specs.declared.refusal.SheetRefusal.{SheetRefusal}
-use Rattle.pc_refusals.specs.Refusals.{sheet_refusal_text}
-use Rattle.pc_refusals.specs.Endings.{Printing, printed, too_long_text, sheet_memory_text, IsPrinted}
+use Rattle.pc_refusals.specs.Endings.{printed, sheet_memory_text, IsPrinted}
 use Rattle.pc_course.specs.Events.{Outside, Event, took, took_rest, gave, told, input_failed, shelf_failed, output_failed, Happened}
-use Rattle.pc_course.specs.Stages.{Intake, sheet_line, line_within, no_line_within, rest_within, sheet_file, Stage, takes, tells, ends, ends_with, IsLine, CanBegin, PassesLimit}
+use Rattle.pc_course.specs.Stages.{Intake, sheet_line, line_within, no_line_within, rest_within, sheet_file, Stage, takes, tells, ends, ends_with, CanBegin, PassesLimit}
 use Rattle.pc_course.specs.Runs.{HasTook, last_or, IsOutput, EndsTelling, IsSpare, nothing, ahead, Tells, goes_on, ends_so, Comes, on_course, past_limit, without_memory, Run, ended, ended_with, read_failed, read_failed_at_file, write_failed, Ran}
 use Rattle.pc_transcript.specs.declared.TheConstants.{LINE_LIMIT, MAX_LINES}
 use Rattle.pc_transcript.specs.Answer.{Answer, answer_text, is_refused as was_refused, is_no_memory}
-use Rattle.pc_transcript.specs.Transcript.{Transcript, Legal, lines, input_of, output_of, worse_of, IsCommandLine, IsCompleteLine, PassesLimit as PassesLine, AnswersAll, StopsAtLimit}
-use Rattle.pc_transcript.specs.SheetPart.{TakesSheet, IsReadAhead, joined_lines, PassesSheetLimit, HasTaken, IsEarlier, IsSheetFront}
-use Rattle.pc_transcript.specs.Run.{LacksMemoryForSheet, RefusesSheet, Opens, HasLongSheet, IsCutOff, at_sheet_memory, at_sheet, at_long_sheet, at_limit, at_answer, Replays, Replayed}
+use Rattle.pc_transcript.specs.Transcript.{Transcript, Legal, lines, input_of, output_of, worse_of, IsCompleteLine}
+use Rattle.pc_transcript.specs.SheetPart.{joined_lines, IsEarlier}
+use Rattle.pc_transcript.specs.SheetTaking.{TakesSheet, IsSheetFront}
 use Rattle.pc_transcript.specs.Course.{events_of, IsLineTaken, IsSheetTaken, AnswersLines, awaits_line, awaits_end, has_answer, has_all, needs_memory, is_refused, answers, awaits_sheet, keeps_sheet, has_sheet, Replay, needs_room, from_input}
 use Rattle.pc_course.proofs.EventLemmas.{last_or-append}
 use Rattle.pc_course_laws.specs.Flat.{taken_in, told_in, taken_of, told_of}
+use Rattle.pc_course_laws.specs.Moments.{moment}
+use Rattle.pc_course_laws.specs.Answered.{IsReadAhead, IsLineTooMuch}
+use Rattle.pc_course_laws.specs.Replays.{PassesSheetLimit, HasTaken, ReplayStops, lacks_memory, has_long_sheet, refuses_sheet, passes_limit, stops, fails_in_sheet, fails_at_lines, answers_all, cut_at_end, cut_at_answer, Replayed}
 use Rattle.pc_course_laws.proofs.FlatLemmas.{taken_together, told_together, happened-split}
 
 -- ---- what was read ahead
@@ -71,18 +72,6 @@ told_after t more = told-append (events_of t) more ∙ ap (λ (xs : List ℕ). x
 
 -- ---- lines
 
-is_command_line : (line : List ℕ) → IsLine LINE_LIMIT line → IsCommandLine line
-is_command_line line is = elim is [
-  | inl whole ↦ inl whole
-  | inr last ↦ inr last.0
-]
-
-has_byte : (line : List ℕ) → IsLine LINE_LIMIT line → 0 < length line
-has_byte line is = elim is [
-  | inl whole ↦ omega (arith, ap length whole.ends, length_push (before_end line) 10)
-  | inr last ↦ last.1
-]
-
 abbrev pub IsLineIntake : Intake → Type 0
 IsLineIntake (sheet_line before) = Unit {0}
 IsLineIntake (line_within limit) = Unit {0}
@@ -115,9 +104,6 @@ is_took (no_line_within limit) (shelf_failed name) of_line passes = absurd passe
 is_took (no_line_within limit) output_failed of_line passes = absurd passes
 is_took (rest_within limit) event of_line passes = absurd of_line
 is_took (sheet_file file) event of_line passes = absurd of_line
-
-pub command_line : (t : Transcript) → All (IsLine LINE_LIMIT) (lines t) → All IsCommandLine (lines t)
-command_line t each = All-weaker (IsLine LINE_LIMIT) IsCommandLine is_command_line (lines t) each
 
 -- ---- the sheet
 
@@ -156,16 +142,13 @@ printed_all false true sink sink' text w = subst (λ (xs : List ℕ). Appends si
 printed_all false false sink sink' text w = subst (λ (xs : List ℕ). Appends sink sink' xs) (sym (append-nil text)) w
 
 module _ {S N : Type 0} (IsSheet : List ℕ → S → Type 0) (Refuses : List ℕ → SheetRefusal → List ℕ → N → N → Type 0) (Allows : S × N → List ℕ → Answer → S × N → Type 0) (notes : N) where
-  opened : (notes' : N) → (no_memory refused : Bool) (text : Printing) (source source' : Option (List ℕ)) → Opens IsSheet notes notes' (λ start end rest. AnswersAll Allows start end (worse_of no_memory refused) text rest source') source
-      → Replays IsSheet Refuses Allows (worse_of no_memory refused) notes notes' text source source'
-  opened notes' true refused text source source' opens = inr opens
-  opened notes' false true text source source' opens = opens
-  opened notes' false false text source source' opens = opens
+  abbrev Says : N → Status → Outside → Outside → Type 0
+  Says notes' status a b = Replayed IsSheet Refuses Allows status (moment a notes) (moment b notes')
 
   -- ---- at the end of its course
 
-  at_course_end : (notes' : N) → (status : Status) (events spare : List Event) (a b : Outside) → Replay IsSheet Refuses Allows notes events (ends status) notes' → (mid : Outside) → Happened events a mid → IsSpare CHUNK events spare → Happened spare mid b
-      → Replayed IsSheet Refuses Allows status notes notes' a.input b.input a.output b.output
+  at_course_end : (notes' : N) (status : Status) (events spare : List Event) (a b : Outside) → Replay IsSheet Refuses Allows notes events (ends status) notes' → (mid : Outside) → Happened events a mid → IsSpare CHUNK events spare → Happened spare mid b
+      → Says notes' status a b
   at_course_end notes' status events spare a b (from_input (has_sheet text taken more sheet (answers start end is (has_all t legal each all count more_is)) events_are)) mid happened is_spare rest =
       let two = happened-split taken more a mid (subst (λ (es : List Event). Happened es a mid) events_are happened) in
       let b0 = two.0 in
@@ -180,21 +163,21 @@ module _ {S N : Type 0} (IsSheet : List ℕ → S → Type 0) (Refuses : List �
       let written : Appends a.output b.output (output_of t) = subst (λ (x : Option (List ℕ)). Appends a.output x (output_of t)) (sym (ap (λ (o : Outside). o.output) none)) (subst (λ (xs : List ℕ). Appends a.output mid.output xs) said (told_together events a mid happened)) in
       record {
         text = printed (output_of t) [];
-        course = opened notes' (list_any (λ pair. is_no_memory pair.1) t) (list_any (λ pair. was_refused pair.1) t) (printed (output_of t) []) a.input b.input record {
+        course = answers_all (worse_of (list_any (λ pair. is_no_memory pair.1) t) (list_any (λ pair. was_refused pair.1) t)) record {
           sheet = text;
           rest = b0.input;
           takes = takes;
           start = start;
           is = is;
           end = end;
-          goes_on = record {
+          answers = record {
             transcript = t;
             legal = legal;
             commands = input_of t;
             taken = subst (λ (x : Option (List ℕ)). Consumes b0.input x (input_of t)) (sym same) (subst (λ (xs : List ℕ). Consumes b0.input mid.input xs) commands all_taken);
             at_end = subst (λ (x : Option (List ℕ)). IsAtEnd x) (sym same) at_end;
             all = all;
-            each = command_line t each;
+            each = each;
             count = count;
             text_is = refl;
             status_is = refl;
@@ -206,7 +189,7 @@ module _ {S N : Type 0} (IsSheet : List ℕ → S → Type 0) (Refuses : List �
   -- ---- where a read failed
 
   pub awaits : (intake : Intake) (more : List Event) (start end : S × N) → AnswersLines Allows start more (takes intake) end → (t : Transcript) × Legal Allows start t end × All (IsWholeLine LINE_LIMIT) (lines t) × (length t ≤ MAX_LINES) × (more ≡ events_of t) × ((begun : List ℕ) → CanBegin intake begun → IsOpenLine LINE_LIMIT begun)
-      × ((begun : List ℕ) → PassesLimit intake (took begun) → PassesLine (length t) begun) × IsLineIntake intake
+      × ((begun : List ℕ) → PassesLimit intake (took begun) → IsLineTooMuch (length t) begun) × IsLineIntake intake
   awaits intake more start end (awaits_line t legal whole few is) = (t, legal, whole, omega (arith, few), is, λ begun can. can, λ begun passes. inl passes, tt)
   awaits intake more start end (awaits_end t legal whole full is) = (
     t,
@@ -217,29 +200,25 @@ module _ {S N : Type 0} (IsSheet : List ℕ → S → Type 0) (Refuses : List �
     λ begun can. can,
     λ begun passes. elim passes [
       | inl long ↦ inl long
-      | inr line ↦ inr (full, is_command_line begun line, has_byte begun line)
+      | inr line ↦ inr (full, line)
     ],
     tt,
   )
 
-  at_read_fault : (notes' : N) → (before : List Event) (intake : Intake) (begun : List ℕ) (events : List Event) (a b : Outside) → Replay IsSheet Refuses Allows notes before (takes intake) notes' → CanBegin intake begun → events ≡ before ++ took begun ∷ input_failed ∷ [] → Happened events a b
-      → Replayed IsSheet Refuses Allows ReadFault notes notes' a.input b.input a.output b.output
+  at_read_fault : (notes' : N) (before : List Event) (intake : Intake) (begun : List ℕ) (events : List Event) (a b : Outside) → Replay IsSheet Refuses Allows notes before (takes intake) notes' → CanBegin intake begun → events ≡ before ++ took begun ∷ input_failed ∷ [] → Happened events a b
+      → Says notes' ReadFault a b
   at_read_fault notes' before intake begun events a b (from_input (awaits_sheet earlier others small before_is)) can is happened =
       let events_are : events ≡ took (joined_lines earlier) ∷ took begun ∷ input_failed ∷ [] = is ∙ ap (λ (es : List Event). es ++ took begun ∷ input_failed ∷ []) before_is in
       record {
         text = printed [] [];
-        course = inl record {
-          stops = record {
-            earlier = earlier;
-            others = others;
-            begun = begun;
-            no_end = can.0;
-            small = can.1;
-            taken = subst (λ (xs : List ℕ). Consumes a.input b.input xs) (ap taken_in events_are ∙ ap (λ (xs : List ℕ). joined_lines earlier ++ xs) (append-nil begun)) (taken_together events a b happened);
-          };
-          none_noted = refl;
-          text_is = refl;
-        };
+        course = fails_in_sheet record {
+          earlier = earlier;
+          others = others;
+          begun = begun;
+          no_end = can.0;
+          small = can.1;
+          taken = subst (λ (xs : List ℕ). Consumes a.input b.input xs) (ap taken_in events_are ∙ ap (λ (xs : List ℕ). joined_lines earlier ++ xs) (append-nil begun)) (taken_together events a b happened);
+        } refl refl;
         written = subst (λ (xs : List ℕ). Appends a.output b.output xs) (ap told_in events_are) (told_together events a b happened);
       }
   at_read_fault notes' before intake begun events a b (from_input (has_sheet text taken more sheet (answers start end is_sheet lines_so) before_is)) can is happened =
@@ -252,14 +231,14 @@ module _ {S N : Type 0} (IsSheet : List ℕ → S → Type 0) (Refuses : List �
       let said : told_in events ≡ output_of t ++ [] = ap told_in events_are ∙ told-append taken (events_of t ++ tail) ∙ ap (λ (xs : List ℕ). xs ++ told_in (events_of t ++ tail)) (sheet_is_quiet text taken sheet) ∙ told_after t tail in
       record {
         text = printed (output_of t) [];
-        course = inr record {
+        course = fails_at_lines record {
           sheet = text;
           rest = b0.input;
           takes = takes_sheet text taken a b0 sheet two.1;
           start = start;
           is = is_sheet;
           end = end;
-          goes_on = record {
+          answers = record {
             transcript = t;
             legal = got.1;
             whole = got.2;
@@ -279,16 +258,14 @@ module _ {S N : Type 0} (IsSheet : List ℕ → S → Type 0) (Refuses : List �
 
   -- ---- where it ends by a line
 
-  record LastLine (notes' : N) (line : List ℕ) (status : Status) (said : List ℕ) (source source' : Option (List ℕ)) : Type 0 where
+  record LastLine (notes' : N) (line : List ℕ) (status : Status) (said : List ℕ) (a b : Outside) : Type 0 where
     before : List ℕ
     before_is : said ≡ before
-    cut : IsCutOff IsSheet Refuses Allows notes notes' (printed before line) source source'
-    whole : (sink sink' : Option (List ℕ)) → Appends sink sink' (before ++ line) → Replayed IsSheet Refuses Allows status notes notes' source source' sink sink'
+    ends : ReplayStops IsSheet Refuses Allows (printed before line) (moment a notes) (moment b notes') status
+    prints : (sink sink' : Option (List ℕ)) → Appends sink sink' (before ++ line) → IsPrinted status sink sink' (printed before line)
 
-  lacks_memory : (notes' : N) → (source source' : Option (List ℕ)) (said : List ℕ) → said ≡ [] → notes' ≡ notes → HasTaken source source' → LastLine notes' sheet_memory_text Memory said source source'
-  lacks_memory notes' source source' said none no_note has =
-      let lacks : LacksMemoryForSheet notes notes' (printed [] sheet_memory_text) source source' = record { taken = has; none_noted = no_note; text_is = refl } in
-      record { before = []; before_is = none; cut = at_sheet_memory lacks; whole = λ sink sink' w. record { text = printed [] sheet_memory_text; course = inl lacks; written = w } }
+  wants_memory : (notes' : N) (said : List ℕ) (a b : Outside) → said ≡ [] → notes' ≡ notes → HasTaken a.input b.input → LastLine notes' sheet_memory_text Memory said a b
+  wants_memory notes' said a b none no_note has = record { before = []; before_is = none; ends = lacks_memory has no_note refl; prints = λ sink sink' w. w }
 
   -- no line is the front of any
   nothing_taken : (source : Option (List ℕ)) → HasTaken source source
@@ -301,19 +278,8 @@ module _ {S N : Type 0} (IsSheet : List ℕ → S → Type 0) (Refuses : List �
     ahead = record { held = []; more = Consumes-nil source; few = omega arith };
   }
 
-  lacks_room : (notes' : N) → (source source' : Option (List ℕ)) (said : List ℕ) → said ≡ [] → notes' ≡ notes → source' ≡ source → LastLine notes' sheet_memory_text Memory said source source'
-  lacks_room notes' source source' said none no_note unread = lacks_memory notes' source source' said none no_note (subst (λ (x : Option (List ℕ)). HasTaken source x) (sym unread) (nothing_taken source))
-
-  long_sheet : (notes' : N) → (source source' : Option (List ℕ)) (said : List ℕ) → said ≡ [] → notes' ≡ notes → PassesSheetLimit source source' → LastLine notes' too_long_text TooLong said source source'
-  long_sheet notes' source source' said none no_note passes =
-      let long : HasLongSheet notes notes' (printed [] too_long_text) source source' = record { passes = passes; none_noted = no_note; text_is = refl } in
-      record { before = []; before_is = none; cut = at_long_sheet long; whole = λ sink sink' w. record { text = printed [] too_long_text; course = inl long; written = w } }
-
-  refused : (notes' : N) → (source source' : Option (List ℕ)) (said : List ℕ) (why : SheetRefusal) (more : List ℕ) → said ≡ [] → RefusesSheet Refuses notes notes' (printed [] (sheet_refusal_text why ++ more)) source source' → LastLine notes' (sheet_refusal_text why ++ more) SheetRefused said source source'
-  refused notes' source source' said why more none is = record { before = []; before_is = none; cut = at_sheet is; whole = λ sink sink' w. record { text = printed [] (sheet_refusal_text why ++ more); course = is; written = w } }
-
-  long_line : (notes' : N) → (source source' : Option (List ℕ)) (said : List ℕ) (t : Transcript) → said ≡ output_of t → Opens IsSheet notes notes' (λ start end rest. StopsAtLimit Allows start end (printed (output_of t) too_long_text) rest source') source → LastLine notes' too_long_text TooLong said source source'
-  long_line notes' source source' said t is opens = record { before = output_of t; before_is = is; cut = at_limit opens; whole = λ sink sink' w. record { text = printed (output_of t) too_long_text; course = inr opens; written = w } }
+  lacks_room : (notes' : N) (said : List ℕ) (a b : Outside) → said ≡ [] → notes' ≡ notes → b.input ≡ a.input → LastLine notes' sheet_memory_text Memory said a b
+  lacks_room notes' said a b none no_note unread = wants_memory notes' said a b none no_note (subst (λ (x : Option (List ℕ)). HasTaken a.input x) (sym unread) (nothing_taken a.input))
 
   -- the text that a sheet's part is made of
   front_of : (text : List ℕ) (taken : List Event) → IsSheetTaken text taken → IsSheetFront text
@@ -328,33 +294,30 @@ module _ {S N : Type 0} (IsSheet : List ℕ → S → Type 0) (Refuses : List �
     ];
   }
 
-  last_line : (notes' : N) → (line : List ℕ) (status : Status) (events : List Event) (a mid : Outside) (source' : Option (List ℕ)) → Comes (Replay IsSheet Refuses Allows notes) events (ends_with line status) notes' → Happened events a mid → IsReadAhead mid.input source' → (events ≡ [] → source' ≡ mid.input)
-      → LastLine notes' line status (told_in events) a.input source'
-  last_line notes' line status events a mid source' (on_course (from_input (has_sheet text taken more sheet (is_refused why further has more_is) events_are))) happened read_ahead alone =
+  last_line : (notes' : N) (line : List ℕ) (status : Status) (events : List Event) (a mid b : Outside) → Comes (Replay IsSheet Refuses Allows notes) events (ends_with line status) notes' → Happened events a mid → IsReadAhead mid.input b.input → (events ≡ [] → b.input ≡ mid.input)
+      → LastLine notes' line status (told_in events) a b
+  last_line notes' line status events a mid b (on_course (from_input (has_sheet text taken more sheet (is_refused why further has more_is) events_are))) happened read_ahead alone =
       let is : events ≡ taken = events_are ∙ ap (λ (es : List Event). taken ++ es) more_is ∙ append-nil taken in
-      refused notes' a.input source' (told_in events) why further (ap told_in is ∙ sheet_is_quiet text taken sheet) record {
-        sheet = text;
-        rest = mid.input;
-        takes = takes_sheet text taken a mid sheet (subst (λ (es : List Event). Happened es a mid) is happened);
-        refusal = why;
-        more = further;
-        refused = has;
-        ahead = read_ahead;
-        text_is = refl;
+      record {
+        before = [];
+        before_is = ap told_in is ∙ sheet_is_quiet text taken sheet;
+        ends = refuses_sheet text mid.input why further (takes_sheet text taken a mid sheet (subst (λ (es : List Event). Happened es a mid) is happened)) has read_ahead refl;
+        prints = λ sink sink' w. w;
       }
-  last_line notes' line status events a mid source' (past_limit before intake event (from_input (awaits_sheet earlier others small before_is)) passes is) happened read_ahead alone =
+  last_line notes' line status events a mid b (past_limit before intake event (from_input (awaits_sheet earlier others small before_is)) passes is) happened read_ahead alone =
       let got = is_took intake event tt passes in
       let begun = got.0 in
       let events_are : events ≡ took (joined_lines earlier) ∷ took begun ∷ [] = is ∙ ap (λ (es : List Event). es ++ event ∷ []) before_is ∙ ap (λ (e : Event). took (joined_lines earlier) ∷ e ∷ []) got.1 in
-      long_sheet notes' a.input source' (told_in events) (ap told_in events_are) refl record {
+      let passes_sheet : PassesSheetLimit a.input b.input = record {
         text = joined_lines earlier ++ begun;
         front = record { earlier = earlier; last = begun; is = refl; others = others; one_line = got.2.0 };
         long = got.2.1;
         rest = mid.input;
         taken = subst (λ (xs : List ℕ). Consumes a.input mid.input xs) (ap taken_in events_are ∙ ap (λ (xs : List ℕ). joined_lines earlier ++ xs) (append-nil begun)) (taken_together events a mid happened);
         ahead = read_ahead;
-      }
-  last_line notes' line status events a mid source' (past_limit before intake event (from_input (has_sheet text taken more sheet (answers start end is_sheet lines_so) before_is)) passes is) happened read_ahead alone =
+      } in
+      record { before = []; before_is = ap told_in events_are; ends = has_long_sheet passes_sheet refl refl; prints = λ sink sink' w. w }
+  last_line notes' line status events a mid b (past_limit before intake event (from_input (has_sheet text taken more sheet (answers start end is_sheet lines_so) before_is)) passes is) happened read_ahead alone =
       let so = awaits intake more (start, notes) (end, notes') lines_so in
       let t = so.0 in
       let got = is_took intake event so.7 passes in
@@ -364,30 +327,35 @@ module _ {S N : Type 0} (IsSheet : List ℕ → S → Type 0) (Refuses : List �
       let two = happened-split taken (events_of t ++ tail) a mid (subst (λ (es : List Event). Happened es a mid) events_are happened) in
       let b0 = two.0 in
       let said : told_in events ≡ output_of t = ap told_in events_are ∙ told-append taken (events_of t ++ tail) ∙ ap (λ (xs : List ℕ). xs ++ told_in (events_of t ++ tail)) (sheet_is_quiet text taken sheet) ∙ told_after t tail ∙ append-nil (output_of t) in
-      long_line notes' a.input source' (told_in events) t said record {
-        sheet = text;
-        rest = b0.input;
-        takes = takes_sheet text taken a b0 sheet two.1;
-        start = start;
-        is = is_sheet;
-        end = end;
-        goes_on = record {
-          transcript = t;
-          legal = so.1;
-          whole = so.2;
-          count = so.3;
-          begun = begun;
-          passes = so.6 begun got.2;
-          rest = mid.input;
-          taken = subst (λ (xs : List ℕ). Consumes b0.input mid.input xs) (taken_after t tail ∙ ap (λ (xs : List ℕ). input_of t ++ xs) (append-nil begun)) (taken_together (events_of t ++ tail) b0 mid two.2);
-          ahead = read_ahead;
-          text_is = refl;
+      record {
+        before = output_of t;
+        before_is = said;
+        ends = passes_limit record {
+          sheet = text;
+          rest = b0.input;
+          takes = takes_sheet text taken a b0 sheet two.1;
+          start = start;
+          is = is_sheet;
+          end = end;
+          answers = record {
+            transcript = t;
+            legal = so.1;
+            whole = so.2;
+            count = so.3;
+            begun = begun;
+            passes = so.6 begun got.2;
+            rest = mid.input;
+            taken = subst (λ (xs : List ℕ). Consumes b0.input mid.input xs) (taken_after t tail ∙ ap (λ (xs : List ℕ). input_of t ++ xs) (append-nil begun)) (taken_together (events_of t ++ tail) b0 mid two.2);
+            ahead = read_ahead;
+            text_is = refl;
+          };
         };
+        prints = λ sink sink' w. w;
       }
-  last_line notes' line status events a mid source' (without_memory line2 (needs_room none)) happened read_ahead alone =
-      lacks_room notes' a.input source' (told_in events) (ap told_in none) refl (alone none ∙ ap (λ (o : Outside). o.input) (subst (λ (es : List Event). Happened es a mid) none happened))
-  last_line notes' line status events a mid source' (without_memory line2 (from_input (keeps_sheet text front small is))) happened read_ahead alone =
-      lacks_memory notes' a.input source' (told_in events) (ap told_in is) refl record {
+  last_line notes' line status events a mid b (without_memory line2 (needs_room none)) happened read_ahead alone =
+      lacks_room notes' (told_in events) a b (ap told_in none) refl (alone none ∙ ap (λ (o : Outside). o.input) (subst (λ (es : List Event). Happened es a mid) none happened))
+  last_line notes' line status events a mid b (without_memory line2 (from_input (keeps_sheet text front small is))) happened read_ahead alone =
+      wants_memory notes' (told_in events) a b (ap told_in is) refl record {
         text = text;
         front = front;
         small = small;
@@ -395,18 +363,18 @@ module _ {S N : Type 0} (IsSheet : List ℕ → S → Type 0) (Refuses : List �
         taken = subst (λ (xs : List ℕ). Consumes a.input mid.input xs) (ap taken_in is ∙ append-nil text) (taken_together events a mid happened);
         ahead = read_ahead;
       }
-  last_line notes' line status events a mid source' (without_memory line2 (from_input (has_sheet text taken more sheet (needs_memory more_is) events_are))) happened read_ahead alone =
+  last_line notes' line status events a mid b (without_memory line2 (from_input (has_sheet text taken more sheet (needs_memory more_is) events_are))) happened read_ahead alone =
       let is : events ≡ taken = events_are ∙ ap (λ (es : List Event). taken ++ es) more_is ∙ append-nil taken in
       let takes = takes_sheet text taken a mid sheet (subst (λ (es : List Event). Happened es a mid) is happened) in
-      lacks_memory notes' a.input source' (told_in events) (ap told_in is ∙ sheet_is_quiet text taken sheet) refl record { text = text; front = front_of text taken sheet; small = sheet.small; rest = mid.input; taken = takes.taken; ahead = read_ahead }
-  last_line notes' line status events a mid source' (on_course (from_input (has_sheet text taken more sheet (answers start end is_sheet lines_so) events_are))) happened read_ahead alone = elim lines_so [ ]
-  last_line notes' line status events a mid source' (without_memory line2 (from_input (has_sheet text taken more sheet (answers start end is_sheet lines_so) events_are))) happened read_ahead alone = elim lines_so [ ]
+      wants_memory notes' (told_in events) a b (ap told_in is ∙ sheet_is_quiet text taken sheet) refl record { text = text; front = front_of text taken sheet; small = sheet.small; rest = mid.input; taken = takes.taken; ahead = read_ahead }
+  last_line notes' line status events a mid b (on_course (from_input (has_sheet text taken more sheet (answers start end is_sheet lines_so) events_are))) happened read_ahead alone = elim lines_so [ ]
+  last_line notes' line status events a mid b (without_memory line2 (from_input (has_sheet text taken more sheet (answers start end is_sheet lines_so) events_are))) happened read_ahead alone = elim lines_so [ ]
 
   -- ---- where a write failed at an answer
 
-  at_line : (notes' : N) → (piece : List ℕ) (count : ℕ) (events : List Event) (a mid : Outside) (source' sink sink' : Option (List ℕ)) → Comes (Replay IsSheet Refuses Allows notes) events (tells piece) notes' → Happened events a mid → IsReadAhead mid.input source' → Appends sink sink' (told_in events ++ take count piece)
-      → Replayed IsSheet Refuses Allows WriteFault notes notes' a.input source' sink sink'
-  at_line notes' piece count events a mid source' sink sink' (on_course (from_input (has_sheet text taken more sheet (answers start end is_sheet (has_answer t state line line_taken answer legal whole few is_line allowed more_is)) events_are))) happened read_ahead written =
+  at_line : (notes' : N) (piece : List ℕ) (count : ℕ) (events : List Event) (a mid b : Outside) → Comes (Replay IsSheet Refuses Allows notes) events (tells piece) notes' → Happened events a mid → IsReadAhead mid.input b.input → Appends a.output b.output (told_in events ++ take count piece)
+      → Says notes' WriteFault a b
+  at_line notes' piece count events a mid b (on_course (from_input (has_sheet text taken more sheet (answers start end is_sheet (has_answer t state line line_taken answer legal whole few is_line allowed more_is)) events_are))) happened read_ahead written =
       let two = happened-split taken more a mid (subst (λ (es : List Event). Happened es a mid) events_are happened) in
       let b0 = two.0 in
       let last = happened-split (events_of t) line_taken b0 mid (subst (λ (es : List Event). Happened es b0 mid) more_is two.2) in
@@ -414,14 +382,14 @@ module _ {S N : Type 0} (IsSheet : List ℕ → S → Type 0) (Refuses : List �
       let said : told_in events ≡ output_of t = ap told_in events_are ∙ told-append taken more ∙ ap (λ (xs : List ℕ). xs ++ told_in more) (sheet_is_quiet text taken sheet) ∙ ap told_in more_is ∙ told_after t line_taken ∙ ap (λ (xs : List ℕ). output_of t ++ xs) of_line.1 ∙ append-nil (output_of t) in
       record {
         text = printed (output_of t) (answer_text answer);
-        course = at_answer record {
+        course = cut_at_answer record {
           sheet = text;
           rest = b0.input;
           takes = takes_sheet text taken a b0 sheet two.1;
           start = start;
           is = is_sheet;
           end = end;
-          goes_on = record {
+          answers = record {
             transcript = t;
             state = state;
             legal = legal;
@@ -437,26 +405,21 @@ module _ {S N : Type 0} (IsSheet : List ℕ → S → Type 0) (Refuses : List �
             text_is = refl;
           };
         };
-        written = record { count = count; written = subst (λ (xs : List ℕ). Appends sink sink' (xs ++ take count (answer_text answer))) said written };
+        written = record { count = count; written = subst (λ (xs : List ℕ). Appends a.output b.output (xs ++ take count (answer_text answer))) said written };
       }
 
   -- ---- the whole
 
-  cut_off : (notes' : N) → (line : List ℕ) (status : Status) (count : ℕ) (said : List ℕ) (source source' sink sink' : Option (List ℕ)) → LastLine notes' line status said source source' → Appends sink sink' (said ++ take count line) → Replayed IsSheet Refuses Allows WriteFault notes notes' source source' sink sink'
-  cut_off notes' line status count said source source' sink sink' last written = record {
-    text = printed last.before line;
-    course = last.cut;
-    written = record { count = count; written = subst (λ (xs : List ℕ). Appends sink sink' (xs ++ take count line)) last.before_is written };
-  }
-
-  ends_told : (notes' : N) → (line : List ℕ) (status : Status) (said : List ℕ) (source source' sink sink' : Option (List ℕ)) → LastLine notes' line status said source source' → Appends sink sink' (said ++ line) → Replayed IsSheet Refuses Allows status notes notes' source source' sink sink'
-  ends_told notes' line status said source source' sink sink' last written = last.whole sink sink' (subst (λ (xs : List ℕ). Appends sink sink' (xs ++ line)) last.before_is written)
-
-  at_write_fault : (notes' : N) → (stage : Stage) (piece : List ℕ) (count : ℕ) (events : List Event) (a mid : Outside) (source' sink sink' : Option (List ℕ)) → Tells piece stage → Comes (Replay IsSheet Refuses Allows notes) events stage notes' → Happened events a mid → IsReadAhead mid.input source' → (events ≡ [] → source' ≡ mid.input)
-      → Appends sink sink' (told_in events ++ take count piece) → Replayed IsSheet Refuses Allows WriteFault notes notes' a.input source' sink sink'
-  at_write_fault notes' stage piece count events a mid source' sink sink' goes_on comes happened read_ahead alone written = at_line notes' piece count events a mid source' sink sink' comes happened read_ahead written
-  at_write_fault notes' stage piece count events a mid source' sink sink' (ends_so status) comes happened read_ahead alone written =
-      cut_off notes' piece status count (told_in events) a.input source' sink sink' (last_line notes' piece status events a mid source' comes happened read_ahead alone) written
+  at_write_fault : (notes' : N) (stage : Stage) (piece : List ℕ) (count : ℕ) (events : List Event) (a mid b : Outside) → Tells piece stage → Comes (Replay IsSheet Refuses Allows notes) events stage notes' → Happened events a mid → IsReadAhead mid.input b.input → (events ≡ [] → b.input ≡ mid.input)
+      → Appends a.output b.output (told_in events ++ take count piece) → Says notes' WriteFault a b
+  at_write_fault notes' stage piece count events a mid b goes_on comes happened read_ahead alone written = at_line notes' piece count events a mid b comes happened read_ahead written
+  at_write_fault notes' stage piece count events a mid b (ends_so status) comes happened read_ahead alone written =
+      let last = last_line notes' piece status events a mid b comes happened read_ahead alone in
+      record {
+        text = printed last.before piece;
+        course = cut_at_end status last.ends;
+        written = record { count = count; written = subst (λ (xs : List ℕ). Appends a.output b.output (xs ++ take count piece)) last.before_is written };
+      }
 
 pub told_alone : (line : List ℕ) → HasTook (told line ∷ []) → ⊥
 told_alone line some = elim some [
@@ -474,7 +437,7 @@ cut_alone part some = elim some [
 ]
 
 by_run : {S N : Type 0} (IsSheet : List ℕ → S → Type 0) (Refuses : List ℕ → SheetRefusal → List ℕ → N → N → Type 0) (Allows : S × N → List ℕ → Answer → S × N → Type 0) (notes notes' : N) (status : Status) (a mid b : Outside) (events spare : List Event) → Run (Replay IsSheet Refuses Allows notes) events status notes'
-    → Happened events a mid → IsSpare CHUNK events spare → Happened spare mid b → Replayed IsSheet Refuses Allows status notes notes' a.input b.input a.output b.output
+    → Happened events a mid → IsSpare CHUNK events spare → Happened spare mid b → Replayed IsSheet Refuses Allows status (moment a notes) (moment b notes')
 by_run IsSheet Refuses Allows notes notes' status a mid b events spare (ended (on_course course)) happened is_spare rest = at_course_end IsSheet Refuses Allows notes notes' status events spare a b course mid happened is_spare rest
 by_run IsSheet Refuses Allows notes notes' status a mid b events spare (ended_with before line comes is) happened is_spare rest =
     let read = spare_of events spare mid b is_spare rest in
@@ -483,7 +446,8 @@ by_run IsSheet Refuses Allows notes notes' status a mid b events spare (ended_wi
     let input_is : mid.input ≡ m.input = ap (λ (o : Outside). o.input) two.2.2 ∙ ap (λ (o : Outside). o.input) two.2.1.0 in
     let alone : before ≡ [] → b.input ≡ m.input = λ none. ap (λ (o : Outside). o.input) (no_spare events spare mid b (λ some last. (told_alone line (subst HasTook (is ∙ ap (λ (es : List Event). es ++ told line ∷ []) none) some))) is_spare rest) ∙ input_is in
     let written : Appends a.output b.output (told_in before ++ line) = subst (λ (x : Option (List ℕ)). Appends a.output x (told_in before ++ line)) (sym read.quiet) (subst (λ (xs : List ℕ). Appends a.output mid.output xs) (ap told_in is ∙ told-append before (told line ∷ []) ∙ ap (λ (xs : List ℕ). told_in before ++ xs) (append-nil line)) (told_together events a mid happened)) in
-    ends_told IsSheet Refuses Allows notes notes' line status (told_in before) a.input b.input a.output b.output (last_line IsSheet Refuses Allows notes notes' line status before a m b.input comes two.1 (subst (λ (x : Option (List ℕ)). IsReadAhead x b.input) input_is read.ahead) alone) written
+    let last = last_line IsSheet Refuses Allows notes notes' line status before a m b comes two.1 (subst (λ (x : Option (List ℕ)). IsReadAhead x b.input) input_is read.ahead) alone in
+    record { text = printed last.before line; course = stops status last.ends; written = last.prints a.output b.output (subst (λ (xs : List ℕ). Appends a.output b.output (xs ++ line)) last.before_is written) }
 by_run IsSheet Refuses Allows notes notes' status a mid b events spare (read_failed before intake begun course can is) happened is_spare rest =
     let same = no_spare events spare mid b (λ some last. subst IsOutput (ap (last_or (took [])) is ∙ last_or-append (took []) before (took begun ∷ input_failed ∷ [])) last) is_spare rest in
     at_read_fault IsSheet Refuses Allows notes notes' before intake begun events a b course can is (subst (λ (o : Outside). Happened events a o) (sym same) happened)
@@ -496,10 +460,10 @@ by_run IsSheet Refuses Allows notes notes' status a mid b events spare (write_fa
     let input_is : mid.input ≡ m.input = ap (λ (o : Outside). o.input) two.2.2.2 ∙ ap (λ (o : Outside). o.input) two.2.2.1.0 ∙ ap (λ (o : Outside). o.input) two.2.1.0 in
     let alone : before ≡ [] → b.input ≡ m.input = λ none. ap (λ (o : Outside). o.input) (no_spare events spare mid b (λ some last. (cut_alone (take count piece) (subst HasTook (is ∙ ap (λ (es : List Event). es ++ tail) none) some))) is_spare rest) ∙ input_is in
     let written : Appends a.output b.output (told_in before ++ take count piece) = subst (λ (x : Option (List ℕ)). Appends a.output x (told_in before ++ take count piece)) (sym read.quiet) (subst (λ (xs : List ℕ). Appends a.output mid.output xs) (ap told_in is ∙ told-append before tail ∙ ap (λ (xs : List ℕ). told_in before ++ xs) (append-nil (take count piece))) (told_together events a mid happened)) in
-    at_write_fault IsSheet Refuses Allows notes notes' stage piece count before a m b.input a.output b.output tell comes two.1 (subst (λ (x : Option (List ℕ)). IsReadAhead x b.input) input_is read.ahead) alone written
+    at_write_fault IsSheet Refuses Allows notes notes' stage piece count before a m b tell comes two.1 (subst (λ (x : Option (List ℕ)). IsReadAhead x b.input) input_is read.ahead) alone written
 
 pub replayed : {S N : Type 0} (IsSheet : List ℕ → S → Type 0) (Refuses : List ℕ → SheetRefusal → List ℕ → N → N → Type 0) (Allows : S × N → List ℕ → Answer → S × N → Type 0) (notes notes' : N) (status : Status) (a b : Outside) → Ran (Replay IsSheet Refuses Allows notes) CHUNK status notes' a b
-    → Replayed IsSheet Refuses Allows status notes notes' a.input b.input a.output b.output
+    → Replayed IsSheet Refuses Allows status (moment a notes) (moment b notes')
 replayed IsSheet Refuses Allows notes notes' status a b ran =
     let two = happened-split ran.events ran.spare a b ran.happened in
     by_run IsSheet Refuses Allows notes notes' status a two.0 b ran.events ran.spare ran.run two.1 ran.is_spare two.2

@@ -57,6 +57,15 @@ all_stay : (events : List Event) (a b : Outside) → AreCalm events → Happened
 all_stay [] a b calm happened = stays_same a b happened
 all_stay (event ∷ events) a b calm happened = stays-trans a happened.0 b (one_stays event a happened.0 calm.0 happened.1) (all_stay events happened.0 b calm.1 happened.2)
 
+-- behind events without a fault a read failed: the input alone was at fault
+pub read_fails : (events : List Event) (a b : Outside) → AreCalm events → Happened (events ++ input_failed ∷ []) a b → Rose a.input_faults b.input_faults × (b.shelf_faults ≡ a.shelf_faults)
+read_fails events a b calm happened =
+    let two = happened-split events (input_failed ∷ []) a b happened in
+    let first = all_stay events a two.0 calm two.1 in
+    let does = two.2.1 in
+    let same = two.2.2 in
+    (subst (λ (n : ℕ). Rose n b.input_faults) first.input (subst (λ (n : ℕ). Rose two.0.input_faults n) (sym (ap (λ (o : Outside). o.input_faults) same)) does.1), ap (λ (o : Outside). o.shelf_faults) same ∙ ap (λ (o : Outside). o.shelf_faults) does.0 ∙ first.shelf)
+
 -- ---- what passes a limit is no fault
 
 passes_calmly : (intake : Intake) (event : Event) → PassesLimit intake event → IsCalm event
@@ -181,7 +190,7 @@ module _ {N : Type 0} (Course : List Event → Stage → N → Type 0) (obeys : 
 
 -- ---- the two modes that answer command lines
 
-lines_calm : (t : Transcript) → AreCalm (events_of t)
+pub lines_calm : (t : Transcript) → AreCalm (events_of t)
 lines_calm [] = tt
 lines_calm (pair ∷ more) = (tt, (tt, lines_calm more))
 

@@ -1,29 +1,30 @@
 -- From the events of a run on a file's sheet to what it said by its status.
-use Rattle.std.proofs.Common.{◌≡◌, ℕ, ◌<◌, ◌≤◌, Bool, true, false, List, [], ◌∷◌, ◌++◌, length, refl, sym, ◌∙◌, ap, subst, inl, inr, ◌⊎◌, Option, append_assoc, append-nil, take}
+use Rattle.std.proofs.Common.{◌≡◌, ℕ, ◌<◌, ◌≤◌, List, [], ◌∷◌, ◌++◌, length, refl, sym, ◌∙◌, ap, subst, inl, inr, ◌⊎◌, Option, append_assoc, append-nil, take}
 use Rattle.std.specs.List.{flat_map, list_any}
 use Rattle.std.specs.Io.KnownBytes.{Consumes, Appends, IsAtEnd}
 use Rattle.std.proofs.lemmas.List.Concat.{flat_map-append}
+use Rattle.pc_port.specs.Port.{Rose}
 use Rattle.pc_port.specs.declared.TheConstants.{CHUNK}
 use Rattle.pc_refusals.specs.declared.TheConstants.{SHEET_LIMIT}
 use Rattle.pc_refusals.specs.declared.status.Status.{Status}
-use Rattle.pc_refusals.specs.declared.status.Status.TheVariants.{Done, SomeRefused, Usage, SheetRefused, ReadFault, WriteFault, Memory, TooLong, CertRefused}
+use Rattle.pc_refusals.specs.declared.status.Status.TheVariants.{ReadFault, WriteFault, Memory}
 use Rattle.pc_refusals.specs.declared.refusal.SheetRefusal.{SheetRefusal}
-use Rattle.pc_refusals.specs.Refusals.{sheet_refusal_text}
 use Rattle.pc_refusals.specs.Endings.{Printing, printed, too_long_text, sheet_memory_text, IsPrinted}
 use Rattle.pc_refusals.specs.Files.{AsksOnce, TakesFile, LacksMemoryForFile, HasLongFile}
 use Rattle.pc_course.specs.Events.{Outside, Event, took, took_rest, gave, told, input_failed, shelf_failed, output_failed, Does, Happened}
 use Rattle.pc_course.specs.Stages.{Intake, sheet_file, Stage, takes, tells, ends, ends_with, CanBegin, PassesLimit}
 use Rattle.pc_course.specs.Runs.{HasTook, last_or, IsOutput, IsSpare, nothing, ahead, Tells, goes_on, ends_so, Comes, on_course, past_limit, without_memory, Run, ended, ended_with, read_failed, read_failed_at_file, write_failed, Ran}
 use Rattle.pc_transcript.specs.Answer.{Answer, answer_text, is_refused as was_refused, is_no_memory}
-use Rattle.pc_transcript.specs.Transcript.{Transcript, input_of, output_of, worse_of, AnswersAll}
-use Rattle.pc_transcript.specs.SheetPart.{IsReadAhead}
-use Rattle.pc_transcript.specs.Run.{AnswersBy}
-use Rattle.pc_transcript.specs.Edit.{RefusesFile, OpensFile, StopsAtFile, Edited}
+use Rattle.pc_transcript.specs.Transcript.{Transcript, input_of, output_of, worse_of}
 use Rattle.pc_transcript.specs.Course.{events_of, IsLineTaken, has_answer, has_all, needs_memory, is_refused, answers, Edit, awaits_file, has_file}
 use Rattle.pc_course.proofs.EventLemmas.{last_or-append}
 use Rattle.pc_course_laws.specs.Flat.{taken_in, told_in}
+use Rattle.pc_course_laws.specs.Moments.{moment}
+use Rattle.pc_course_laws.specs.Answered.{IsReadAhead, AnswersAll, AnswersTaken, StopsAtLimit, AnswersSome}
+use Rattle.pc_course_laws.specs.Edits.{OpensFile, EditStops, lacks_memory, has_long_file, refuses_file, passes_limit, Edits, stops, lacks_file, fails_at_lines, answers_all, cut_at_end, cut_at_answer, Edited}
 use Rattle.pc_course_laws.proofs.FlatLemmas.{taken_together, told_together, happened-split}
-use Rattle.pc_course_laws.proofs.BackToStatus.{spare_of, no_spare, taken_after, told_after, told-append, line_of, is_took, command_line, printed_all, awaits, told_alone, cut_alone}
+use Rattle.pc_course_laws.proofs.BackToStatus.{spare_of, no_spare, taken_after, told_after, told-append, line_of, is_took, printed_all, awaits, told_alone, cut_alone}
+use Rattle.pc_course_laws.proofs.CauseLemmas.{AreCalm, calm-append, lines_calm, read_fails}
 
 -- ---- what the shelf was asked for
 
@@ -97,57 +98,46 @@ is_gave file output_failed passes = absurd passes
 
 module _ {S N : Type 0} (IsSheet : List ℕ → S → Type 0) (Refuses : List ℕ → SheetRefusal → List ℕ → N → N → Type 0) (Allows : S × N → List ℕ → Answer → S × N → Type 0) (file : List ℕ) (notes : N) where
   abbrev Course : N → Status → Printing → Outside → Outside → Type 0
-  Course notes' status text a b = StopsAtFile Refuses a.kept file status a.asked b.asked notes notes' text a.input b.input ⊎ OpensFile IsSheet Allows a.kept file status a.asked b.asked notes notes' text a.input b.input
+  Course notes' status text a b = Edits IsSheet Refuses Allows file text (moment a notes) (moment b notes') status
 
-  abbrev Says : N → Status → Outside → Outside → Type 0
-  Says notes' status a b = Edited IsSheet Refuses Allows a.kept file status a.asked b.asked notes notes' a.input b.input a.output b.output
+  -- all that it says but how often the shelf was asked
+  record Says (notes' : N) (status : Status) (a b : Outside) : Type 0 where
+    text : Printing
+    course : Course notes' status text a b
+    written : IsPrinted status a.output b.output text
 
   -- ---- that the shelf was asked at most once
 
-  stop_asks : (notes' : N) (status : Status) (text : Printing) (a b : Outside) → StopsAtFile Refuses a.kept file status a.asked b.asked notes notes' text a.input b.input → AsksOnce file a.asked b.asked
-  stop_asks notes' SheetRefused text a b stops = inr stops.takes.once
-  stop_asks notes' ReadFault text a b stops = inr stops.0.once
-  stop_asks notes' Memory text a b stops = stops.0.asks
-  stop_asks notes' TooLong text a b stops = inr stops.0.takes.takes.once
-  stop_asks notes' WriteFault text a b stops = elim stops [
-    | inl w ↦ inr w.takes.once
-    | inr w ↦ elim w [
-      | inl v ↦ v.0.asks
-      | inr v ↦ inr v.0.takes.takes.once
-    ]
-  ]
-  stop_asks notes' Done text a b stops = absurd stops
-  stop_asks notes' SomeRefused text a b stops = absurd stops
-  stop_asks notes' Usage text a b stops = absurd stops
-  stop_asks notes' CertRefused text a b stops = absurd stops
+  stop_asks : (notes' : N) (status : Status) (text : Printing) (a b : Outside) → EditStops IsSheet Refuses Allows file text (moment a notes) (moment b notes') status → AsksOnce file a.asked b.asked
+  stop_asks notes' status text a b (lacks_memory lacks same) = lacks.asks
+  stop_asks notes' status text a b (has_long_file long same) = inr long.takes.takes.once
+  stop_asks notes' status text a b (refuses_file sheet why more taken small refuses unread is) = inr taken.once
+  stop_asks notes' status text a b (passes_limit opens) = inr opens.takes.once
 
-  asks_once : (notes' : N) (status : Status) (a b : Outside) → Says notes' status a b → AsksOnce file a.asked b.asked
-  asks_once notes' status a b says = elim says.course [
-    | inl w ↦ stop_asks notes' status says.text a b w
-    | inr w ↦ inr w.takes.once
-  ]
+  asks_once : (notes' : N) (status : Status) (text : Printing) (a b : Outside) → Course notes' status text a b → AsksOnce file a.asked b.asked
+  asks_once notes' status text a b (stops so by) = stop_asks notes' so text a b by
+  asks_once notes' status text a b (lacks_file lacks same rose kept) = inr lacks.once
+  asks_once notes' status text a b (fails_at_lines opens rose kept) = inr opens.takes.once
+  asks_once notes' status text a b (answers_all so opens) = inr opens.takes.once
+  asks_once notes' status text a b (cut_at_end so by) = stop_asks notes' so text a b by
+  asks_once notes' status text a b (cut_at_answer opens) = inr opens.takes.once
 
   -- ---- from the file on
 
   takes_file : (text : List ℕ) (a given b : Outside) → Does (gave file text) a given → b.asked ≡ given.asked → TakesFile a.kept file a.asked b.asked text
   takes_file text a given b does still = record { once = still ∙ ap (λ (o : Outside). o.asked) does.0; whole = does.1 }
 
-  opened : (notes' : N) (status : Status) (printing : Printing) (text : List ℕ) (start end : S) (a given b : Outside) → length text ≤ SHEET_LIMIT → IsSheet text start → Does (gave file text) a given → b.asked ≡ given.asked
-      → AnswersBy Allows (start, notes) (end, notes') status printing given.input b.input → OpensFile IsSheet Allows a.kept file status a.asked b.asked notes notes' printing a.input b.input
-  opened notes' status printing text start end a given b small is does still by = record {
+  opened : (Answers : S × N → S × N → Option (List ℕ) → Option (List ℕ) → Type 0) (notes' : N) (text : List ℕ) (start end : S) (a given b : Outside) → length text ≤ SHEET_LIMIT → IsSheet text start → Does (gave file text) a given → b.asked ≡ given.asked
+      → Answers (start, notes) (end, notes') given.input b.input → OpensFile IsSheet file (moment a notes) (moment b notes') Answers
+  opened Answers notes' text start end a given b small is does still by = record {
     sheet = text;
     takes = takes_file text a given b does still;
     small = small;
     start = start;
     is = is;
     end = end;
-    answers = subst (λ (x : Option (List ℕ)). AnswersBy Allows (start, notes) (end, notes') status printing x b.input) (ap (λ (o : Outside). o.input) does.0) by;
+    answers = subst (λ (x : Option (List ℕ)). Answers (start, notes) (end, notes') x b.input) (ap (λ (o : Outside). o.input) does.0) by;
   }
-
-  answers_all : (no_memory refused : Bool) (start end : S × N) (text : Printing) (source source' : Option (List ℕ)) → AnswersAll Allows start end (worse_of no_memory refused) text source source' → AnswersBy Allows start end (worse_of no_memory refused) text source source'
-  answers_all true refused start end text source source' all = all
-  answers_all false true start end text source source' all = all
-  answers_all false false start end text source source' all = all
 
   -- ---- at the end of its course
 
@@ -167,18 +157,18 @@ module _ {S N : Type 0} (IsSheet : List ℕ → S → Type 0) (Refuses : List �
       let refused = list_any (λ pair. was_refused pair.1) t in
       record {
         text = printed (output_of t) [];
-        course = inr (opened notes' (worse_of no_memory refused) (printed (output_of t) []) text start end a given b small is_sheet two.1 still (answers_all no_memory refused (start, notes) (end, notes') (printed (output_of t) []) given.input b.input record {
+        course = answers_all (worse_of no_memory refused) (opened (λ start end. AnswersAll Allows start end (worse_of no_memory refused) (printed (output_of t) [])) notes' text start end a given b small is_sheet two.1 still record {
           transcript = t;
           legal = legal;
           commands = input_of t;
           taken = subst (λ (x : Option (List ℕ)). Consumes given.input x (input_of t)) (sym same) (subst (λ (xs : List ℕ). Consumes given.input mid.input xs) commands (taken_together more given mid two.2));
           at_end = subst (λ (x : Option (List ℕ)). IsAtEnd x) (sym same) at_end;
           all = all;
-          each = command_line t each;
+          each = each;
           count = count;
           text_is = refl;
           status_is = refl;
-        }));
+        });
         written = printed_all no_memory refused a.output b.output (output_of t) written;
       }
 
@@ -196,9 +186,12 @@ module _ {S N : Type 0} (IsSheet : List ℕ → S → Type 0) (Refuses : List �
       let given = two.0 in
       let still : b.asked ≡ given.asked = asks_nothing (events_of t ++ tail) given b (asked_after t tail) two.2 in
       let said : told_in events ≡ output_of t ++ [] = ap told_in events_are ∙ told_after t tail in
+      let calm : AreCalm (gave file text ∷ (events_of t ++ took begun ∷ [])) = (tt, calm-append (events_of t) (took begun ∷ []) (lines_calm t) (tt, tt)) in
+      let failed = read_fails (gave file text ∷ (events_of t ++ took begun ∷ [])) a b calm
+      (subst (λ (es : List Event). Happened es a b) (events_are ∙ ap (λ (es : List Event). gave file text ∷ es) (sym (append_assoc (events_of t) (took begun ∷ []) (input_failed ∷ [])))) happened) in
       record {
         text = printed (output_of t) [];
-        course = inr (opened notes' ReadFault (printed (output_of t) []) text start end a given b small is_sheet two.1 still record {
+        course = fails_at_lines (opened (λ start end. AnswersTaken Allows start end (printed (output_of t) [])) notes' text start end a given b small is_sheet two.1 still record {
           transcript = t;
           legal = got.1;
           whole = got.2;
@@ -207,7 +200,7 @@ module _ {S N : Type 0} (IsSheet : List ℕ → S → Type 0) (Refuses : List �
           open_line = got.5 begun can;
           taken = subst (λ (xs : List ℕ). Consumes given.input b.input xs) (taken_after t tail ∙ ap (λ (xs : List ℕ). input_of t ++ xs) (append-nil begun)) (taken_together (events_of t ++ tail) given b two.2);
           text_is = refl;
-        });
+        }) failed.0 failed.1;
         written = subst (λ (xs : List ℕ). Appends a.output b.output xs) said (told_together events a b happened);
       }
 
@@ -217,7 +210,8 @@ module _ {S N : Type 0} (IsSheet : List ℕ → S → Type 0) (Refuses : List �
       let two = subst (λ (es : List Event). Happened es a b) events_are happened in
       record {
         text = printed [] [];
-        course = inl (record { once = ap (λ (o : Outside). o.asked) two.2 ∙ ap (λ (o : Outside). o.asked) two.1.0; unread = ap (λ (o : Outside). o.input) two.2 ∙ ap (λ (o : Outside). o.input) two.1.0; text_is = refl }, refl);
+        course = lacks_file record { once = ap (λ (o : Outside). o.asked) two.2 ∙ ap (λ (o : Outside). o.asked) two.1.0; unread = ap (λ (o : Outside). o.input) two.2 ∙ ap (λ (o : Outside). o.input) two.1.0; text_is = refl } refl
+            (subst (λ (n : ℕ). Rose a.shelf_faults n) (sym (ap (λ (o : Outside). o.shelf_faults) two.2)) two.1.1) (ap (λ (o : Outside). o.input_faults) two.2 ∙ ap (λ (o : Outside). o.input_faults) two.1.0);
         written = subst (λ (xs : List ℕ). Appends a.output b.output xs) (ap told_in events_are) (told_together events a b happened);
       }
   at_file_fault notes' before name events a b (has_file text more small (answers start end is_sheet lines_so) before_is) is happened = elim lines_so [ ]
@@ -227,31 +221,26 @@ module _ {S N : Type 0} (IsSheet : List ℕ → S → Type 0) (Refuses : List �
   record LastLine (notes' : N) (line : List ℕ) (status : Status) (said : List ℕ) (a b : Outside) : Type 0 where
     before : List ℕ
     before_is : said ≡ before
-    cut : Course notes' WriteFault (printed before line) a b
-    whole : Course notes' status (printed before line) a b
+    ends : EditStops IsSheet Refuses Allows file (printed before line) (moment a notes) (moment b notes') status
     prints : (sink sink' : Option (List ℕ)) → Appends sink sink' (before ++ line) → IsPrinted status sink sink' (printed before line)
 
-  lacks_memory : (notes' : N) (said : List ℕ) (a b : Outside) → said ≡ [] → notes' ≡ notes → AsksOnce file a.asked b.asked → b.input ≡ a.input → LastLine notes' sheet_memory_text Memory said a b
-  lacks_memory notes' said a b none no_note asks unread =
+  wants_memory : (notes' : N) (said : List ℕ) (a b : Outside) → said ≡ [] → notes' ≡ notes → AsksOnce file a.asked b.asked → b.input ≡ a.input → LastLine notes' sheet_memory_text Memory said a b
+  wants_memory notes' said a b none no_note asks unread =
       let lacks : LacksMemoryForFile file (printed [] sheet_memory_text) a.asked b.asked a.input b.input = record { asks = asks; unread = unread; text_is = refl } in
-      record { before = []; before_is = none; cut = inl (inr (inl (lacks, no_note))); whole = inl (lacks, no_note); prints = λ sink sink' w. w }
+      record { before = []; before_is = none; ends = lacks_memory lacks no_note; prints = λ sink sink' w. w }
 
   last_line : (notes' : N) (line : List ℕ) (status : Status) (events : List Event) (a mid b : Outside) → Comes (Edit IsSheet Refuses Allows file notes) events (ends_with line status) notes' → Happened events a mid → IsReadAhead mid.input b.input → ((HasTook events → ⊥) → b.input ≡ mid.input) → b.asked ≡ mid.asked
       → LastLine notes' line status (told_in events) a b
   last_line notes' line status events a mid b (on_course (has_file text more small (is_refused why further has more_is) events_are)) happened read_ahead alone still =
       let is : events ≡ gave file text ∷ [] = events_are ∙ ap (λ (es : List Event). gave file text ∷ es) more_is in
       let two = subst (λ (es : List Event). Happened es a mid) is happened in
-      let refuses : RefusesFile Refuses a.kept file a.asked b.asked notes notes' (printed [] (sheet_refusal_text why ++ further)) a.input b.input = record {
-        sheet = text;
-        takes = takes_file text a two.0 b two.1 (still ∙ ap (λ (o : Outside). o.asked) two.2);
-        small = small;
-        refusal = why;
-        more = further;
-        refused = has;
-        unread = alone (λ some. gave_alone file text (subst HasTook is some)) ∙ ap (λ (o : Outside). o.input) two.2 ∙ ap (λ (o : Outside). o.input) two.1.0;
-        text_is = refl;
-      } in
-      record { before = []; before_is = ap told_in is; cut = inl (inl refuses); whole = inl refuses; prints = λ sink sink' w. w }
+      record {
+        before = [];
+        before_is = ap told_in is;
+        ends = refuses_file text why further (takes_file text a two.0 b two.1 (still ∙ ap (λ (o : Outside). o.asked) two.2)) small has
+            (alone (λ some. gave_alone file text (subst HasTook is some)) ∙ ap (λ (o : Outside). o.input) two.2 ∙ ap (λ (o : Outside). o.input) two.1.0) refl;
+        prints = λ sink sink' w. w;
+      }
   last_line notes' line status events a mid b (on_course (has_file text more small (answers start end is_sheet lines_so) events_are)) happened read_ahead alone still = elim lines_so [ ]
   last_line notes' line status events a mid b (past_limit before intake event (awaits_file before_is) passes is) happened read_ahead alone still =
       let got = is_gave file event passes in
@@ -263,7 +252,7 @@ module _ {S N : Type 0} (IsSheet : List ℕ → S → Type 0) (Refuses : List �
         unread = alone (λ some. gave_alone file text (subst HasTook events_are some)) ∙ ap (λ (o : Outside). o.input) two.2 ∙ ap (λ (o : Outside). o.input) two.1.0;
         text_is = refl;
       } in
-      record { before = []; before_is = ap told_in events_are; cut = inl (inr (inr (long, refl))); whole = inl (long, refl); prints = λ sink sink' w. w }
+      record { before = []; before_is = ap told_in events_are; ends = has_long_file long refl; prints = λ sink sink' w. w }
   last_line notes' line status events a mid b (past_limit before intake event (has_file text more small (answers start end is_sheet lines_so) before_is) passes is) happened read_ahead alone still =
       let so = awaits IsSheet Refuses Allows notes intake more (start, notes) (end, notes') lines_so in
       let t = so.0 in
@@ -275,32 +264,30 @@ module _ {S N : Type 0} (IsSheet : List ℕ → S → Type 0) (Refuses : List �
       let given = two.0 in
       let same : b.asked ≡ given.asked = still ∙ asks_nothing (events_of t ++ tail) given mid (asked_after t tail) two.2 in
       let said : told_in events ≡ output_of t = ap told_in events_are ∙ told_after t tail ∙ append-nil (output_of t) in
-      let stops : AnswersBy Allows (start, notes) (end, notes') TooLong (printed (output_of t) too_long_text) given.input b.input = record {
-        transcript = t;
-        legal = so.1;
-        whole = so.2;
-        count = so.3;
-        begun = begun;
-        passes = so.6 begun got.2;
-        rest = mid.input;
-        taken = subst (λ (xs : List ℕ). Consumes given.input mid.input xs) (taken_after t tail ∙ ap (λ (xs : List ℕ). input_of t ++ xs) (append-nil begun)) (taken_together (events_of t ++ tail) given mid two.2);
-        ahead = read_ahead;
-        text_is = refl;
-      } in
       record {
         before = output_of t;
         before_is = said;
-        cut = inr (opened notes' WriteFault (printed (output_of t) too_long_text) text start end a given b small is_sheet two.1 same (inl stops));
-        whole = inr (opened notes' TooLong (printed (output_of t) too_long_text) text start end a given b small is_sheet two.1 same stops);
+        ends = passes_limit (opened (λ start end. StopsAtLimit Allows start end (printed (output_of t) too_long_text)) notes' text start end a given b small is_sheet two.1 same record {
+          transcript = t;
+          legal = so.1;
+          whole = so.2;
+          count = so.3;
+          begun = begun;
+          passes = so.6 begun got.2;
+          rest = mid.input;
+          taken = subst (λ (xs : List ℕ). Consumes given.input mid.input xs) (taken_after t tail ∙ ap (λ (xs : List ℕ). input_of t ++ xs) (append-nil begun)) (taken_together (events_of t ++ tail) given mid two.2);
+          ahead = read_ahead;
+          text_is = refl;
+        });
         prints = λ sink sink' w. w;
       }
   last_line notes' line status events a mid b (without_memory line2 (needs_memory none)) happened read_ahead alone still =
       let h = subst (λ (es : List Event). Happened es a mid) none happened in
-      lacks_memory notes' (told_in events) a b (ap told_in none) refl (inl (still ∙ ap (λ (o : Outside). o.asked) h)) (alone (λ some. subst HasTook none some) ∙ ap (λ (o : Outside). o.input) h)
+      wants_memory notes' (told_in events) a b (ap told_in none) refl (inl (still ∙ ap (λ (o : Outside). o.asked) h)) (alone (λ some. subst HasTook none some) ∙ ap (λ (o : Outside). o.input) h)
   last_line notes' line status events a mid b (without_memory line2 (has_file text more small (needs_memory more_is) events_are)) happened read_ahead alone still =
       let is : events ≡ gave file text ∷ [] = events_are ∙ ap (λ (es : List Event). gave file text ∷ es) more_is in
       let two = subst (λ (es : List Event). Happened es a mid) is happened in
-      lacks_memory notes' (told_in events) a b (ap told_in is) refl (inr (takes_file text a two.0 b two.1 (still ∙ ap (λ (o : Outside). o.asked) two.2)).once) (alone (λ some. gave_alone file text (subst HasTook is some)) ∙ ap (λ (o : Outside). o.input) two.2 ∙ ap (λ (o : Outside). o.input) two.1.0)
+      wants_memory notes' (told_in events) a b (ap told_in is) refl (inr (takes_file text a two.0 b two.1 (still ∙ ap (λ (o : Outside). o.asked) two.2)).once) (alone (λ some. gave_alone file text (subst HasTook is some)) ∙ ap (λ (o : Outside). o.input) two.2 ∙ ap (λ (o : Outside). o.input) two.1.0)
   last_line notes' line status events a mid b (without_memory line2 (has_file text more small (answers start end is_sheet lines_so) events_are)) happened read_ahead alone still = elim lines_so [ ]
 
   -- ---- where a write failed at an answer
@@ -316,7 +303,7 @@ module _ {S N : Type 0} (IsSheet : List ℕ → S → Type 0) (Refuses : List �
       let said : told_in events ≡ output_of t = ap told_in events_are ∙ ap told_in more_is ∙ told_after t line_taken ∙ ap (λ (xs : List ℕ). output_of t ++ xs) of_line.1 ∙ append-nil (output_of t) in
       record {
         text = printed (output_of t) (answer_text answer);
-        course = inr (opened notes' WriteFault (printed (output_of t) (answer_text answer)) text start end a given b small is_sheet two.1 same (inr record {
+        course = cut_at_answer (opened (λ start end. AnswersSome Allows start end (printed (output_of t) (answer_text answer))) notes' text start end a given b small is_sheet two.1 same record {
           transcript = t;
           state = state;
           legal = legal;
@@ -330,7 +317,7 @@ module _ {S N : Type 0} (IsSheet : List ℕ → S → Type 0) (Refuses : List �
           taken = subst (λ (xs : List ℕ). Consumes given.input mid.input xs) (ap taken_in more_is ∙ taken_after t line_taken ∙ ap (λ (xs : List ℕ). input_of t ++ xs) of_line.2) (taken_together more given mid two.2);
           ahead = read_ahead;
           text_is = refl;
-        }));
+        });
         written = record { count = count; written = subst (λ (xs : List ℕ). Appends a.output b.output (xs ++ take count (answer_text answer))) said written };
       }
 
@@ -343,7 +330,7 @@ module _ {S N : Type 0} (IsSheet : List ℕ → S → Type 0) (Refuses : List �
       let last = last_line notes' piece status events a mid b comes happened read_ahead alone still in
       record {
         text = printed last.before piece;
-        course = last.cut;
+        course = cut_at_end status last.ends;
         written = record { count = count; written = subst (λ (xs : List ℕ). Appends a.output b.output (xs ++ take count piece)) last.before_is written };
       }
 
@@ -362,7 +349,7 @@ module _ {S N : Type 0} (IsSheet : List ℕ → S → Type 0) (Refuses : List �
       ]) is_spare rest) ∙ input_is in
       let written : Appends a.output b.output (told_in before ++ line) = subst (λ (x : Option (List ℕ)). Appends a.output x (told_in before ++ line)) (sym read.quiet) (subst (λ (xs : List ℕ). Appends a.output mid.output xs) (ap told_in is ∙ told-append before tail ∙ ap (λ (xs : List ℕ). told_in before ++ xs) (append-nil line)) (told_together events a mid happened)) in
       let last = last_line notes' line status before a m b comes two.1 (subst (λ (x : Option (List ℕ)). IsReadAhead x b.input) input_is read.ahead) alone still in
-      record { text = printed last.before line; course = last.whole; written = last.prints a.output b.output (subst (λ (xs : List ℕ). Appends a.output b.output (xs ++ line)) last.before_is written) }
+      record { text = printed last.before line; course = stops status last.ends; written = last.prints a.output b.output (subst (λ (xs : List ℕ). Appends a.output b.output (xs ++ line)) last.before_is written) }
   by_run notes' status a mid b events spare (read_failed before intake begun course can is) happened is_spare rest =
       let same = no_spare events spare mid b (λ some last. subst IsOutput (ap (last_or (took [])) is ∙ last_or-append (took []) before (took begun ∷ input_failed ∷ [])) last) is_spare rest in
       at_read_fault notes' before intake begun events a b course can is (subst (λ (o : Outside). Happened events a o) (sym same) happened)
@@ -384,8 +371,8 @@ module _ {S N : Type 0} (IsSheet : List ℕ → S → Type 0) (Refuses : List �
       at_write_fault notes' stage piece count before a m b tell comes two.1 (subst (λ (x : Option (List ℕ)). IsReadAhead x b.input) input_is read.ahead) alone still written
 
 pub edited : {S N : Type 0} (IsSheet : List ℕ → S → Type 0) (Refuses : List ℕ → SheetRefusal → List ℕ → N → N → Type 0) (Allows : S × N → List ℕ → Answer → S × N → Type 0) (file : List ℕ) (notes notes' : N) (status : Status) (a b : Outside) → Ran (Edit IsSheet Refuses Allows file notes) CHUNK status notes' a b
-    → Edited IsSheet Refuses Allows a.kept file status a.asked b.asked notes notes' a.input b.input a.output b.output × AsksOnce file a.asked b.asked
+    → Edited IsSheet Refuses Allows file status (moment a notes) (moment b notes')
 edited IsSheet Refuses Allows file notes notes' status a b ran =
     let two = happened-split ran.events ran.spare a b ran.happened in
     let says = by_run IsSheet Refuses Allows file notes notes' status a two.0 b ran.events ran.spare ran.run two.1 ran.is_spare two.2 in
-    (says, asks_once IsSheet Refuses Allows file notes notes' status a b says)
+    record { text = says.text; course = says.course; written = says.written; asks = asks_once IsSheet Refuses Allows file notes notes' status says.text a b says.course }

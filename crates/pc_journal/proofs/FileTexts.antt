@@ -5,15 +5,15 @@ use Rattle.pc_collab.specs.declared.reading.JournalFault.TheVariants.{BadLine, G
 use Rattle.pc_collab.specs.Reading.{LineFault, bad_line, gap, out_of_order, IsFirstFault, ReadGives}
 use Rattle.pc_refusals.specs.declared.refusal.SheetRefusal.{SheetRefusal}
 use Rattle.pc_refusals.specs.declared.status.Status.{Status}
-use Rattle.pc_refusals.specs.declared.status.Status.TheVariants.{SheetRefused, ReadFault, WriteFault}
+use Rattle.pc_refusals.specs.declared.status.Status.TheVariants.{SheetRefused}
 use Rattle.pc_refusals.specs.declared.status.Status.TheVariants as status
 use Rattle.pc_refusals.specs.Refusals.{sheet_refusal_text}
 use Rattle.pc_refusals.specs.Endings.{TellsAtEnd, memory_text, sheet_memory_text}
 use Rattle.pc_course.specs.Runs.{on_course, without_memory}
 use Rattle.pc_transcript.specs.declared.machine.LoadStop.{LoadStop}
 use Rattle.pc_transcript.specs.declared.machine.LoadStop.TheVariants as load_stop
-use Rattle.pc_transcript.specs.Answer.{Answer, StopsBy}
-use Rattle.pc_transcript.specs.Run.{TellsStop}
+use Rattle.pc_transcript.specs.Answer.{Answer}
+use Rattle.pc_transcript.specs.Stops.{StopsBy, TellsStop}
 use Rattle.pc_journal.specs.Told.{from_file, refused_text, TellsFault}
 use Rattle.pc_journal.specs.Course.{MergeText, needs_memory_for_text, text_is_refused, PostText, needs_sheet_memory, sheet_is_refused}
 use Rattle.pc_journal.specs.inside.Did.{Ends}

@@ -1,5 +1,5 @@
 -- How a run ends before its command lines, and how it goes on with them.
-use Rattle.std.proofs.Common.{◌≡◌, ◌≢◌, ℕ, List, [], ◌∷◌, ◌≤◌, ◌++◌, length, length-append, arith, refl, sym, ◌∙◌, subst, inl, inr, Option, Some, None, ap}
+use Rattle.std.proofs.Common.{◌≡◌, ◌≢◌, ℕ, List, [], ◌∷◌, ◌≤◌, ◌++◌, length, length-append, arith, refl, sym, ◌∙◌, subst, inl, inr, Option}
 use Rattle.std.specs.Io.KnownBytes.{Consumes, prepend_known}
 use Rattle.std.proofs.lemmas.List.{append-nil}
 use Rattle.pc_port.specs.Port.{Rose}
@@ -12,18 +12,20 @@ use Rattle.pc_refusals.specs.Refusals.{sheet_refusal_text}
 use Rattle.pc_refusals.specs.Endings.{too_long_text, TellsAtEnd, sheet_memory_text}
 use Rattle.pc_course.specs.Events.{Outside, Event, took, took_rest, input_failed, Happened, Streams, streams, around}
 use Rattle.pc_course.specs.Stages.{sheet_line, Stage, ends_with}
-use Rattle.pc_course.specs.Runs.{HasTook, nothing, IsSpare, Comes, on_course, past_limit, without_memory, Run, read_failed, Ran}
+use Rattle.pc_course.specs.Runs.{HasTook, nothing, Comes, on_course, past_limit, without_memory, Run, read_failed, Ran}
 use Rattle.pc_course.specs.Runs as runs
 use Rattle.pc_course.proofs.EventLemmas.{happened-append, happened-push, took_does, took_rest_does, read_fails_does, Consumes-split, has_took-left, has_took-right, ends-more}
-use Rattle.pc_course.proofs.RunLemmas.{TellsLast, tells_last, run-more}
+use Rattle.pc_course.proofs.RunLemmas.{tells_last, comes-more, run-more}
 use Rattle.pc_transcript.specs.declared.machine.LoadStop.{LoadStop}
 use Rattle.pc_transcript.specs.declared.machine.LoadStop.TheVariants as load_stop
-use Rattle.pc_transcript.specs.Answer.{Answer, StopsBy}
-use Rattle.pc_transcript.specs.Run.{TellsStop}
-use Rattle.pc_transcript.specs.SheetPart.{joined_lines, TakesSheet, StopsInSheet}
-use Rattle.pc_transcript.specs.Course.{AnswersLines, FromSheet, is_refused, answers, IsSheetTaken, FromInput, awaits_sheet, keeps_sheet, has_sheet, Replay, needs_room, from_input}
+use Rattle.pc_transcript.specs.Answer.{Answer}
+use Rattle.pc_transcript.specs.Stops.{StopsBy, TellsStop}
+use Rattle.pc_transcript.specs.SheetPart.{joined_lines}
+use Rattle.pc_transcript.specs.SheetTaking.{TakesSheet, StopsInSheet}
+use Rattle.pc_transcript.specs.Course.{AnswersLines, FromSheet, is_refused, answers, IsSheetTaken, awaits_sheet, keeps_sheet, has_sheet, Replay, needs_room, from_input}
 use Rattle.pc_transcript.specs.Course as course
-use Rattle.pc_transcript.specs.inside.SoFar.{IsLeft, all, ahead, RanOn, GoesOn, by_refusal, by_want, by_answers, PassesSheet, HasSome}
+use Rattle.pc_transcript.specs.inside.SoFar.{IsLeft, all, ahead, RanOn, GoesOn, by_line, by_run}
+use Rattle.pc_transcript.specs.inside.Taking.{PassesSheet, HasSome}
 use Rattle.pc_transcript.proofs.Ends.{holds_nothing, held_taken, tells_no_read}
 
 -- ---- from what a reader holds to what its source has left
@@ -52,9 +54,22 @@ finish Course status notes before left n g m ran o = spare_of Course status note
 -- ---- no state is made of the sheet
 
 pub stopped : {S N Q : Type 0} (IsSheet : List ℕ → S → Type 0) (Refuses : List ℕ → SheetRefusal → List ℕ → N → N → Type 0) (Allows : S × N → List ℕ → Answer → S × N → Type 0) (IsProof : Q → List ℕ → Type 0) (stop : LoadStop Q) (result : Status) (notes notes' : N) (sheet : List ℕ) (rest : Option (List ℕ)) (before after : Streams)
-    → StopsBy IsProof (λ why more. Refuses sheet why more notes notes') notes notes' stop → after.input ≡ before.input → TellsStop IsProof stop result before.output after.output → GoesOn IsSheet Refuses Allows sheet result notes notes' rest before after
-stopped IsSheet Refuses Allows IsProof (load_stop.Refused why proof) result notes notes' sheet rest before after stops unread told = by_refusal why told.0 (stops told.0 told.1) unread told.2
-stopped IsSheet Refuses Allows IsProof load_stop.Memory result notes notes' sheet rest before after stops unread told = by_want stops unread told
+    → StopsBy IsProof (λ why more. Refuses sheet why more notes notes') notes notes' stop → after.input ≡ before.input → TellsStop IsProof stop result before.output after.output → GoesOn (FromSheet IsSheet Refuses Allows sheet notes) result notes' rest before after
+stopped {N = N} IsSheet Refuses Allows IsProof (load_stop.Refused why proof) result notes notes' sheet rest before after stops unread told =
+    by_line (sheet_refusal_text why ++ told.0) SheetRefused (on_course (is_refused why told.0 (stops told.0 told.1) refl)) (λ e. absurd (cc e)) (λ e. absurd (cc e)) unread told.2
+stopped {N = N} IsSheet Refuses Allows IsProof load_stop.Memory result notes notes' sheet rest before after stops unread told =
+    by_line sheet_memory_text Memory (subst (λ (n : N). Comes (FromSheet IsSheet Refuses Allows sheet notes) [] (ends_with sheet_memory_text Memory) n) (sym stops) (without_memory sheet_memory_text (course.needs_memory refl))) (λ e. absurd (cc e)) (λ e. absurd (cc e)) unread told
+
+-- the sheet is read, and from its state the rest is answered so
+pub opened : {S N : Type 0} (IsSheet : List ℕ → S → Type 0) (Refuses : List ℕ → SheetRefusal → List ℕ → N → N → Type 0) (Allows : S × N → List ℕ → Answer → S × N → Type 0) (result : Status) (notes notes' : N) (sheet : List ℕ) (start end : S) (rest : Option (List ℕ)) (before after : Streams)
+    → IsSheet sheet start → RanOn (AnswersLines Allows (start, notes)) result (end, notes') (record before { input = rest }) after → GoesOn (FromSheet IsSheet Refuses Allows sheet notes) result notes' rest before after
+opened {S = S} {N = N} IsSheet Refuses Allows result notes notes' sheet start end rest before after is ran = by_run record {
+  events = ran.events;
+  run = run-more (AnswersLines Allows (start, notes)) (FromSheet IsSheet Refuses Allows sheet notes) [] (λ (pair : S × N). pair.1) (λ events stage pair c. answers start pair.0 is c) ran.events result (end, notes') ran.run;
+  rest = ran.rest;
+  happened = ran.happened;
+  is_left = ran.is_left;
+}
 
 short : (xs ys : List ℕ) → length (xs ++ ys) ≤ SHEET_LIMIT → length xs ≤ SHEET_LIMIT
 short xs ys small = omega (arith, small, length-append xs ys)
@@ -147,31 +162,24 @@ module _ {S N : Type 0} (IsSheet : List ℕ → S → Type 0) (Refuses : List �
   ]
 
   pub replays_from : (result : Status) (notes' : N) (sheet : List ℕ) (l : Option (List ℕ)) (held : List ℕ) (left left' : Option (List ℕ)) (n n' n'' : ℕ) (g g' : Option (List ℕ)) (m m' : ℕ) → TakesSheet sheet l (prepend_known held left) → length held ≤ CHUNK → n' ≡ n
-      → (result ≢ ReadFault → n'' ≡ n') → (result ≡ WriteFault → Rose m m') → (result ≢ WriteFault → m' ≡ m) → GoesOn IsSheet Refuses Allows sheet result notes notes' (prepend_known held left) (streams left n' g m) (streams left' n'' g' m')
+      → (result ≢ ReadFault → n'' ≡ n') → (result ≡ WriteFault → Rose m m') → (result ≢ WriteFault → m' ≡ m) → GoesOn (FromSheet IsSheet Refuses Allows sheet notes) result notes' (prepend_known held left) (streams left n' g m) (streams left' n'' g' m')
       → RanOn (Replay IsSheet Refuses Allows notes) result notes' (streams l n g m) (streams left' n'' g' m')
-  replays_from result notes' sheet l held left left' n n' n'' g g' m m' takes few same read_kept rose kept (by_refusal why more has unread told) =
+  replays_from result notes' sheet l held left left' n n' n'' g g' m m' takes few same read_kept rose kept (by_line line ending comes not_write not_read unread told) =
       let rest = prepend_known held left in
       let t = takes_of sheet l rest takes in
-      let text = sheet_refusal_text why ++ more in
-      let no_read = tells_no_read SheetRefused result text g g' told (λ e. absurd (cc e)) in
+      let first = t.event ∷ [] in
+      let no_read = tells_no_read ending result line g g' told not_read in
       subst (λ (x : Option (List ℕ)). RanOn (Replay IsSheet Refuses Allows notes) result notes' (streams l n g m) (streams x n'' g' m')) (sym unread)
-      (tells (t.event ∷ []) SheetRefused result text notes' (streams l n g m) held left n'' g g' m m' (on_course (from_input (has_sheet sheet (t.event ∷ []) [] t.taken (is_refused why more has refl) refl)))
-      (λ o. t.happened o n n'' g m (read_kept no_read ∙ same)) few t.some (λ e. absurd (cc e)) (λ e. absurd (cc e)) told rose kept)
-  replays_from result notes' sheet l held left left' n n' n'' g g' m m' takes few same read_kept rose kept (by_want none unread told) =
-      let rest = prepend_known held left in
-      let t = takes_of sheet l rest takes in
-      let no_read = tells_no_read Memory result sheet_memory_text g g' told (λ e. absurd (cc e)) in
-      subst (λ (x : Option (List ℕ)). RanOn (Replay IsSheet Refuses Allows notes) result notes' (streams l n g m) (streams x n'' g' m')) (sym unread)
-      (subst (λ (x : N). RanOn (Replay IsSheet Refuses Allows notes) result x (streams l n g m) (streams left n'' g' m')) (sym none)
-      (tells (t.event ∷ []) Memory result sheet_memory_text notes (streams l n g m) held left n'' g g' m m' (without_memory sheet_memory_text (from_input (has_sheet sheet (t.event ∷ []) [] t.taken (course.needs_memory refl) refl)))
-      (λ o. t.happened o n n'' g m (read_kept no_read ∙ same)) few t.some (λ e. absurd (cc e)) (λ e. absurd (cc e)) told rose kept))
-  replays_from result notes' sheet l held left left' n n' n'' g g' m m' takes few same read_kept rose kept (by_answers start end is ran) =
+      (tells first ending result line notes' (streams l n g m) held left n'' g g' m m'
+      (comes-more (FromSheet IsSheet Refuses Allows sheet notes) (Replay IsSheet Refuses Allows notes) first (λ (x : N). x) (λ events stage x c. from_input (has_sheet sheet first events t.taken c refl)) [] (ends_with line ending) notes' comes)
+      (λ o. t.happened o n n'' g m (read_kept no_read ∙ same)) few t.some not_write not_read told rose kept)
+  replays_from result notes' sheet l held left left' n n' n'' g g' m m' takes few same read_kept rose kept (by_run ran) =
       let rest = prepend_known held left in
       let t = takes_of sheet l rest takes in
       let first = t.event ∷ [] in
       record {
         events = first ++ ran.events;
-        run = run-more (AnswersLines Allows (start, notes)) (Replay IsSheet Refuses Allows notes) first (λ (pair : S × N). pair.1) (λ events stage pair c. from_input (has_sheet sheet first events t.taken (answers start pair.0 is c) refl)) ran.events result (end, notes') ran.run;
+        run = run-more (FromSheet IsSheet Refuses Allows sheet notes) (Replay IsSheet Refuses Allows notes) first (λ (x : N). x) (λ events stage x c. from_input (has_sheet sheet first events t.taken c refl)) ran.events result notes' ran.run;
         rest = ran.rest;
         happened = λ o. happened-append first ran.events (around o (streams l n g m)) (around o (streams rest n' g m)) (around o (streams ran.rest n'' g' m')) (t.happened o n n' g m same) (ran.happened o);
         is_left = left_more first ran.events ran.rest left' ran.is_left;

@@ -1,5 +1,5 @@
 -- How a run of commands on a file's sheet ends at the file, and how it goes on from there.
-use Rattle.std.proofs.Common.{◌≡◌, ◌≢◌, ℕ, List, [], ◌∷◌, ◌++◌, ◌≤◌, ◌<◌, length, refl, sym, ◌∙◌, ap, subst, inl, inr, Option, Some, IfSome}
+use Rattle.std.proofs.Common.{◌≡◌, ◌≢◌, ℕ, List, [], ◌∷◌, ◌++◌, ◌≤◌, length, refl, sym, subst, Option, Some, IfSome}
 use Rattle.std.specs.Io.KnownBytes.{Consumes, prepend_known}
 use Rattle.std.proofs.lemmas.List.{append-nil}
 use Rattle.pc_port.specs.Port.{Rose}
@@ -8,20 +8,19 @@ use Rattle.pc_port.specs.declared.TheConstants.{CHUNK}
 use Rattle.pc_refusals.specs.declared.TheConstants.{SHEET_LIMIT}
 use Rattle.pc_refusals.specs.declared.refusal.SheetRefusal.{SheetRefusal}
 use Rattle.pc_refusals.specs.declared.status.Status.{Status}
-use Rattle.pc_refusals.specs.declared.status.Status.TheVariants.{SheetRefused, ReadFault, WriteFault, Memory, TooLong}
-use Rattle.pc_refusals.specs.Refusals.{sheet_refusal_text}
+use Rattle.pc_refusals.specs.declared.status.Status.TheVariants.{ReadFault, WriteFault, Memory, TooLong}
 use Rattle.pc_refusals.specs.Files.{TakesFile, TakesLongFile}
 use Rattle.pc_refusals.specs.Endings.{too_long_text, TellsAtEnd, sheet_memory_text}
 use Rattle.pc_course.specs.Events.{Outside, Event, took, gave, shelf_failed, Does, Happened, Streams, streams, around, outside}
-use Rattle.pc_course.specs.Stages.{Stage, sheet_file, ends_with}
-use Rattle.pc_course.specs.Runs.{nothing, Comes, on_course, past_limit, without_memory, Run, read_failed_at_file, Ran}
+use Rattle.pc_course.specs.Stages.{sheet_file, ends_with}
+use Rattle.pc_course.specs.Runs.{nothing, Comes, past_limit, without_memory, Run, read_failed_at_file, Ran}
 use Rattle.pc_course.specs.Runs as runs
-use Rattle.pc_course.proofs.EventLemmas.{happened-append, happened-push, took_does, has_took-right}
-use Rattle.pc_course.proofs.RunLemmas.{tells_last, run-more}
+use Rattle.pc_course.proofs.EventLemmas.{happened-append, happened-push, took_does}
+use Rattle.pc_course.proofs.RunLemmas.{tells_last, comes-more, run-more}
 use Rattle.pc_transcript.specs.Answer.{Answer}
-use Rattle.pc_transcript.specs.Course.{AnswersLines, is_refused, answers, Edit, awaits_file, has_file}
+use Rattle.pc_transcript.specs.Course.{FromSheet, Edit, awaits_file, has_file}
 use Rattle.pc_transcript.specs.Course as course
-use Rattle.pc_transcript.specs.inside.SoFar.{IsLeft, all, ahead, RanOn, GoesOn, by_refusal, by_want, by_answers}
+use Rattle.pc_transcript.specs.inside.SoFar.{IsLeft, all, ahead, GoesOn, by_line, by_run}
 use Rattle.pc_transcript.proofs.Courses.{left_more}
 use Rattle.pc_transcript.proofs.Ends.{holds_nothing, held_taken, tells_no_read}
 
@@ -96,29 +95,22 @@ module _ {S N : Type 0} (IsSheet : List ℕ → S → Type 0) (Refuses : List �
 
   -- the file was taken, and the run went on from it
   pub edits_from : (result : Status) (notes' : N) (sheet : List ℕ) (held : List ℕ) (l l' : Option (List ℕ)) (n n' : ℕ) (g g' : Option (List ℕ)) (m m' : ℕ) → held ≡ [] → k' ≡ k → f' ≡ f → TakesFile k file a a' sheet → length sheet ≤ SHEET_LIMIT
-      → (result ≢ ReadFault → n' ≡ n) → (result ≡ WriteFault → Rose m m') → (result ≢ WriteFault → m' ≡ m) → GoesOn IsSheet Refuses Allows sheet result notes notes' (prepend_known held l) (streams l n g m) (streams l' n' g' m')
+      → (result ≢ ReadFault → n' ≡ n) → (result ≡ WriteFault → Rose m m') → (result ≢ WriteFault → m' ≡ m) → GoesOn (FromSheet IsSheet Refuses Allows sheet notes) result notes' (prepend_known held l) (streams l n g m) (streams l' n' g' m')
       → Ran (Edit IsSheet Refuses Allows file notes) CHUNK result notes' (outside k a f (streams l n g m)) (outside k' a' f' (streams l' n' g' m'))
-  edits_from result notes' sheet held l l' n n' g g' m m' none same same_too takes small read_kept rose kept (by_refusal why more has unread told) =
-      let text = sheet_refusal_text why ++ more in
+  edits_from result notes' sheet held l l' n n' g g' m m' none same same_too takes small read_kept rose kept (by_line line ending comes not_write not_read unread told) =
       let s = streams l n g m in
-      let no_read = tells_no_read SheetRefused result text g g' told (λ e. absurd (cc e)) in
+      let first = gave file sheet ∷ [] in
+      let no_read = tells_no_read ending result line g g' told not_read in
       subst (λ (x : Option (List ℕ)). Ran (Edit IsSheet Refuses Allows file notes) CHUNK result notes' (outside k a f s) (outside k' a' f' (streams x n' g' m'))) (sym unread)
       (subst (λ (x : ℕ). Ran (Edit IsSheet Refuses Allows file notes) CHUNK result notes' (outside k a f s) (outside k' a' f' (streams l x g' m'))) (sym (read_kept no_read))
-      (tells (gave file sheet ∷ []) SheetRefused result text notes' l n g g' m m' (on_course (has_file sheet [] small (is_refused why more has refl) refl))
-      (outside k' a' f' s, gave_does k k' a a' f f' s file sheet same takes.once same_too takes.whole, refl) (λ e. absurd (cc e)) told rose kept))
-  edits_from result notes' sheet held l l' n n' g g' m m' none same same_too takes small read_kept rose kept (by_want no_note unread told) =
-      let s = streams l n g m in
-      let no_read = tells_no_read Memory result sheet_memory_text g g' told (λ e. absurd (cc e)) in
-      subst (λ (x : Option (List ℕ)). Ran (Edit IsSheet Refuses Allows file notes) CHUNK result notes' (outside k a f s) (outside k' a' f' (streams x n' g' m'))) (sym unread)
-      (subst (λ (x : ℕ). Ran (Edit IsSheet Refuses Allows file notes) CHUNK result notes' (outside k a f s) (outside k' a' f' (streams l x g' m'))) (sym (read_kept no_read))
-      (subst (λ (x : N). Ran (Edit IsSheet Refuses Allows file notes) CHUNK result x (outside k a f s) (outside k' a' f' (streams l n g' m'))) (sym no_note)
-      (tells (gave file sheet ∷ []) Memory result sheet_memory_text notes l n g g' m m' (without_memory sheet_memory_text (has_file sheet [] small (course.needs_memory refl) refl))
-      (outside k' a' f' s, gave_does k k' a a' f f' s file sheet same takes.once same_too takes.whole, refl) (λ e. absurd (cc e)) told rose kept)))
-  edits_from result notes' sheet held l l' n n' g g' m m' none same same_too takes small read_kept rose kept (by_answers start end is ran) =
+      (tells first ending result line notes' l n g g' m m'
+      (comes-more (FromSheet IsSheet Refuses Allows sheet notes) (Edit IsSheet Refuses Allows file notes) first (λ (x : N). x) (λ events stage x c. has_file sheet events small c refl) [] (ends_with line ending) notes' comes)
+      (outside k' a' f' s, gave_does k k' a a' f f' s file sheet same takes.once same_too takes.whole, refl) not_write told rose kept))
+  edits_from result notes' sheet held l l' n n' g g' m m' none same same_too takes small read_kept rose kept (by_run ran) =
       let s = streams l n g m in
       let o = outside k' a' f' s in
       let first = gave file sheet ∷ [] in
       let gives : Happened first (outside k a f s) o = (o, gave_does k k' a a' f f' s file sheet same takes.once same_too takes.whole, refl) in
       let from : Happened ran.events o (around o (streams ran.rest n' g' m')) = subst (λ (x : Option (List ℕ)). Happened ran.events (around o (streams x n g m)) (around o (streams ran.rest n' g' m'))) (holds_nothing held l none) (ran.happened o) in
-      let run = run-more (AnswersLines Allows (start, notes)) (Edit IsSheet Refuses Allows file notes) first (λ (pair : S × N). pair.1) (λ events stage pair c. has_file sheet events small (answers start pair.0 is c) refl) ran.events result (end, notes') ran.run in
+      let run = run-more (FromSheet IsSheet Refuses Allows sheet notes) (Edit IsSheet Refuses Allows file notes) first (λ (x : N). x) (λ events stage x c. has_file sheet events small c refl) ran.events result notes' ran.run in
       spare_of result notes' l l' n n' g g' m m' (first ++ ran.events) run ran.rest (happened-append first ran.events (outside k a f s) o (around o (streams ran.rest n' g' m')) gives from) (left_more first ran.events ran.rest l' ran.is_left)

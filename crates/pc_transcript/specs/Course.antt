@@ -12,7 +12,8 @@ use Rattle.pc_course.specs.Stages.{sheet_line, line_within, no_line_within, shee
 use Rattle.pc_transcript.specs.declared.TheConstants.{LINE_LIMIT, MAX_LINES}
 use Rattle.pc_transcript.specs.Answer.{Answer, answer_text}
 use Rattle.pc_transcript.specs.Transcript.{Transcript, Legal, lines, input_of, status_of}
-use Rattle.pc_transcript.specs.SheetPart.{IsBeginLine, IsEarlier, joined_lines, IsSheetFront}
+use Rattle.pc_transcript.specs.SheetPart.{IsBeginLine, IsEarlier, joined_lines}
+use Rattle.pc_transcript.specs.SheetTaking.{IsSheetFront}
 
 -- each line is taken, and then its answer is told
 abbrev pub events_of : Transcript → List Event

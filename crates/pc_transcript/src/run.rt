@@ -5,7 +5,7 @@ ghost use Rattle.pc_lines.specs.Reader.{coming};
 ghost use Rattle.pc_port.specs.declared.TheConstants.{CHUNK};
 ghost use Rattle.pc_course.specs.Events.{Outside, streams, around};
 ghost use Rattle.pc_course.specs.Runs.{Ran};
-ghost use Rattle.pc_transcript.specs.Course.{Replay};
+ghost use Rattle.pc_transcript.specs.Course.{FromSheet, Replay};
 ghost use Rattle.pc_transcript.specs.inside.SoFar.{GoesOn};
 
 use crate::LINE_LIMIT;
@@ -29,7 +29,7 @@ pub(crate) fn open<M: Machine, I: Source, O: Sink>(
 ) -> Status
     requires longest { LINE_LIMIT ≤ reader.old.longest }
     requires small { length sheet.now ≤ SHEET_LIMIT }
-    ensures goes_on { GoesOn (M.IsSheet resources.budget) (M.RefusesText resources.budget) M.Allows sheet.now result notes.old notes.new (coming reader.old (I.left input.old)) (streams (I.left input.old) (I.faults input.old) (O.given out.old) (O.faults out.old)) (streams (I.left input.new) (I.faults input.new) (O.given out.new) (O.faults out.new)) }
+    ensures goes_on { GoesOn (FromSheet (M.IsSheet resources.budget) (M.RefusesText resources.budget) M.Allows sheet.now notes.old) result notes.new (coming reader.old (I.left input.old)) (streams (I.left input.old) (I.faults input.old) (O.given out.old) (O.faults out.old)) (streams (I.left input.new) (I.faults input.new) (O.given out.new) (O.faults out.new)) }
     ensures read_fault { result ≡ Status.ReadFault → Rose (I.faults input.old) (I.faults input.new) }
     ensures no_read_fault { result ≢ Status.ReadFault → I.faults input.new ≡ I.faults input.old }
     ensures write_fault { result ≡ Status.WriteFault → Rose (O.faults out.old) (O.faults out.new) }
@@ -68,7 +68,7 @@ fn replay_from<M: Machine, I: Source, O: Sink>(
 ///
 /// It takes the sheet, up to its `begin` line, whose load and each edit may do as many propagations as the budget says, and
 /// then answers each command line before it reads on. What is printed, how much of the input was taken, and what was noted,
-/// the clause `replayed` says by the status.
+/// the clause `ran` says.
 pub fn replay<M: Machine, I: Source, O: Sink>(
     resources: Resources,
     input: &mut I,

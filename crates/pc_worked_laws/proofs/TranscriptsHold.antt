@@ -12,7 +12,10 @@ use Rattle.pc_refusals.specs.declared.status.Status.{Status}
 use Rattle.pc_refusals.specs.declared.status.Status.TheVariants.{Done, SomeRefused}
 use Rattle.pc_transcript.specs.Answer.{Answer, silent, accepted, shown, refused, no_memory, answer_text}
 use Rattle.pc_refusals.specs.Endings.{Printing, printed}
-use Rattle.pc_transcript.specs.Transcript.{Transcript, Legal, lines, output_of, status_of, IsCommandLine, AnswersAll}
+use Rattle.pc_course.specs.Stages.{IsLine}
+use Rattle.pc_transcript.specs.declared.TheConstants.{LINE_LIMIT}
+use Rattle.pc_transcript.specs.Transcript.{Transcript, Legal, lines, output_of, status_of}
+use Rattle.pc_course_laws.specs.Answered.{AnswersAll}
 use Rattle.pc_worked_laws.specs.Transcripts.{told, CountsUp, count_line, show_line, WorkedTranscripts, WorkedAnswers}
 
 abbrev code_at : ℕ → List ℕ → ℕ
@@ -67,14 +70,14 @@ has_no_end (b ∷ bs) = not (b == 10) && has_no_end bs
 no_end_decides : (bs : List ℕ) → Decides (has_no_end bs) (HasNoEnd bs)
 no_end_decides bs = Decides-by_and (λ b. not (b == 10)) (λ b. b ≢ 10) has_no_end (λ b. Decides-not (b == 10) (Decides-eqb b 10)) refl (λ _ _. refl) bs
 
-whole_count : IsCommandLine count_line
+whole_count : IsLine LINE_LIMIT count_line
 whole_count = inl (record { ends = refl; no_end = (no_end_decides (codes "count")).0 refl; short = omega arith })
 
-whole_show : IsCommandLine show_line
+whole_show : IsLine LINE_LIMIT show_line
 whole_show = inl (record { ends = refl; no_end = (no_end_decides (codes "show")).0 refl; short = omega arith })
 
-open_show : IsCommandLine (codes "show")
-open_show = inr (record { short = omega arith; no_end = (no_end_decides (codes "show")).0 refl })
+open_show : IsLine LINE_LIMIT (codes "show")
+open_show = inr (record { short = omega arith; no_end = (no_end_decides (codes "show")).0 refl }, omega arith)
 
 all_answered : AnswersAll CountsUp 0 1 Done (printed (codes "ok\nsome\n") []) (Some (codes "count\nshow\n")) (Some [])
 all_answered = record {
@@ -84,7 +87,7 @@ all_answered = record {
   taken = refl;
   at_end = refl;
   all = refl;
-  each = All-cons IsCommandLine count_line (show_line ∷ []) whole_count (All-cons IsCommandLine show_line [] whole_show (All-nil IsCommandLine));
+  each = All-cons (IsLine LINE_LIMIT) count_line (show_line ∷ []) whole_count (All-cons (IsLine LINE_LIMIT) show_line [] whole_show (All-nil (IsLine LINE_LIMIT)));
   count = omega arith;
   text_is = refl;
   status_is = refl;
@@ -98,7 +101,7 @@ last_open = record {
   taken = refl;
   at_end = refl;
   all = refl;
-  each = All-cons IsCommandLine count_line (codes "show" ∷ []) whole_count (All-cons IsCommandLine (codes "show") [] open_show (All-nil IsCommandLine));
+  each = All-cons (IsLine LINE_LIMIT) count_line (codes "show" ∷ []) whole_count (All-cons (IsLine LINE_LIMIT) (codes "show") [] open_show (All-nil (IsLine LINE_LIMIT)));
   count = omega arith;
   text_is = refl;
   status_is = refl;

@@ -6,7 +6,8 @@ use Rattle.pc_refusals.specs.declared.status.Status.TheVariants.{Done, SomeRefus
 use Rattle.pc_transcript.specs.Answer.{Answer, silent, accepted, shown, refused, no_memory}
 use Rattle.pc_refusals.specs.Endings.{printed}
 use Rattle.pc_writer.specs.SheetText.{ended}
-use Rattle.pc_transcript.specs.Transcript.{Legal, status_of, output_of, AnswersAll}
+use Rattle.pc_transcript.specs.Transcript.{Legal, status_of, output_of}
+use Rattle.pc_course_laws.specs.Answered.{AnswersAll}
 
 -- what is shown
 abbrev pub told : ℕ → List ℕ

@@ -13,7 +13,7 @@ use Rattle.pc_transcript.specs.declared.machine.LoadStop.TheVariants.{Refused, M
 use Rattle.pc_refusals.specs.declared.refusal.Counts.{Counts}
 use Rattle.pc_refusals.specs.declared.refusal.SheetRefusal.{SheetRefusal}
 use Rattle.pc_refusals.specs.declared.refusal.Refusal.TheVariants.{TooLarge, Inconsistent, Spent}
-use Rattle.pc_transcript.specs.Answer.{StopsBy}
+use Rattle.pc_transcript.specs.Stops.{StopsBy}
 use Rattle.pc_spreadsheet.specs.Judgement.{of_whole}
 use Rattle.pc_spreadsheet.specs.Tasks.{State, IsLight}
 use Rattle.pc_spreadsheet.specs.Pages.{IsCertificateAgainst}
