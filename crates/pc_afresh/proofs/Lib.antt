@@ -1,2 +1,3 @@
 pub mod StayOpen
 pub mod LoadAfresh
+pub mod Listings

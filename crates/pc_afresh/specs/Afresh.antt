@@ -5,7 +5,7 @@ use Rattle.pc_sheet.specs.MaximalSets.{AreRulesConsistent}
 use Rattle.pc_sheet.specs.WellFormed.{IsWellFormed}
 use Rattle.pc_transcript.specs.Answer.{Answer}
 use Rattle.pc_transcript.specs.Transcript.{Transcript, Legal}
-use Rattle.pc_spreadsheet.specs.Tasks.{State, IsLight, Starts, PageKind, lines_page, grid_page, json_page, text_page}
+use Rattle.pc_spreadsheet.specs.Tasks.{State, IsLight, Starts, PageKind, lines_page, grid_page, json_page, text_page, repairs_page}
 use Rattle.pc_spreadsheet.specs.Allowed.{Notes, Allows}
 use Rattle.pc_spreadsheet.specs.Pages.{PageSays}
 use Rattle.pc_afresh.specs.Again.{StartsAgain}
@@ -55,6 +55,10 @@ DisplayTheSame sheet other = (kind : PageKind) → IsDisplay kind → (text : Li
 abbrev pub LoadedAfreshShowsTheSame : Type 0
 LoadedAfreshShowsTheSame =
     (budget : ℕ) (sheet : Sheet) (dumped : List ℕ) (state : State) → IsOpen sheet → PageSays text_page sheet dumped → Starts budget dumped state → DisplayTheSame sheet state.sheet
+
+-- a sheet has one listing of what can be kept together, at most
+abbrev pub ListingsAreOne : Type 0
+ListingsAreOne = (sheet : Sheet) (x y : List ℕ) → PageSays repairs_page sheet x → PageSays repairs_page sheet y → y ≡ x
 
 -- ---- of whole runs
 

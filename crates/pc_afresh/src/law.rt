@@ -1,5 +1,5 @@
 //! Laws over the judgement, each the contract of a function that does nothing.
-ghost use Rattle.pc_afresh.specs.Afresh.{AnswersKeepOpen, DumpsStartAgain, LoadedAfreshShowsTheSame, RunsLoadAfresh, StartsAreOpen, TranscriptsKeepOpen};
+ghost use Rattle.pc_afresh.specs.Afresh.{AnswersKeepOpen, DumpsStartAgain, ListingsAreOne, LoadedAfreshShowsTheSame, RunsLoadAfresh, StartsAreOpen, TranscriptsKeepOpen};
 
 use pc_canonical::texts_read_back;
 use pc_display::sheet_has_one_display;
@@ -36,6 +36,11 @@ pub fn loaded_afresh_shows_the_same()
     sheet_has_one_display();
     dumps_start_again();
 }
+
+/// A sheet has one listing of what can be kept together, at most.
+pub fn listings_are_one()
+    ensures { ListingsAreOne }
+{}
 
 /// After any lines with their answers the display is that of the same sheet loaded afresh.
 pub fn runs_load_afresh()

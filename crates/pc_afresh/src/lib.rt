@@ -4,6 +4,6 @@
 mod law;
 
 pub use law::{
-    dumps_start_again, loaded_afresh_shows_the_same, runs_load_afresh, states_stay_open,
-    transcripts_stay_open,
+    dumps_start_again, listings_are_one, loaded_afresh_shows_the_same, runs_load_afresh,
+    states_stay_open, transcripts_stay_open,
 };

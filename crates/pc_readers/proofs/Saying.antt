@@ -22,9 +22,9 @@ use Rattle.pc_spreadsheet.specs.Tasks as tasks
 use Rattle.pc_spreadsheet.specs.Allowed.{Notes, Allows, RefusesLine, as_judged, as_contradiction, as_spent, as_proof_spent, as_ask_spent}
 use Rattle.pc_spreadsheet.specs.Pages.{PageSays, IsCertificateAgainst}
 use Rattle.pc_spreadsheet.specs.Laws.{LinesHaveOneVerdict, TextsHaveOneVerdict, AnswersKeepForm}
-use Rattle.pc_afresh.specs.Afresh.{IsDisplay, StartsAreOpen, TranscriptsKeepOpen}
+use Rattle.pc_afresh.specs.Afresh.{IsDisplay, ListingsAreOne, StartsAreOpen, TranscriptsKeepOpen}
 use Rattle.pc_afresh.proofs.LoadAfresh.{one_page, same_display}
-use Rattle.pc_readers.specs.Readers.{IsNotSpent, IsFull, SayTheSame, equal, pages, contradictions, AnswersSayTheSame, AlikeFrom, TranscriptsSayTheSame, ReadersSeeOneDisplay}
+use Rattle.pc_readers.specs.Readers.{IsNotSpent, IsFull, GivesProof, SayTheSame, equal, pages, contradictions, AnswersSayTheSame, AlikeFrom, TranscriptsSayTheSame, ReadersSeeOneDisplay}
 
 -- ---- what an answer tells
 
@@ -114,21 +114,27 @@ both_are : (state : State) (line : List ℕ) (answer x y : Answer) → x ≡ ans
 both_are state line answer x y one two =
     subst (λ (a : Answer). SayTheSame state line a y) (sym one) (subst (λ (a : Answer). SayTheSame state line answer a) (sym two) (equal answer))
 
-display_or_not : (kind : PageKind) → IsDisplay kind ⊎ ¬ IsDisplay kind
-display_or_not tasks.lines_page = inl tt
-display_or_not tasks.grid_page = inl tt
-display_or_not tasks.json_page = inl tt
-display_or_not kind = inr (λ is. is)
+module _ (one : SheetHasOneDisplay) (listings : ListingsAreOne) (state : State) (line : List ℕ) (formed : IsWellFormed state.sheet) where
+  displayed : (kind : PageKind) → IsDisplay kind → (s t : List ℕ) → PageSays kind state.sheet s → PageSays kind state.sheet t → t ≡ s
+  displayed kind display s t says says' = let page = one_page one state.sheet kind formed display in (page.1 t).0 says' ∙ sym ((page.1 s).0 says)
 
-module _ (one : SheetHasOneDisplay) (state : State) (line : List ℕ) (formed : IsWellFormed state.sheet) where
+  -- a page that gives no proof has one text
+  one_text : (kind : PageKind) → GivesProof kind ⊎ ((s t : List ℕ) → PageSays kind state.sheet s → PageSays kind state.sheet t → t ≡ s)
+  one_text tasks.lines_page = inr (displayed tasks.lines_page tt)
+  one_text tasks.grid_page = inr (displayed tasks.grid_page tt)
+  one_text tasks.json_page = inr (displayed tasks.json_page tt)
+  one_text tasks.text_page = inr (λ s t says says'. says' ∙ sym says)
+  one_text tasks.repairs_page = inr (listings state.sheet)
+  one_text (tasks.why_page t) = inl tt
+  one_text tasks.proof_page = inl tt
+  one_text (tasks.whynot_page t) = inl tt
+  one_text (tasks.ask_page made) = inl tt
+
   same_pages : (kind : PageKind) → IsTask state line (shows kind) → (x y : Answer) (s t : List ℕ) → PageSays kind state.sheet s → PageSays kind state.sheet t → x ≡ shown s → y ≡ shown t → SayTheSame state line x y
-  same_pages kind task x y s t says says' is is' = elim (display_or_not kind) [
-    | inl display ↦
-        let page = one_page one state.sheet kind formed display in
-        let same : t ≡ s = (page.1 t).0 says' ∙ sym ((page.1 s).0 says) in
-        both_are state line (shown s) x y is (is' ∙ ap (λ (l : List ℕ). shown l) same)
-    | inr other ↦
-        subst (λ (a : Answer). SayTheSame state line a y) (sym is) (subst (λ (a : Answer). SayTheSame state line (shown s) a) (sym is') (pages kind s t other task says says'))
+  same_pages kind task x y s t says says' is is' = elim (one_text kind) [
+    | inl proof ↦
+        subst (λ (a : Answer). SayTheSame state line a y) (sym is) (subst (λ (a : Answer). SayTheSame state line (shown s) a) (sym is') (pages kind s t proof task says says'))
+    | inr same ↦ both_are state line (shown s) x y is (is' ∙ ap (λ (l : List ℕ). shown l) (same s t says says'))
   ]
 
   same_done : (task : Task) → IsTask state line task → (x y : Answer) → IsDone state.sheet task x → IsDone state.sheet task y → SayTheSame state line x y
@@ -148,14 +154,14 @@ module _ (one : SheetHasOneDisplay) (state : State) (line : List ℕ) (formed : 
   same_told (contradicts r) is x y (s, against, x_is) (t, against', y_is) =
       subst (λ (a : Answer). SayTheSame state line a y) (sym x_is) (subst (λ (a : Answer). SayTheSame state line (refused Inconsistent s) a) (sym y_is) (contradictions r s t is against against'))
 
-pub answers_same : LinesHaveOneVerdict → SheetHasOneDisplay → AnswersSayTheSame
-answers_same verdicts one old other new new' line x y formed same full full' allowed allowed' =
+pub answers_same : LinesHaveOneVerdict → SheetHasOneDisplay → ListingsAreOne → AnswersSayTheSame
+answers_same verdicts one listings old other new new' line x y formed same full full' allowed allowed' =
     let first = told old new line x full allowed in
     let second = told other new' line y full' allowed' in
     let is' : IsVerdictOn old.0 line second.verdict = judged_by_sheet old.0 other.0 line second.verdict same second.is in
     let verdict : second.verdict ≡ first.verdict = verdicts old.0 formed line second.verdict first.verdict is' first.is in
     let tells' : Tells old.0.sheet first.verdict y = subst (λ (v : Verdict). Tells old.0.sheet v y) verdict (subst (λ (s : Sheet). Tells s second.verdict y) same second.tells) in (
-      same_told one old.0 line formed first.verdict first.is x y first.tells tells',
+      same_told one listings old.0 line formed first.verdict first.is x y first.tells tells',
       ap (λ (s : State). s.sheet) second.next ∙ after_by_sheet old.0 other.0 second.verdict same ∙ ap (λ (v : Verdict). (after old.0 v).sheet) verdict ∙ ap (λ (s : State). s.sheet) (sym first.next),
     )
 

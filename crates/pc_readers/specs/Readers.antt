@@ -11,10 +11,10 @@ use Rattle.pc_transcript.specs.Answer.{Answer, shown, refused, no_memory}
 use Rattle.pc_transcript.specs.Transcript.{Transcript, Legal, lines}
 use Rattle.pc_journal.specs.PostLines.{lines_of_posts}
 use Rattle.pc_spreadsheet.specs.Refused.{IsContradiction}
-use Rattle.pc_spreadsheet.specs.Tasks.{State, shows, PageKind, IsTask, Starts}
+use Rattle.pc_spreadsheet.specs.Tasks.{State, shows, PageKind, why_page, proof_page, whynot_page, ask_page, IsTask, Starts}
 use Rattle.pc_spreadsheet.specs.Allowed.{Notes, Allows}
 use Rattle.pc_spreadsheet.specs.Pages.{PageSays, IsCertificateAgainst}
-use Rattle.pc_afresh.specs.Afresh.{IsDisplay, DisplayTheSame}
+use Rattle.pc_afresh.specs.Afresh.{DisplayTheSame}
 
 -- ---- answers
 
@@ -31,11 +31,19 @@ IsFull answer = Unit {0}
 abbrev pub AreFull : Transcript → Type 0
 AreFull transcript = All (λ pair. IsFull pair.1) transcript
 
--- In a state, two answers to a line say the same: they are equal; or they are two texts of the page for which it asks, which is no display; or
--- they refuse the rule that it asks to add, each with a certificate of the contradiction.
+-- a page of this kind is a certificate, or tells that there is none
+abbrev pub GivesProof : PageKind → Type 0
+GivesProof (why_page t) = Unit {0}
+GivesProof proof_page = Unit {0}
+GivesProof (whynot_page t) = Unit {0}
+GivesProof (ask_page made) = Unit {0}
+GivesProof kind = ⊥
+
+-- In a state, two answers to a line say the same: they are equal; or each is what the page for which it asks says of the sheet, by a
+-- certificate; or they refuse the rule that it asks to add, each with a certificate of the contradiction.
 pub data SayTheSame (state : State) (line : List ℕ) : Answer → Answer → Type 0 where
   equal : (answer : Answer) → SayTheSame state line answer answer
-  pages : (kind : PageKind) (x y : List ℕ) → ¬ IsDisplay kind → IsTask state line (shows kind) → PageSays kind state.sheet x → PageSays kind state.sheet y → SayTheSame state line (shown x) (shown y)
+  pages : (kind : PageKind) (x y : List ℕ) → GivesProof kind → IsTask state line (shows kind) → PageSays kind state.sheet x → PageSays kind state.sheet y → SayTheSame state line (shown x) (shown y)
   contradictions : (r : NamedStatement) (x y : List ℕ) → IsContradiction state line r → IsCertificateAgainst (with_rule state.sheet r) x → IsCertificateAgainst (with_rule state.sheet r) y → SayTheSame state line (refused Inconsistent x) (refused Inconsistent y)
 
 -- whatever is noted and whatever the budgets, two such answers to a line on one sheet say the same, and leave one sheet

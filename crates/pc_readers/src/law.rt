@@ -1,7 +1,7 @@
 //! Laws over the judgement, each the contract of a function that does nothing.
 ghost use Rattle.pc_readers.specs.Readers.{AnswersSayTheSame, ReadersSeeOneDisplay, TranscriptsSayTheSame};
 
-use pc_afresh::{states_stay_open, transcripts_stay_open};
+use pc_afresh::{listings_are_one, states_stay_open, transcripts_stay_open};
 use pc_collab::merges_are_lawful;
 use pc_display::sheet_has_one_display;
 use pc_spreadsheet::{lines_have_one_verdict, states_are_well_formed, texts_have_one_verdict};
@@ -13,6 +13,7 @@ pub fn answers_say_the_same()
 {
     lines_have_one_verdict();
     sheet_has_one_display();
+    listings_are_one();
 }
 
 /// So it is of two lists of lines with their answers, line by line.

@@ -11,7 +11,8 @@ use Rattle.pc_transcript.specs.Answer.{Answer}
 use Rattle.pc_transcript.specs.Transcript.{Transcript, status_of}
 use Rattle.pc_spreadsheet.specs.Tasks.{State}
 use Rattle.pc_spreadsheet.specs.Allowed.{Notes, Allows, RefusesText}
-use Rattle.pc_demo.specs.Demonstration.{clear_line, Clears, told_of, told_in, SumsUp, Loads}
+use Rattle.pc_demo.specs.Demonstration.{Clears, told_of, told_in, Loads}
+use Rattle.pc_demo.specs.Summing.{clear_line, SumsUp}
 
 -- It came to its end in this status, and this was to be printed: that memory is wanting, or that the sheet is refused; or the counts of
 -- the loaded sheet, what is told of each answer, and the counts after.

@@ -33,7 +33,8 @@ use Rattle.pc_judge.specs.Judged.{IsJudged, judged_text}
 use Rattle.pc_journal.specs.Course.{answers_told}
 use Rattle.pc_journal.specs.PostLines.{lines_of_posts}
 use Rattle.pc_journal.specs.Told.{from_file, from_input, refused_text, differ_text}
-use Rattle.pc_demo.specs.Demonstration.{Clears, told_of, SumsUp, Loads}
+use Rattle.pc_demo.specs.Demonstration.{Clears, told_of, Loads}
+use Rattle.pc_demo.specs.Summing.{SumsUp}
 use Rattle.pc_spreadsheet.specs.Tasks.{State, Starts}
 use Rattle.pc_spreadsheet.specs.Allowed.{Notes, Allows, RefusesText}
 use Rattle.pc_session.specs.NoteViews.{NoteView}

@@ -150,7 +150,7 @@ doubts_a_value sheet a t (doubting u named holds few) = holds
 
 -- ---- what may answer a line that asks for a task
 
-asked_same : (a b : Asked) → asks a ≡ asks b → a ≡ b
+pub asked_same : (a b : Asked) → asks a ≡ asks b → a ≡ b
 asked_same a b e = cc
 
 task_same : (t u : Task) → does t ≡ does u → t ≡ u
@@ -169,7 +169,7 @@ abbrev first_byte : List ℕ → ℕ
 first_byte [] = 0
 first_byte (b ∷ bs) = b
 
-refused_not_ok : (more : List ℕ) → codes "refused " ++ more ≡ ended (codes "ok") → ⊥
+pub refused_not_ok : (more : List ℕ) → codes "refused " ++ more ≡ ended (codes "ok") → ⊥
 refused_not_ok more e = let bytes : 114 ≡ 111 = ap first_byte e in omega (arith, bytes)
 
 spent_not_ok : (state : State) → IsSpent state (ended (codes "ok")) → ⊥
@@ -183,7 +183,7 @@ is_spent state why more counts placed why_is none = (counts, placed, ap (λ (m :
 abbrev placed_of : Counts → ℕ
 placed_of counts = counts.placed
 
-search_placed : (budget : ℕ) (sheet : Sheet) (cell : Option CellId) (counts : Counts) (old new : Notes) → IsLawfullySpent budget sheet cell counts old new → counts.placed ≡ budget
+pub search_placed : (budget : ℕ) (sheet : Sheet) (cell : Option CellId) (counts : Counts) (old new : Notes) → IsLawfullySpent budget sheet cell counts old new → counts.placed ≡ budget
 search_placed budget sheet cell counts old new spent = ap placed_of spent.counts_are ∙ spent.lawful.all_placed
 
 whole_placed : (budget : ℕ) (sheet : Sheet) (counts : Counts) (old new : Notes) → IsWholeSpent budget sheet counts old new → counts.placed ≡ budget

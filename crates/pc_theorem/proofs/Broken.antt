@@ -11,9 +11,10 @@ use Rattle.pc_collab.specs.Text.{journal_text}
 use Rattle.pc_port.specs.Shelf.{Files, file_named}
 use Rattle.pc_refusals.specs.declared.status.Status.{Status}
 use Rattle.pc_refusals.specs.declared.status.Status.TheVariants.{Done, SheetRefused, CertRefused}
-use Rattle.pc_words.specs.Words.{replays, checks, merges, usual_budget, IsFileName}
+use Rattle.pc_words.specs.Words.{replays, checks, merges, usual_budget}
 use Rattle.pc_theorem.specs.Theorem.{Run, AskFor, IsTold, IsMerged}
 use Rattle.pc_theorem.specs.Examples.{outside_of, merge_words, BrokenWords}
+use Rattle.pc_theorem.proofs.BrokenSessions.{run_on, is_file_name, no_line, none_refused, ok_for_repairs, refused_demo, silent_demo}
 
 front_empty : (xs ys : List ℕ) → [] ≡ xs ++ ys → xs ≡ []
 front_empty [] ys e = refl
@@ -27,13 +28,10 @@ empty_is_no_sheet : (declared : List (ℕ × Declared)) → IsSheet [] declared 
 empty_is_no_sheet declared (whole forms standing has_begin) = no_forms forms standing has_begin
 
 abbrev run_of : List (List ℕ) → Files → List ℕ → Status → Run
-run_of words files printed status = record { words = words; files = files; input = []; printed = printed; status = status }
+run_of words files printed status = run_on words files [] printed status
 
 told : (words : List (List ℕ)) (files : Files) (printed : List ℕ) (status : Status) → IsTold words status (outside_of files [] []) (outside_of files [] printed) (run_of words files printed status)
 told words files printed status = record { words_are = refl; status_is = refl; files_are = refl; input_is = refl; earlier = []; given_before = refl; given_after = refl }
-
-pub is_file_name : IsFileName (codes "f")
-is_file_name = λ e. omega (arith, e)
 
 -- ---- a post that is lost
 
@@ -98,4 +96,9 @@ broken_words = record {
       let run = run_of merge_words ((codes "f", a_post) ∷ []) [] Done in
       let asks : AskFor run (merges (codes "f")) usual_budget = (record { mode = merges (codes "f"); budget = usual_budget }, inl ((refl, is_file_name), refl), refl, refl) in
       lost (((keeps run (told run.words run.files [] Done)).merge (codes "f") usual_budget asks).merged refl);
+  no_line = no_line;
+  none_refused = none_refused;
+  ok_for_repairs = ok_for_repairs;
+  refused_demo = refused_demo;
+  silent_demo = silent_demo;
 }

@@ -1,5 +1,5 @@
 -- How the courses of the modes end.
-use Rattle.std.proofs.Common.{◌≡◌, ℕ, List, [], ◌∷◌, ◌++◌, ◌⊎◌, codes, refl, sym, ◌∙◌, ap, subst, inl, inr}
+use Rattle.std.proofs.Common.{◌≡◌, ℕ, List, [], ◌∷◌, ◌++◌, ◌⊎◌, codes, map, refl, sym, ◌∙◌, ap, subst, inl, inr}
 use Rattle.pc_sheet.specs.Sheet.{Sheet}
 use Rattle.pc_sortcheck.specs.Declaring.{ReadsAs}
 use Rattle.pc_collab.specs.Journal.{Post}
@@ -10,7 +10,7 @@ use Rattle.pc_collab.specs.Text.{journal_text}
 use Rattle.pc_collab.proofs.Whole.{one_in_journal}
 use Rattle.pc_refusals.specs.declared.status.Status.{Status}
 use Rattle.pc_refusals.specs.declared.status.Status.TheVariants.{Done, SheetRefused}
-use Rattle.pc_course.specs.Events.{Event, took_rest, gave}
+use Rattle.pc_course.specs.Events.{Event, took_rest, gave, told}
 use Rattle.pc_course.specs.Stages.{Stage, takes, needs, tells, ends_with, ends}
 use Rattle.pc_transcript.specs.Transcript.{Transcript, Legal, lines, input_of, status_of}
 use Rattle.pc_lines.specs.Lines.{lines_of}
@@ -26,6 +26,13 @@ use Rattle.pc_journal.specs.PostLines.{lines_of_posts}
 use Rattle.pc_journal.specs.Told.{from_file, from_input, refused_text}
 use Rattle.pc_spreadsheet.specs.Tasks.{State, Starts}
 use Rattle.pc_spreadsheet.specs.Allowed.{Notes, Allows, RefusesText}
+use Rattle.pc_gen.specs.Text.{generated_text}
+use Rattle.pc_refusals.specs.declared.refusal.SheetRefusal.{SheetRefusal}
+use Rattle.pc_refusals.specs.Refusals.{sheet_refusal_text}
+use Rattle.pc_demo.specs.Course as demo
+use Rattle.pc_demo.specs.Course.{Demo}
+use Rattle.pc_demo.specs.Demonstration.{Clears, told_of, Loads}
+use Rattle.pc_demo.specs.Summing.{SumsUp}
 use Rattle.pc_theorem.specs.Theorem.{BeginsWith}
 
 -- ---- checks
@@ -280,3 +287,37 @@ module _ (budget : ℕ) (notes : Notes) where
   posts_at file events stage noted (journal.needs_file_memory is) = tt
   posts_at file events stage noted (journal.awaits_file is) = tt
   posts_at file events stage noted (journal.has_file text more small h is) = subst (λ es. PostsAt file es noted stage) (sym is) (post_text_at file text more stage noted h)
+
+  -- with `demo`: the sheet was loaded and summed up, the lines were answered, and the sheet was summed up again
+  pub record Demonstrates (blocks : ℕ) (events : List Event) (line : List ℕ) (status : Status) (noted : Notes) : Type 0 where
+    pub start : State
+    pub loaded : List ℕ
+    pub loads : Loads blocks budget start loaded
+    pub transcript : Transcript
+    pub end : State
+    pub clears : Clears blocks (start, notes) (end, noted) transcript
+    pub sums : SumsUp (codes "cleared") end.sheet line
+    pub status_is : status ≡ status_of transcript
+    pub events_are : events ≡ told loaded ∷ map (λ pair. told (told_of pair.1)) transcript
+
+  -- or the sheet was refused
+  pub record DeclinesDemo (blocks : ℕ) (events : List Event) (line : List ℕ) (status : Status) (noted : Notes) : Type 0 where
+    pub why : SheetRefusal
+    pub more : List ℕ
+    pub refuses : RefusesText budget (generated_text blocks) why more notes noted
+    pub status_is : status ≡ SheetRefused
+    pub line_is : line ≡ sheet_refusal_text why ++ more
+    pub events_are : events ≡ []
+
+  abbrev pub DemoAt : ℕ → List Event → Notes → Stage → Type 0
+  DemoAt blocks events noted (ends_with line status) = DeclinesDemo blocks events line status noted ⊎ Demonstrates blocks events line status noted
+  DemoAt blocks events noted (ends status) = ⊥
+  DemoAt blocks events noted stage = Unit {0}
+
+  pub demo_at : (blocks : ℕ) (events : List Event) (stage : Stage) (noted : Notes) → Demo blocks budget notes events stage noted → DemoAt blocks events noted stage
+  demo_at blocks events stage noted (demo.needs_memory is) = tt
+  demo_at blocks events stage noted (demo.is_refused why more refuses is) = inl (record { why = why; more = more; refuses = refuses; status_is = refl; line_is = refl; events_are = is })
+  demo_at blocks events stage noted (demo.is_loaded start loaded loads is) = tt
+  demo_at blocks events stage noted (demo.has_answer start loaded t done mid end answer loads clears few allowed is) = tt
+  demo_at blocks events stage noted (demo.is_cleared start loaded t end cleared loads clears sums is) =
+      inr (record { start = start; loaded = loaded; loads = loads; transcript = t; end = end; clears = clears; sums = sums; status_is = refl; events_are = is })

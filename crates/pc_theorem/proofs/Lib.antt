@@ -4,7 +4,11 @@ mod Worth
 mod Answered
 mod Happenings
 mod Ends
+mod Clearing
+mod Consistent
+mod Refused
 mod Told
 mod Whole
+mod BrokenSessions
 mod Broken
 mod Worked

@@ -1,5 +1,5 @@
 -- Runs over told devices, by how their courses end.
-use Rattle.std.proofs.Common.{◌≡◌, ◌⊎◌, ℕ, Bool, true, false, ◌||◌, List, [], ◌∷◌, ◌++◌, map, codes, Some, refl, sym, ◌∙◌, ap, subst, inl, inr, append_assoc, append-nil}
+use Rattle.std.proofs.Common.{◌≡◌, ◌⊎◌, ℕ, ◌≤◌, Bool, true, false, ◌||◌, List, [], ◌∷◌, ◌++◌, map, codes, Some, refl, sym, ◌∙◌, ap, subst, inl, inr, append_assoc, append-nil}
 use Rattle.std.specs.List.{flat_map, list_any}
 use Rattle.std.proofs.lemmas.List.Concat.{flat_map-append}
 use Rattle.pc_port.specs.Shelf.{file_named}
@@ -23,7 +23,7 @@ use Rattle.pc_course.specs.Stages.{ends, ends_with}
 use Rattle.pc_course_laws.specs.Flat.{taken_in, told_in, taken_of, EventsAddUp}
 use Rattle.pc_transcript.specs.SheetPart.{IsSheetPart}
 use Rattle.pc_refusals.specs.declared.refusal.Refusal.{Refusal}
-use Rattle.pc_refusals.specs.Refusals.{refusal_text}
+use Rattle.pc_refusals.specs.Refusals.{refusal_text, sheet_refusal_text}
 use Rattle.pc_transcript.specs.Answer as reply
 use Rattle.pc_transcript.specs.Answer.{Answer, no_memory, is_refused, is_no_memory, answer_text}
 use Rattle.pc_transcript.specs.Transcript.{Transcript, Legal, input_of, output_of, worse_of}
@@ -45,16 +45,23 @@ use Rattle.pc_spreadsheet.specs.Tasks.{State, Task, shows, lines_page, text_page
 use Rattle.pc_spreadsheet.specs.Allowed.{Notes, Allows, RefusesLine}
 use Rattle.pc_spreadsheet.specs.Pages.{uses_of}
 use Rattle.pc_spreadsheet.specs.Laws.{LinesHaveOneVerdict}
+use Rattle.pc_elaborate.specs.Laws.{TreesHaveOneOutcome}
+use Rattle.pc_gen.specs.Text.{generated_text}
+use Rattle.pc_generated.specs.Laws.{GeneratedTextsReadBack, GeneratedSheetsWeigh}
+use Rattle.pc_demo.specs.Demonstration.{told_of}
+use Rattle.pc_demo.specs.Summing.{clear_lines, SumsUp}
 use Rattle.pc_replay.specs.Course.{CourseIn}
 use Rattle.pc_afresh.specs.Afresh.{IsOpen, StartsAreOpen, AnswersKeepOpen, TranscriptsKeepOpen, DumpsStartAgain}
 use Rattle.pc_theorem.specs.Theorem as page
-use Rattle.pc_theorem.specs.Theorem.{Course, BeginsWith, IsProved, IsChecked, IsDeclined, IsMerged, HasNoMerge, Tells, IsContradicted, IsFulfilled, IsTurnedDown, HasRefusal, AreAccepted, StandsBehind, Answers, IsSession, IsSessionOf, EndedWell, state_after_all}
-use Rattle.pc_theorem.specs.Laws.{GoesIn, ChecksAreWorthIt, MergesAreWorthIt, SessionsAreWorthIt, SavedSheetsShowTheSame, SavedSheetsTakeCertificates}
+use Rattle.pc_theorem.specs.Theorem.{Course, BeginsWith, IsProved, IsChecked, IsDeclined, IsMerged, HasNoMerge, Tells, IsContradicted, IsFulfilled, IsTurnedDown, HasRefusal, AreAccepted, StandsBehind, Answers, IsSession, IsSessionOf, IsDemonstration, IsLoadSpent, EndedWell, state_after_all}
+use Rattle.pc_theorem.specs.Laws.{GoesIn, ChecksAreWorthIt, MergesAreWorthIt, SessionsAreWorthIt, DemonstrationsAreWorthIt, SavedSheetsShowTheSame, SavedSheetsTakeCertificates}
 use Rattle.pc_theorem.proofs.Claimed.{certificate_claims}
 use Rattle.pc_theorem.proofs.Listed.{ListingsAreTold}
 use Rattle.pc_theorem.proofs.Worth.{is_so}
 use Rattle.pc_theorem.proofs.Happenings.{none_behind, given_file, taken_all, printed_is, told-append, IsFull, Finishes, quietly, telling, finishes}
-use Rattle.pc_theorem.proofs.Ends.{Judges, check_at, Merges, merges_both, without_first, without_both, merge_at, AnswersAll, Replays, replay_at, Edits, edit_at, Posted, posts_at}
+use Rattle.pc_theorem.proofs.Ends.{Judges, check_at, Merges, merges_both, without_first, without_both, merge_at, AnswersAll, Replays, replay_at, Edits, edit_at, Posted, posts_at, Demonstrates, DeclinesDemo, demo_at}
+use Rattle.pc_theorem.proofs.Refused.{only_spent}
+use Rattle.pc_theorem.proofs.Clearing.{AreClearing, lines_clear, pieces_of, told_of_pieces, pieces_are, all_cleared}
 use Rattle.pc_theorem.proofs.Answered.{CommandsHaveOneReading, course_of, NeverWants, edits_exist, edits_are, one_list, IsDone, IsRefuted, task_answers, rule_answers, nothing_answers, otherwise_refused, line_refused, edit_is_done, tells, refutes, contradicting_is_formed}
 
 -- ---- a transcript as it is printed
@@ -110,6 +117,11 @@ not_wanted : (b c : Bool) (status : Status) → EndedWell status → status ≡ 
 not_wanted false c status well is = refl
 not_wanted true c status (inl well) is = absurd (cc)
 not_wanted true c status (inr well) is = absurd (cc)
+
+no_sheet_refusal : (b c : Bool) → worse_of b c ≡ SheetRefused → ⊥
+no_sheet_refusal true c is = absurd (cc is)
+no_sheet_refusal false true is = absurd (cc is)
+no_sheet_refusal false false is = absurd (cc is)
 
 -- ---- a line of it
 
@@ -424,6 +436,80 @@ module _ (one : LinesHaveOneVerdict) (read : CommandsHaveOneReading) (first : St
     well_is_full : (status : Status) → EndedWell status → IsFull status
     well_is_full status (inl well) = subst IsFull (sym well) tt
     well_is_full status (inr well) = subst IsFull (sym well) tt
+
+    -- with `demo` the sheet is generated, and the commands clear the first cells of its blocks
+    module _ (trees : TreesHaveOneOutcome) (one_outcome : TextsHaveOneOutcome) (generated_back : GeneratedTextsReadBack) (weigh : GeneratedSheetsWeigh) where
+      demonstrated : (run : page.Run) (blocks budget : ℕ) → blocks ≤ 256 → (g : GoesIn run (demonstrates blocks) budget) (before : List Event) (line : List ℕ) → g.ran.events ≡ before ++ told line ∷ [] → Demonstrates budget g.notes blocks before line run.status g.noted → EndedWell run.status
+          → IsDemonstration run blocks budget
+      unfolding session
+      demonstrated run blocks budget few g before line ends_so d well = record {
+        answers = output_of t;
+        session = session budget g.notes g.noted (generated_text blocks) (output_of t) run.status all (clear_lines blocks) d.clears.lines_are refl well;
+        generated = d.loads.sheet;
+        edits = found.0;
+        accepted = found.1;
+        loaded = d.loaded;
+        told = pieces_of t;
+        cleared = line;
+        sums = d.loads.sums;
+        told_are = pieces_are read (d.start, g.notes) (d.end, g.noted) t (subst AreClearing (sym d.clears.lines_are) (lines_clear blocks few)) d.clears.legal never;
+        sums_after = subst (λ (s : State). SumsUp (codes "cleared") s.sheet line) (sym state) d.sums;
+        printed_are = printed_so;
+        all_cleared = λ done. ap (λ (s : State). s.sheet) state
+            ∙ all_cleared read keep_all trees blocks few (d.start, g.notes) (d.end, g.noted) t is d.loads.sheet d.clears.lines_are d.clears.legal (none_refused _ _ run.status done d.status_is) never;
+      }
+        where
+          t : Transcript
+          t = d.transcript
+
+          all : AnswersAll budget g.notes (generated_text blocks) run.status g.noted
+          all = record { start = d.start; starts = d.loads.starts; end = d.end; transcript = t; legal = d.clears.legal; status_is = d.status_is }
+
+          is : IsOpen d.start.sheet
+          is = first budget (generated_text blocks) d.start d.loads.starts
+
+          never : NeverWants t
+          never = never_wants t (not_wanted _ _ run.status well d.status_is)
+
+          found : (done : List Task) × AreAccepted d.start (course_of t) done
+          found = edits_exist one read keep (d.start, g.notes) (d.end, g.noted) t is d.clears.legal never
+
+          state : state_after_all d.start found.0 ≡ d.end
+          state = edits_are one read keep (d.start, g.notes) (d.end, g.noted) t found.0 is d.clears.legal never found.1
+
+          printed_so : run.printed ≡ d.loaded ++ (flat_map (λ (piece : List ℕ). piece) (pieces_of t) ++ line)
+          printed_so =
+              printed_is sums g.words run.status g.before g.after run g.told g.most g.ran.events g.ran.spare g.ran.is_spare g.ran.happened ∙ ap told_in ends_so ∙ ap (λ (es : List Event). told_in (es ++ told line ∷ [])) d.events_are
+              ∙ ap (λ (xs : List ℕ). d.loaded ++ xs) (told-append (map (λ pair. told (told_of pair.1)) t) (told line ∷ []) ∙ ap (λ (xs : List ℕ). told_in (map (λ pair. told (told_of pair.1)) t) ++ xs) (append-nil line) ∙ ap (λ (xs : List ℕ). xs ++ line) (told_of_pieces t))
+
+      pub demonstrations_are_worth_it : DemonstrationsAreWorthIt
+      demonstrations_are_worth_it run blocks budget some few g = record {
+        summed = λ well. sums_up well (finishes (CourseIn (demonstrates blocks) budget g.notes) g.ran.events run.status g.noted (well_is_full run.status well) g.ran.run);
+        declined = λ refused. declines refused (finishes (CourseIn (demonstrates blocks) budget g.notes) g.ran.events run.status g.noted (subst IsFull (sym refused) tt) g.ran.run);
+      }
+        where
+          sums_up : EndedWell run.status → Finishes (CourseIn (demonstrates blocks) budget g.notes) g.ran.events run.status g.noted → IsDemonstration run blocks budget
+          sums_up well (quietly h) = absurd (demo_at budget g.notes blocks g.ran.events (ends run.status) g.noted h)
+          sums_up well (telling before line h is) = elim (demo_at budget g.notes blocks before (ends_with line run.status) g.noted h) [
+            | inl d ↦ absurd (not_refused run.status well d.status_is)
+            | inr d ↦ demonstrated run blocks budget few g before line is d well
+          ]
+
+          spent : (before : List Event) (line : List ℕ) → g.ran.events ≡ before ++ told line ∷ [] → DeclinesDemo budget g.notes blocks before line run.status g.noted → IsLoadSpent budget run.printed
+          spent before line ends_so d =
+              let o = only_spent one_outcome generated_back weigh blocks some few budget d.why d.more g.notes g.noted d.refuses in (
+                o.counts,
+                o.placed_all,
+                printed_is sums g.words run.status g.before g.after run g.told g.most g.ran.events g.ran.spare g.ran.is_spare g.ran.happened ∙ ap told_in ends_so ∙ ap (λ (es : List Event). told_in (es ++ told line ∷ [])) d.events_are ∙ append-nil line ∙ d.line_is
+                    ∙ ap (λ (xs : List ℕ). sheet_refusal_text d.why ++ xs) o.nothing_more ∙ append-nil (sheet_refusal_text d.why) ∙ ap sheet_refusal_text o.why_is,
+              )
+
+          declines : run.status ≡ SheetRefused → Finishes (CourseIn (demonstrates blocks) budget g.notes) g.ran.events run.status g.noted → IsLoadSpent budget run.printed
+          declines refused (quietly h) = absurd (demo_at budget g.notes blocks g.ran.events (ends run.status) g.noted h)
+          declines refused (telling before line h is) = elim (demo_at budget g.notes blocks before (ends_with line run.status) g.noted h) [
+            | inl d ↦ spent before line is d
+            | inr d ↦ absurd (no_sheet_refusal _ _ (sym d.status_is ∙ refused))
+          ]
 
     pub sessions_are_worth_it : SessionsAreWorthIt
     sessions_are_worth_it run replays budget g answering well =

@@ -1,17 +1,17 @@
 -- Every run keeps its word.
-use Rattle.std.proofs.Common.{◌≡◌, ◌⊎◌, ℕ, List, sym, ◌∙◌, ap, subst, inl, inr}
+use Rattle.std.proofs.Common.{◌≡◌, ◌⊎◌, ℕ, ◌≤◌, List, ◌++◌, sym, ◌∙◌, ap, subst, inl, inr}
 use Rattle.pc_refusals.specs.declared.status.Status.{Status}
 use Rattle.pc_refusals.specs.declared.status.Status.TheVariants.{Done, SomeRefused, SheetRefused, Usage, ReadFault, WriteFault, Memory, TooLong, CertRefused}
 use Rattle.pc_course.specs.Events.{Outside, Event, told}
 use Rattle.pc_course.specs.Stages.{Stage, takes, needs, tells, ends_with, ends}
 use Rattle.pc_course.specs.Runs.{on_course, Run as ARun, ended, ended_with, Ran}
-use Rattle.pc_words.specs.Words.{Mode, checks, merges, Request, FitsWords}
+use Rattle.pc_words.specs.Words.{Mode, replays, edits, checks, merges, posts, demonstrates, AreOfMode, Request, FitsWords}
 use Rattle.pc_words.specs.Laws.{WordsFitOneRequest}
 use Rattle.pc_spreadsheet.specs.Allowed.{Notes}
 use Rattle.pc_replay.specs.Course as replay
 use Rattle.pc_replay.specs.Course.{CourseIn, without_fit, needs_memory, as_asked}
 use Rattle.pc_theorem.specs.Theorem.{Run, AskFor, EndedWell, IsWorthIts, IsTold}
-use Rattle.pc_theorem.specs.Laws.{GoesIn, ChecksAreWorthIt, MergesAreWorthIt, SessionsAreWorthIt, RunsKeepTheirWord}
+use Rattle.pc_theorem.specs.Laws.{GoesIn, ChecksAreWorthIt, MergesAreWorthIt, SessionsAreWorthIt, DemonstrationsAreWorthIt, RunsKeepTheirWord}
 use Rattle.pc_theorem.proofs.Happenings.{IsFull, Finishes, quietly, telling, finishes}
 
 full_or_not : (status : Status) → IsFull status ⊎ (IsFull status → ⊥)
@@ -66,9 +66,26 @@ module _ (words : List (List ℕ)) (notes : Notes) where
           let a = course_at before (ends_with line status) noted h full in
           record { request = a.request; fits = a.fits; run = ended_with before line (on_course a.course) is }
 
+-- how many blocks a demonstration has
+abbrev HasFewBlocks : Mode → Type 0
+HasFewBlocks (demonstrates blocks) = (1 ≤ blocks) × (blocks ≤ 256)
+HasFewBlocks mode = Unit {0}
+
+of_mode : (words : List (List ℕ)) (mode : Mode) → AreOfMode words mode → HasFewBlocks mode
+of_mode words replays are = tt
+of_mode words (edits file) are = tt
+of_mode words (checks file) are = tt
+of_mode words (merges file) are = tt
+of_mode words (posts file) are = tt
+of_mode words (demonstrates blocks) are = (are.2.some, are.2.within)
+
+few_blocks : (words : List (List ℕ)) (request : Request) → FitsWords words request → HasFewBlocks request.mode
+few_blocks words request (inl fit) = of_mode words request.mode fit.0
+few_blocks words request (inr fit) = of_mode (fit.before ++ fit.after) request.mode fit.mode
+
 -- ---- the whole
 
-module _ (one : WordsFitOneRequest) (checks_are : ChecksAreWorthIt) (merges_are : MergesAreWorthIt) (sessions_are : SessionsAreWorthIt) where
+module _ (one : WordsFitOneRequest) (checks_are : ChecksAreWorthIt) (merges_are : MergesAreWorthIt) (sessions_are : SessionsAreWorthIt) (demos_are : DemonstrationsAreWorthIt) where
   module _ (words : List (List ℕ)) (notes noted : Notes) (before after : Outside) (run : Run) (is : IsTold words run.status before after run) (most : ℕ) (ran : Ran (replay.Course words notes) most run.status noted before after) where
     goes_in : (mode : Mode) (budget : ℕ) → AskFor run mode budget → IsFull run.status → GoesIn run mode budget
     goes_in mode budget asks full =
@@ -103,11 +120,13 @@ module _ (one : WordsFitOneRequest) (checks_are : ChecksAreWorthIt) (merges_are 
         check = λ file budget asks. checks_are run file budget (goes_in (checks file) budget asks full);
         merge = λ file budget asks. merges_are run file budget (goes_in (merges file) budget asks full);
         session = λ mode budget asks answering well. sessions_are run mode budget (goes_in mode budget asks full) answering well;
+        demo = λ blocks budget asks. let few = subst HasFewBlocks asks.2 (few_blocks run.words asks.0 asks.1) in demos_are run blocks budget few.0 few.1 (goes_in (demonstrates blocks) budget asks full);
       }
       | inr never ↦ record {
         check = λ file budget asks. record { accepted = λ done. absurd (never (subst IsFull (sym done) tt)); declined = λ refused. absurd (never (subst IsFull (sym refused) tt)) };
         merge = λ file budget asks. record { merged = λ done. absurd (never (subst IsFull (sym done) tt)); declined = λ refused. absurd (never (subst IsFull (sym refused) tt)) };
         session = λ mode budget asks answering well. absurd (never (well_is_full well));
+        demo = λ blocks budget asks. record { summed = λ well. absurd (never (well_is_full well)); declined = λ refused. absurd (never (subst IsFull (sym refused) tt)) };
       }
     ]
 

@@ -9,11 +9,12 @@ use Rattle.pc_collab.specs.Journal.{Post, IsOneLine, IsPost, AreNumbered, IsJour
 use Rattle.pc_collab.proofs.Numbered.{numbered_push}
 use Rattle.pc_collab.specs.Text.{journal_text}
 use Rattle.pc_refusals.specs.declared.status.Status.TheVariants.{Done}
-use Rattle.pc_words.specs.Words.{Mode, checks, merges, Request, FitsWords, usual_budget}
+use Rattle.pc_words.specs.Words.{Mode, checks, merges, demonstrates, Request, FitsWords, usual_budget}
 use Rattle.pc_words.specs.Laws.{WordsFitOneRequest}
 use Rattle.pc_theorem.specs.Theorem.{Run, AskFor, IsMerged, IsMergeOf, AnswersCommands, IsTold, IsWorthIts}
 use Rattle.pc_theorem.specs.Examples.{outside_of, merge_words, WorkedWords}
-use Rattle.pc_theorem.proofs.Broken.{a_post, is_file_name}
+use Rattle.pc_theorem.proofs.BrokenSessions.{is_file_name}
+use Rattle.pc_theorem.proofs.Broken.{a_post}
 
 abbrev the_post : Post
 the_post = record { author = 1; number = 1; stamp = 7; text = codes "show" }
@@ -109,6 +110,7 @@ module _ (one : WordsFitOneRequest) (run : Run) (is : IsTold merge_words Done (o
     check = λ file budget asks. absurd (cc (asked (checks file) budget asks));
     merge = λ file budget asks. merge_of file (asked (merges file) budget asks);
     session = λ mode budget asks answering well. absurd (subst AnswersCommands (sym (asked mode budget asks)) answering);
+    demo = λ blocks budget asks. absurd (cc (asked (demonstrates blocks) budget asks));
   }
 
 pub worked_words : WordsFitOneRequest → WorkedWords

@@ -1,16 +1,16 @@
 -- That runs are worth what the page says, from what each mode of `run` says of itself; and that a saved sheet shows the same.
-use Rattle.std.specs.Prelude.{◌≡◌, ◌≢◌, ℕ, List, [], Some}
+use Rattle.std.specs.Prelude.{◌≡◌, ◌≢◌, ◌≤◌, ℕ, List, [], Some}
 use Rattle.pc_port.specs.Shelf.{file_named}
 use Rattle.pc_refusals.specs.declared.status.Status.{Status}
 use Rattle.pc_refusals.specs.declared.status.Status.TheVariants.{CertRefused}
 use Rattle.pc_course.specs.Events.{Outside}
 use Rattle.pc_course.specs.Runs.{Ran}
-use Rattle.pc_words.specs.Words.{Mode, checks, merges}
+use Rattle.pc_words.specs.Words.{Mode, checks, merges, demonstrates}
 use Rattle.pc_judge.specs.AcceptedText.{IsAcceptedText}
 use Rattle.pc_spreadsheet.specs.Allowed.{Notes}
 use Rattle.pc_spreadsheet.specs.Tasks.{Task, shows, lines_page, text_page}
 use Rattle.pc_replay.specs.Course.{CourseIn, Runs}
-use Rattle.pc_theorem.specs.Theorem.{Run, IsCheckOf, IsMergeOf, IsSession, IsSessionOf, AnswersCommands, EndedWell, Course, StandsBehind, AreAccepted, LineAsks, state_after_all, IsTold, KeepsItsWord}
+use Rattle.pc_theorem.specs.Theorem.{Run, IsCheckOf, IsMergeOf, IsSession, IsSessionOf, IsDemonstrationOf, AnswersCommands, EndedWell, Course, StandsBehind, AreAccepted, LineAsks, state_after_all, IsTold, KeepsItsWord}
 
 -- ---- one mode
 
@@ -33,6 +33,9 @@ MergesAreWorthIt = (run : Run) (file : List ℕ) (budget : ℕ) → GoesIn run (
 
 abbrev pub SessionsAreWorthIt : Type 0
 SessionsAreWorthIt = (run : Run) (mode : Mode) (budget : ℕ) → GoesIn run mode budget → AnswersCommands mode → EndedWell run.status → IsSessionOf run mode budget
+
+abbrev pub DemonstrationsAreWorthIt : Type 0
+DemonstrationsAreWorthIt = (run : Run) (blocks budget : ℕ) → 1 ≤ blocks → blocks ≤ 256 → GoesIn run (demonstrates blocks) budget → IsDemonstrationOf run blocks budget
 
 -- ---- a saved sheet
 

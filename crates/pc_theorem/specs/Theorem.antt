@@ -1,7 +1,7 @@
 -- What a run of PrediCalc is worth, in the words of sheets alone. Whoever wants to believe the program reads this page and what it cites:
 -- what a text says, what a sheet's rules and entries entail, what the display is. Nothing here says how anything is found. The page is read
 -- from its end: `KeepsItsWord` is what is proved of `run`.
-use Rattle.std.specs.Prelude.{◌≡◌, ◌↔◌, ◌⊎◌, ℕ, List, [], ◌∷◌, ◌++◌, length, map, codes, Some, Contains}
+use Rattle.std.specs.Prelude.{◌≡◌, ◌≢◌, ◌↔◌, ◌⊎◌, ℕ, zero, suc, ◌+◌, ◌*◌, ◌%◌, List, [], ◌∷◌, ◌++◌, length, map, codes, None, Some, Contains}
 use Rattle.std.specs.List.{AllZip, flat_map}
 use Rattle.pc_port.specs.Shelf.{Files, file_named}
 use Rattle.pc_lines.specs.Lines.{lines_of, line_text_of}
@@ -12,6 +12,8 @@ use Rattle.pc_sheet.specs.declared.ids.Entry.{Entry}
 use Rattle.pc_sheet.specs.declared.ids.Target.{Target}
 use Rattle.pc_parts.specs.Parts.{Part, AreParts}
 use Rattle.pc_parts.specs.Unions.{parts_with_entries, IsUnion}
+use Rattle.pc_gen.specs.Text.{generated_text}
+use Rattle.pc_generated.specs.Sheet.{entry, generated_sheet}
 use Rattle.pc_collab.specs.Journal.{Post}
 use Rattle.pc_collab.specs.Reading.{IsTextOf}
 use Rattle.pc_collab.specs.Merge.{IsMerge}
@@ -24,7 +26,7 @@ use Rattle.pc_display.specs.Show.{IsShown}
 use Rattle.pc_display.specs.Grid.{IsGrid}
 use Rattle.pc_repairs.specs.Listed.{ListedPart, IsListedPart, listing_text}
 use Rattle.pc_sortcheck.specs.Declaring.{ReadsAs}
-use Rattle.pc_refusals.specs.Refusals.{refusal_text}
+use Rattle.pc_refusals.specs.Refusals.{refusal_text, sheet_refusal_text}
 use Rattle.pc_refusals.specs.declared.refusal.Counts.{Counts}
 use Rattle.pc_refusals.specs.declared.refusal.Refusal.{Refusal}
 use Rattle.pc_refusals.specs.declared.refusal.Refusal.TheVariants.{Inconsistent, Spent}
@@ -33,10 +35,11 @@ use Rattle.pc_refusals.specs.declared.status.Status.TheVariants.{Done, SomeRefus
 use Rattle.pc_course.specs.Events.{Outside}
 use Rattle.pc_transcript.specs.SheetPart.{IsSheetPart}
 use Rattle.pc_journal.specs.PostLines.{lines_of_posts}
-use Rattle.pc_words.specs.Words.{Mode, replays, edits, checks, merges, posts, Request, FitsWords}
+use Rattle.pc_words.specs.Words.{Mode, replays, edits, checks, merges, posts, demonstrates, Request, FitsWords}
 use Rattle.pc_spreadsheet.specs.Refused.{IsContradiction, IsRefused}
 use Rattle.pc_spreadsheet.specs.Tasks.{State, Starts, Task, budgets, shows, lines_page, grid_page, json_page, text_page, why_page, repairs_page, proof_page, whynot_page, ask_page, AsksNothing, IsTask, IsEdit, state_after}
 use Rattle.pc_display.specs.Json.{IsJsonLine}
+use Rattle.pc_demo.specs.Summing.{clear_lines, SumsUp}
 use Rattle.pc_afresh.specs.Again.{StartsAgain}
 use Rattle.pc_judge.specs.AcceptedText.{IsAcceptedText}
 use Rattle.pc_theorem.specs.Certificates.{Claims}
@@ -309,6 +312,50 @@ AnswersCommands mode = ⊥
 abbrev pub EndedWell : Status → Type 0
 EndedWell status = (status ≡ Done) ⊎ (status ≡ SomeRefused)
 
+-- ---- demonstrations
+
+-- of each block, the entry of its third cell
+abbrev pub third_entries : ℕ → List Entry
+third_entries zero = []
+third_entries (suc k) = third_entries k ++ entry (4 * k + 2) (suc k * suc k % 3) ∷ []
+
+-- the sheet that so many blocks generate, but for the entries of their first cells
+abbrev pub without_firsts : ℕ → Sheet
+without_firsts blocks = record { universe = (generated_sheet blocks).universe; rules = (generated_sheet blocks).rules; entries = third_entries blocks }
+
+-- what a demonstration prints of an answer: of `ok` nothing, and all of any other
+pub data IsToldOf (answer : List ℕ) : List ℕ → Type 0 where
+  of_ok : answer ≡ ended (codes "ok") → IsToldOf answer []
+  of_other : answer ≢ ended (codes "ok") → IsToldOf answer answer
+
+-- SUMMED UP. So many blocks generate the sheet. First its numbers were printed: how many cells and entries it has, how many of the entries
+-- clash with others, and how many values some consistent entries entail. Then lines that clear each block's first cell were answered as in a
+-- session, and of the answers what isn't `ok` was printed; and at last the numbers of the sheet after them. Where nothing was refused, that
+-- is the generated sheet but for the entries of the first cells.
+pub record IsDemonstration (run : Run) (blocks budget : ℕ) : Type 0 where
+  pub answers : List ℕ
+  pub session : IsSession budget (generated_text blocks) (clear_lines blocks) answers run.status
+  pub generated : session.start.sheet ≡ generated_sheet blocks
+  pub edits : List Task
+  pub accepted : AreAccepted session.start session.course edits
+  pub loaded : List ℕ
+  pub told : List (List ℕ)
+  pub cleared : List ℕ
+  pub sums : SumsUp (codes "loaded") session.start.sheet loaded
+  pub told_are : AllZip (λ (p : List ℕ × List ℕ). IsToldOf p.1) session.course told
+  pub sums_after : SumsUp (codes "cleared") (state_after_all session.start edits).sheet cleared
+  pub printed_are : run.printed ≡ loaded ++ (flat_map (λ (piece : List ℕ). piece) told ++ cleared)
+  pub all_cleared : run.status ≡ Done → (state_after_all session.start edits).sheet ≡ without_firsts blocks
+
+-- the load's search placed as many literals as the budget allows, and this tells it
+abbrev pub IsLoadSpent : ℕ → List ℕ → Type 0
+IsLoadSpent budget text = (counts : Counts) × (counts.placed ≡ budget) × (text ≡ sheet_refusal_text (record { refusal = Spent counts; line = None }))
+
+-- with `demo N`, by the status
+pub record IsDemonstrationOf (run : Run) (blocks budget : ℕ) : Type 0 where
+  pub summed : EndedWell run.status → IsDemonstration run blocks budget
+  pub declined : run.status ≡ SheetRefused → IsLoadSpent budget run.printed
+
 -- ---- the theorem
 
 -- what every run is worth
@@ -316,6 +363,7 @@ pub record IsWorthIts (run : Run) : Type 0 where
   pub check : (file : List ℕ) (budget : ℕ) → AskFor run (checks file) budget → IsCheckOf run file
   pub merge : (file : List ℕ) (budget : ℕ) → AskFor run (merges file) budget → IsMergeOf run file
   pub session : (mode : Mode) (budget : ℕ) → AskFor run mode budget → AnswersCommands mode → EndedWell run.status → IsSessionOf run mode budget
+  pub demo : (blocks budget : ℕ) → AskFor run (demonstrates blocks) budget → IsDemonstrationOf run blocks budget
 
 -- the devices tell their bytes, and this is the run
 pub record IsTold (words : List (List ℕ)) (status : Status) (before after : Outside) (run : Run) : Type 0 where

@@ -1,6 +1,6 @@
 // The laws of the page, each the contract of a function that does nothing.
 ghost use Rattle.pc_theorem.specs.Examples.{BrokenWords, WorkedWords};
-ghost use Rattle.pc_theorem.specs.Laws.{ChecksAreWorthIt, MergesAreWorthIt, RunsKeepTheirWord, SavedSheetsShowTheSame, SavedSheetsTakeCertificates, SessionsAreWorthIt};
+ghost use Rattle.pc_theorem.specs.Laws.{ChecksAreWorthIt, DemonstrationsAreWorthIt, MergesAreWorthIt, RunsKeepTheirWord, SavedSheetsShowTheSame, SavedSheetsTakeCertificates, SessionsAreWorthIt};
 
 use pc_accept::certificates_are_sound;
 use pc_afresh::{dumps_start_again, states_stay_open, transcripts_stay_open};
@@ -8,6 +8,8 @@ use pc_cert_back::texts_read_back;
 use pc_collab::journals_read_back;
 use pc_course_laws::events_add_up;
 use pc_display::sheet_has_one_display;
+use pc_elaborate::trees_have_one_outcome;
+use pc_generated::{generated_sheets_weigh, generated_texts_read_back};
 use pc_judge::{judgements_are_one, told_accepted_is_accepts};
 use pc_load::texts_have_one_outcome;
 use pc_one_reading::{certificates_have_one_reading, what_is_read_is_for_the_sheet};
@@ -60,6 +62,31 @@ pub fn sessions_are_worth_it()
     what_is_read_is_for_the_sheet();
 }
 
+/// With `demo N` the generated sheet is summed up, the first cells of its blocks are cleared as lines of a session, and it is
+/// summed up again; or its load spent the budget.
+pub fn demonstrations_are_worth_it()
+    ensures { DemonstrationsAreWorthIt }
+{
+    events_add_up();
+    lines_have_one_verdict();
+    one_reading();
+    states_stay_open();
+    transcripts_stay_open();
+    dumps_start_again();
+    sheet_has_one_display();
+    parts_are_found();
+    parts_are_a_division();
+    parts_are_determined();
+    maximal_sets_are_unions();
+    texts_read_back();
+    certificates_have_one_reading();
+    what_is_read_is_for_the_sheet();
+    trees_have_one_outcome();
+    texts_have_one_outcome();
+    generated_texts_read_back();
+    generated_sheets_weigh();
+}
+
 /// A session that begins with what another one printed for `dump` shows what that one showed.
 pub fn saved_sheets_show_the_same()
     ensures { SavedSheetsShowTheSame }
@@ -78,6 +105,7 @@ pub fn runs_keep_their_word()
     checks_are_worth_it();
     merges_are_worth_it();
     sessions_are_worth_it();
+    demonstrations_are_worth_it();
 }
 
 /// A run that keeps its word.

@@ -1,28 +1,31 @@
 -- Edits that change nothing, and spare entries.
-use Rattle.std.proofs.Common.{◌≡◌, ℕ, zero, suc, ◌+◌, ◌<◌, ◌≤◌, inl, inr, Bool, true, false, not, ◌&&◌, cond, eqb, eq-eqb, arith, List, [], ◌∷◌, ◌++◌, filter, Option, None, Some, Contains, All, ap, refl, sym, ◌∙◌, subst}
+use Rattle.std.proofs.Common.{◌≡◌, ℕ, zero, suc, ◌+◌, ◌<◌, ◌≤◌, inl, inr, Bool, true, false, not, ◌&&◌, ◌==◌, cond, eqb, eq-eqb, arith, List, [], ◌∷◌, ◌++◌, filter, Option, None, Some, Contains, All, ap, refl, sym, ◌∙◌, subst}
 use Rattle.std.specs.List.{list_any}
-use Rattle.std.proofs.lemmas.Bool.{cases_Bool, eqb-true, false≢true, and_from}
+use Rattle.std.specs.Bool.{beq}
+use Rattle.std.proofs.lemmas.Bool.{cases_Bool, eqb-true, ne_eqb, false≢true, and_from}
 use Rattle.std.proofs.lemmas.List.Elements.{All-head, All-nil, All-cons, All-weaker, Contains-append_right}
 use Rattle.pc_sheet.specs.Sheet.{Sheet}
 use Rattle.pc_sheet.specs.Entailment.{IsLeastSupport}
 use Rattle.pc_sheet.specs.WellFormed.{is_of_cell, entries_of}
+use Rattle.pc_sheet.specs.declared.ids.CellId.{CellId}
 use Rattle.pc_sheet.specs.declared.ids.Entry.{Entry}
 use Rattle.pc_sheet.specs.declared.ids.ValueId.{ValueId}
 use Rattle.pc_sheet.specs.declared.ids.Target.{Target}
 use Rattle.pc_laws.specs.Examples.{IsShownFor, red, green, entry, target}
 use Rattle.pc_laws.proofs.Finding.{find, shown, is_display, computed}
-use Rattle.pc_lemmas.proofs.Elements.{contains_first, contains_none, all_from, kept, kept_is, kept_all}
+use Rattle.pc_lemmas.proofs.Elements.{contains_first, contains_later, contains_cases, contains_none, all_from, kept, kept_is, kept_all}
 use Rattle.pc_logic.specs.Edits.{is_same_entry, agrees_with}
 use Rattle.pc_logic.proofs.EntryLemmas.{same_is, standing_found, found_standing}
 use Rattle.pc_reason.specs.Reasons.{Justification}
 use Rattle.pc_reason.specs.Targets.{IsTargetIn}
-use Rattle.pc_cache.specs.Rows.{is_same_target}
+use Rattle.pc_cache.specs.Rows.{TargetRow, is_same_target, row_of}
 use Rattle.pc_edits.specs.Edits.{takes_none, HasNone}
 use Rattle.pc_search.specs.Found.{steps_in}
-use Rattle.pc_session.specs.Answers.{AreSpare, StandsAlone, HasPlaceFor}
-use Rattle.pc_worked_laws.specs.Rows.{a_red, b_red, from, red_here, not_red_here}
+use Rattle.pc_session.specs.Views.{SessionView}
+use Rattle.pc_session.specs.Answers.{OthersStay, IsUnchanged, AreSpare, StandsAlone, HasPlaceFor}
+use Rattle.pc_worked_laws.specs.Rows.{a_red, b_red, from, with_row, red_here, not_red_here}
 use Rattle.pc_worked_laws.specs.Several.{cell_of, views, with_views, first_views}
-use Rattle.pc_worked_laws.specs.Spare.{EnteringMayChange, AddingMayChange, RemovingMayChange, ClearingMayChange, value_of, by_steps, WorkedPlaces, WorkedSpare, WorkedReasons}
+use Rattle.pc_worked_laws.specs.Spare.{EnteringMayChange, AddingMayChange, RemovingMayChange, ClearingMayChange, value_of, by_steps, two_parts, second_red, third_red, seen, WorkedPlaces, WorkedSpare, WorkedReasons, WorkedSessions}
 use Rattle.pc_worked_laws.proofs.Computing.{has, lacks, both, distinct, same_least}
 
 abbrev with_entries : Sheet → List Entry → Sheet
@@ -286,4 +289,59 @@ worked_reasons = record {
   stood_before = λ t j row. inl row;
   kept = refl;
   dropped = refl;
+}
+
+-- ---- sessions
+
+abbrev first_part : List CellId
+first_part = cell_of 0 ∷ cell_of 1 ∷ []
+
+other_cell : (m n : ℕ) → cell_of m ≡ cell_of n → m ≡ n
+other_cell m n e = ap (λ (c : CellId). c.0) e
+
+third_is_none : ¬ Contains first_part (cell_of 2)
+third_is_none there = elim (contains_cases (cell_of 0) (cell_of 1 ∷ []) (cell_of 2) there) [
+  | inl e ↦ let n : 0 ≡ 2 = other_cell 0 2 e in absurd (omega (arith, n))
+  | inr later ↦ elim (contains_cases (cell_of 1) [] (cell_of 2) later) [
+    | inl e ↦ let n : 1 ≡ 2 = other_cell 1 2 e in absurd (omega (arith, n))
+    | inr none ↦ absurd (contains_none (cell_of 2) none)
+  ]
+]
+
+-- the part of the first cell has the second one
+has_second : (cells : List CellId) → Contains two_parts.cells cells → Contains cells (cell_of 0) → Contains cells (cell_of 1)
+has_second cells of_parts has_first = elim (contains_cases first_part ((cell_of 2 ∷ []) ∷ []) cells of_parts) [
+  | inl is ↦ subst (λ (cs : List CellId). Contains cs (cell_of 1)) is (contains_later (cell_of 0) (cell_of 1 ∷ []) (cell_of 1) (contains_first (cell_of 1) []))
+  | inr later ↦ elim (contains_cases (cell_of 2 ∷ []) [] cells later) [
+    | inl is ↦ elim (contains_cases (cell_of 2) [] (cell_of 0) (subst (λ (cs : List CellId). Contains cs (cell_of 0)) (sym is) has_first)) [
+      | inl e ↦ let n : 2 ≡ 0 = other_cell 2 0 e in absurd (omega (arith, n))
+      | inr none ↦ absurd (contains_none (cell_of 0) none)
+    ]
+    | inr none ↦ absurd (contains_none cells none)
+  ]
+]
+
+own_part : OthersStay (cell_of 0) two_parts (with_row second_red (Some (from a_red)) ∷ with_row third_red (Some (from b_red)) ∷ []) (with_row third_red (Some (from b_red)) ∷ [])
+own_part cells t of_parts has_first lacks_it =
+    let other : eqb 1 t.cell.0 ≡ false = ne_eqb 1 t.cell.0 (λ same. lacks_it (subst (Contains cells) (ap cell_of same) (has_second cells of_parts has_first))) in
+    let rest : Option Justification = row_of (with_row third_red (Some (from b_red)) ∷ []) t in
+    sym (ap (λ (b : Bool). cond (b && (eqb 0 t.value.0 && beq true t.holds)) (Some (from a_red)) rest) other)
+
+no_rows : (r : TargetRow) (rs : List TargetRow) → [] ≡ r ∷ rs → ⊥
+no_rows r rs e = absurd (cc)
+
+few_left : ¬ IsUnchanged (seen 5 [] 7) (seen 5 [] 0)
+few_left (all, inl same) = let n : 0 ≡ 7 = same in absurd (omega (arith, n))
+few_left (all, inr same) = let n : 0 ≡ 7 = same in absurd (omega (arith, n))
+
+pub worked_sessions : WorkedSessions
+worked_sessions = record {
+  own_part = own_part;
+  other_part = λ h. absurd (cc (h first_part third_red (contains_first first_part ((cell_of 2 ∷ []) ∷ [])) (contains_first (cell_of 0) (cell_of 1 ∷ [])) third_is_none));
+  other_part_gains = λ h. absurd (cc (h first_part third_red (contains_first first_part ((cell_of 2 ∷ []) ∷ [])) (contains_first (cell_of 0) (cell_of 1 ∷ [])) third_is_none));
+  as_it_was = (refl, inl refl);
+  many_dropped = (refl, inr refl);
+  few_dropped = few_left;
+  row_dropped = λ h. no_rows _ _ (ap (λ (v : SessionView). v.rows) h.0);
+  other_budget = λ h. let n : 6 ≡ 5 = ap (λ (v : SessionView). v.budget) h.0 in absurd (omega (arith, n));
 }

@@ -1,17 +1,21 @@
 -- Which edits of entries change nothing, which entries are spare, and what is left of reasons where entries go.
-use Rattle.std.specs.Prelude.{◌≡◌, ◌↔◌, ℕ, [], ◌∷◌, None, Some, Contains, true}
+use Rattle.std.specs.Prelude.{◌≡◌, ◌↔◌, ℕ, List, [], ◌∷◌, None, Some, Contains, true}
 use Rattle.pc_sheet.specs.Sheet.{Sheet}
 use Rattle.pc_sheet.specs.WellFormed.{is_of_cell, entries_of}
 use Rattle.pc_sheet.specs.declared.ids.CellId.{CellId}
 use Rattle.pc_sheet.specs.declared.ids.Entry.{Entry}
+use Rattle.pc_sheet.specs.declared.ids.Target.{Target}
 use Rattle.pc_laws.specs.Examples.{red, green, entry}
 use Rattle.pc_log.specs.Lines.{AxiomLine, BlockLine, StepLine}
 use Rattle.pc_logic.specs.Edits.{is_same_entry, entered, also_entered, without_entry, without_cell}
+use Rattle.pc_components.specs.View.{Kept}
 use Rattle.pc_reason.specs.Reasons.{Justification}
+use Rattle.pc_cache.specs.Rows.{TargetRow}
+use Rattle.pc_cache.specs.Targets.{target}
 use Rattle.pc_edits.specs.Edits.{takes_none}
 use Rattle.pc_session.specs.Arena.{compacted}
-use Rattle.pc_session.specs.Views.{Counts}
-use Rattle.pc_session.specs.Answers.{Steps, Stay, AreUnused, AreSpare, StandsAlone, HasPlaceFor}
+use Rattle.pc_session.specs.Views.{Counts, SessionView}
+use Rattle.pc_session.specs.Answers.{Steps, Stay, OthersStay, AreUnused, IsUnchanged, AreSpare, StandsAlone, HasPlaceFor}
 use Rattle.pc_worked_laws.specs.Rows.{a_red, b_red, from, with_row, red_here, not_red_here}
 use Rattle.pc_worked_laws.specs.Several.{blue, cell_of, views, with_views, first_views}
 
@@ -88,3 +92,33 @@ pub record WorkedReasons : Type 0 where
   -- derivations of a megabyte that no reason needs stay, and of a byte more go
   pub kept : compacted [] 1048576 ≡ 1048576
   pub dropped : compacted [] 1048577 ≡ 0
+
+-- ---- sessions
+
+-- the first two cells are a part, and the third is one
+abbrev pub two_parts : Kept
+two_parts = record { cells = (cell_of 0 ∷ cell_of 1 ∷ []) ∷ (cell_of 2 ∷ []) ∷ []; axioms = []; variables = []; numbers = [] }
+
+-- that the second cell, and that the third, has its first value
+abbrev pub second_red : Target
+second_red = target 1 0 true
+
+abbrev pub third_red : Target
+third_red = target 2 0 true
+
+-- with these rows, and derivations of so many bytes
+abbrev pub seen : ℕ → List TargetRow → ℕ → SessionView
+seen budget rows bytes = record { sheet = with_views; budget = budget; tally = spent 0 0; components = two_parts; rows = rows; bytes = bytes }
+
+pub record WorkedSessions : Type 0 where
+  -- an edit of the first cell may take what is kept of the second one, which is of its part, and nothing of the third
+  pub own_part : OthersStay (cell_of 0) two_parts (with_row second_red (Some (from a_red)) ∷ with_row third_red (Some (from b_red)) ∷ []) (with_row third_red (Some (from b_red)) ∷ [])
+  pub other_part : ¬ OthersStay (cell_of 0) two_parts (with_row third_red (Some (from b_red)) ∷ []) []
+  -- nor give it one
+  pub other_part_gains : ¬ OthersStay (cell_of 0) two_parts [] (with_row third_red (Some (from b_red)) ∷ [])
+  -- a refused edit leaves all as it was, but that derivations that no reason needs are dropped where they are many
+  pub as_it_was : IsUnchanged (seen 5 [] 7) (seen 5 [] 7)
+  pub many_dropped : IsUnchanged (seen 5 [] 1048577) (seen 5 [] 0)
+  pub few_dropped : ¬ IsUnchanged (seen 5 [] 7) (seen 5 [] 0)
+  pub row_dropped : ¬ IsUnchanged (seen 5 (with_row red_here (Some (from a_red)) ∷ []) 0) (seen 5 [] 0)
+  pub other_budget : ¬ IsUnchanged (seen 5 [] 0) (seen 6 [] 0)

@@ -15,7 +15,7 @@ ghost use Rattle.pc_worked_laws.specs.Logs.{WorkedNewClauses, WorkedLawfulLogs, 
 ghost use Rattle.pc_worked_laws.specs.Spendings.{WorkedSpendings, WorkedLogSpendings};
 ghost use Rattle.pc_worked_laws.specs.WholeSpendings.{WorkedWholeSpendings};
 ghost use Rattle.pc_worked_laws.specs.Budgets.{WorkedPartBudgets};
-ghost use Rattle.pc_worked_laws.specs.Spare.{EnteringMayChange, AddingMayChange, RemovingMayChange, ClearingMayChange, WorkedPlaces, WorkedSpare, WorkedReasons};
+ghost use Rattle.pc_worked_laws.specs.Spare.{EnteringMayChange, AddingMayChange, RemovingMayChange, ClearingMayChange, WorkedPlaces, WorkedSpare, WorkedReasons, WorkedSessions};
 ghost use Rattle.pc_worked_laws.specs.Searches.{SearchesChange, ClearingSpareIsNoSearch, RemovingSpareIsNoSearch, EnteringNeedsOne, WorkedSearches};
 ghost use Rattle.pc_worked_laws.specs.Listings.{WorkedListings};
 ghost use Rattle.pc_worked_laws.specs.Shown.{WorkedNewerViews};
@@ -114,7 +114,8 @@ pub fn budgets_are_worked()
     ensures { WorkedPartBudgets }
 {}
 
-/// Which edits of entries change nothing, which entries are spare, and what is left of reasons where entries go.
+/// Which edits of entries change nothing, which entries are spare, what is left of reasons where entries go, and what accepted
+/// and refused edits leave.
 pub fn spare_entries_are_worked()
     ensures entering { EnteringMayChange }
     ensures adding { AddingMayChange }
@@ -123,6 +124,7 @@ pub fn spare_entries_are_worked()
     ensures places { WorkedPlaces }
     ensures spare { WorkedSpare }
     ensures reasons { WorkedReasons }
+    ensures sessions { WorkedSessions }
 {}
 
 /// What may be kept together, as it is listed.

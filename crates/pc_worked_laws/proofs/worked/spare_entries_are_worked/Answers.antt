@@ -1,4 +1,4 @@
-use Rattle.pc_worked_laws.proofs.SpareHolds.{entering, adding, removing, clearing, worked_places, worked_spare, worked_reasons}
+use Rattle.pc_worked_laws.proofs.SpareHolds.{entering, adding, removing, clearing, worked_places, worked_spare, worked_reasons, worked_sessions}
 use Rattle.pc_worked_laws.proofs.worked.spare_entries_are_worked.Goals as goal
 
 pub returns-clause-entering : goal.returns-clause-entering
@@ -21,3 +21,6 @@ returns-clause-spare c = worked_spare
 
 pub returns-clause-reasons : goal.returns-clause-reasons
 returns-clause-reasons c = worked_reasons
+
+pub returns-clause-sessions : goal.returns-clause-sessions
+returns-clause-sessions c = worked_sessions
