@@ -1,14 +1,15 @@
 //! Runs each example of the folder in which it is started, and says how it ended and whether it printed the text that
-//! is kept beside it.
+//! is kept beside it. Then it runs each table of runs, and says how many it has, and which of them didn't end as the table says.
 #![tactic(auto)]
 
-use pc_port::{MemorySink, MemorySource, RealShelf, Shelf, ShelfFault};
-use pc_replay::{Spendings, Status, run};
-use std::alloc::{AllocError, Global};
-use std::io;
+mod running;
+mod tables;
 
-/// The most bytes that an example prints.
-const ROOM: usize = 16384;
+use crate::running::{read_all, run_on};
+use crate::tables::judge;
+use pc_port::{RealShelf, Shelf, ShelfFault};
+use std::alloc::Global;
+use std::io;
 
 /// The words of each run, the files that its input is made of, and the file that has what it prints.
 const EXAMPLES: &str = "\
@@ -27,42 +28,45 @@ replay; tutorial_timetable.sheet tutorial_timetable.commands; tutorial_timetable
 check weekend.sheet; weekend.certificate; weekend.display
 ";
 
-// The words, parted by spaces.
-fn parted(alloc: Global, text: &str) -> Result<Vec<String>, AllocError> {
-    let mut words = Vec::new(alloc);
-    for word in text.split(' ') {
-        words.push(word.to_string(alloc)?)?;
-    }
-    Ok(words)
-}
+/// The tables of runs.
+const TABLES: &str = "\
+rows/asking.rows
+rows/budgets.rows
+rows/certificates.rows
+rows/clauses.rows
+rows/counting.rows
+rows/faults.rows
+rows/modes.rows
+rows/pairs.rows
+rows/repairs.rows
+rows/several.rows
+rows/sheets.rows
+";
 
-// The bytes of the files of these names, one after the other.
-fn read_all<H: Shelf>(alloc: Global, shelf: &mut H, names: &str) -> Result<Vec<u8>, ShelfFault> {
-    let mut bytes = Vec::new(alloc);
-    let mut file = Vec::new(alloc);
-    for name in names.split(' ') {
-        shelf.read(alloc, name, &mut file)?;
-        bytes.extend_from_slice(&file)?;
-    }
-    Ok(bytes)
-}
-
-// Runs the words on an input: how that ended, and whether it printed this text.
-fn prints<H: Shelf>(
+// Runs an example, and says how that ended, and if not the text that is kept of it was printed.
+fn told_example<H: Shelf>(
     alloc: Global,
     shelf: &mut H,
     words: &str,
     input: &str,
     text: &str,
-) -> Result<(Status, bool), ShelfFault> {
-    let words = parted(alloc, words)?;
+) -> Result<String, ShelfFault> {
     let bytes = read_all(alloc, shelf, input)?;
-    let mut source = MemorySource::new(bytes, ROOM, Vec::new(alloc));
-    let mut sink = MemorySink::new(alloc, ROOM, Vec::new(alloc))?;
-    let mut spent = Spendings::new(alloc);
-    let status = run(alloc, &words, &mut source, shelf, &mut sink, &mut spent);
+    let (status, out) = run_on(alloc, words, shelf, bytes)?;
     let printed = read_all(alloc, shelf, text)?;
-    Ok((status, sink.bytes() == printed.as_slice()))
+    let differs = if out.bytes() == printed.as_slice() {
+        ""
+    } else {
+        "differs, "
+    };
+    Ok(format!(in alloc; "{differs}status {}", status.number())?)
+}
+
+// Says how many runs a table has, and which of them didn't end so.
+fn told_table<H: Shelf>(alloc: Global, shelf: &mut H, table: &str) -> Result<String, ShelfFault> {
+    let mut wrong = String::new(alloc);
+    let runs = judge(alloc, shelf, table, &mut wrong)?;
+    Ok(format!(in alloc; "runs {runs}{wrong}")?)
 }
 
 fn main(rt: HostRuntime) -> io::Result<()> {
@@ -70,10 +74,15 @@ fn main(rt: HostRuntime) -> io::Result<()> {
     for example in EXAMPLES.lines() {
         let (words, files) = example.split_once("; ").unwrap_or((example, ""));
         let (input, text) = files.split_once("; ").unwrap_or((files, ""));
-        match prints(rt.alloc(), &mut shelf, words, input, text) {
-            Ok((status, true)) => println!(rt; "{text} status {}", status.number())?,
-            Ok((status, false)) => println!(rt; "{text} differs, status {}", status.number())?,
+        match told_example(rt.alloc(), &mut shelf, words, input, text) {
+            Ok(told) => println!(rt; "{text} {told}")?,
             Err(_) => println!(rt; "{text} has a file that can't be read")?,
+        }
+    }
+    for table in TABLES.lines() {
+        match told_table(rt.alloc(), &mut shelf, table) {
+            Ok(told) => println!(rt; "{table} {told}")?,
+            Err(_) => println!(rt; "{table} has a file that can't be read")?,
         }
     }
     Ok(())

@@ -1,6 +1,5 @@
 // The longest lines, the most lines and the deepest formulas that a run takes, and one more of each.
 use crate::devices::status_of;
-use crate::roster::{DECLARED, ENTRIES, WEEKEND};
 use crate::sheets::{EQUAL, ends_so, is_worked, run_with};
 use pc_port::{MemorySink, MemorySource};
 use pc_replay::Status;
@@ -132,7 +131,43 @@ fn longest_certificate(rt: HostRuntime) -> Result<(), Fail> {
     Ok(())
 }
 
-// Whether a roster's last entry can be made so many times again.
+// A roster of eight persons in pairs: what is declared, but for one rule; that rule; and entries, of which some clash.
+const DECLARED: &str = "\
+sheet 1
+sort person = ann bob cho dan eva fay gus hal
+sort day = 1 .. 5
+sort place = north south
+table pair(person, person)
+row pair(ann, bob)
+row pair(cho, dan)
+row pair(eva, fay)
+row pair(gus, hal)
+cell shift(person) : day
+cell room(person) : place
+cell lead : person
+rule together : forall x:person . forall y:person . pair(x, y) -> shift(x) = shift(y)
+rule apart : forall x:person . forall y:person . pair(x, y) -> room(x) != room(y)
+rule leads : shift(lead) = 1 & room(lead) = north
+";
+
+const WEEKEND: &str = "rule weekend : forall x:person . shift(x) = 5 -> room(x) = north\n";
+
+const ENTRIES: &str = "\
+enter shift(ann) = 1
+enter room(ann) = north
+enter shift(bob) = 2
+enter shift(cho) = 3
+enter room(dan) = north
+enter shift(eva) = 4
+enter room(eva) = south
+enter room(fay) = south
+enter shift(gus) = 2
+enter shift(hal) = 2
+enter room(gus) = north
+enter lead = ann
+";
+
+// Whether the last entry can be made so many times again.
 fn is_entered_again(alloc: Global, times: usize) -> Result<bool, AllocError> {
     let again = "enter lead = ann\n".repeat(alloc, times)?;
     let input = format!(in alloc; "{DECLARED}{WEEKEND}begin\n{ENTRIES}{again}")?;

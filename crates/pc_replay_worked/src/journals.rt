@@ -1,90 +1,10 @@
-// What no clause says: that journals merge, and that their posts are answered, with ample memory; what is printed; and what is where
-// a read or a write fails.
+// Journals where a read or a write fails, and the longest ones.
 
-use crate::sheets::{EQUAL, ends_so, parted, shelf_of};
+use crate::sheets::{EQUAL, parted, shelf_of};
 use pc_port::{MemoryShelf, MemorySink, MemorySource};
 use pc_replay::{Spendings, Status, run};
 use std::alloc::{AllocError, Global};
 use std::test::Fail;
-
-// The file's journal, the input's, and what their merge prints behind its status. A `/` ends a line.
-const MERGES: &str = "\
-post 1 1 10 : enter a = red/;post 2 1 12 : enter c = green/ => Done/post 1 1 10 : enter a = red/post 2 1 12 : enter c = green/
-post 2 1 12 : enter c = green/;post 1 1 10 : enter a = red/ => Done/post 1 1 10 : enter a = red/post 2 1 12 : enter c = green/
-post 1 1 10 : enter a = red/;post 1 1 10 : enter a = red/ => Done/post 1 1 10 : enter a = red/
-;post 7 1 3 : x/ => Done/post 7 1 3 : x/
-; => Done/
-post 1 1 3 : a/post 2 1 3 : b/;post 1 1 3 : a/post 1 2 5 : c/ => Done/post 1 1 3 : a/post 2 1 3 : b/post 1 2 5 : c/
-post 1 1 10 : enter a = red/;post 1 1 10 : enter a = green/ => SheetRefused/journal refused 25 differ author 1 number 1/
-post 2 1 1 : x/post 1 1 2 : x/;post 2 1 1 : y/post 1 1 2 : y/ => SheetRefused/journal refused 25 differ author 1 number 1/
-post 1 1 10 : enter a = red/;post 1 2 10 : clear a/ => SheetRefused/journal refused 23 gap input line 1/
-post 1 2 10 : clear a/;post 1 2 10 : clear a/ => SheetRefused/journal refused 23 gap file line 1/
-post 1 1 10 : a/post 2 1 9 : b/; => SheetRefused/journal refused 24 out-of-order file line 2/
-;post 1 1 10 : a/post 2 1 10 : b/post 2 2 10 : c/ => SheetRefused/journal refused 24 out-of-order input line 3/
-;post 1 1 10 : a => SheetRefused/journal refused 22 bad-line input line 1/
-;post 01 1 10 : a/ => SheetRefused/journal refused 22 bad-line input line 1/
-show/;nothing => SheetRefused/journal refused 22 bad-line file line 1/
-";
-
-// Whether what is read as a journal's file and input merges as a row says.
-fn is_merged(alloc: Global, row: &str) -> Result<bool, AllocError> {
-    let row = row.replace(alloc, '/', "\n")?;
-    let (asked, want) = row.as_str().split_once(" => ").unwrap_or(("", ""));
-    let (file, input) = asked.split_once(';').unwrap_or((asked, ""));
-    ends_so(
-        alloc,
-        "merge k.sheet",
-        file.as_bytes(),
-        input.as_bytes(),
-        want,
-    )
-}
-
-#[test]
-fn merges(rt: HostRuntime) -> Result<(), Fail> {
-    for row in MERGES.lines() {
-        assert!(rt; is_merged(rt.alloc(), row)?, "{row}");
-    }
-    Ok(())
-}
-
-// Words, a journal, and how its posts are answered on three equal cells.
-const POSTS: &str = "\
-posts k.sheet;post 1 1 10 : enter a = red/post 2 1 12 : enter c = green/ => Done/ok/ok/a : red !/  = red because a = red/  = green because c = green/  ! against c = green/b : -/  = red because a = red/  = green because c = green/c : green !/  = red because a = red/  = green because c = green/  ! against a = red/
-posts k.sheet; => Done/a : -/b : -/c : -/
-posts k.sheet;post 1 1 1 : enter a = blue/post 1 2 2 : nonsense/post 3 1 2 : / => SomeRefused/refused 5 unknown-name/refused 2 syntax/a : -/b : -/c : -/
-posts k.sheet;post 1 1 1 : show/ => Done/a : -/b : -/c : -/a : -/b : -/c : -/
-posts k.sheet --budget 1000;post 1 1 1 : budget 1/post 1 2 2 : enter a = red/ => SomeRefused/ok/refused 14 spent placed=1 learned=0 calls=1/a : -/b : -/c : -/
-posts k.sheet;post 1 2 10 : clear a/ => SheetRefused/journal refused 23 gap input line 1/
-posts k.sheet;post 1 1 10 : clear a => SheetRefused/journal refused 22 bad-line input line 1/
-posts other; => ReadFault/
-merge other; => ReadFault/
-merge k.sheet --budget 9; => Usage/@/
-posts; => Usage/@/
-";
-
-const USAGE: &str =
-    "usage: predicalc replay, edit FILE, check FILE, merge FILE, posts FILE, demo N [--budget K]";
-
-// Whether words and a journal end as a row says.
-fn are_answered(alloc: Global, row: &str) -> Result<bool, AllocError> {
-    let row = row.replace(alloc, '/', "\n")?;
-    let usage = USAGE.replace(alloc, ',', " /")?;
-    let row = row.as_str().replace(alloc, '@', usage.as_str())?;
-    let (asked, want) = row.as_str().split_once(" => ").unwrap_or(("", ""));
-    let (words, input) = asked.split_once(';').unwrap_or((asked, ""));
-    ends_so(alloc, words, EQUAL.as_bytes(), input.as_bytes(), want)
-}
-
-#[test]
-fn posts(rt: HostRuntime) -> Result<(), Fail> {
-    for row in POSTS.lines() {
-        assert!(rt; are_answered(rt.alloc(), row)?, "{row}");
-    }
-    Ok(())
-}
-
-// ---- devices that fail
 
 // A mode, the number of the read and of the write that fails, none at 0, where eight bytes come at a time; the status, and behind it what
 // is printed. The file has a journal of one post for `merge`, and the three cells for `posts`; the input has one post.

@@ -1,4 +1,4 @@
-// What no clause says: that checks end well with ample memory, and what is printed.
+// Checks where a read or a write fails, and an input that is taken whole.
 use pc_judge::check_file;
 use pc_port::{MemoryShelf, MemorySink, MemorySource};
 use pc_refusals::take_all;
@@ -12,18 +12,6 @@ const SHEET: &str =
 // That the second is red, since the first is.
 const ACCEPTED: &str =
     "certificate 1\nclaim b = red\nuse a = red\nvalue a = red\nvalue b = red\nvalue c = red\n1 rule ab\n2 atom @ab a=red b=green\n3 some b\n4 step ~a=red b=red : 3 1 2\nend\n";
-
-// The same with an assignment that makes a rule false.
-const BROKEN: &str =
-    "certificate 1\nclaim b = red\nuse a = red\nvalue a = red\nvalue b = red\nvalue c = green\n1 rule ab\n2 atom @ab a=red b=green\n3 some b\n4 step ~a=red b=red : 3 1 2\nend\n";
-
-// A rule that is no atom, and an entry that it goes on from.
-const RULED: &str =
-    "sheet 1\nsort color = red green blue\ncell a : color\ncell b : color\nrule t : a = red -> b = red\nenter a = red\nbegin\n";
-
-// That the second isn't green: by axioms of every kind, and a step whose clause speaks of a node.
-const BY_NODES: &str =
-    "certificate 1\nclaim b != green\nuse a = red\nvalue a = red\nvalue b = red\n1 rule t\n2 node @t 1\n3 atom @t/0 a=red\n4 atom @t/1 b=green\n5 atom @t/1 b=blue\n6 some b\n7 step ~a=red @t/1 : 1 3 2\n8 step ~a=red b=red : 7 4 5 6\n9 one b red green\n10 step ~a=red ~b=green : 8 9\nend\n";
 
 // A shelf with the sheet's file.
 fn shelf_of(alloc: Global, sheet: &str) -> Result<MemoryShelf, AllocError> {
@@ -46,67 +34,6 @@ fn ends_so(
     let ended = check_file(alloc, file, &mut input, &mut shelf, &mut out);
     let (status, text) = want.split_once(' ').unwrap_or((want, ""));
     Ok(format!(in alloc; "{ended:?}")?.as_str() == status && out.bytes() == text.as_bytes())
-}
-
-// The same where no read or write fails.
-fn is_judged(
-    alloc: Global,
-    file: &str,
-    sheet: &str,
-    certificate: &str,
-    want: &str,
-) -> Result<bool, AllocError> {
-    let bytes = certificate.as_bytes().to_vec(alloc)?;
-    let input = MemorySource::new(bytes, 100, Vec::new(alloc));
-    let out = MemorySink::new(alloc, 4096, Vec::new(alloc))?;
-    ends_so(alloc, file, sheet, input, out, want)
-}
-
-// A certificate that names nothing of the sheet.
-const UNKNOWN: &str = "certificate 1\nclaim d = red\n";
-
-const NO_BEGIN: &str = "sheet 1\nsort color = red\n";
-
-const TOLD_NO_BEGIN: &str = "SheetRefused sheet refused 3 no-begin\n";
-
-fn are_accepted(alloc: Global) -> Result<bool, AllocError> {
-    Ok(
-        is_judged(alloc, "k.sheet", SHEET, ACCEPTED, "Done accepted\n")?
-            && is_judged(alloc, "k.sheet", RULED, BY_NODES, "Done accepted\n")?
-            && is_judged(
-                alloc,
-                "k.sheet",
-                SHEET,
-                BROKEN,
-                "CertRefused refused rule-broken bc\n",
-            )?,
-    )
-}
-
-fn are_refused(alloc: Global) -> Result<bool, AllocError> {
-    Ok(
-        is_judged(
-            alloc,
-            "k.sheet",
-            SHEET,
-            UNKNOWN,
-            "CertRefused refused unknown-name line 2\n",
-        )? && is_judged(
-            alloc,
-            "k.sheet",
-            SHEET,
-            "",
-            "CertRefused refused syntax line 1\n",
-        )? && is_judged(alloc, "k.sheet", NO_BEGIN, ACCEPTED, TOLD_NO_BEGIN)?
-            && is_judged(alloc, "other", SHEET, ACCEPTED, "ReadFault")?,
-    )
-}
-
-#[test]
-fn checks(rt: HostRuntime) -> Result<(), Fail> {
-    assert!(rt; are_accepted(rt.alloc())?);
-    assert!(rt; are_refused(rt.alloc())?);
-    Ok(())
 }
 
 // The read and the write that fail, how the check ends, and what is written; `/` ends a line.
