@@ -1,5 +1,5 @@
 -- The worked runs.
-use Rattle.std.proofs.Common.{◌≢◌, ℕ, Bool, true, not, ◌&&◌, ◌==◌, List, [], ◌∷◌, ◌++◌, refl, inl, codes, arith, take}
+use Rattle.std.proofs.Common.{◌≡◌, ◌≢◌, ℕ, Bool, true, not, ◌&&◌, ◌==◌, List, [], ◌∷◌, ◌++◌, length, refl, sym, ap, subst, inl, codes, arith, drop, take}
 use Rattle.std.specs.Bool.{Decides}
 use Rattle.std.proofs.lemmas.Bool.Decides.{Decides-eqb, Decides-not, Decides-by_and}
 use Rattle.std.proofs.lemmas.List.Elements.{All-nil, All-cons}
@@ -7,14 +7,16 @@ use Rattle.pc_lines.specs.Lines.{HasNoEnd, IsWholeLine, IsLongStart}
 use Rattle.pc_refusals.specs.declared.refusal.Refusal.TheVariants.{NoRule}
 use Rattle.pc_refusals.specs.declared.status.Status.TheVariants.{SomeRefused, ReadFault, WriteFault, Memory, TooLong}
 use Rattle.pc_refusals.specs.Endings.{too_long_text}
-use Rattle.pc_course.specs.Events.{took, took_rest, told, input_failed, output_failed}
-use Rattle.pc_course.specs.Stages.{line_within, tells, IsLine}
+use Rattle.pc_course.specs.Events.{Event, took, took_rest, told, input_failed, output_failed}
+use Rattle.pc_course.specs.Stages.{Intake, line_within, takes, tells, IsLine, PassesLimit}
 use Rattle.pc_course.specs.Runs.{nothing, ahead, goes_on, on_course, past_limit, ended, ended_with, read_failed, write_failed, Ran}
-use Rattle.pc_transcript.specs.declared.TheConstants.{LINE_LIMIT}
+use Rattle.pc_transcript.specs.declared.TheConstants.{LINE_LIMIT, MAX_LINES}
 use Rattle.pc_transcript.specs.Answer.{accepted, refused, no_memory, answer_text}
 use Rattle.pc_transcript.specs.Transcript.{Transcript}
-use Rattle.pc_transcript.specs.Course.{events_of, AnswersLines, awaits_line, has_answer, has_all}
+use Rattle.pc_transcript.specs.Course.{events_of, AnswersLines, awaits_line, awaits_end, has_answer, has_all}
 use Rattle.pc_course_laws.specs.Examples.{Counts, before_it, WorkedRuns}
+use Rattle.pc_course_laws.specs.Limits.{HasPassed}
+use Rattle.pc_course_laws.proofs.Limits.{nothing_there, first_is}
 
 abbrev has_no_end : List ℕ → Bool
 has_no_end [] = true
@@ -83,6 +85,29 @@ wanting =
       happened = (before_it (codes "count\n") 0 [] 0, (refl, refl), (before_it (codes "count\n") 0 (codes "refused 15 memory\n") 0, (refl, refl), (before_it [] 0 (codes "refused 15 memory\n") 0, (refl, refl), (before_it [] 0 (codes "refused 15 memory\nok\n") 0, (refl, refl), (before_it [] 0 (codes "refused 15 memory\nok\n") 0, (refl, refl, refl), refl)))));
     }
 
+passed_by_long : (line : List ℕ) → IsLongStart LINE_LIMIT line → HasPassed (AnswersLines Counts 0) (took line ∷ told too_long_text ∷ [])
+passed_by_long line long = record {
+  earlier = [];
+  intake = line_within LINE_LIMIT;
+  notes = 0;
+  comes = awaits_line [] refl (All-nil (IsWholeLine LINE_LIMIT)) (omega arith) refl;
+  event = took line;
+  passes = long;
+  later = told too_long_text ∷ [];
+  events_are = refl;
+}
+
+not_all_lines : (t : Transcript) → [] ≡ events_of t → length t ≡ MAX_LINES → ⊥
+not_all_lines [] none full = omega (arith, full)
+not_all_lines (pair ∷ more) none full = cc none
+
+not_passed_by_short : (earlier later : List Event) (event : Event) (intake : Intake) (end : ℕ) → AnswersLines Counts 0 earlier (takes intake) end → PassesLimit intake event → took (codes "count\n") ∷ [] ≡ earlier ++ event ∷ later → ⊥
+not_passed_by_short (x ∷ earlier) later event intake end comes passes e = nothing_there earlier later event (ap (drop 1) e)
+not_passed_by_short [] later event intake end (awaits_line t legal whole few is) passes e =
+    let long : IsLongStart LINE_LIMIT (codes "count\n") = subst (λ (x : Event). PassesLimit (line_within LINE_LIMIT) x) (sym (first_is (took (codes "count\n")) event [] later e)) passes in
+    omega (arith, long.long)
+not_passed_by_short [] later event intake end (awaits_end t legal whole full is) passes e = not_all_lines t is full
+
 pub worked : WorkedRuns
 worked = record {
   with_refusal = refusing;
@@ -90,5 +115,7 @@ worked = record {
   write_fails = failing_write;
   passes_limit = passing;
   wants_memory = wanting;
+  has_passed = passed_by_long;
+  has_not_passed = λ h. not_passed_by_short h.earlier h.later h.event h.intake h.notes h.comes h.passes h.events_are;
   goes_on = λ start end events line course. elim course [ ];
 }

@@ -11,6 +11,7 @@ use Rattle.pc_course.specs.Runs.{IsSpare, Run, Ran}
 use Rattle.pc_transcript.specs.declared.TheConstants.{LINE_LIMIT}
 use Rattle.pc_transcript.specs.Answer.{Answer, silent, accepted, shown, refused, no_memory}
 use Rattle.pc_transcript.specs.Course.{AnswersLines}
+use Rattle.pc_course_laws.specs.Limits.{HasPassed}
 
 -- how a line may be answered in a state, and which state it leaves
 abbrev pub Counts : ℕ → List ℕ → Answer → ℕ → Type 0
@@ -35,6 +36,9 @@ pub record WorkedRuns : Type 0 where
   pub passes_limit : (line more : List ℕ) → IsLongStart LINE_LIMIT line → Ran (AnswersLines Counts 0) 0 TooLong 0 (before_it (line ++ more) 0 [] 0) (before_it more 0 (codes "refused 19 too-long\n") 0)
   -- a line wants memory, and the next one is answered
   pub wants_memory : Ran (AnswersLines Counts 0) 0 Memory 1 (before_it (codes "count\ncount\n") 0 [] 0) (before_it [] 0 (codes "refused 15 memory\nok\n") 0)
+  -- the start of such a line passes a limit, and a line that isn't longer than one may be doesn't
+  pub has_passed : (line : List ℕ) → IsLongStart LINE_LIMIT line → HasPassed (AnswersLines Counts 0) (took line ∷ told (codes "refused 19 too-long\n") ∷ [])
+  pub has_not_passed : ¬ HasPassed (AnswersLines Counts 0) (took (codes "count\n") ∷ [])
   -- want of memory never ends the answering of lines
   pub goes_on : (start end : ℕ) (events : List Event) (line : List ℕ) → ¬ AnswersLines Counts start events (needs line) end
 

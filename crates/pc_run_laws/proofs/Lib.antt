@@ -11,3 +11,4 @@ pub mod Deciding
 pub mod Outcomes
 pub mod Cutting
 pub mod OneMore
+pub mod Limits

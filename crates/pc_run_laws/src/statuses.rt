@@ -4,9 +4,10 @@ ghost use Rattle.pc_refusals.specs.declared.status.Status.{Status as AStatus};
 ghost use Rattle.pc_course.specs.Events.{Outside};
 ghost use Rattle.pc_course.specs.Runs.{Ran};
 ghost use Rattle.pc_course_laws.specs.Causes.{FaultsComeLast, HasCauses};
+ghost use Rattle.pc_course_laws.specs.Limits.{EndsTooLongExactly};
 ghost use Rattle.pc_demo.specs.Course.{Demo};
 ghost use Rattle.pc_judge.specs.Course.{CheckOf};
-ghost use Rattle.pc_replay.specs.Course.{Runs};
+ghost use Rattle.pc_replay.specs.Course.{Course, Runs};
 ghost use Rattle.pc_run_laws.specs.Checks.{Checked, ChecksEndAsJudged};
 ghost use Rattle.pc_run_laws.specs.Demonstrations.{Demonstrated};
 ghost use Rattle.pc_run_laws.specs.Statuses.{DoneIsSo, LimitsArePassed, ReadsFail, SheetsAreRefused, SomeAreRefused, WritesFail};
@@ -33,10 +34,16 @@ pub fn refused_sheets_are_told()
     ensures { SheetsAreRefused }
 {}
 
-/// A run ends in `TooLong` only where it took in, as its mode does, what passes the limit of that, and this is told last.
+/// A run ends in `TooLong` exactly where it took in what passes the limit of that, and no device failed; then this is told
+/// last. So do a check and a demonstration, which takes in nothing and never ends so.
 pub fn limits_are_passed()
-    ensures { LimitsArePassed }
-{}
+    ensures exactly { (words : List (List ℕ)) (notes : Notes) → EndsTooLongExactly (Course words notes) }
+    ensures told { LimitsArePassed }
+    ensures check { (file : List ℕ) → EndsTooLongExactly (CheckOf file) }
+    ensures demo { (blocks budget : ℕ) (notes : Notes) → EndsTooLongExactly (Demo blocks budget notes) }
+{
+    words_fit_one_request();
+}
 
 /// A run ends in `ReadFault` only where a read of the input failed, in what its mode takes in, or the shelf's one read did,
 /// of the file that its words name.

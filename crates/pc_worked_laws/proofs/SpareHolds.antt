@@ -1,5 +1,5 @@
 -- Edits that change nothing, and spare entries.
-use Rattle.std.proofs.Common.{◌≡◌, ℕ, zero, suc, ◌+◌, ◌<◌, ◌≤◌, inl, inr, Bool, true, false, not, ◌&&◌, ◌==◌, cond, eqb, eq-eqb, arith, List, [], ◌∷◌, ◌++◌, filter, Option, None, Some, Contains, All, ap, refl, sym, ◌∙◌, subst}
+use Rattle.std.proofs.Common.{◌≡◌, ℕ, zero, suc, ◌+◌, ◌<◌, ◌≤◌, inl, inr, Bool, true, false, not, ◌&&◌, cond, eqb, eq-eqb, arith, List, [], ◌∷◌, ◌++◌, filter, Option, None, Some, Contains, All, ap, refl, sym, ◌∙◌, subst}
 use Rattle.std.specs.List.{list_any}
 use Rattle.std.specs.Bool.{beq}
 use Rattle.std.proofs.lemmas.Bool.{cases_Bool, eqb-true, ne_eqb, false≢true, and_from}
