@@ -27,7 +27,7 @@ pub struct Spreadsheet {
 
 impl Model for Spreadsheet {
     ghost use Rattle.pc_spreadsheet.specs.Commands.{state_of};
-    ghost use Rattle.pc_spreadsheet.specs.Tasks.{State, Starts};
+    ghost use Rattle.pc_spreadsheet.specs.Tasks.{State};
     ghost use Rattle.pc_spreadsheet.specs.State.{coded_state};
 
     ghost Value = { State };
@@ -65,6 +65,7 @@ impl Spreadsheet {
 impl Machine for Spreadsheet {
     ghost use Rattle.pc_spreadsheet.specs.Allowed.{Allows, RefusesText};
     ghost use Rattle.pc_spreadsheet.specs.Pages.{CanShow, IsCertificateAgainst, IsPage};
+    ghost use Rattle.pc_spreadsheet.specs.Tasks.{Starts};
 
     type Page = Page;
 

@@ -1,5 +1,5 @@
 -- What the lines of a demonstration ask, and what they leave of the generated sheet.
-use Rattle.std.proofs.Common.{◌≡◌, ◌≢◌, ℕ, zero, suc, ◌+◌, ◌*◌, ◌%◌, ◌<◌, ◌≤◌, Bool, true, false, cond, not, ◌||◌, List, [], ◌∷◌, ◌++◌, map, codes, filter, pos, refl, sym, ◌∙◌, ap, ap₂, subst, inl, arith, eq-eqb}
+use Rattle.std.proofs.Common.{◌≡◌, ◌≢◌, ℕ, zero, suc, ◌+◌, ◌*◌, ◌%◌, ◌<◌, ◌≤◌, Bool, true, false, cond, not, ◌||◌, List, [], ◌∷◌, ◌++◌, map, codes, filter, pos, refl, sym, ◌∙◌, ap, ap₂, subst, arith, eq-eqb}
 use Rattle.std.specs.Prelude.{decimal}
 use Rattle.std.specs.List.{AllZip, flat_map, list_any}
 use Rattle.std.proofs.lemmas.Bool.{ne_eqb}
@@ -41,7 +41,7 @@ use Rattle.pc_spreadsheet.specs.Tasks.{State, Task, clears, shows, PageKind, IsT
 use Rattle.pc_spreadsheet.specs.Allowed.{Notes, Allows}
 use Rattle.pc_demo.specs.Demonstration.{told_of}
 use Rattle.pc_demo.specs.Summing.{clear_line, clear_lines}
-use Rattle.pc_demo.proofs.ClearLines.{own_text, may_want}
+use Rattle.pc_theorem.proofs.ClearLines.{own_text, is_something}
 use Rattle.pc_afresh.specs.Afresh.{IsOpen, TranscriptsKeepOpen}
 use Rattle.pc_theorem.specs.Theorem.{third_entries, without_firsts, IsToldOf, of_ok, of_other}
 use Rattle.pc_theorem.proofs.Answered.{CommandsHaveOneReading, NeverWants, course_of, asked_same, refused_not_ok}
@@ -78,7 +78,7 @@ module _ (n : ℕ) (few : n ≤ 256) where
 
   spelled : IsSpelled (clear_line n) (clear_words n)
   spelled = record {
-    split = record { utf8 = cuts_utf8 (clear_line n) (clear_words n) cuts_line; something = λ empty. may_want n (inl empty); has = has_words (clear_line n) (clear_words n) cuts_line };
+    split = record { utf8 = cuts_utf8 (clear_line n) (clear_words n) cuts_line; something = is_something n; has = has_words (clear_line n) (clear_words n) cuts_line };
     within = omega (arith, one_level);
   }
 

@@ -4,6 +4,7 @@ mod Worth
 mod Answered
 mod Happenings
 mod Ends
+mod ClearLines
 mod Clearing
 mod Consistent
 mod Refused
