@@ -1,10 +1,10 @@
 //! What is answered where a formula is asked.
 ghost use Rattle.std.specs.Prelude.{◌≡◌};
 
+use pc_axiom_names::Names;
 use pc_ground::GroundFault;
 use pc_log::StepId;
 use pc_logic::Assignment;
-use pc_names::Names;
 use pc_sheet::Entry;
 use pc_solver::Stop;
 use std::alloc::{AllocError, AllocFailed};

@@ -1,8 +1,8 @@
 // The names of variables and axioms, as they are read back.
 ghost use Rattle.std.specs.Prelude.{◌≡◌, IfOk, length};
 
+use pc_axiom_names::{AxiomRef, Names, VarName};
 use pc_lits::Var;
-use pc_names::{AxiomRef, Names, VarName};
 use pc_sheet::{CellId, Entry, NodePath, ValueId};
 use std::alloc::{AllocError, Global};
 use std::test::Fail;

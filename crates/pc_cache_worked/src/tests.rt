@@ -1,13 +1,13 @@
 ghost use Rattle.std.specs.Prelude.{IfOk};
 ghost use Rattle.pc_cache.specs.Rows.{HaveTargets};
 
+use pc_axiom_names::Names;
 use pc_cache::{Cache, Patch};
 use pc_lits::{Lit, Var};
 use pc_load::load_book;
 use pc_log::{Line, Log, StepId};
 use pc_logic::{Assignment, Book};
-use pc_names::Names;
-use pc_proof::Proof;
+use pc_reason::Proof;
 use pc_sheet::{CellId, Entry, Target, ValueId};
 use std::alloc::{AllocError, Global};
 use std::test::Fail;

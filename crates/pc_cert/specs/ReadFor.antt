@@ -6,8 +6,8 @@ use Rattle.pc_sheet.specs.WellFormed.{IsEntryOf}
 use Rattle.pc_lits.specs.declared.literal.Lit.{Lit}
 use Rattle.pc_accept.specs.Literals.{Symbol}
 use Rattle.pc_accept.specs.Accepts as accepts
-use Rattle.pc_names.specs.declared.axiom_name.AxiomName.{AxiomName}
-use Rattle.pc_names.specs.declared.axiom_name.AxiomName.TheVariants.{Any, One, Rule, Node, Atom}
+use Rattle.pc_axiom_names.specs.declared.axiom_name.AxiomName.{AxiomName}
+use Rattle.pc_axiom_names.specs.declared.axiom_name.AxiomName.TheVariants.{Any, One, Rule, Node, Atom}
 use Rattle.pc_cert.specs.declared.cert.Cert.{Cert}
 use Rattle.pc_cert.specs.declared.cert.CertPart.{CertPart}
 use Rattle.pc_cert.specs.declared.cert.CertPart.TheVariants.{Axiom, Step, Block}

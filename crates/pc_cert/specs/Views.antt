@@ -5,7 +5,7 @@ use Rattle.pc_sheet.specs.declared.ids.Entry.{Entry}
 use Rattle.pc_lits.specs.declared.literal.Lit.{Lit}
 use Rattle.pc_accept.specs.Literals as plain
 use Rattle.pc_accept.specs.Accepts as accepts
-use Rattle.pc_names.specs.Views.{axiom_of}
+use Rattle.pc_axiom_names.specs.Views.{axiom_of}
 use Rattle.pc_cert.specs.Written.{CertificatePart, taken, derived, blocked}
 use Rattle.pc_cert.specs.Text.{SetReading, CertificateReading, certificate, fault_at, syntax, unknown_name, IsTextReading}
 use Rattle.pc_cert.specs.declared.cert.Claim.{Claim}

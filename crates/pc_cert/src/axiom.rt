@@ -3,7 +3,7 @@ ghost use Rattle.std.specs.Prelude.{◌≡◌, ◌↔◌, ℕ, List, Some, map, 
 ghost use Rattle.std.specs.Option.{option_map};
 ghost use Rattle.pc_accept.specs.Axioms.{Axiom};
 ghost use Rattle.pc_formula.specs.Tree.{cell_of, value_of};
-ghost use Rattle.pc_names.specs.Views.{axiom_of};
+ghost use Rattle.pc_axiom_names.specs.Views.{axiom_of};
 ghost use Rattle.pc_cert.specs.Meaning.{IsAxiomNamed};
 ghost use Rattle.pc_cert.specs.Trees.{pair_of, part_of, path_of};
 ghost use Rattle.pc_cert.specs.Written.{written_some, written_one, written_rule, written_node_clause, written_atom};
@@ -12,9 +12,9 @@ use crate::entries::named_entries;
 use crate::lookup::{named_cell, named_rule, named_values};
 use crate::node::named_node;
 use crate::tree::{PairTree, PartTree, PathTree};
+use pc_axiom_names::AxiomName;
 use pc_formula::{CellTree, Name, ValueTree};
 use pc_logic::Book;
-use pc_names::AxiomName;
 use std::alloc::{AllocError, Global};
 
 // `some`

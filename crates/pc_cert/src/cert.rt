@@ -1,7 +1,7 @@
 ghost use Rattle.std.specs.Prelude.{◌≡◌};
 
+use pc_axiom_names::AxiomName;
 use pc_lits::Lit;
-use pc_names::AxiomName;
 use pc_sheet::{CellId, Entry, NodePath, Target, ValueId};
 use std::alloc::AllocError;
 use thiserror::Error;

@@ -26,8 +26,8 @@ mod tree;
 pub use cert::{Cert, CertFault, CertLine, CertPart, Claim, Said, SaidSet, Symbol};
 pub use law::worked_lines;
 pub use numbering::Numbering;
+pub use pc_axiom_names::AxiomName;
 pub use pc_lits::{Lit, Var};
-pub use pc_names::AxiomName;
 pub use pc_sheet::{CellId, Entry, NodePath, Target, ValueId};
 pub use read::read_cert;
 

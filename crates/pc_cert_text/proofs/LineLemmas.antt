@@ -19,7 +19,7 @@ use Rattle.pc_log.specs.Lines.{LogLine, AxiomLine, BlockLine, StepLine, hints_of
 use Rattle.pc_log.specs.Spans.{IsSpanOf, lines_of_span}
 use Rattle.pc_log.specs.Trimmed.{moved}
 use Rattle.pc_log.proofs.SpanLemmas.{get_within, length_range}
-use Rattle.pc_names.specs.Listed.{NameLists}
+use Rattle.pc_axiom_names.specs.Listed.{NameLists}
 use Rattle.pc_reason.specs.Derivation.{IsLineNamedBeside, line_named, literal_named, entries_from}
 use Rattle.pc_writer.proofs.CellLemmas.{entered_cell}
 use Rattle.pc_cert_text.specs.CertificateText.{behind_blank, derivation_line_text, derivation_lines_text, number_text}

@@ -12,7 +12,7 @@ use Rattle.pc_choices.specs.SetCertificates.{AreCertified, given_of, SetParts}
 use Rattle.pc_log.specs.Lines.{LogLine}
 use Rattle.pc_log.specs.Spans.{lines_of_span}
 use Rattle.pc_log.specs.declared.trimming.Span.{Span}
-use Rattle.pc_names.specs.Listed.{NameLists}
+use Rattle.pc_axiom_names.specs.Listed.{NameLists}
 use Rattle.pc_reason.specs.Derivation.{entries_from, line_named}
 use Rattle.pc_world_list.specs.Worlds.{WorldView, set_of, set_at}
 use Rattle.pc_writer.specs.SheetText.{ended}

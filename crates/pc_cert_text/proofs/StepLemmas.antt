@@ -8,7 +8,7 @@ use Rattle.pc_cert_text.specs.CertificateText.{behind_blank, literal_text, numbe
 use Rattle.pc_sheet.specs.Sheet.{Sheet}
 use Rattle.pc_lits.specs.declared.literal.Lit.{Lit}
 use Rattle.pc_log.specs.Lines.{StepLine}
-use Rattle.pc_names.specs.Listed.{NameLists}
+use Rattle.pc_axiom_names.specs.Listed.{NameLists}
 use Rattle.pc_cert_text.specs.inside.Steps.{hint_text, logged_text, step_text}
 use Rattle.pc_cert_text.proofs.TextLemmas.{flat_mapped}
 

@@ -15,12 +15,12 @@ ghost use Rattle.pc_cert_text.specs.inside.Steps.{AreNamedAndOfSheet, CanBeWritt
 use crate::axiom::write_axiom;
 use crate::literal::write_literal;
 use crate::number::write_number;
+use pc_axiom_names::Names;
 use pc_lits::Lit;
 use pc_log::{Line, StepId};
 use pc_logic::Book;
-use pc_names::Names;
 use pc_port::{Failed, Sink};
-use pc_proof::Proof;
+use pc_reason::Proof;
 use pc_writer::write_text;
 
 /// Writes the lines of a proof, numbered from 1, their hints counted from the first of them.

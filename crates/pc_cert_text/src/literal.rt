@@ -1,7 +1,7 @@
 // Literals, by the names of their variables.
 ghost use Rattle.std.specs.Prelude.{◌<◌, length};
 ghost use Rattle.pc_accept.specs.Literals.{Symbol};
-ghost use Rattle.pc_names.specs.Shown.{symbol_shown};
+ghost use Rattle.pc_axiom_names.specs.Shown.{symbol_shown};
 ghost use Rattle.pc_reason.specs.Derivation.{literal_named, symbol_named};
 ghost use Rattle.pc_writer.specs.Writes.{Writes};
 ghost use Rattle.pc_cert_text.specs.CertificateText.{literal_text, claim_sign_text, symbol_text};
@@ -9,9 +9,9 @@ ghost use Rattle.pc_accept.specs.Writable.{IsSymbolOf};
 
 use crate::path::write_path;
 use crate::tight::write_read;
+use pc_axiom_names::{Names, VarName};
 use pc_lits::Lit;
 use pc_logic::Book;
-use pc_names::{Names, VarName};
 use pc_port::{Failed, Sink};
 use pc_sheet::Entry;
 use pc_writer::write_text;

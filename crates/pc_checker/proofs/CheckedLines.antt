@@ -9,8 +9,8 @@ use Rattle.pc_accept.specs.Literals.{Symbol, Literal, opposite}
 use Rattle.pc_accept.specs.Axioms.{IsClauseOf}
 use Rattle.pc_accept.specs.Accepts as accepts
 use Rattle.pc_accept.specs.Accepts.{IsLineClauseBeside, AreLineClausesBeside, EndsWithin}
-use Rattle.pc_names.specs.Views.{axiom_of}
-use Rattle.pc_names.specs.declared.axiom_name.AxiomName.TheVariants.{Any}
+use Rattle.pc_axiom_names.specs.Views.{axiom_of}
+use Rattle.pc_axiom_names.specs.declared.axiom_name.AxiomName.TheVariants.{Any}
 use Rattle.pc_cert.specs.Written.{CertificatePart}
 use Rattle.pc_cert.specs.Text.{CertificateReading, line_of, lines_from}
 use Rattle.pc_cert.specs.Views.{literal_of, part_of, numbered_part_of, AreSymbolsDistinct}

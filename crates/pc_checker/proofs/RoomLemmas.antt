@@ -8,7 +8,7 @@ use Rattle.pc_lits.specs.declared.literal.Lit.{Lit}
 use Rattle.pc_accept.specs.Literals.{Symbol, node, Literal}
 use Rattle.pc_accept.specs.Axioms.{IsClauseOf, negated_entry}
 use Rattle.pc_accept.specs.Accepts.{value_of_entry}
-use Rattle.pc_names.specs.Views.{axiom_of}
+use Rattle.pc_axiom_names.specs.Views.{axiom_of}
 use Rattle.pc_cert.specs.Text.{entry_said}
 use Rattle.pc_cert.specs.Views.{said_of, symbol_of, symbol_at, AreSymbolsDistinct}
 use Rattle.pc_cert.specs.declared.cert.Symbol.{Symbol as SymbolRead}

@@ -1,7 +1,7 @@
 -- The clauses of lines, where lines share them.
 use Rattle.std.specs.Prelude.{◌≡◌, ℕ, ◌<◌, List, [], map, length, slice_index_or, All}
 use Rattle.pc_lits.specs.declared.literal.Lit.{Lit}
-use Rattle.pc_names.specs.Views.{axiom_of}
+use Rattle.pc_axiom_names.specs.Views.{axiom_of}
 use Rattle.pc_cert.specs.declared.cert.CertPart.{CertPart}
 use Rattle.pc_cert.specs.declared.cert.CertPart.TheVariants.{Axiom, Step, Block}
 

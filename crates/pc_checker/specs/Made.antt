@@ -5,7 +5,7 @@ use Rattle.pc_sheet.specs.declared.ids.ValueId.{ValueId}
 use Rattle.pc_lits.specs.declared.literal.Lit.{Lit}
 use Rattle.pc_accept.specs.Literals.{Symbol, Literal}
 use Rattle.pc_accept.specs.Axioms.{IsClauseOf}
-use Rattle.pc_names.specs.Views.{axiom_of}
+use Rattle.pc_axiom_names.specs.Views.{axiom_of}
 use Rattle.pc_cert.specs.declared.cert.Cert.{Cert}
 use Rattle.pc_cert.specs.declared.cert.CertPart.{CertPart}
 use Rattle.pc_cert.specs.declared.cert.CertPart.TheVariants.{Axiom, Step, Block}

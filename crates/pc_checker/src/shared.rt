@@ -3,11 +3,11 @@
 ghost use Rattle.std.specs.Prelude.{◌≡◌, ◌<◌, IfOk, IfSome, IsTrue, length, slice_index_or};
 ghost use Rattle.pc_cert.specs.Keys.{IsKey};
 ghost use Rattle.pc_cert.specs.declared.cert.CertLine.{CertLine as TheLine};
-ghost use Rattle.pc_names.specs.Views.{axiom_of};
+ghost use Rattle.pc_axiom_names.specs.Views.{axiom_of};
 ghost use Rattle.pc_checker.specs.LineClauses.{TakeSame};
 
+use pc_axiom_names::AxiomName;
 use pc_cert::{CertLine, CertPart, Numbering};
-use pc_names::AxiomName;
 use std::alloc::{AllocError, Global};
 
 /// The axioms and sets so far whose clauses may be long, found by hashing, with the first line of each.

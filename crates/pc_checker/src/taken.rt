@@ -1,7 +1,7 @@
 //! What may be taken as an axiom, and its clause.
 
 ghost use Rattle.std.specs.Prelude.{◌≡◌, ◌<◌, ◌≤◌, ◌↔◌, IfOk, IsTrue, All, Some, [], length};
-ghost use Rattle.pc_names.specs.Views.{axiom_of};
+ghost use Rattle.pc_axiom_names.specs.Views.{axiom_of};
 ghost use Rattle.pc_accept.specs.Axioms.{axiom_atom};
 ghost use Rattle.pc_sheet.specs.Entailment.{HaveDistinctCells, cell_sizes};
 ghost use Rattle.pc_sheet.specs.Nodes.{kind_at};
@@ -13,9 +13,9 @@ ghost use Rattle.pc_checker.specs.inside.Written.{IsAxiomWritten};
 use crate::axiom::{write_reads, write_values};
 use crate::draft::ClauseDraft;
 use crate::node::write_node;
+use pc_axiom_names::AxiomName;
 use pc_lits::{Lit, Values, Var};
 use pc_logic::{Book, eval_partial, node_at};
-use pc_names::AxiomName;
 use pc_sheet::{Entry, NodeKind, NodePath};
 use std::alloc::{AllocError, Global};
 

@@ -8,7 +8,7 @@ use Rattle.pc_log.specs.Spans.{IsSpanOf, lines_of_span}
 use Rattle.pc_log.specs.declared.trimming.Span.{Span}
 use Rattle.pc_accept.specs.Accepts.{against, Certificate, Accepts}
 use Rattle.pc_accept.specs.Writable.{IsWritableCertificate}
-use Rattle.pc_names.specs.Listed.{NameLists}
+use Rattle.pc_axiom_names.specs.Listed.{NameLists}
 use Rattle.pc_reason.specs.Derivation.{line_named, AreLinesNamed, entries_from}
 
 -- the certificate against the rule of that number which uses these entries and shows this assignment

@@ -7,7 +7,7 @@ use Rattle.pc_log.specs.declared.trimming.Span.{Span}
 use Rattle.pc_accept.specs.Sets.{GivenSet}
 use Rattle.pc_accept.specs.Accepts.{Claim, repairs, unimplied, Certificate, Accepts}
 use Rattle.pc_accept.specs.Writable.{IsWritableCertificate}
-use Rattle.pc_names.specs.Listed.{NameLists}
+use Rattle.pc_axiom_names.specs.Listed.{NameLists}
 use Rattle.pc_reason.specs.Derivation.{line_named, AreLinesNamedBeside, entries_from}
 use Rattle.pc_world_list.specs.Worlds.{WorldView}
 use Rattle.pc_choices.specs.declared.set_proof.SetsClaim.{SetsClaim}

@@ -1,9 +1,9 @@
 //! What a certificate of sets is made of: the maximal sets of a book, and the derivation that there is no other.
 ghost use Rattle.std.specs.Prelude.{◌≡◌};
 
+use pc_axiom_names::Names;
 use pc_log::{Log, Span};
-use pc_names::Names;
-use pc_proof::Proof;
+use pc_reason::Proof;
 use pc_sheet::Target;
 use pc_world_list::Worlds;
 use std::marker::Model;

@@ -6,7 +6,7 @@ use Rattle.pc_sheet.specs.Sheet.{Sheet, NamedStatement}
 use Rattle.pc_sheet.specs.Entailment.{cell_sizes}
 use Rattle.pc_accept.specs.Literals.{Symbol}
 use Rattle.pc_accept.specs.Axioms.{Axiom}
-use Rattle.pc_names.specs.Listed.{NameLists, no_names}
+use Rattle.pc_axiom_names.specs.Listed.{NameLists, no_names}
 use Rattle.pc_ground.specs.declared.owners.Span.{Span}
 use Rattle.pc_ground.specs.ByNumber.{cells_clauses, rules_clauses}
 use Rattle.pc_ground.specs.Ground.{clauses, cells_axioms, rules_axioms}

@@ -24,3 +24,4 @@ pub mod Rows
 pub mod CountersRight
 pub mod CountersAdded
 pub mod Counts
+pub mod LeavesAdded

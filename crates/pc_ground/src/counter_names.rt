@@ -7,7 +7,7 @@ ghost use Rattle.pc_ground.specs.Ground.{counter_axioms, counters_axioms};
 ghost use Rattle.pc_ground.specs.Naming.{counter_numbers, name_of, named};
 
 use crate::naming::child_path;
-use pc_names::{AxiomRef, Names};
+use pc_axiom_names::{AxiomRef, Names};
 use pc_sheet::NodePath;
 use std::alloc::{AllocError, Global};
 

@@ -4,7 +4,7 @@ ghost use Rattle.std.specs.List.{flat_map};
 ghost use Rattle.pc_sheet.specs.Reads.{number_of_cell};
 ghost use Rattle.pc_parts.specs.Leaves.{cells_of_leaf};
 
-use pc_leaves::Leaves;
+use crate::leaves::Leaves;
 use pc_sheet::Entry;
 use std::alloc::AllocError;
 

@@ -11,7 +11,7 @@ use Rattle.pc_log.specs.Rests.{Rests, on_itself}
 use Rattle.pc_log.specs.Trimmed.{moved, IsTrimmed}
 use Rattle.pc_log.specs.Derivations.{clause_of_line, IsDerivation}
 use Rattle.pc_sheet.specs.Sheet.{Sheet}
-use Rattle.pc_names.specs.Listed.{NameLists}
+use Rattle.pc_axiom_names.specs.Listed.{NameLists}
 use Rattle.pc_ground.specs.Variables.{variable_count}
 use Rattle.pc_ground.specs.Ground.{axioms, clauses}
 use Rattle.pc_ground.specs.Ground as ground

@@ -14,7 +14,7 @@ use Rattle.pc_sheet.specs.Entailment.{cell_sizes}
 use Rattle.pc_ground.specs.Ground.{axioms, clauses, clause_of_axiom}
 use Rattle.pc_ground.specs.Naming.{names_of, name_of}
 use Rattle.pc_ground.specs.Variables.{variable_count}
-use Rattle.pc_names.specs.Listed.{NameLists}
+use Rattle.pc_axiom_names.specs.Listed.{NameLists}
 use Rattle.pc_parts.specs.Components.{parts_of}
 use Rattle.pc_components.specs.PartAxioms.{AreAxiomsOf}
 use Rattle.pc_components.specs.View.{Kept, number_of, cells_of_part, AreComponentsOf}

@@ -7,8 +7,8 @@ ghost use Rattle.pc_kept.specs.inside.Checks.{IsRoom, IsNamed, HasTrue, HasConst
 ghost use Rattle.pc_lits.specs.Values.{MakesTrue};
 ghost use Rattle.pc_kept.specs.Stored.{AreMeaningsStored};
 
+use pc_axiom_names::{AxiomRef, Names};
 use pc_lits::{ClauseStore, Lit, Values};
-use pc_names::{AxiomRef, Names};
 use std::alloc::{AllocError, Global};
 
 /// Whether the axiom says what a node or an atom means.

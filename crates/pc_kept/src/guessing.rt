@@ -3,8 +3,8 @@ ghost use Rattle.std.specs.Prelude.{◌≡◌, ◌<◌, ◌^◌, All, length, If
 ghost use Rattle.pc_kept.specs.inside.Checks.{IsRoom};
 
 use crate::checking::{has_constant, is_of_node, none_is_named};
+use pc_axiom_names::Names;
 use pc_lits::{ClauseStore, Left, Lit, Values, left_of};
-use pc_names::Names;
 
 /// Makes the clause's last literal true, where it isn't yet, and says by which clause.
 fn force_once(clause: &[Lit], place: usize, values: &mut Values, reasons: &mut Vec<usize>)

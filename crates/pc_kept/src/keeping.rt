@@ -6,8 +6,8 @@ ghost use Rattle.pc_kept.specs.inside.Checks.{IsRoom, AreRight, AreNamed};
 use crate::checking::{are_fine, mark_missing, meanings_of, numbers_marked};
 use crate::forcing::{force_back, force_on, name_all};
 use crate::guessing::guess;
+use pc_axiom_names::Names;
 use pc_lits::{ClauseStore, Values};
-use pc_names::Names;
 use std::alloc::{AllocError, Global};
 
 /// What these clauses force, and what they name.

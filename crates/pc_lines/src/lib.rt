@@ -1,13 +1,16 @@
-//! Lines: of a text, and one at a time from any source, in room that is taken once, before anything is read.
+//! Lines: of a text, and one at a time from any source, in room that is taken once, before anything is read; and the other way,
+//! bytes that come in many pieces, gathered in such room, so that they go on in one write.
 //!
 //! From a source a line goes up to and with its line feed; the last one may lack it. The source is read only where no
 //! whole line is held, so each line can be answered before the next read, and nothing that was read is lost between calls.
 #![tactic(auto)]
 
+mod gathering;
 mod law;
 mod reader;
 mod split;
 
+pub use gathering::Gathering;
 pub use law::lines_are_those_of_the_text;
 pub use reader::{LineReader, Taken};
 pub use split::next_line;

@@ -10,9 +10,9 @@ use Rattle.pc_sheet.specs.WellFormed.{IsEntryOf}
 use Rattle.pc_accept.specs.Literals.{Symbol}
 use Rattle.pc_accept.specs.Axioms.{Axiom, axiom_some, axiom_one, axiom_rule, axiom_node, axiom_atom}
 use Rattle.pc_accept.specs.Accepts as accepts
-use Rattle.pc_names.specs.declared.axiom_name.AxiomName.{AxiomName}
-use Rattle.pc_names.specs.declared.axiom_name.AxiomName.TheVariants as name
-use Rattle.pc_names.specs.Views.{axiom_of}
+use Rattle.pc_axiom_names.specs.declared.axiom_name.AxiomName.{AxiomName}
+use Rattle.pc_axiom_names.specs.declared.axiom_name.AxiomName.TheVariants as name
+use Rattle.pc_axiom_names.specs.Views.{axiom_of}
 use Rattle.pc_cert.specs.declared.cert.Cert.{Cert}
 use Rattle.pc_cert.specs.declared.cert.CertLine.{CertLine}
 use Rattle.pc_cert.specs.declared.cert.SaidSet.{SaidSet}

@@ -14,7 +14,7 @@ use Rattle.pc_accept.specs.Literals.{Literal, node}
 use Rattle.pc_accept.specs.Axioms.{axiom_rule}
 use Rattle.pc_accept.specs.Accepts.{Line, IsLineClauseBeside, DerivesBeside, value_of_entry}
 use Rattle.pc_accept.specs.Writable.{IsSymbolOf, IsLineBeside, AreLinesBeside, IsSetOf}
-use Rattle.pc_names.specs.Listed.{NameLists}
+use Rattle.pc_axiom_names.specs.Listed.{NameLists}
 use Rattle.pc_reason.specs.Derivation.{AreLinesNamedBeside, IsLineNamedBeside, line_named, literal_named, entries_from}
 use Rattle.pc_reason.specs.Shows.{JustificationsShowSupports}
 use Rattle.pc_reason.specs.Written.{AreOfSheet, AcceptedReasonsAreWritable, AcceptedRefutationsAreWritable}

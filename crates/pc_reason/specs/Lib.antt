@@ -5,3 +5,4 @@ pub mod Refutations
 pub mod Shows
 pub mod Targets
 pub mod Written
+pub mod Proof

@@ -2,7 +2,7 @@
 use Rattle.pc_sheet.specs.Sheet.{Sheet}
 use Rattle.pc_sheet.specs.Entailment.{IsAssignment, Fits, HasAll, IsLeastSupport}
 use Rattle.pc_sheet.specs.declared.ids.Target.{Target}
-use Rattle.pc_names.specs.Listed.{NameLists}
+use Rattle.pc_axiom_names.specs.Listed.{NameLists}
 use Rattle.pc_reason.specs.Reasons.{Justification, Justifies}
 
 -- its support is the least one of the target, and its assignment makes every rule true and has the support

@@ -1,7 +1,7 @@
 //! A reason, lent in parts from where they are kept.
 
+use crate::proof::Proof;
 use pc_logic::Assignment;
-use pc_proof::Proof;
 use pc_sheet::{Entry, Target};
 
 /// Why a target is implied.

@@ -3,7 +3,7 @@ use Rattle.std.proofs.Common.{◌≡◌, Option, None, Some, IfSome, List, ap, s
 use Rattle.std.specs.Prelude.{option_map}
 use Rattle.pc_sheet.specs.Sheet.{Sheet}
 use Rattle.pc_sheet.specs.declared.ids.Target.{Target}
-use Rattle.pc_names.specs.Listed.{NameLists}
+use Rattle.pc_axiom_names.specs.Listed.{NameLists}
 use Rattle.pc_ground.specs.GroundView.{Grounded}
 use Rattle.pc_ground.specs.Grounded.{grounded}
 use Rattle.pc_ground.specs.Naming.{names_of}

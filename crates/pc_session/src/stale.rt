@@ -10,8 +10,8 @@ ghost use Rattle.pc_theory.specs.Targets.{target_of_value, targets_on_cell, targ
 
 use crate::state::State;
 use crate::taken::{Taken, takes_some};
+use pc_axiom_names::Names;
 use pc_cache::Cache;
-use pc_names::Names;
 use pc_sheet::{CellId, Target, ValueId};
 use pc_theory::targets_on;
 use std::alloc::{AllocError, Global};

@@ -25,7 +25,7 @@ use Rattle.pc_accept.specs.Accepts.{Certificate}
 use Rattle.pc_choices.specs.RuleCertificates.{GoesAgainst, IsAgainstRule}
 use Rattle.pc_cert_text.specs.CertificateText.{certificate_text}
 use Rattle.pc_ground.specs.Naming.{names_of}
-use Rattle.pc_names.specs.Listed.{NameLists}
+use Rattle.pc_axiom_names.specs.Listed.{NameLists}
 use Rattle.pc_elaborate.specs.declared.fault.SortFault.{SortFault}
 use Rattle.pc_elaborate.specs.declared.fault.SortFault.TheVariants as sort_fault
 use Rattle.pc_sheet.specs.declared.limits.Limited.TheVariants.{Rules}

@@ -1,9 +1,9 @@
 //! What a spreadsheet can be shown as.
 
+use pc_axiom_names::Names;
 use pc_choices::SetProof;
 use pc_log::{Log, Span};
 use pc_logic::{Assignment, Book};
-use pc_names::Names;
 use pc_sheet::{Entry, Target};
 
 /// Why a formula is implied: what a certificate against the last rule of the asked book is made of.

@@ -1,6 +1,6 @@
 // What no clause says: that many pieces reach a sink in one write, and that this goes well with ample memory.
 
-use pc_gather::Gathering;
+use pc_lines::Gathering;
 use pc_port::{MemorySink, Sink};
 use std::alloc::{AllocError, Global};
 use std::test::Fail;

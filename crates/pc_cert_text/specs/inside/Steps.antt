@@ -6,7 +6,7 @@ use Rattle.pc_lits.specs.declared.literal.Lit.{Lit}
 use Rattle.pc_log.specs.declared.log.StepId.{StepId}
 use Rattle.pc_log.specs.Lines.{LogLine, AxiomLine, BlockLine, StepLine}
 use Rattle.pc_log.specs.Trimmed.{moved}
-use Rattle.pc_names.specs.Listed.{NameLists}
+use Rattle.pc_axiom_names.specs.Listed.{NameLists}
 use Rattle.pc_reason.specs.Derivation.{literal_named, symbol_named, axiom_named, line_named, AreLinesNamedBeside}
 use Rattle.pc_cert_text.specs.CertificateText.{behind_blank, literal_text, number_text, derivation_line_text}
 use Rattle.pc_accept.specs.Writable.{IsAxiomOf, IsSymbolOf, AreLinesBeside}

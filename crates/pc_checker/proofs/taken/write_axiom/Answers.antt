@@ -2,7 +2,7 @@ use Rattle.std.proofs.Common.{length, sym, subst, ap, ◌∙◌, arith}
 use Rattle.std.proofs.lemmas.List.{length-map}
 use Rattle.pc_sheet.specs.Nodes.{kind_at}
 use Rattle.pc_sheet.specs.Views.{rule_of}
-use Rattle.pc_names.specs.Views.{axiom_of}
+use Rattle.pc_axiom_names.specs.Views.{axiom_of}
 use Rattle.pc_checker.specs.inside.Written.{IsAxiomWritten}
 use Rattle.pc_checker.proofs.AxiomLemmas.{rule_missing, rule_written, node_written, if_ok_then}
 use Rattle.pc_checker.proofs.taken.write_axiom.Goals as goal

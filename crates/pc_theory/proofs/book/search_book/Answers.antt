@@ -1,7 +1,7 @@
 use Rattle.std.proofs.Common.{◌≤◌, length, ap, sym, ◌∙◌, subst, arith}
 use Rattle.pc_sheet.specs.Entailment.{cell_sizes}
 use Rattle.pc_ground.specs.GroundView.{Grounded}
-use Rattle.pc_names.specs.Listed.{NameLists}
+use Rattle.pc_axiom_names.specs.Listed.{NameLists}
 use Rattle.pc_parts.specs.Components.{parts_of}
 use Rattle.pc_reason.specs.Refutations.{RefutesRules}
 use Rattle.pc_theory.specs.Books.{IsPartCause}

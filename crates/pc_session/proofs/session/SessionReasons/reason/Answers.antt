@@ -2,7 +2,7 @@ use Rattle.std.proofs.Common.{◌≡◌, ap, sym, ◌∙◌, subst}
 use Rattle.std.specs.Prelude.{option_map}
 use Rattle.pc_cache.specs.Rows.{row_of}
 use Rattle.pc_ground.specs.GroundView.{Grounded}
-use Rattle.pc_names.specs.Listed.{NameLists}
+use Rattle.pc_axiom_names.specs.Listed.{NameLists}
 use Rattle.pc_reason.specs.Reasons.{IsReasonFor, justification_of}
 use Rattle.pc_reason.specs.Targets.{IsTargetIn}
 use Rattle.pc_session.specs.Views.{SessionView}

@@ -1,0 +1,55 @@
+-- What names stand for that are kept by the places of their paths and reads.
+use Rattle.std.specs.Prelude.{◌≡◌, ℕ, ◌<◌, Option, Some, None, List, [], map, length, slice_get, slice_index_or}
+use Rattle.std.specs.List.{AllByRecursion}
+use Rattle.pc_sheet.specs.declared.nodes.NodePath.{NodePath}
+use Rattle.pc_sheet.specs.declared.ids.Entry.{Entry}
+use Rattle.pc_accept.specs.Literals.{Symbol, pair, node}
+use Rattle.pc_accept.specs.Axioms.{Axiom, axiom_some, axiom_one, axiom_rule, axiom_node, axiom_atom}
+use Rattle.pc_axiom_names.specs.Listed.{NameLists}
+use Rattle.pc_axiom_names.specs.declared.kept.Stands.{Stands}
+use Rattle.pc_axiom_names.specs.declared.kept.Stands.TheVariants.{Pair, Node}
+use Rattle.pc_axiom_names.specs.declared.kept.Kept.{Kept}
+use Rattle.pc_axiom_names.specs.declared.kept.Kept.TheVariants.{Any, One, Rule, Node as Part, Atom}
+
+-- the rule and the steps of a path, if there is one
+abbrev pub rule_of : Option NodePath → ℕ
+rule_of None = 0
+rule_of (Some p) = p.rule
+
+abbrev pub steps_of : Option NodePath → List ℕ
+steps_of None = []
+steps_of (Some p) = p.steps.items
+
+-- the path of that rule and those steps stands at that place
+abbrev pub IsPathAt : List NodePath → ℕ → ℕ → List ℕ → Type 0
+IsPathAt paths k rule steps = (k < length paths) × (rule_of (slice_get paths k) ≡ rule) × (steps_of (slice_get paths k) ≡ steps)
+
+abbrev pub symbol_in : List NodePath → Stands → Symbol
+symbol_in paths (Pair c v) = pair c v
+symbol_in paths (Node k) = node (rule_of (slice_get paths k)) (steps_of (slice_get paths k))
+
+abbrev pub axiom_in : List NodePath → List (List Entry) → Kept → Axiom
+axiom_in paths rows (Any c) = axiom_some c
+axiom_in paths rows (One c v w) = axiom_one c v w
+axiom_in paths rows (Rule r) = axiom_rule r
+axiom_in paths rows (Part k i) = axiom_node (rule_of (slice_get paths k)) (steps_of (slice_get paths k)) i
+axiom_in paths rows (Atom k r) = axiom_atom (rule_of (slice_get paths k)) (steps_of (slice_get paths k)) (slice_index_or rows r [])
+
+-- each place that a name has is below the number of paths, or of rows
+abbrev pub IsStandsWithin : ℕ → Stands → Type 0
+IsStandsWithin n (Pair c v) = Unit {0}
+IsStandsWithin n (Node k) = k < n
+
+abbrev pub IsKeptWithin : ℕ → ℕ → Kept → Type 0
+IsKeptWithin n m (Any c) = Unit {0}
+IsKeptWithin n m (One c v w) = Unit {0}
+IsKeptWithin n m (Rule r) = Unit {0}
+IsKeptWithin n m (Part k i) = k < n
+IsKeptWithin n m (Atom k r) = (k < n) × (r < m)
+
+-- of all names
+abbrev pub AreNamesWithin : List NodePath → List (List Entry) → List Stands → List Kept → Type 0
+AreNamesWithin paths rows variables axioms = AllByRecursion (IsStandsWithin (length paths)) variables × AllByRecursion (IsKeptWithin (length paths) (length rows)) axioms
+
+abbrev pub names_in : List NodePath → List (List Entry) → List Stands → List Kept → NameLists
+names_in paths rows variables axioms = record { variables = map (symbol_in paths) variables; axioms = map (axiom_in paths rows) axioms }

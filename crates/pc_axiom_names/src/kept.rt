@@ -1,0 +1,161 @@
+//! How names are kept: a path once for all names of its node that come one after another, reads in rows, and a name by
+//! its places among both.
+ghost use Rattle.std.specs.Prelude.{◌≡◌, ◌∷◌, ◌++◌, [], IfOk, IfSome, IsTrue, OnErr, OnOk, length, take};
+ghost use Rattle.pc_axiom_names.specs.Keeping.{IsPathAt, IsStandsWithin, IsKeptWithin, axiom_in, symbol_in};
+ghost use Rattle.pc_axiom_names.specs.Shown.{axiom_shown, symbol_shown};
+
+use crate::axiom_name::AxiomRef;
+use crate::names::VarName;
+use pc_lits::Rows;
+use pc_sheet::{CellId, Entry, NodePath, ValueId};
+use std::alloc::AllocError;
+
+/// What a variable stands for: a pair, or the node whose path is at this place.
+#[derive(Clone, Copy)]
+pub(crate) enum Stands {
+    Pair(CellId, ValueId),
+    Node(u32),
+}
+
+/// An axiom's name. A node's has its path's place, and then its number or the place of its reads.
+#[derive(Clone, Copy)]
+pub(crate) enum Kept {
+    Any(CellId),
+    One(CellId, ValueId, ValueId),
+    Rule(u32),
+    Node(u32, u32),
+    Atom(u32, u32),
+}
+
+/// The place after so many others. There is none from 2^32 on, and the answer is want of memory.
+fn next_place(len: usize) -> Result<u32, AllocError>
+    ensures { IfOk result (λ place. place ≡ len) }
+{
+    match u32::try_from(len) {
+        Ok(place) => Ok(place),
+        Err(_) => Err(AllocError),
+    }
+}
+
+/// Whether two paths lead to the same node.
+fn is_same(left: &NodePath, right: &NodePath) -> bool
+    ensures rule { IsTrue result → left.now.rule ≡ right.now.rule }
+    ensures steps { IsTrue result → left.now.steps.items ≡ right.now.steps.items }
+{
+    left.rule == right.rule && left.steps.as_slice() == right.steps.as_slice()
+}
+
+/// The last place, if that path is there.
+fn last_place(paths: &[NodePath], path: &NodePath) -> Option<u32>
+    ensures { IfSome result (λ place. IsPathAt paths.now place path.now.rule path.now.steps.items) }
+{
+    let last = paths.last()?;
+    if is_same(last, path) {
+        u32::try_from(paths.len() - 1).ok()
+    } else {
+        None
+    }
+}
+
+/// Keeps a path at a place of its own.
+fn add_path(paths: &mut Vec<NodePath>, path: NodePath) -> Result<u32, AllocError>
+    ensures kept { take (length paths.old.items) paths.new.items ≡ paths.old.items }
+    ensures here { IfOk result (λ place. IsPathAt paths.new.items place path.rule path.steps.items) }
+{
+    let place = next_place(paths.len())?;
+    paths.push(path)?;
+    Ok(place)
+}
+
+/// The place of a path that is given away: the last one, if it is there.
+pub(crate) fn place_of(paths: &mut Vec<NodePath>, path: NodePath) -> Result<u32, AllocError>
+    ensures kept { take (length paths.old.items) paths.new.items ≡ paths.old.items }
+    ensures here { IfOk result (λ place. IsPathAt paths.new.items place path.rule path.steps.items) }
+{
+    match last_place(paths, &path) {
+        Some(place) => Ok(place),
+        None => add_path(paths, path),
+    }
+}
+
+/// The place of a path: the last one, if it is there, or that of a copy.
+fn path_place(paths: &mut Vec<NodePath>, path: &NodePath) -> Result<u32, AllocError>
+    ensures kept { take (length paths.old.items) paths.new.items ≡ paths.old.items }
+    ensures here { IfOk result (λ place. IsPathAt paths.new.items place path.now.rule path.now.steps.items) }
+{
+    match last_place(paths, path) {
+        Some(place) => Ok(place),
+        None => {
+            let copy = NodePath {
+                rule: path.rule,
+                steps: path.steps.clone()?,
+            };
+            add_path(paths, copy)
+        }
+    }
+}
+
+/// The place of reads, which is new.
+fn reads_place(rows: &mut Rows<Entry>, reads: &[Entry]) -> Result<u32, AllocError>
+    ensures ok { OnOk result (rows.new ≡ rows.old ++ reads.now ∷ []) }
+    ensures err { OnErr result (rows.new ≡ rows.old) }
+    ensures here { IfOk result (λ place. place ≡ length rows.old) }
+{
+    let place = next_place(rows.len())?;
+    rows.push(reads)?;
+    Ok(place)
+}
+
+/// Keeps what an axiom's name says of its paths and reads. Where memory runs out, what was kept before is still there.
+pub(crate) fn kept_of(
+    paths: &mut Vec<NodePath>,
+    rows: &mut Rows<Entry>,
+    name: AxiomRef<'_>,
+) -> Result<Kept, AllocError>
+    ensures paths { take (length paths.old.items) paths.new.items ≡ paths.old.items }
+    ensures rows { take (length rows.old) rows.new ≡ rows.old }
+    ensures within { IfOk result (λ kept. IsKeptWithin (length paths.new.items) (length rows.new) kept) }
+    ensures named { IfOk result (λ kept. axiom_in paths.new.items rows.new kept ≡ axiom_shown name.entry) }
+{
+    match name {
+        AxiomRef::Any(cell) => Ok(Kept::Any(cell)),
+        AxiomRef::One(cell, value, other) => Ok(Kept::One(cell, value, other)),
+        AxiomRef::Rule(rule) => Ok(Kept::Rule(rule)),
+        AxiomRef::Node(path, number) => Ok(Kept::Node(path_place(paths, path)?, number)),
+        AxiomRef::Atom(path, reads) => {
+            let place = path_place(paths, path)?;
+            Ok(Kept::Atom(place, reads_place(rows, reads)?))
+        }
+    }
+}
+
+/// What a kept variable stands for.
+pub(crate) fn variable_shown<'a>(paths: &'a [NodePath], stands: &Stands) -> VarName<'a>
+    requires { IsStandsWithin (length paths.now) stands.now }
+    ensures { symbol_shown result ≡ symbol_in paths.now stands.now }
+{
+    match stands {
+        Stands::Pair(cell, value) => VarName::Pair(*cell, *value),
+        Stands::Node(place) => VarName::Node(&paths[*place as usize]),
+    }
+}
+
+/// The name that a kept axiom has.
+pub(crate) fn name_shown<'a>(
+    paths: &'a [NodePath],
+    rows: &'a Rows<Entry>,
+    kept: &Kept,
+) -> AxiomRef<'a>
+    requires { IsKeptWithin (length paths.now) (length rows.now) kept.now }
+    ensures { axiom_shown result ≡ axiom_in paths.now rows.now kept.now }
+{
+    match kept {
+        Kept::Any(cell) => AxiomRef::Any(*cell),
+        Kept::One(cell, value, other) => AxiomRef::One(*cell, *value, *other),
+        Kept::Rule(rule) => AxiomRef::Rule(*rule),
+        Kept::Node(place, number) => AxiomRef::Node(&paths[*place as usize], *number),
+        Kept::Atom(place, row) => {
+            AxiomRef::Atom(&paths[*place as usize], rows.get(*row as usize))
+        }
+    }
+}
