@@ -21,12 +21,12 @@ use Rattle.pc_accept.specs.Accepts.{FitsOthers}
 use Rattle.pc_accept.specs.Laws.{ShowsOthers}
 use Rattle.pc_accept.specs.Writable.{IsSetOf}
 use Rattle.pc_analyze.specs.Learning.{IsOverNegated}
-use Rattle.pc_asked.specs.Asked.{denial, asked}
+use Rattle.pc_asked_laws.specs.Asked.{denial, asked}
 use Rattle.pc_choices.specs.RuleCertificates.{GoesAgainst}
 use Rattle.pc_components.specs.Pairs.{entry_literal}
 use Rattle.pc_ground.specs.Naming.{names_of}
-use Rattle.pc_justify.specs.Found.{IsDerivedAt, IsOfEntries}
-use Rattle.pc_justify.specs.Laws.{DeriveAgainst, NamesAreOfTheirSheet, OwnLinesAreNamed, TrimmedLinesAreAgainst}
+use Rattle.pc_justify_laws.specs.Found.{IsDerivedAt, IsOfEntries}
+use Rattle.pc_justify_laws.specs.Laws.{DeriveAgainst, NamesAreOfTheirSheet, OwnLinesAreNamed, TrimmedLinesAreAgainst}
 use Rattle.pc_solver.specs.Solver.{IsLawfulLog}
 use Rattle.pc_theory.specs.WholeSpendings.{all_variables}
 use Rattle.pc_repairs.specs.Searches.{whole_problem}

@@ -32,7 +32,7 @@ use Rattle.pc_world_list.specs.Worlds.{set_of}
 use Rattle.pc_choices.specs.Choices.{cell_number}
 use Rattle.pc_choices.specs.Chosen.{chosen_parts}
 use Rattle.pc_reason.specs.Fitting.{IsFitting}
-use Rattle.pc_asked.specs.Asked.{EntailsStatement, denial, asked}
+use Rattle.pc_asked_laws.specs.Asked.{EntailsStatement, denial, asked}
 use Rattle.pc_repairs.specs.inside.Joining.{IsPartSets, joined_by, many_sets}
 use Rattle.pc_repairs.specs.declared.part_sets.PartSets.{PartSets}
 use Rattle.pc_ask.specs.Asking.{AreReadSizes, IsOnRead, Reads, ReadsPart}

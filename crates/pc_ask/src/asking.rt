@@ -3,7 +3,7 @@ ghost use Rattle.std.specs.Prelude.{◌≡◌, ◌<◌, ◌≤◌, ◌+◌, ◌*
 ghost use Rattle.pc_sheet.specs.Sheet.{Statement};
 ghost use Rattle.pc_sheet.specs.Limits.{most_weight};
 ghost use Rattle.pc_sheet.specs.Weight.{weight};
-ghost use Rattle.pc_asked.specs.Asked.{asked};
+ghost use Rattle.pc_asked_laws.specs.Asked.{asked};
 ghost use Rattle.pc_ground.specs.Grounded.{grounded};
 ghost use Rattle.pc_repairs.specs.Searches.{IsWholeSearch};
 ghost use Rattle.pc_solver.specs.Spending.{StopSays};
@@ -22,7 +22,7 @@ use pc_laws::different_sublists_are_ordered;
 use pc_lits::Tally;
 use pc_log::Log;
 use pc_logic::{Book, few_entries, well_formed};
-use pc_searched::laws::parts_are_searched;
+use pc_problem::laws::parts_are_searched;
 use pc_solver::Stop;
 use std::alloc::Global;
 

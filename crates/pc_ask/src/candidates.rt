@@ -2,7 +2,7 @@
 //! of each of these parts.
 ghost use Rattle.std.specs.Prelude.{◌≡◌, ◌-◌, ◌<◌, All, filter, IfOk, length, slice_get, Some};
 ghost use Rattle.pc_accept.specs.Sets.{is_in, those_in};
-ghost use Rattle.pc_asked.specs.Asked.{asked};
+ghost use Rattle.pc_asked_laws.specs.Asked.{asked};
 ghost use Rattle.pc_ground.specs.Grounded.{grounded};
 ghost use Rattle.pc_parts.specs.PartSheets.{is_among};
 ghost use Rattle.pc_repairs.specs.inside.Joining.{IsSized, joined_by};

@@ -2,7 +2,7 @@
 //! that the formula reads; no other part is searched.
 ghost use Rattle.std.specs.Prelude.{◌≡◌, ◌↔◌, ◌<◌, ◌^◌, [], ◌∷◌, ◌++◌, All, cond, IfOk, IsTrue, length, OnOk};
 ghost use Rattle.pc_sheet.specs.Sheet.{Sheet, Statement};
-ghost use Rattle.pc_asked.specs.Asked.{asked};
+ghost use Rattle.pc_asked_laws.specs.Asked.{asked};
 ghost use Rattle.pc_components.specs.View.{AreComponentsOf};
 ghost use Rattle.pc_ground.specs.Ground.{clauses};
 ghost use Rattle.pc_ground.specs.Grounded.{grounded};
@@ -13,8 +13,8 @@ use pc_components::{Components, Part};
 use pc_ground::Ground;
 use pc_lits::{ClauseStore, Lit, Values, Var};
 use pc_logic::{Book, few_cells, well_formed};
-use pc_searched::count_pairs;
-use pc_searched::laws::parts_are_searched;
+use pc_problem::count_pairs;
+use pc_problem::laws::parts_are_searched;
 use pc_sheet::CellId;
 use pc_solver::Solver;
 use std::alloc::{AllocError, Global};

@@ -1,7 +1,7 @@
 //! What a search derives against the last rule of the asked book, as what a certificate of it is made of.
 ghost use Rattle.std.specs.Prelude.{◌≡◌, ◌-◌, [], IfOk, length};
 ghost use Rattle.pc_sheet.specs.Sheet.{Sheet, Statement};
-ghost use Rattle.pc_asked.specs.Asked.{asked};
+ghost use Rattle.pc_asked_laws.specs.Asked.{asked};
 ghost use Rattle.pc_choices.specs.RuleCertificates.{GoesAgainst};
 ghost use Rattle.pc_ground.specs.Naming.{names_of};
 ghost use Rattle.pc_solver.specs.Solver.{IsLawfulLog};
@@ -9,7 +9,7 @@ ghost use Rattle.pc_repairs.specs.Searches.{whole_problem};
 ghost use Rattle.pc_ask.specs.Asking.{IsAnswer};
 
 use crate::answer::Answer;
-use pc_justify::{names_are_of_their_sheet, own_lines_are_named, trimmed_lines_are_against};
+use pc_justify_laws::{names_are_of_their_sheet, own_lines_are_named, trimmed_lines_are_against};
 use pc_log::{Log, Span, trim};
 use pc_logic::{Book, well_formed};
 use std::alloc::{AllocError, Global};

@@ -10,7 +10,7 @@ use crate::part::Task;
 use pc_components::axioms_are_for_their_sheet;
 use pc_lits::{Lit, Tally};
 use pc_log::{Log, StepId};
-use pc_searched::laws::parts_are_searched;
+use pc_problem::laws::parts_are_searched;
 use pc_sheet::Entry;
 use pc_solver::{Outcome, Solver, Stop};
 use std::alloc::AllocError;

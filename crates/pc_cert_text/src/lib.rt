@@ -1,7 +1,7 @@
 //! The text of certificates, written to any sink piece by piece from where reasons are kept, without taking memory.
 //!
 //! The text is a function of the plain certificate, so that reasons and refutations have one text, and what is read back
-//! from it (`pc_cert_back`) speaks of no code. Its derivation lists each line with hints to the lines that it is derived
+//! from it (`pc_cert_laws`) speaks of no code. Its derivation lists each line with hints to the lines that it is derived
 //! from, as the LRAT format does (Cruz-Filipe, Heule, Hunt, Kaufmann and Schneider-Kamp, 2017), but with the sheet's own
 //! names in place of numbered variables, and with axioms that the checker tests by the sheet.
 #![tactic(auto)]

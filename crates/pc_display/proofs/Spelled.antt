@@ -19,9 +19,9 @@ use Rattle.pc_sheet.specs.declared.ids.ValueId.{ValueId}
 use Rattle.pc_sheet.specs.declared.ids.Entry.{Entry}
 use Rattle.pc_writer.specs.Spelling.{application_of, arguments_text, cell_text, entry_text, family_of, joined, name_of, sort_of, text_among, value_text, value_texts}
 use Rattle.pc_writer.proofs.CellLemmas.{arguments_within, entered_cell, entered_value, family_within}
-use Rattle.pc_canonical.proofs.Named.{IsSpelledValue}
-use Rattle.pc_canonical.proofs.Scalars.{name_utf8}
-use Rattle.pc_canonical.proofs.Spelled.{family_named, value_spelled}
+use Rattle.pc_canonical_laws.proofs.Named.{IsSpelledValue}
+use Rattle.pc_canonical_laws.proofs.Scalars.{name_utf8}
+use Rattle.pc_canonical_laws.proofs.Spelled.{family_named, value_spelled}
 use Rattle.pc_display.specs.Show.{entered_texts}
 use Rattle.pc_display.specs.inside.Entered.{HaveValuesOf}
 

@@ -1,2 +1,4 @@
 pub mod Text
 pub mod Examples
+pub mod Sheet
+pub mod Laws

@@ -19,7 +19,7 @@ use Rattle.pc_parts.specs.Components.{parts_of}
 use Rattle.pc_components.specs.PartAxioms.{AreAxiomsOf}
 use Rattle.pc_components.specs.View.{Kept, number_of, cells_of_part, AreComponentsOf}
 use Rattle.pc_components.proofs.Placing.{item_first}
-use Rattle.pc_searched.proofs.Made.{literal_below}
+use Rattle.pc_problem.proofs.Made.{literal_below}
 use Rattle.pc_kept.specs.Kept.{AreKept}
 use Rattle.pc_kept.specs.Laws.{KeptByWhatIsStored}
 use Rattle.pc_kept.specs.Stored.{AreKeptStored}

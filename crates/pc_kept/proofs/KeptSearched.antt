@@ -15,8 +15,8 @@ use Rattle.pc_components.specs.Used.{AreFor}
 use Rattle.pc_components.specs.View.{number_of, variable_number}
 use Rattle.pc_components.proofs.PartFor.{slice_map}
 use Rattle.pc_components.proofs.Symbols.{cell_there}
-use Rattle.pc_searched.proofs.Entries.{on_distinct, on_cells, on_values}
-use Rattle.pc_searched.proofs.Made.{of_number, value_below, literal_below, at_slice, problem_made}
+use Rattle.pc_problem.proofs.Entries.{on_distinct, on_cells, on_values}
+use Rattle.pc_problem.proofs.Made.{of_number, value_below, literal_below, at_slice, problem_made}
 use Rattle.pc_kept.specs.Laws.{KeptPartsAreSearched}
 use Rattle.pc_kept.proofs.KeptFor.{number_there, kept_axioms_are_for_their_parts}
 

@@ -13,7 +13,7 @@ use Rattle.pc_ground.specs.Naming.{names_of}
 use Rattle.pc_components.specs.PartAxioms.{AreAxiomsOf, AreVariablesOf}
 use Rattle.pc_components.specs.Used.{AreFor}
 use Rattle.pc_components.specs.View.{number_of, variable_number}
-use Rattle.pc_searched.specs.Laws.{AreSearchedBy}
+use Rattle.pc_problem.specs.Laws.{AreSearchedBy}
 use Rattle.pc_lits.specs.declared.literal.Var.{Var}
 use Rattle.pc_solver.specs.Forced.{IsForced}
 use Rattle.pc_kept.specs.Kept.{IsAmong, AreKept}

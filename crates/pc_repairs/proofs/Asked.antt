@@ -24,7 +24,7 @@ use Rattle.pc_components.specs.Pairs.{entry_literal, target_literal, pair_var, I
 use Rattle.pc_components.specs.Used.{HasValues}
 use Rattle.pc_components.specs.View.{number_of}
 use Rattle.pc_components.proofs.Assigned.{has_value, met_are_used, used_are_met, same_assignment}
-use Rattle.pc_searched.specs.Laws.{AreSearchedBy}
+use Rattle.pc_problem.specs.Laws.{AreSearchedBy}
 use Rattle.pc_solver.specs.Answers.{Meets}
 use Rattle.pc_solver.specs.Solver.{AreOwn, clauses_used}
 use Rattle.pc_theory.specs.WholeSpendings.{all_axioms, all_variables}

@@ -21,7 +21,7 @@ use Rattle.pc_components.specs.Used.{HasValues}
 use Rattle.pc_components.specs.View.{number_of}
 use Rattle.pc_parts.specs.Laws.{AgreeAt}
 use Rattle.pc_reason.specs.Targets.{IsTargetIn}
-use Rattle.pc_searched.specs.Laws.{WholeIsSearched}
+use Rattle.pc_problem.specs.Laws.{WholeIsSearched}
 use Rattle.pc_solver.specs.Answers.{Meets, truth_in}
 use Rattle.pc_solver.specs.Solver.{SolverView, AreOwn, clauses_used}
 use Rattle.pc_theory.specs.Reading.{HasPairs}

@@ -32,9 +32,9 @@ use Rattle.pc_ground.specs.Naming.{names_of}
 use Rattle.pc_ground.specs.Laws.{PairsAreVariables, VariablesHaveTheirPlaces}
 use Rattle.pc_components.specs.Pairs.{entry_literal}
 use Rattle.pc_reason.specs.Derivation.{literal_named, line_named, AreLinesNamedBeside, entries_from}
-use Rattle.pc_justify.specs.Found.{AreBlocksNamed, HasBlocksBelow, IsDerivedBeside}
-use Rattle.pc_justify.specs.Laws.{NamesAreOfTheirSheet, OwnLinesAreNamedBeside, RefuteBeside, TrimmedLinesDeriveBeside}
-use Rattle.pc_justify.proofs.Named.{literal_back, number_within}
+use Rattle.pc_justify_laws.specs.Found.{AreBlocksNamed, HasBlocksBelow, IsDerivedBeside}
+use Rattle.pc_justify_laws.specs.Laws.{NamesAreOfTheirSheet, OwnLinesAreNamedBeside, RefuteBeside, TrimmedLinesDeriveBeside}
+use Rattle.pc_justify_laws.proofs.Named.{literal_back, number_within}
 use Rattle.pc_solver.specs.Solver.{IsLawfulLog}
 use Rattle.pc_theory.specs.WholeSpendings.{all_variables, variable_of}
 use Rattle.pc_world_list.specs.Worlds.{WorldView, AreExact, set_of}

@@ -22,7 +22,7 @@ use Rattle.pc_accept.proofs.SetsSound.{contains_in}
 use Rattle.pc_ground.specs.Ground.{clauses}
 use Rattle.pc_components.specs.Pairs.{entry_literal, pair_var, IsValueOfCell}
 use Rattle.pc_components.proofs.Assigned.{has_value, met_are_used}
-use Rattle.pc_searched.specs.Laws.{AreSearchedBy}
+use Rattle.pc_problem.specs.Laws.{AreSearchedBy}
 use Rattle.pc_solver.specs.Answers.{Meets, truth_in}
 use Rattle.pc_solver.specs.Solver.{SolverView, AreOwn, clauses_used}
 use Rattle.pc_theory.specs.WholeSpendings.{all_axioms, all_variables}

@@ -21,7 +21,7 @@ use Rattle.pc_ground.specs.GroundView.{Grounded}
 use Rattle.pc_ground.specs.Grounded.{grounded}
 use Rattle.pc_ground.specs.Variables.{variable_count}
 use Rattle.pc_components.specs.View.{variable_number}
-use Rattle.pc_searched.specs.Laws.{AreSearchedBy, WholeIsSearched}
+use Rattle.pc_problem.specs.Laws.{AreSearchedBy, WholeIsSearched}
 use Rattle.pc_solver.specs.InLog.{clause_on}
 use Rattle.pc_solver.specs.Solver.{Spends, Problem, SolverView, HasLog, IsProblem, IsLawfulLog, IsSolverLog}
 use Rattle.pc_solver.specs.Spending.{SpendsIn, marked}

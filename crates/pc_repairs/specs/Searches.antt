@@ -7,7 +7,7 @@ use Rattle.pc_log.specs.Lines.{LogLine}
 use Rattle.pc_sheet.specs.Sheet.{Sheet}
 use Rattle.pc_ground.specs.Ground.{clauses}
 use Rattle.pc_ground.specs.Variables.{variable_count}
-use Rattle.pc_searched.specs.Laws.{problem_of}
+use Rattle.pc_problem.specs.Laws.{problem_of}
 use Rattle.pc_solver.specs.InLog.{clause_on}
 use Rattle.pc_solver.specs.Solver.{Problem, IsLawfulLog}
 use Rattle.pc_solver.specs.Spending.{SpendsIn}

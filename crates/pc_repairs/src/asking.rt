@@ -15,7 +15,7 @@ use pc_ground::Ground;
 use pc_lits::{Lit, Tally};
 use pc_log::Log;
 use pc_logic::Assignment;
-use pc_searched::laws::whole_is_searched;
+use pc_problem::laws::whole_is_searched;
 use pc_sheet::{Entry, Target};
 use pc_solver::{Outcome, Solver, Stop};
 use pc_theory::read_values;

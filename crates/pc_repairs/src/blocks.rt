@@ -12,7 +12,7 @@ ghost use Rattle.pc_repairs.specs.inside.Walks.{starts_with};
 use crate::task::Task;
 use pc_ground::Ground;
 use pc_lits::Lit;
-use pc_searched::laws::whole_is_searched;
+use pc_problem::laws::whole_is_searched;
 use pc_sheet::Entry;
 use pc_solver::Solver;
 use pc_world_list::Worlds;

@@ -11,7 +11,7 @@ ghost use Rattle.pc_repairs.specs.Searches.{IsRefutedAt, whole_problem};
 
 use pc_choices::{SetProof, SetsClaim};
 use pc_ground::laws::{pairs_are_variables, variables_have_their_places};
-use pc_justify::{
+use pc_justify_laws::{
     names_are_of_their_sheet, own_lines_are_named_beside, trimmed_lines_derive_beside,
 };
 use pc_log::{Log, StepId, trim};

@@ -14,7 +14,7 @@ use pc_laws::consistent_is_in_maximal;
 use pc_lits::Tally;
 use pc_log::{Log, StepId};
 use pc_logic::{Book, well_formed};
-use pc_searched::laws::whole_is_searched;
+use pc_problem::laws::whole_is_searched;
 use pc_solver::{Outcome, Stop};
 use pc_world_list::Worlds;
 use std::alloc::Global;

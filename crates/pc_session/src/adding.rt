@@ -1,7 +1,7 @@
 //! Adding an entry, in the place of some others of its cell or beside them.
 ghost use Rattle.std.specs.Prelude.{◌≡◌, ◌∷◌, [], ◌+◌, ◌≤◌, IfErr, IfOk, OnErr, OnOk};
 ghost use Rattle.pc_cache.specs.Rows.{bytes_of_rows};
-ghost use Rattle.pc_edits.specs.Edits.{edited, IsTakenOf};
+ghost use Rattle.pc_edit_laws.specs.Edits.{edited, IsTakenOf};
 ghost use Rattle.pc_sheet.specs.WellFormed.{IsEntryOf, IsWellFormed};
 ghost use Rattle.pc_session.specs.Arena.{compacted};
 ghost use Rattle.pc_session.specs.Causes.{IsEntryCause};

@@ -1,7 +1,7 @@
 //! An edit of a cell's entries, made aside, and how it is put in place.
 ghost use Rattle.std.specs.Prelude.{◌≡◌, ◌+◌, ◌≤◌, ℕ, Bool, List, OnErr, OnOk};
 ghost use Rattle.pc_cache.specs.Rows.{bytes_of_rows};
-ghost use Rattle.pc_edits.specs.Edits.{IsEditOf};
+ghost use Rattle.pc_edit_laws.specs.Edits.{IsEditOf};
 ghost use Rattle.pc_sheet.specs.WellFormed.{IsWellFormed};
 ghost use Rattle.pc_sheet.specs.declared.ids.CellId.{CellId};
 ghost use Rattle.pc_sheet.specs.declared.ids.Entry.{Entry};
@@ -12,7 +12,7 @@ ghost use Rattle.pc_session.specs.inside.States.{IsEdited, IsState};
 use crate::chosen::choose;
 use crate::state::State;
 use pc_cache::Patch;
-use pc_edits::edited_reasons_are_right;
+use pc_edit_laws::edited_reasons_are_right;
 use pc_logic::{Book, well_formed};
 use pc_theory::Spending;
 use pc_world_list::Worlds;

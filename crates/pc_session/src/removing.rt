@@ -1,7 +1,7 @@
 //! Taking entries of a cell away.
 ghost use Rattle.std.specs.Prelude.{◌≡◌, ◌↔◌, [], ◌+◌, ◌<◌, ◌≤◌, Err, IfErr, IfOk, IsTrue, Ok, OnErr, OnOk, Some, length};
 ghost use Rattle.pc_cache.specs.Rows.{bytes_of_rows};
-ghost use Rattle.pc_edits.specs.Edits.{edited, HasNone, IsTakenOf};
+ghost use Rattle.pc_edit_laws.specs.Edits.{edited, HasNone, IsTakenOf};
 ghost use Rattle.pc_sheet.specs.Entailment.{cell_sizes};
 ghost use Rattle.pc_sheet.specs.WellFormed.{IsWellFormed};
 ghost use Rattle.pc_session.specs.Answers.{AreUnused};
@@ -23,7 +23,7 @@ use crate::state::State;
 use crate::taken::{Taken, take_away, takes_some};
 use crate::tallies::{blank_place, blank_tally};
 use pc_cache::Patch;
-use pc_edits::{edited_reasons_are_right, other_parts_stay};
+use pc_edit_laws::{edited_reasons_are_right, other_parts_stay};
 use pc_sheet::CellId;
 use pc_theory::{PartTargets, alone};
 use std::alloc::Global;

@@ -9,7 +9,7 @@ use Rattle.pc_sheet.specs.declared.formula.Rule.{Rule}
 use Rattle.pc_elaborate.proofs.FormulaTold.{statement_of-Not}
 use Rattle.std.proofs.lemmas.List.{length-append}
 use Rattle.pc_name.specs.Names.{IsName}
-use Rattle.pc_generated.proofs.Names.{small_name}
+use Rattle.pc_gen.proofs.Names.{small_name}
 use Rattle.pc_formula.specs.Tree as written
 use Rattle.pc_syntax.specs.Tree.{not, asks_ask}
 use Rattle.pc_lits.specs.declared.tally.Tally.{Tally}
@@ -20,7 +20,7 @@ use Rattle.pc_sheet.specs.WellFormed.{IsWellFormed}
 use Rattle.pc_sheet.specs.WellSorted.{IsWellSorted}
 use Rattle.pc_sheet.specs.Limits.{most_weight}
 use Rattle.pc_sheet.specs.Weight.{weight}
-use Rattle.pc_asked.specs.Asked.{ask_name, denial, asked}
+use Rattle.pc_asked_laws.specs.Asked.{ask_name, denial, asked}
 use Rattle.pc_accept.specs.Accepts.{Certificate}
 use Rattle.pc_choices.specs.RuleCertificates.{GoesAgainst, IsAgainstRule}
 use Rattle.pc_cert_text.specs.CertificateText.{certificate_text}

@@ -9,7 +9,7 @@ use Rattle.pc_sheet.specs.declared.ids.CellId.{CellId}
 use Rattle.pc_sheet.specs.declared.ids.Entry.{Entry}
 use Rattle.pc_logic.specs.Edits.{is_same_entry, without_one, cleared, also_entered, without_entry, without_cell}
 use Rattle.pc_logic.proofs.EntryLemmas.{is_same, found_standing}
-use Rattle.pc_edits.specs.Edits.{HasNone}
+use Rattle.pc_edit_laws.specs.Edits.{HasNone}
 
 same_cell : (e f : Entry) → is_same_entry e f ≡ true → is_of_cell e.cell f ≡ true
 same_cell e f is = by (eqb f.cell.0 e.cell.0) (eqb f.value.0 e.value.0) is

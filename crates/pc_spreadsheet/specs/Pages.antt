@@ -17,7 +17,7 @@ use Rattle.pc_choices.specs.declared.set_proof.SetsClaim.{SetsClaim}
 use Rattle.pc_choices.specs.declared.set_proof.SetsClaim.TheVariants.{Repairs, Lacking}
 use Rattle.pc_repairs.specs.Listed.{ComesFirst}
 use Rattle.pc_repairs.specs.ListedSheet.{IsListed}
-use Rattle.pc_asked.specs.Asked.{IsStatementImplied, IsLeastForStatement, asked}
+use Rattle.pc_asked_laws.specs.Asked.{IsStatementImplied, IsLeastForStatement, asked}
 use Rattle.pc_writer.specs.SheetText.{sheet_text, ended}
 use Rattle.pc_display.specs.Show.{IsShown}
 use Rattle.pc_display.specs.Grid.{IsGrid}

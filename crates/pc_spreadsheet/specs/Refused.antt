@@ -5,7 +5,7 @@ use Rattle.pc_syntax.specs.Fault.{not_utf8, too_deep, syntax}
 use Rattle.pc_syntax.specs.Command.{IsCommandReading, asks, at_fault}
 use Rattle.pc_sheet.specs.Limits.{most_weight}
 use Rattle.pc_sheet.specs.Sheet.{Sheet, Statement, NamedStatement, with_rule}
-use Rattle.pc_asked.specs.Asked.{ask_name, asked}
+use Rattle.pc_asked_laws.specs.Asked.{ask_name, asked}
 use Rattle.pc_sheet.specs.MaximalSets.{AreRulesConsistent}
 use Rattle.pc_sheet.specs.Weight.{weight}
 use Rattle.pc_sheet.specs.declared.ids.CellId.{CellId}

@@ -4,7 +4,7 @@ use Rattle.pc_syntax.specs.Tree.{Asked, asks_enter, asks_also, asks_clear, asks_
 use Rattle.pc_syntax.specs.Command.{IsCommandReading, no_command, asks}
 use Rattle.pc_sheet.specs.Limits.{most_rules, most_weight}
 use Rattle.pc_sheet.specs.Sheet.{Sheet, Statement, NamedStatement, with_rule}
-use Rattle.pc_asked.specs.Asked.{ask_name, denial, asked}
+use Rattle.pc_asked_laws.specs.Asked.{ask_name, denial, asked}
 use Rattle.pc_sheet.specs.MaximalSets.{AreRulesConsistent}
 use Rattle.pc_sheet.specs.Weight.{weight}
 use Rattle.pc_sheet.specs.WellFormed.{IsWellFormedRule}

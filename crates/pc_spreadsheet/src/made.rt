@@ -1,6 +1,6 @@
 //! The books that edits of entries would have made.
 ghost use Rattle.std.specs.Prelude.{◌≡◌, Contains, IfNone, IfOk, IfSome};
-ghost use Rattle.pc_edits.specs.Edits.{HasNone};
+ghost use Rattle.pc_edit_laws.specs.Edits.{HasNone};
 ghost use Rattle.pc_logic.specs.Edits.{entered, without_cell};
 ghost use Rattle.pc_sheet.specs.WellFormed.{is_of_cell, IsEntryOf};
 

@@ -14,12 +14,12 @@ use Rattle.pc_writer.specs.SheetText.{ended}
 use Rattle.pc_cert.specs.Text.{set_read}
 use Rattle.pc_cert.specs.ReadFor.{HasNoEntries, IsBare}
 use Rattle.pc_cert_text.specs.CertificateText.{certificate_text}
-use Rattle.pc_cert_back.specs.ReadBack.{CertificatesReadBack, HasForm}
+use Rattle.pc_cert_laws.specs.ReadBack.{CertificatesReadBack, HasForm}
 use Rattle.pc_display.specs.Show.{IsShown}
 use Rattle.pc_display.specs.Grid.{IsGrid}
 use Rattle.pc_display.specs.Json.{IsJson, IsJsonLine}
 use Rattle.pc_display.specs.OneDisplay.{HasOneText, SheetHasOneDisplay}
-use Rattle.pc_one_reading.specs.Laws.{LinesHaveOneForm, FormsSayOneThing, WhatIsReadIsBare}
+use Rattle.pc_reading_laws.specs.Laws.{LinesHaveOneForm, FormsSayOneThing, WhatIsReadIsBare}
 use Rattle.pc_refusals.specs.declared.refusal.Counts.{Counts}
 use Rattle.pc_refusals.specs.declared.refusal.Refusal.{Refusal}
 use Rattle.pc_refusals.specs.declared.refusal.Refusal.TheVariants.{Inconsistent, Spent}
@@ -32,10 +32,10 @@ use Rattle.pc_spreadsheet.specs.Refused.{MakesContradiction, contradicting, IsCo
 use Rattle.pc_spreadsheet.specs.Tasks.{State, Task, enters, enters_beside, clears, removes, adds, drops, shows, lines_page, grid_page, json_page, text_page, why_page, repairs_page, proof_page, whynot_page, ask_page, IsTaskOf, entering, entering_beside, clearing, removing, adding, dropping, budgeting, asking, showing, showing_grid, showing_json, dumping, listing, proving, doubting, inquiring, AsksNothing, IsTask, IsEdit, state_after}
 use Rattle.pc_spreadsheet.specs.Pages.{IsWhy, certified, not_implied, uses_of, IsCertificateOnSets, IsWhyNot, shown_unimplied, implied as is_so_implied, IsAnswered, by_support as by_least_support, by_none, PageSays, IsCertificateAgainst}
 use Rattle.pc_spreadsheet.specs.Allowed.{Notes, IsLawfullySpent, IsWholeSpent, IsAskSpent, Allows, NeedsSearch, to_enter, to_enter_beside, to_clear, to_remove, to_add, to_drop, NeedsProof, to_prove, to_doubt, NeedsAnswer, to_answer, RefusesLine, as_judged, as_contradiction, as_spent, as_proof_spent, as_ask_spent}
-use Rattle.pc_asked.specs.Asked.{ask_name, denial, asked}
+use Rattle.pc_asked_laws.specs.Asked.{ask_name, denial, asked}
 use Rattle.pc_spreadsheet.proofs.Rules.{formed_with}
 use Rattle.pc_spreadsheet.specs.Laws.{LinesHaveOneVerdict}
-use Rattle.pc_afresh.specs.Afresh.{IsOpen, AnswersKeepOpen, DumpsStartAgain}
+use Rattle.pc_afresh_laws.specs.Afresh.{IsOpen, AnswersKeepOpen, DumpsStartAgain}
 use Rattle.pc_theorem.specs.Theorem as page
 use Rattle.pc_theorem.specs.Theorem.{Course, LineAsks, MaySpend, IsSpent, IsContradicted, Tells, AreAccepted, no_line, an_edit, no_edit, state_after_all, IsTheText, Explains, by_support, ProvesBySets, Doubts, AnswersFormula}
 use Rattle.pc_theorem.specs.Certificates.{Claims}

@@ -11,11 +11,11 @@ use Rattle.pc_formula.specs.Word.{name, nesting}
 use Rattle.pc_syntax.specs.Tree.{asks_repairs}
 use Rattle.pc_syntax.specs.Spelling.{IsNothing, IsSpelled}
 use Rattle.pc_syntax.specs.Command.{IsCommandReading, asks, spelled_command, IsDeepAsk}
-use Rattle.pc_canonical.proofs.Counting.{levels_are}
-use Rattle.pc_canonical.proofs.Cuts.{Cuts, done, cuts_utf8}
-use Rattle.pc_canonical.proofs.Cutting.{nothing, cut_name}
-use Rattle.pc_canonical.proofs.Lines.{has_words, cuts_to_end}
-use Rattle.pc_generated.proofs.Names.{small_name}
+use Rattle.pc_canonical_laws.proofs.Counting.{levels_are}
+use Rattle.pc_canonical_laws.proofs.Cuts.{Cuts, done, cuts_utf8}
+use Rattle.pc_canonical_laws.proofs.Cutting.{nothing, cut_name}
+use Rattle.pc_canonical_laws.proofs.Lines.{has_words, cuts_to_end}
+use Rattle.pc_gen.proofs.Names.{small_name}
 use Rattle.pc_writer.specs.SheetText.{ended}
 use Rattle.pc_repairs.specs.Listed.{ListedPart, listing_text}
 use Rattle.pc_refusals.specs.declared.status.Status.{Status}

@@ -22,17 +22,17 @@ use Rattle.pc_syntax.specs.Spelling.{IsSpelled}
 use Rattle.pc_syntax.specs.Command.{no_command, IsCommandReading, asks, spelled_command, IsDeepAsk}
 use Rattle.pc_elaborate.specs.Elaboration.{IsCellNamed}
 use Rattle.pc_elaborate.specs.Laws.{TreesHaveOneOutcome}
-use Rattle.pc_canonical.proofs.Counting.{levels_are}
-use Rattle.pc_canonical.proofs.Cuts.{Cuts, done, blank, cuts_utf8}
-use Rattle.pc_canonical.proofs.Cutting as ends
-use Rattle.pc_canonical.proofs.Cutting.{cut_name, cut_digits}
-use Rattle.pc_canonical.proofs.Deriving.{derive_number}
-use Rattle.pc_canonical.proofs.Lines.{has_words}
-use Rattle.pc_canonical.proofs.Signs.{cut_comma, cut_open, cut_close}
+use Rattle.pc_canonical_laws.proofs.Counting.{levels_are}
+use Rattle.pc_canonical_laws.proofs.Cuts.{Cuts, done, blank, cuts_utf8}
+use Rattle.pc_canonical_laws.proofs.Cutting as ends
+use Rattle.pc_canonical_laws.proofs.Cutting.{cut_name, cut_digits}
+use Rattle.pc_canonical_laws.proofs.Deriving.{derive_number}
+use Rattle.pc_canonical_laws.proofs.Lines.{has_words}
+use Rattle.pc_canonical_laws.proofs.Signs.{cut_comma, cut_open, cut_close}
 use Rattle.pc_gen.specs.Text.{up_to}
-use Rattle.pc_generated.specs.Sheet.{sort, generated_universe, entry, block_entries, generated_entries, generated_sheet}
-use Rattle.pc_generated.proofs.Formed.{block_size}
-use Rattle.pc_generated.proofs.Names.{small_name}
+use Rattle.pc_gen.specs.Sheet.{sort, generated_universe, entry, block_entries, generated_entries, generated_sheet}
+use Rattle.pc_gen.proofs.Formed.{block_size}
+use Rattle.pc_gen.proofs.Names.{small_name}
 use Rattle.pc_course.specs.Events.{told}
 use Rattle.pc_course_laws.specs.Flat.{told_in}
 use Rattle.pc_transcript.specs.Answer.{Answer, silent, accepted, shown, refused, no_memory, is_refused, answer_text}
@@ -42,7 +42,7 @@ use Rattle.pc_spreadsheet.specs.Allowed.{Notes, Allows}
 use Rattle.pc_demo.specs.Demonstration.{told_of}
 use Rattle.pc_demo.specs.Summing.{clear_line, clear_lines}
 use Rattle.pc_theorem.proofs.ClearLines.{own_text, is_something}
-use Rattle.pc_afresh.specs.Afresh.{IsOpen, TranscriptsKeepOpen}
+use Rattle.pc_afresh_laws.specs.Afresh.{IsOpen, TranscriptsKeepOpen}
 use Rattle.pc_theorem.specs.Theorem.{third_entries, without_firsts, IsToldOf, of_ok, of_other}
 use Rattle.pc_theorem.proofs.Answered.{CommandsHaveOneReading, NeverWants, course_of, asked_same, refused_not_ok}
 

@@ -7,8 +7,8 @@ use Rattle.pc_sheet.specs.Truth.{Holds, value_or_first}
 use Rattle.pc_sheet.specs.Entailment.{AreWithin, IsAssignment, Fits}
 use Rattle.pc_sheet.specs.MaximalSets.{AreRulesConsistent}
 use Rattle.pc_sheet.specs.declared.ids.ValueId.{ValueId}
-use Rattle.pc_generated.specs.Sheet.{sort, generated_universe, chain, other, generated_sheet}
-use Rattle.pc_generated.proofs.Formed.{block_size}
+use Rattle.pc_gen.specs.Sheet.{sort, generated_universe, chain, other, generated_sheet}
+use Rattle.pc_gen.proofs.Formed.{block_size}
 
 -- ---- colors
 

@@ -11,8 +11,8 @@ use Rattle.pc_parts.specs.Unions.{parts_with_entries, MaximalSetsAreUnions}
 use Rattle.pc_parts.specs.Laws.{PartsAreADivision, PartsAreDetermined}
 use Rattle.pc_repairs.specs.Listed.{ListedPart, IsListedPart, listing_text}
 use Rattle.pc_repairs.specs.ListedSheet.{IsListed}
-use Rattle.pc_afresh.specs.Afresh.{IsOpen}
-use Rattle.pc_afresh.proofs.Listings.{listing_same}
+use Rattle.pc_afresh_laws.specs.Afresh.{IsOpen}
+use Rattle.pc_afresh_laws.proofs.Listings.{listing_same}
 use Rattle.pc_theorem.specs.Theorem.{IsTheText, IsListing}
 
 -- ---- listed parts

@@ -4,8 +4,8 @@ use Rattle.pc_sheet.specs.Sheet.{Sheet}
 use Rattle.pc_sheet.specs.MaximalSets.{AreRulesConsistent}
 use Rattle.pc_sheet.specs.Weight.{weight}
 use Rattle.pc_gen.specs.Text.{generated_text}
-use Rattle.pc_generated.specs.Sheet.{generated_sheet}
-use Rattle.pc_generated.specs.Laws.{GeneratedTextsReadBack, GeneratedSheetsWeigh}
+use Rattle.pc_gen.specs.Sheet.{generated_sheet}
+use Rattle.pc_gen.specs.Laws.{GeneratedTextsReadBack, GeneratedSheetsWeigh}
 use Rattle.pc_sortcheck.specs.Declaring.{ReadsAs}
 use Rattle.pc_refusals.specs.declared.refusal.Counts.{Counts}
 use Rattle.pc_refusals.specs.declared.refusal.SheetRefusal.{SheetRefusal}

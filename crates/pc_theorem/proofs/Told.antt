@@ -14,8 +14,8 @@ use Rattle.pc_display.specs.OneDisplay.{SheetHasOneDisplay}
 use Rattle.pc_sortcheck.specs.Declaring.{ReadsAs}
 use Rattle.pc_sortcheck.specs.Laws.{SheetsAreWellFormed}
 use Rattle.pc_cert.specs.Text.{certificate_read}
-use Rattle.pc_cert_back.specs.ReadBack.{CertificatesReadBack}
-use Rattle.pc_one_reading.specs.Laws.{LinesHaveOneForm, FormsSayOneThing, WhatIsReadIsBare}
+use Rattle.pc_cert_laws.specs.ReadBack.{CertificatesReadBack}
+use Rattle.pc_reading_laws.specs.Laws.{LinesHaveOneForm, FormsSayOneThing, WhatIsReadIsBare}
 use Rattle.pc_refusals.specs.declared.status.Status.{Status}
 use Rattle.pc_refusals.specs.declared.status.Status.TheVariants.{Done, SomeRefused, SheetRefused, CertRefused}
 use Rattle.pc_course.specs.Events.{Event, took_rest, gave, told, Happened}
@@ -47,11 +47,11 @@ use Rattle.pc_spreadsheet.specs.Pages.{uses_of}
 use Rattle.pc_spreadsheet.specs.Laws.{LinesHaveOneVerdict}
 use Rattle.pc_elaborate.specs.Laws.{TreesHaveOneOutcome}
 use Rattle.pc_gen.specs.Text.{generated_text}
-use Rattle.pc_generated.specs.Laws.{GeneratedTextsReadBack, GeneratedSheetsWeigh}
+use Rattle.pc_gen.specs.Laws.{GeneratedTextsReadBack, GeneratedSheetsWeigh}
 use Rattle.pc_demo.specs.Demonstration.{told_of}
 use Rattle.pc_demo.specs.Summing.{clear_lines, SumsUp}
 use Rattle.pc_replay.specs.Course.{CourseIn}
-use Rattle.pc_afresh.specs.Afresh.{IsOpen, StartsAreOpen, AnswersKeepOpen, TranscriptsKeepOpen, DumpsStartAgain}
+use Rattle.pc_afresh_laws.specs.Afresh.{IsOpen, StartsAreOpen, AnswersKeepOpen, TranscriptsKeepOpen, DumpsStartAgain}
 use Rattle.pc_theorem.specs.Theorem as page
 use Rattle.pc_theorem.specs.Theorem.{Course, BeginsWith, IsProved, IsChecked, IsDeclined, IsMerged, HasNoMerge, Tells, IsContradicted, IsFulfilled, IsTurnedDown, HasRefusal, AreAccepted, StandsBehind, Answers, IsSession, IsSessionOf, IsDemonstration, IsLoadSpent, EndedWell, state_after_all}
 use Rattle.pc_theorem.specs.Laws.{GoesIn, ChecksAreWorthIt, MergesAreWorthIt, SessionsAreWorthIt, DemonstrationsAreWorthIt, SavedSheetsShowTheSame, SavedSheetsTakeCertificates}

@@ -13,14 +13,14 @@ use Rattle.pc_sheet.specs.declared.ids.Target.{Target}
 use Rattle.pc_parts.specs.Parts.{Part, AreParts}
 use Rattle.pc_parts.specs.Unions.{parts_with_entries, IsUnion}
 use Rattle.pc_gen.specs.Text.{generated_text}
-use Rattle.pc_generated.specs.Sheet.{entry, generated_sheet}
+use Rattle.pc_gen.specs.Sheet.{entry, generated_sheet}
 use Rattle.pc_collab.specs.Journal.{Post}
 use Rattle.pc_collab.specs.Reading.{IsTextOf}
 use Rattle.pc_collab.specs.Merge.{IsMerge}
 use Rattle.pc_collab.specs.Text.{journal_text}
 use Rattle.pc_accept.specs.Accepts.{Claim, implied, inconsistent, repairs, unimplied, against}
 use Rattle.pc_accept.specs.Laws.{IsInOrder, AreAgainst}
-use Rattle.pc_asked.specs.Asked.{IsStatementImplied, IsLeastForStatement, asked}
+use Rattle.pc_asked_laws.specs.Asked.{IsStatementImplied, IsLeastForStatement, asked}
 use Rattle.pc_writer.specs.SheetText.{ended}
 use Rattle.pc_display.specs.Show.{IsShown}
 use Rattle.pc_display.specs.Grid.{IsGrid}
@@ -40,7 +40,7 @@ use Rattle.pc_spreadsheet.specs.Refused.{IsContradiction, IsRefused}
 use Rattle.pc_spreadsheet.specs.Tasks.{State, Starts, Task, budgets, shows, lines_page, grid_page, json_page, text_page, why_page, repairs_page, proof_page, whynot_page, ask_page, AsksNothing, IsTask, IsEdit, state_after}
 use Rattle.pc_display.specs.Json.{IsJsonLine}
 use Rattle.pc_demo.specs.Summing.{clear_lines, SumsUp}
-use Rattle.pc_afresh.specs.Again.{StartsAgain}
+use Rattle.pc_afresh_laws.specs.Again.{StartsAgain}
 use Rattle.pc_judge.specs.AcceptedText.{IsAcceptedText}
 use Rattle.pc_theorem.specs.Certificates.{Claims}
 

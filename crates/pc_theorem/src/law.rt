@@ -3,19 +3,19 @@ ghost use Rattle.pc_theorem.specs.Examples.{BrokenWords, WorkedWords};
 ghost use Rattle.pc_theorem.specs.Laws.{ChecksAreWorthIt, DemonstrationsAreWorthIt, MergesAreWorthIt, RunsKeepTheirWord, SavedSheetsShowTheSame, SavedSheetsTakeCertificates, SessionsAreWorthIt};
 
 use pc_accept::certificates_are_sound;
-use pc_afresh::{dumps_start_again, states_stay_open, transcripts_stay_open};
-use pc_cert_back::texts_read_back;
+use pc_afresh_laws::{dumps_start_again, states_stay_open, transcripts_stay_open};
+use pc_cert_laws::texts_read_back;
 use pc_collab::journals_read_back;
 use pc_course_laws::events_add_up;
 use pc_display::sheet_has_one_display;
 use pc_elaborate::trees_have_one_outcome;
-use pc_generated::{generated_sheets_weigh, generated_texts_read_back};
+use pc_gen::{generated_sheets_weigh, generated_texts_read_back};
 use pc_judge::{judgements_are_one, told_accepted_is_accepts};
 use pc_load::texts_have_one_outcome;
-use pc_one_reading::{certificates_have_one_reading, what_is_read_is_for_the_sheet};
 use pc_parts::{
     maximal_sets_are_unions, parts_are_a_division, parts_are_determined, parts_are_found,
 };
+use pc_reading_laws::{certificates_have_one_reading, what_is_read_is_for_the_sheet};
 use pc_sortcheck::sheets_are_well_formed;
 use pc_spreadsheet::lines_have_one_verdict;
 use pc_syntax::one_reading;

@@ -18,7 +18,7 @@ use Rattle.pc_components.specs.View.{number_of}
 use Rattle.pc_world_list.specs.Worlds.{WorldView}
 use Rattle.pc_solver.specs.Solver.{Problem, IsProblem, IsSolverLog}
 use Rattle.pc_solver.specs.Spending.{marked, SpendsOver}
-use Rattle.pc_searched.specs.Laws.{problem_of}
+use Rattle.pc_problem.specs.Laws.{problem_of}
 use Rattle.pc_kept.specs.Laws.{KeptPartsAreSearched, NoneOfTheUsedIsContained}
 use Rattle.pc_search.specs.Parts.{IsPartOf, AreWorldsOf, AreAskedOf, AreSearchedOf}
 use Rattle.pc_reason.specs.Fitting.{IsFitting}

@@ -18,8 +18,8 @@ use Rattle.pc_parts.specs.Parts.{Part}
 use Rattle.pc_parts.specs.Components.{parts_of}
 use Rattle.pc_components.specs.PartAxioms.{AreAxiomsOf, AreVariablesOf, IsUsed}
 use Rattle.pc_components.specs.View.{Kept, number_of, variable_number, AreComponentsOf}
-use Rattle.pc_searched.specs.Laws.{problem_of}
-use Rattle.pc_searched.proofs.Made.{of_number}
+use Rattle.pc_problem.specs.Laws.{problem_of}
+use Rattle.pc_problem.proofs.Made.{of_number}
 use Rattle.pc_solver.specs.Forced.{IsForcedNext, AreForced, IsForced}
 use Rattle.pc_solver.specs.New.{IsLearnedAt, AreNewClauses}
 use Rattle.pc_solver.specs.Clauses.{used_clauses, IsOverOwn}

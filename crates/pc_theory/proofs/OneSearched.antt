@@ -20,7 +20,7 @@ use Rattle.pc_solver.specs.Solver.{Problem, SuspendedView, IsSolverLog}
 use Rattle.pc_solver.specs.Spending.{marked, SpendsOver, StopSays}
 use Rattle.pc_solver.specs.declared.stop.Stop.{Stop}
 use Rattle.pc_solver.specs.declared.stop.Stop.TheVariants.{Spent, Memory}
-use Rattle.pc_searched.specs.Laws.{problem_of}
+use Rattle.pc_problem.specs.Laws.{problem_of}
 use Rattle.pc_kept.specs.Laws.{KeptPartsAreSearched}
 use Rattle.pc_search.specs.Parts.{IsPartOf, AreSearchedOf}
 use Rattle.pc_reason.specs.Fitting.{IsFitting}

@@ -19,7 +19,7 @@ use Rattle.pc_parts.specs.Components.{labels_of, all_cells, is_labeled, are_no_c
 use Rattle.pc_parts.specs.Leaves.{cells_of}
 use Rattle.pc_components.specs.PartAxioms.{AreVariablesOf}
 use Rattle.pc_components.specs.View.{Kept, number_of, variable_number, cells_of_part}
-use Rattle.pc_searched.specs.Laws.{problem_of, AreSearchedBy}
+use Rattle.pc_problem.specs.Laws.{problem_of, AreSearchedBy}
 use Rattle.pc_kept.specs.Laws.{KeptPartsAreSearched}
 use Rattle.pc_search.specs.Parts.{IsPartOf}
 use Rattle.pc_theory.specs.Theories.{rules_alone, IsPartNumbered}

@@ -8,7 +8,7 @@ use Rattle.pc_log.specs.declared.trimming.Span.{Span}
 use Rattle.pc_sheet.specs.Sheet.{Sheet}
 use Rattle.pc_sheet.specs.WellFormed.{IsWellFormed}
 use Rattle.pc_ground.specs.Naming.{names_of}
-use Rattle.pc_justify.specs.Laws.{NamesAreOfTheirSheet, TrimmedLinesRefute}
+use Rattle.pc_justify_laws.specs.Laws.{NamesAreOfTheirSheet, TrimmedLinesRefute}
 use Rattle.pc_reason.specs.Refutations.{RefutesRules}
 use Rattle.pc_theory.specs.inside.Calling.{IsEmptyAt}
 

@@ -27,13 +27,13 @@ use Rattle.pc_parts.specs.Laws.{AgreeAt}
 use Rattle.pc_components.specs.Pairs.{pair_var}
 use Rattle.pc_components.specs.Used.{MeetsUsed, HasValues}
 use Rattle.pc_components.specs.View.{Kept, number_of}
-use Rattle.pc_justify.specs.Found.{clause_at_place, HasNoBlock}
-use Rattle.pc_justify.specs.Laws.{OwnLinesAreNamed}
+use Rattle.pc_justify_laws.specs.Found.{clause_at_place, HasNoBlock}
+use Rattle.pc_justify_laws.specs.Laws.{OwnLinesAreNamed}
 use Rattle.pc_analyze.specs.Learning.{IsOverNegated}
 use Rattle.pc_solver.specs.Answers.{truth_in, MeetsEach}
 use Rattle.pc_solver.specs.Solver.{Problem, SolverView, SuspendedView, SuspendedHasLog, IsProblem, IsSolverLog, HasLog, Spends, clauses_used}
 use Rattle.pc_solver.specs.Spending.{marked}
-use Rattle.pc_searched.specs.Laws.{problem_of, AreSearchedBy}
+use Rattle.pc_problem.specs.Laws.{problem_of, AreSearchedBy}
 use Rattle.pc_kept.specs.Laws.{KeptPartsAreSearched}
 use Rattle.pc_search.specs.Found.{steps_in}
 use Rattle.pc_search.proofs.EachLemmas.{steps_split}

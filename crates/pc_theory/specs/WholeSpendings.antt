@@ -9,7 +9,7 @@ use Rattle.pc_sheet.specs.Entailment.{cell_sizes}
 use Rattle.pc_sheet.specs.MaximalSets.{IsMaximalSet}
 use Rattle.pc_ground.specs.Ground.{clauses}
 use Rattle.pc_ground.specs.Variables.{variable_count}
-use Rattle.pc_searched.specs.Laws.{problem_of}
+use Rattle.pc_problem.specs.Laws.{problem_of}
 use Rattle.pc_solver.specs.Spending.{marked}
 use Rattle.pc_worlds.specs.Parts.{IsListingLog}
 

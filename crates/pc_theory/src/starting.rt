@@ -11,12 +11,13 @@ use crate::reading::read_values;
 use crate::spending::PartSpending;
 use crate::stop::Halt;
 use crate::task::Task;
-use pc_justify::{names_are_of_their_sheet, own_lines_are_named, trimmed_lines_refute};
+use pc_justify_laws::{names_are_of_their_sheet, own_lines_are_named, trimmed_lines_refute};
 use pc_kept::laws::kept_parts_are_searched;
 use pc_lits::Tally;
 use pc_log::{Log, Span, StepId, trim};
 use pc_logic::Assignment;
-use pc_searched::{SpareTrails, count_pairs};
+use pc_problem::count_pairs;
+use pc_reuse::SpareTrails;
 use pc_solver::{Outcome, Solver, Suspended};
 use std::alloc::{AllocError, Global};
 

@@ -21,7 +21,7 @@ use Rattle.pc_components.specs.PartAxioms.{IsAtOrUnder, IsAxiomOfPart, OfSomePie
 use Rattle.pc_components.specs.View.{Kept, IsInPart, AreComponentsOf, variable_number}
 use Rattle.pc_solver.specs.Solver.{clauses_used}
 use Rattle.pc_solver.specs.Spending.{marked}
-use Rattle.pc_searched.specs.Laws.{problem_of}
+use Rattle.pc_problem.specs.Laws.{problem_of}
 use Rattle.pc_theory.specs.Theories.{rules_alone}
 use Rattle.pc_theory.specs.Spendings.{IsSetOf, IsGoodLog, IsPartSpending, IsTouched, IsSpentOn, IsLawful, placed_of, learned_of, calls_of}
 use Rattle.pc_theory.specs.declared.spending.PartSpending.{PartSpending}

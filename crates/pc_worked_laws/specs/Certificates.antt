@@ -6,7 +6,7 @@ use Rattle.pc_accept.specs.Axioms.{axiom_some, axiom_rule, axiom_node, axiom_ato
 use Rattle.pc_accept.specs.Accepts.{repairs, unimplied, against, Line, taken, derived, blocked, Certificate, Accepts}
 use Rattle.pc_accept.specs.SetExamples.{two_ends, red_set, of_sets}
 use Rattle.pc_accept.specs.Worked.{never, refuting}
-use Rattle.pc_asked.specs.Asked.{asked}
+use Rattle.pc_asked_laws.specs.Asked.{asked}
 
 -- against the rule of that number
 abbrev pub of_rule : ℕ → List Entry → List Entry → List Line → Certificate

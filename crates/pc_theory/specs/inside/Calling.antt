@@ -6,7 +6,7 @@ use Rattle.pc_sheet.specs.Sheet.{Sheet}
 use Rattle.pc_ground.specs.Ground.{clauses}
 use Rattle.pc_ground.specs.Naming.{names_of}
 use Rattle.pc_components.specs.View.{Kept}
-use Rattle.pc_justify.specs.Found.{clause_at_place, IsDerivedAt}
+use Rattle.pc_justify_laws.specs.Found.{clause_at_place, IsDerivedAt}
 use Rattle.pc_reason.specs.Refutations.{RefutesRules}
 use Rattle.pc_solver.specs.Answers.{truth_in, MeetsEach}
 use Rattle.pc_solver.specs.Solver.{SolverView, SuspendedView, clauses_used}

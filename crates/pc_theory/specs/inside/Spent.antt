@@ -8,7 +8,7 @@ use Rattle.pc_sheet.specs.declared.ids.CellId.{CellId}
 use Rattle.pc_parts.specs.Parts.{Part}
 use Rattle.pc_parts.specs.PartSheets.{sheet_of}
 use Rattle.pc_components.specs.View.{Kept}
-use Rattle.pc_searched.specs.Laws.{problem_of}
+use Rattle.pc_problem.specs.Laws.{problem_of}
 use Rattle.pc_solver.specs.Spending.{marked}
 use Rattle.pc_worlds.specs.Parts.{IsSolverListing}
 use Rattle.pc_theory.specs.Theories.{rules_alone, IsPartNumbered}

@@ -10,7 +10,7 @@ use Rattle.pc_parts.specs.Parts.{Part}
 use Rattle.pc_parts.specs.PartSheets.{sheet_of}
 use Rattle.pc_components.specs.View.{Kept}
 use Rattle.pc_reason.specs.Refutations.{RefutesRules}
-use Rattle.pc_searched.specs.Laws.{problem_of}
+use Rattle.pc_problem.specs.Laws.{problem_of}
 use Rattle.pc_search.specs.Found.{steps_in}
 use Rattle.pc_solver.specs.Solver.{SuspendedView, SuspendedHasLog}
 use Rattle.pc_solver.specs.declared.stop.Stop.{Stop}

@@ -1,6 +1,6 @@
 use Rattle.std.proofs.Common.{◌+◌, ◌<◌, ℕ, [], false, Some, refl, ap, sym, ◌∙◌, subst}
 use Rattle.std.proofs.lemmas.Result.{IfOk-at_ok, IfErr-at_err, err_from_is_err_and}
-use Rattle.pc_edits.specs.Edits.{edited}
+use Rattle.pc_edit_laws.specs.Edits.{edited}
 use Rattle.pc_sheet.specs.Sheet.{Sheet}
 use Rattle.pc_search.specs.Found.{Finds}
 use Rattle.pc_solver.specs.Spending.{StopSays}

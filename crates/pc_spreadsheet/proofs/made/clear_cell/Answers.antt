@@ -1,7 +1,7 @@
 use Rattle.std.proofs.Common.{◌≡◌, List, Contains, subst}
 use Rattle.pc_sheet.specs.WellFormed.{is_of_cell}
 use Rattle.pc_sheet.specs.declared.ids.Entry.{Entry}
-use Rattle.pc_edits.specs.Edits.{HasNone}
+use Rattle.pc_edit_laws.specs.Edits.{HasNone}
 use Rattle.pc_spreadsheet.proofs.Clearing.{cleared_all, cleared_further, fewer_entries}
 use Rattle.pc_spreadsheet.proofs.made.clear_cell.Goals as goal
 

@@ -1,5 +1,0 @@
-use Rattle.pc_afresh.proofs.Listings.{listings_are_one}
-use Rattle.pc_afresh.proofs.law.listings_are_one.Goals as goal
-
-pub returns : goal.returns
-returns c = listings_are_one

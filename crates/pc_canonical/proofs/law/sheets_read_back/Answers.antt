@@ -1,5 +1,0 @@
-use Rattle.pc_canonical.proofs.Sheets.{sheet_reads_back}
-use Rattle.pc_canonical.proofs.law.sheets_read_back.Goals as goal
-
-pub returns : goal.returns
-returns c = sheet_reads_back

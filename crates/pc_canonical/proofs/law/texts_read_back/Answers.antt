@@ -1,5 +1,0 @@
-use Rattle.pc_canonical.proofs.Texts.{text_reads_back}
-use Rattle.pc_canonical.proofs.law.texts_read_back.Goals as goal
-
-pub returns : goal.returns
-returns c = text_reads_back c.sheets_read_back.ensures

@@ -1,5 +1,0 @@
-use Rattle.pc_canonical.proofs.Universes.{universe_given}
-use Rattle.pc_canonical.proofs.law.universe_is_declared.Goals as goal
-
-pub returns : goal.returns
-returns c = universe_given

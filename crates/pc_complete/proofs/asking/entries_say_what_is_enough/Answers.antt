@@ -1,5 +1,0 @@
-use Rattle.pc_complete.proofs.ReadSizes.{enough_by_entries}
-use Rattle.pc_complete.proofs.asking.entries_say_what_is_enough.Goals as goal
-
-pub returns : goal.returns
-returns c = enough_by_entries

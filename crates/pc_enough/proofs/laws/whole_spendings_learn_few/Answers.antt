@@ -1,5 +1,0 @@
-use Rattle.pc_enough.proofs.OfWhole.{whole_learns_few}
-use Rattle.pc_enough.proofs.laws.whole_spendings_learn_few.Goals as goal
-
-pub returns : goal.returns
-returns c = whole_learns_few

@@ -1,4 +1,0 @@
-pub mod Names
-pub mod Formed
-pub mod Weighed
-pub mod Lines

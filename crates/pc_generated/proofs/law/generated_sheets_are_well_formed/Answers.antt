@@ -1,5 +1,0 @@
-use Rattle.pc_generated.proofs.Formed.{formed}
-use Rattle.pc_generated.proofs.law.generated_sheets_are_well_formed.Goals as goal
-
-pub returns : goal.returns
-returns c = formed

@@ -1,5 +1,0 @@
-use Rattle.pc_generated.proofs.Lines.{canonical}
-use Rattle.pc_generated.proofs.law.generated_texts_are_canonical.Goals as goal
-
-pub returns : goal.returns
-returns c = λ n some. canonical c.cells_are_numbered_in_order.ensures n some

@@ -1,7 +1,0 @@
-use Rattle.pc_justify.proofs.Ends.{trimmed_lines_derive_beside}
-use Rattle.pc_justify.proofs.laws.trimmed_lines_derive_beside.Goals as goal
-
-pub returns : goal.returns
-returns c =
-    trimmed_lines_derive_beside c.clauses_are_of_axioms.ensures c.symbols_are_variables.ensures c.variables_have_their_places.ensures c.trimming_keeps_derivations.ensures
-    c.accepted_are_writable.ensures.lines

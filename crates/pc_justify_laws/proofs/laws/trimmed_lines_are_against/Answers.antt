@@ -1,0 +1,7 @@
+use Rattle.pc_justify_laws.proofs.Ends.{trimmed_lines_are_against}
+use Rattle.pc_justify_laws.proofs.laws.trimmed_lines_are_against.Goals as goal
+
+pub returns : goal.returns
+returns c =
+    trimmed_lines_are_against c.clauses_are_of_axioms.ensures c.symbols_are_variables.ensures c.pairs_are_variables.ensures c.variables_have_their_places.ensures c.trimming_keeps_derivations.ensures
+    c.accepted_are_writable.ensures.lines
