@@ -4,7 +4,7 @@ use Rattle.pc_analyze.proofs.WayLemmas.{KeepsWays}
 use Rattle.pc_analyze.proofs.graph.ImplicationGraph.resolve_level.Given as goal
 
 abbrev pub invariant-walk : goal.invariant-walk
-invariant-walk l = (l.place < l.end) × IsWalked l.self.axioms.now l.self.more.now l.self.trail.now.attached l.self.trail.now.entries l.start (l.place + 1) l.left l.marks l.hints.items
+invariant-walk l = (l.place < l.end) × IsWalked l.self l.start (l.place + 1) l.left l.marks l.hints.items
     × KeepsWays l.self.axioms.now l.self.more.now l.self.trail.now.entries l.start l.end l.initial.marks (l.place + 1) l.marks
 
 abbrev pub decreases-walk : goal.decreases-walk
