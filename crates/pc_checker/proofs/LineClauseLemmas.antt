@@ -1,5 +1,5 @@
 -- Clauses that stand at many places.
-use Rattle.std.proofs.Common.{◌≡◌, ℕ, ◌<◌, Bool, false, List, [], ◌∷◌, ◌++◌, map, length, get_or, MatchBool, IfSome, Option, None, Some, append-nil, slice_get, refl, ap, sym, ◌∙◌, subst, arith}
+use Rattle.std.proofs.Common.{◌≡◌, ℕ, ◌<◌, Bool, false, List, [], ◌∷◌, ◌++◌, map, length, get_or, MatchBool, IfSome, IfNone, Option, None, Some, append-nil, slice_get, refl, ap, sym, ◌∙◌, subst, arith}
 use Rattle.std.proofs.lemmas.List.{map-append, get_or-map, get_or_append_left, get_or_push, length-map}
 use Rattle.std.proofs.lemmas.List.Elements.{All-head, All-tail}
 use Rattle.std.proofs.lemmas.Option.{slice_get-get_or}
@@ -13,7 +13,7 @@ use Rattle.pc_cert.specs.declared.cert.CertLine.{CertLine}
 use Rattle.pc_checker.specs.LineClauses.{AreStored, TakeSame, clauses_by}
 use Rattle.pc_checker.specs.Made.{IsPrepared}
 use Rattle.pc_cert.specs.Views.{literal_of}
-use Rattle.pc_checker.specs.inside.Prepared.{IsLinePrepared, IsPlacePrepared, ArePrepared}
+use Rattle.pc_checker.specs.inside.Prepared.{IsLinePrepared, IsRepeated, ArePrepared}
 
 -- clauses that are stored later change nothing
 stays : (stored more : List (List Lit)) (places : List ℕ) → AreStored stored places → clauses_by (stored ++ more) places ≡ clauses_by stored places
@@ -60,20 +60,20 @@ same_prepared sheet blocks names clause good (Block i) (Block j) same is = subst
 -- a line is prepared, by itself or as an earlier one
 pub place_prepared : (sheet : Sheet) (blocks : List (List Literal)) (lines : List CertLine) (n : ℕ) (line : CertLine) (earlier : Option ℕ) (symbols old new : List Symbol) (before after : List (List Lit)) (marks : List Bool) (good : Bool) → line ≡ get_or lines n line
     → ArePrepared sheet blocks lines n symbols old before marks → IfSome earlier (λ j. (j < n) × ((d : CertLine) → TakeSame (get_or lines j d).part (get_or lines n d).part))
-    → IsPlacePrepared sheet blocks line.part earlier marks old new before after good → IsLinePrepared sheet blocks line.part old new before after good
-place_prepared sheet blocks lines n line None symbols old new before after marks good is are same one = one
-place_prepared sheet blocks lines n line (Some j) symbols old new before after marks good is are same one =
+    → IfNone earlier (IsLinePrepared sheet blocks line.part old new before after good) → IfSome earlier (λ j. IsRepeated j marks old new before after good) → IsLinePrepared sheet blocks line.part old new before after good
+place_prepared sheet blocks lines n line None symbols old new before after marks good is are same by_itself repeated = by_itself
+place_prepared sheet blocks lines n line (Some j) symbols old new before after marks good is are same by_itself repeated =
     let count = are.count in
     let clause = get_or before j [] in
     let part_of_line : CertLine → CertPart = λ x. x.part in
     let takes : TakeSame (get_or lines j line).part line.part = subst (TakeSame (get_or lines j line).part) (ap part_of_line (sym is)) (same.1 line) in
     let stood : IsPrepared sheet blocks old clause good line.part =
-    subst (λ b. IsPrepared sheet blocks old clause b line.part) (sym one.2) (same_prepared sheet blocks old clause (get_or marks j false) (get_or lines j line).part line.part takes (are.each j line same.0))
+    subst (λ b. IsPrepared sheet blocks old clause b line.part) (sym repeated.mark) (same_prepared sheet blocks old clause (get_or marks j false) (get_or lines j line).part line.part takes (are.each j line same.0))
     in
-    subst (λ names. IsLinePrepared sheet blocks line.part old names before after good) (sym one.0) (record {
+    subst (λ names. IsLinePrepared sheet blocks line.part old names before after good) (sym repeated.symbols) (record {
       grows = ([], sym (append-nil old));
       clause = clause;
-      pushed = one.1;
+      pushed = repeated.pushed;
       within = are.within j [] (omega (arith, same.0, count));
       prepared = stood;
     })

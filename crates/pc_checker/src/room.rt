@@ -1,6 +1,6 @@
 //! All that a check needs of memory.
 
-ghost use Rattle.std.specs.Prelude.{◌≡◌, ◌<◌, [], IfOk, IfSome, OnOk, All, length, map};
+ghost use Rattle.std.specs.Prelude.{◌≡◌, ◌<◌, [], IfOk, IfSome, IfNone, OnOk, All, length, map};
 ghost use Rattle.pc_accept.specs.Axioms.{negated_entry};
 ghost use Rattle.pc_cert.specs.Text.{entry_said};
 ghost use Rattle.pc_cert.specs.Views.{reading_of, said_of, symbol_of, AreSymbolsDistinct};
@@ -8,7 +8,7 @@ ghost use Rattle.pc_checker.specs.Drafts.{AreWritten};
 ghost use Rattle.pc_checker.specs.Entered.{HasEachPair};
 ghost use Rattle.pc_checker.specs.Made.{IsMadeFor, blocks_said, set_values, value_said};
 ghost use Rattle.pc_cert.specs.ReadFor.{IsPartOver, IsReadFor, IsSetSaidOf};
-ghost use Rattle.pc_checker.specs.inside.Prepared.{ArePrepared, IsLinePrepared, IsPlacePrepared};
+ghost use Rattle.pc_checker.specs.inside.Prepared.{ArePrepared, IsLinePrepared, IsRepeated};
 ghost use Rattle.pc_checker.specs.Verdicts.{allowed_in};
 ghost use Rattle.pc_checker.specs.inside.Written.{IsBlockWritten};
 
@@ -138,7 +138,8 @@ fn prepare_place(
     requires marks { HasEachPair book.now marks.old }
     requires earlier { IfSome place.earlier (λ j. (j < length clauses.old) × (j < length place.axioms.now)) }
     ensures room { length marks.new ≡ length marks.old }
-    ensures prepared { IfOk result (IsPlacePrepared book.now (blocks_said book.now place.entry.sets.now) place.entry.part.now place.entry.earlier place.entry.axioms.now draft.old.symbols draft.new.symbols clauses.old clauses.new) }
+    ensures by_itself { IfNone place.entry.earlier (IfOk result (IsLinePrepared book.now (blocks_said book.now place.entry.sets.now) place.entry.part.now draft.old.symbols draft.new.symbols clauses.old clauses.new)) }
+    ensures repeated { IfSome place.entry.earlier (λ j. IfOk result (IsRepeated j place.entry.axioms.now draft.old.symbols draft.new.symbols clauses.old clauses.new)) }
 {
     match place.earlier {
         None => prepare_line(alloc, book, place.sets, place.part, draft, clauses, marks),

@@ -1,5 +1,5 @@
 -- What is prepared of a certificate: its lines, one after the other, and what its claim is tested by.
-use Rattle.std.specs.Prelude.{◌≡◌, ℕ, ◌<◌, Bool, false, List, [], ◌∷◌, ◌++◌, map, length, slice_index_or, All, Option, None, Some}
+use Rattle.std.specs.Prelude.{◌≡◌, ℕ, ◌<◌, Bool, false, List, [], ◌∷◌, ◌++◌, map, length, slice_index_or, All}
 use Rattle.pc_sheet.specs.Sheet.{Sheet}
 use Rattle.pc_sheet.specs.declared.ids.ValueId.{ValueId}
 use Rattle.pc_lits.specs.declared.literal.Lit.{Lit}
@@ -24,11 +24,11 @@ pub record IsLinePrepared (sheet : Sheet) (blocks : List (List Literal)) (part :
   pub within : All (IsNamedIn new) clause
   pub prepared : IsPrepared sheet blocks new clause good part
 
--- the same of a line that may take the clause and the mark of an earlier one
-abbrev pub IsPlacePrepared : Sheet → List (List Literal) → CertPart → Option ℕ → List Bool → List Symbol → List Symbol → List (List Lit) → List (List Lit) → Bool → Type 0
-IsPlacePrepared sheet blocks part None marks old new before after good = IsLinePrepared sheet blocks part old new before after good
-IsPlacePrepared sheet blocks part (Some j) marks old new before after good =
-    (new ≡ old) × (after ≡ before ++ slice_index_or before j [] ∷ []) × (good ≡ slice_index_or marks j false)
+-- the clause and the mark of an earlier line are taken once more
+pub record IsRepeated (earlier : ℕ) (marks : List Bool) (old new : List Symbol) (before after : List (List Lit)) (good : Bool) : Type 0 where
+  pub symbols : new ≡ old
+  pub pushed : after ≡ before ++ slice_index_or before earlier [] ∷ []
+  pub mark : good ≡ slice_index_or marks earlier false
 
 -- the first n lines are prepared
 pub record ArePrepared (sheet : Sheet) (blocks : List (List Literal)) (lines : List CertLine) (n : ℕ) (symbols names : List Symbol) (clauses : List (List Lit)) (axioms : List Bool) : Type 0 where

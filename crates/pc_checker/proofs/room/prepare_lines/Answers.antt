@@ -19,7 +19,7 @@ loop-place-preserved c =
     in
     let one : IsLinePrepared c.args.book.now (blocks_said c.args.book.now c.args.sets.now) line.part l.draft.symbols c.prepare_place.new.draft.symbols l.clauses c.prepare_place.new.clauses c.in_ok-good.good =
     place_prepared c.args.book.now (blocks_said c.args.book.now c.args.sets.now) c.args.lines.now l.place line c.in_ok-earlier.earlier c.args.draft.now.symbols l.draft.symbols c.prepare_place.new.draft.symbols l.clauses c.prepare_place.new.clauses c.as_slice.result.now c.in_ok-good.good c.index-lines-place.is
-    lent c.in_ok-earlier.ensures c.in_ok-good.ensures.prepared
+    lent c.in_ok-earlier.ensures c.in_ok-good.ensures.by_itself c.in_ok-good.ensures.repeated
     in
     record {
       prepared = prepared_more c.args.book.now (blocks_said c.args.book.now c.args.sets.now) c.args.lines.now l.place line c.args.draft.now.symbols l.draft.symbols c.prepare_place.new.draft.symbols l.clauses
