@@ -7,8 +7,9 @@ ghost use Rattle.pc_kept.specs.inside.Checks.{IsRoom, IsNamed, HasTrue, HasConst
 ghost use Rattle.pc_lits.specs.Values.{MakesTrue};
 ghost use Rattle.pc_kept.specs.Stored.{AreMeaningsStored};
 
+use crate::trial::{Stored, Trial};
 use pc_axiom_names::{AxiomRef, Names};
-use pc_lits::{ClauseStore, Lit, Values};
+use pc_lits::{Lit, Values};
 use std::alloc::{AllocError, Global};
 
 /// Whether the axiom says what a node or an atom means.
@@ -117,52 +118,41 @@ fn may_go(clause: &[Lit], pairs: u32, values: &Values, constants: &Values, named
 }
 
 /// Whether the axiom may be left out.
-fn is_fine(
-    store: &ClauseStore,
-    names: &Names,
-    pairs: u32,
-    values: &Values,
-    constants: &Values,
-    named: &Values,
-    number: usize,
-) -> bool
-    requires values { IsRoom values.now store.now }
-    requires constants { IsRoom constants.now store.now }
-    requires named { IsRoom named.now store.now }
-    requires few { length store.now < 2 ^ 32 }
-    requires names { length names.now.axioms ≡ length store.now }
-    requires within { number < length store.now }
-    ensures { OnTrue result (IsFine pairs store.now names.now.axioms values.now constants.now named.now number) }
+fn is_fine(stored: Stored<'_>, constants: &Values, trial: &Trial, number: usize) -> bool
+    requires values { IsRoom trial.now.values stored.store.now }
+    requires constants { IsRoom constants.now stored.store.now }
+    requires named { IsRoom trial.now.named stored.store.now }
+    requires few { length stored.store.now < 2 ^ 32 }
+    requires names { length stored.names.now.axioms ≡ length stored.store.now }
+    requires within { number < length stored.store.now }
+    ensures { OnTrue result (IsFine stored.entry.pairs stored.entry.store.now stored.entry.names.now.axioms trial.now.values constants.now trial.now.named number) }
 {
-    if !is_of_node(names, number) {
+    if !is_of_node(stored.names, number) {
         return false;
     }
-    let clause = store.get(number);
-    may_go(clause, pairs, values, constants, named)
+    let clause = stored.store.get(number);
+    may_go(clause, stored.pairs, &trial.values, constants, &trial.named)
 }
 
 /// Whether each axiom without a mark may be left out.
 pub(crate) fn are_fine(
-    store: &ClauseStore,
-    names: &Names,
-    pairs: u32,
-    values: &Values,
-    constants: &Values,
-    named: &Values,
+    stored: Stored<'_>,
     used: &[usize],
+    constants: &Values,
+    trial: &Trial,
     marks: &[bool],
 ) -> bool
-    requires values { IsRoom values.now store.now }
-    requires constants { IsRoom constants.now store.now }
-    requires named { IsRoom named.now store.now }
-    requires few { length store.now < 2 ^ 32 }
-    requires names { length names.now.axioms ≡ length store.now }
-    requires within { All (λ k. k < length store.now) used.now }
+    requires values { IsRoom trial.now.values stored.store.now }
+    requires constants { IsRoom constants.now stored.store.now }
+    requires named { IsRoom trial.now.named stored.store.now }
+    requires few { length stored.store.now < 2 ^ 32 }
+    requires names { length stored.names.now.axioms ≡ length stored.store.now }
+    requires within { All (λ k. k < length stored.store.now) used.now }
     requires marks { length marks.now ≡ length used.now }
-    ensures { OnTrue result (AreFine pairs store.now names.now.axioms values.now constants.now named.now used.now marks.now) }
+    ensures { OnTrue result (AreFine stored.entry.pairs stored.entry.store.now stored.entry.names.now.axioms trial.now.values constants.now trial.now.named used.now marks.now) }
 {
     for i in 0..used.len() {
-        if !marks[i] && !is_fine(store, names, pairs, values, constants, named, used[i]) {
+        if !marks[i] && !is_fine(stored, constants, trial, used[i]) {
             return false;
         }
     }
@@ -171,26 +161,23 @@ pub(crate) fn are_fine(
 
 /// Marks what may not be left out.
 pub(crate) fn mark_missing(
-    store: &ClauseStore,
-    names: &Names,
-    pairs: u32,
-    values: &Values,
-    constants: &Values,
-    named: &Values,
+    stored: Stored<'_>,
     used: &[usize],
+    constants: &Values,
+    trial: &Trial,
     marks: &mut Vec<bool>,
 )
-    requires values { IsRoom values.now store.now }
-    requires constants { IsRoom constants.now store.now }
-    requires named { IsRoom named.now store.now }
-    requires few { length store.now < 2 ^ 32 }
-    requires names { length names.now.axioms ≡ length store.now }
-    requires within { All (λ k. k < length store.now) used.now }
+    requires values { IsRoom trial.now.values stored.store.now }
+    requires constants { IsRoom constants.now stored.store.now }
+    requires named { IsRoom trial.now.named stored.store.now }
+    requires few { length stored.store.now < 2 ^ 32 }
+    requires names { length stored.names.now.axioms ≡ length stored.store.now }
+    requires within { All (λ k. k < length stored.store.now) used.now }
     requires marks { length marks.old.items ≡ length used.now }
     ensures { length marks.new.items ≡ length marks.old.items }
 {
     for i in 0..used.len() {
-        if !marks[i] && !is_fine(store, names, pairs, values, constants, named, used[i]) {
+        if !marks[i] && !is_fine(stored, constants, trial, used[i]) {
             marks[i] = true;
         }
     }

@@ -10,10 +10,10 @@ ghost use Rattle.pc_kept.specs.inside.Checks.{IsRoom};
 
 use crate::keeping::kept_axioms;
 use crate::laws::kept_by_what_is_stored;
-use pc_axiom_names::Names;
+use crate::trial::{Stored, Trial};
 use pc_components::Components;
 use pc_ground::Ground;
-use pc_lits::{ClauseStore, Rows, Values};
+use pc_lits::{Rows, Values};
 use pc_logic::{Book, few_cells};
 use pc_sheet::CellId;
 use std::alloc::{AllocError, Global};
@@ -40,47 +40,27 @@ fn numbers_of(alloc: Global, row: &[u32]) -> Result<Vec<usize>, AllocError>
     Ok(numbers)
 }
 
-// What is true and what is named while the parts' axioms are looked at, one part after the other.
-#[derive(Drop)]
-struct Marks {
-    values: Values,
-    constants: Values,
-    named: Values,
-    reasons: Vec<usize>,
-}
-
 // Part by part the axioms that a search takes.
 fn kept_rows(
     alloc: Global,
-    store: &ClauseStore,
-    names: &Names,
-    pairs: u32,
+    stored: Stored<'_>,
     whole: &Components,
-    marks: &mut Marks,
+    constants: &mut Values,
+    trial: &mut Trial,
 ) -> Result<Rows<usize>, AllocError>
-    requires values { IsRoom marks.old.values store.now }
-    requires constants { IsRoom marks.old.constants store.now }
-    requires named { IsRoom marks.old.named store.now }
-    requires few { length store.now < 2 ^ 32 }
-    requires names { length names.now.axioms ≡ length store.now }
+    requires values { IsRoom trial.old.values stored.store.now }
+    requires constants { IsRoom constants.old stored.store.now }
+    requires named { IsRoom trial.old.named stored.store.now }
+    requires few { length stored.store.now < 2 ^ 32 }
+    requires names { length stored.names.now.axioms ≡ length stored.store.now }
     requires many { length whole.now.axioms ≡ length whole.now.cells }
-    requires within { All (All (λ k. k < length store.now)) whole.now.axioms }
-    ensures { IfOk result (AllZip (AreKeptStored pairs store.now names.now.axioms) whole.now.axioms) }
+    requires within { All (All (λ k. k < length stored.store.now)) whole.now.axioms }
+    ensures { IfOk result (AllZip (AreKeptStored stored.entry.pairs stored.entry.store.now stored.entry.names.now.axioms) whole.now.axioms) }
 {
     let mut rows = Rows::new(alloc);
     for i in 0..whole.len() {
         let used = numbers_of(alloc, whole.part(i).axioms)?;
-        let kept = kept_axioms(
-            alloc,
-            store,
-            names,
-            pairs,
-            &used,
-            &mut marks.values,
-            &mut marks.constants,
-            &mut marks.named,
-            &mut marks.reasons,
-        )?;
+        let kept = kept_axioms(alloc, stored, &used, constants, trial)?;
         rows.push(&kept)?;
     }
     Ok(rows)
@@ -101,20 +81,18 @@ pub fn kept_components(
 {
     kept_by_what_is_stored();
     let variables = ground.variables();
-    let mut marks = Marks {
+    let mut constants = Values::new(alloc, variables)?;
+    let mut trial = Trial {
         values: Values::new(alloc, variables)?,
-        constants: Values::new(alloc, variables)?,
-        named: Values::new(alloc, variables)?,
         reasons: vec![in alloc; 0; variables as usize]?,
+        named: Values::new(alloc, variables)?,
     };
-    let rows = kept_rows(
-        alloc,
-        ground.store(),
-        ground.names(),
-        count_of_pairs(book),
-        whole,
-        &mut marks,
-    )?;
+    let stored = Stored {
+        store: ground.store(),
+        names: ground.names(),
+        pairs: count_of_pairs(book),
+    };
+    let rows = kept_rows(alloc, stored, whole, &mut constants, &mut trial)?;
     let kept = whole.with_axioms(alloc, book, ground, &rows)?;
     Ok(kept)
 }

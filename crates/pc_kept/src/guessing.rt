@@ -3,7 +3,7 @@ ghost use Rattle.std.specs.Prelude.{◌≡◌, ◌<◌, ◌^◌, All, length, If
 ghost use Rattle.pc_kept.specs.inside.Checks.{IsRoom};
 
 use crate::checking::{has_constant, is_of_node, none_is_named};
-use pc_axiom_names::Names;
+use crate::trial::{Stored, Trial};
 use pc_lits::{ClauseStore, Left, Lit, Values, left_of};
 
 /// Makes the clause's last literal true, where it isn't yet, and says by which clause.
@@ -154,40 +154,44 @@ fn is_settled(
 
 /// Marks what a search seems to need, from the rules on.
 pub(crate) fn guess(
-    store: &ClauseStore,
-    names: &Names,
-    pairs: u32,
+    stored: Stored<'_>,
     used: &[usize],
-    values: &mut Values,
     constants: &Values,
-    named: &mut Values,
-    reasons: &mut Vec<usize>,
+    trial: &mut Trial,
     marks: &mut Vec<bool>,
 )
-    requires values { IsRoom values.old store.now }
-    requires constants { IsRoom constants.now store.now }
-    requires named { IsRoom named.old store.now }
-    requires few { length store.now < 2 ^ 32 }
-    requires names { length names.now.axioms ≡ length store.now }
-    requires within { All (λ k. k < length store.now) used.now }
+    requires values { IsRoom trial.old.values stored.store.now }
+    requires constants { IsRoom constants.now stored.store.now }
+    requires named { IsRoom trial.old.named stored.store.now }
+    requires few { length stored.store.now < 2 ^ 32 }
+    requires names { length stored.names.now.axioms ≡ length stored.store.now }
+    requires within { All (λ k. k < length stored.store.now) used.now }
     requires marks { length marks.old.items ≡ length used.now }
-    ensures values { length values.new ≡ length values.old }
-    ensures named { length named.new ≡ length named.old }
+    ensures values { length trial.new.values ≡ length trial.old.values }
+    ensures named { length trial.new.named ≡ length trial.old.named }
     ensures marks { length marks.new.items ≡ length marks.old.items }
 {
-    values.clear();
-    named.clear();
-    force_twice(store, used, values, reasons);
+    trial.values.clear();
+    trial.named.clear();
+    force_twice(stored.store, used, &mut trial.values, &mut trial.reasons);
     for place in 0..used.len() {
-        let clause = store.get(used[place]);
+        let clause = stored.store.get(used[place]);
         let asked = marks[place]
-            || !is_of_node(names, used[place])
-            || !(none_is_named(clause, pairs, named)
-                || has_constant(clause, pairs, constants, named)
-                || is_settled(clause, place, values, named, reasons));
+            || !is_of_node(stored.names, used[place])
+            || !(none_is_named(clause, stored.pairs, &trial.named)
+                || has_constant(clause, stored.pairs, constants, &trial.named)
+                || is_settled(clause, place, &trial.values, &trial.named, &trial.reasons));
         if asked {
             marks[place] = true;
-            name_deep(store, used, clause, values, named, reasons, marks);
+            name_deep(
+                stored.store,
+                used,
+                clause,
+                &trial.values,
+                &mut trial.named,
+                &trial.reasons,
+                marks,
+            );
         }
     }
 }

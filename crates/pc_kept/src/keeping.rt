@@ -6,6 +6,7 @@ ghost use Rattle.pc_kept.specs.inside.Checks.{IsRoom, AreRight, AreNamed};
 use crate::checking::{are_fine, mark_missing, meanings_of, numbers_marked};
 use crate::forcing::{force_back, force_on, name_all};
 use crate::guessing::guess;
+use crate::trial::{Stored, Trial};
 use pc_axiom_names::Names;
 use pc_lits::{ClauseStore, Values};
 use std::alloc::{AllocError, Global};
@@ -60,34 +61,31 @@ fn force_constants(store: &ClauseStore, meanings: &[usize], constants: &mut Valu
 /// The marked ones, where each other one may be left out; else marks what is missing.
 fn try_marks(
     alloc: Global,
-    store: &ClauseStore,
-    names: &Names,
-    pairs: u32,
+    stored: Stored<'_>,
     used: &[usize],
-    values: &mut Values,
     constants: &Values,
-    named: &mut Values,
+    trial: &mut Trial,
     marks: &mut Vec<bool>,
 ) -> Result<Option<Vec<usize>>, AllocError>
-    requires values { IsRoom values.old store.now }
-    requires constants { IsRoom constants.now store.now }
-    requires named { IsRoom named.old store.now }
-    requires few { length store.now < 2 ^ 32 }
-    requires names { length names.now.axioms ≡ length store.now }
-    requires within { All (λ k. k < length store.now) used.now }
-    requires right { (meanings : List ℕ) × AreMeaningsStored names.now.axioms meanings × AreRight store.now meanings constants.now }
+    requires values { IsRoom trial.old.values stored.store.now }
+    requires constants { IsRoom constants.now stored.store.now }
+    requires named { IsRoom trial.old.named stored.store.now }
+    requires few { length stored.store.now < 2 ^ 32 }
+    requires names { length stored.names.now.axioms ≡ length stored.store.now }
+    requires within { All (λ k. k < length stored.store.now) used.now }
+    requires right { (meanings : List ℕ) × AreMeaningsStored stored.names.now.axioms meanings × AreRight stored.store.now meanings constants.now }
     requires marks { length marks.old.items ≡ length used.now }
-    ensures kept { IfOk result (λ o. IfSome o (λ kept. AreKeptStored pairs store.now names.now.axioms used.now kept.items)) }
-    ensures values { length values.new ≡ length values.old }
-    ensures named { length named.new ≡ length named.old }
+    ensures kept { IfOk result (λ o. IfSome o (λ kept. AreKeptStored stored.entry.pairs stored.entry.store.now stored.entry.names.now.axioms used.now kept.items)) }
+    ensures values { length trial.new.values ≡ length trial.old.values }
+    ensures named { length trial.new.named ≡ length trial.old.named }
     ensures marks { length marks.new.items ≡ length marks.old.items }
 {
     let kept = numbers_marked(alloc, used, marks)?;
-    look_at(store, &kept, values, named);
-    if are_fine(store, names, pairs, values, constants, named, used, marks) {
+    look_at(stored.store, &kept, &mut trial.values, &mut trial.named);
+    if are_fine(stored, used, constants, trial, marks) {
         return Ok(Some(kept));
     }
-    mark_missing(store, names, pairs, values, constants, named, used, marks);
+    mark_missing(stored, used, constants, trial, marks);
     Ok(None)
 }
 
@@ -100,37 +98,29 @@ fn copied(alloc: Global, used: &[usize]) -> Result<Vec<usize>, AllocError>
 }
 
 /// The numbers of those among a part's axioms that a search takes. After sixteen trials it takes all of them.
-pub fn kept_axioms(
+pub(crate) fn kept_axioms(
     alloc: Global,
-    store: &ClauseStore,
-    names: &Names,
-    pairs: u32,
+    stored: Stored<'_>,
     used: &[usize],
-    values: &mut Values,
     constants: &mut Values,
-    named: &mut Values,
-    reasons: &mut Vec<usize>,
+    trial: &mut Trial,
 ) -> Result<Vec<usize>, AllocError>
-    requires values { IsRoom values.old store.now }
-    requires constants { IsRoom constants.old store.now }
-    requires named { IsRoom named.old store.now }
-    requires few { length store.now < 2 ^ 32 }
-    requires names { length names.now.axioms ≡ length store.now }
-    requires within { All (λ k. k < length store.now) used.now }
-    ensures kept { IfOk result (λ kept. AreKeptStored pairs store.now names.now.axioms used.now kept.items) }
-    ensures values { length values.new ≡ length values.old }
+    requires values { IsRoom trial.old.values stored.store.now }
+    requires constants { IsRoom constants.old stored.store.now }
+    requires named { IsRoom trial.old.named stored.store.now }
+    requires few { length stored.store.now < 2 ^ 32 }
+    requires names { length stored.names.now.axioms ≡ length stored.store.now }
+    requires within { All (λ k. k < length stored.store.now) used.now }
+    ensures kept { IfOk result (λ kept. AreKeptStored stored.entry.pairs stored.entry.store.now stored.entry.names.now.axioms used.now kept.items) }
+    ensures values { length trial.new.values ≡ length trial.old.values }
     ensures constants { length constants.new ≡ length constants.old }
-    ensures named { length named.new ≡ length named.old }
+    ensures named { length trial.new.named ≡ length trial.old.named }
 {
-    look_at_meanings(alloc, store, names, used, constants)?;
+    look_at_meanings(alloc, stored.store, stored.names, used, constants)?;
     let mut marks = vec![in alloc; false; used.len()]?;
-    guess(
-        store, names, pairs, used, values, constants, named, reasons, &mut marks,
-    );
+    guess(stored, used, constants, trial, &mut marks);
     'trials: for _ in 0..16 {
-        if let Some(kept) = try_marks(
-            alloc, store, names, pairs, used, values, constants, named, &mut marks,
-        )? {
+        if let Some(kept) = try_marks(alloc, stored, used, constants, trial, &mut marks)? {
             return Ok(kept);
         }
     }

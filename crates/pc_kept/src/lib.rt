@@ -11,6 +11,6 @@ mod forcing;
 mod guessing;
 mod keeping;
 pub mod laws;
+mod trial;
 
 pub use components::kept_components;
-pub use keeping::kept_axioms;

@@ -14,12 +14,12 @@ kept_rows-requires-clause-values c =
 
 pub kept_rows-requires-clause-constants : goal.kept_rows-requires-clause-constants
 kept_rows-requires-clause-constants c =
-    room c.args.book.now c.variables-variables.result (c.variables-variables.ensures ∙ ap (λ (g : Grounded). g.variables) c.requires.ground) c.in_ok-new-2.field-0 (ap length c.in_ok-new-2.ensures ∙ length-replicate c.variables-variables.result _) c.store.result.now
+    room c.args.book.now c.variables-variables.result (c.variables-variables.ensures ∙ ap (λ (g : Grounded). g.variables) c.requires.ground) c.in_ok-constants.constants (ap length c.in_ok-constants.ensures ∙ length-replicate c.variables-variables.result _) c.store.result.now
     (c.store.ensures ∙ ap (λ (g : Grounded). g.clauses) c.requires.ground)
 
 pub kept_rows-requires-clause-named : goal.kept_rows-requires-clause-named
 kept_rows-requires-clause-named c =
-    room c.args.book.now c.variables-variables.result (c.variables-variables.ensures ∙ ap (λ (g : Grounded). g.variables) c.requires.ground) c.in_ok-new-3.field-0 (ap length c.in_ok-new-3.ensures ∙ length-replicate c.variables-variables.result _) c.store.result.now
+    room c.args.book.now c.variables-variables.result (c.variables-variables.ensures ∙ ap (λ (g : Grounded). g.variables) c.requires.ground) c.in_ok-new-2.field-0 (ap length c.in_ok-new-2.ensures ∙ length-replicate c.variables-variables.result _) c.store.result.now
     (c.store.ensures ∙ ap (λ (g : Grounded). g.clauses) c.requires.ground)
 
 pub kept_rows-requires-clause-many : goal.kept_rows-requires-clause-many
