@@ -66,15 +66,13 @@ module _ (sheet new : Sheet) (theory : TheoryView) (c : CellId) (gone : Entry 鈫
     pub made : IsMade sheet rows c gone added limit (record { part = i; book = new; worlds = ws; patch = changes; spending = s })
     made = record {
       book = is_new;
-      is = record {
-        part = p;
-        numbered = numbered;
-        has = has;
-        worlds_of = subst (位 x. AreWorldsOf x p ws) is_new (worlds p numbered_new);
-        changes_are =
-            subst (位 ns. AreChanges sheet rows gone added ns changes (s.tally.learned + s.tally.calls)) (sym are)
-            (are_changes sheet rows gone added (map number_of cells) ts changes (s.tally.learned + s.tally.calls) stale apart each_found);
-      };
+      part = p;
+      numbered = numbered;
+      has = has;
+      worlds_of = subst (位 x. AreWorldsOf x p ws) is_new (worlds p numbered_new);
+      changes_are =
+          subst (位 ns. AreChanges sheet rows gone added ns changes (s.tally.learned + s.tally.calls)) (sym are)
+          (are_changes sheet rows gone added (map number_of cells) ts changes (s.tally.learned + s.tally.calls) stale apart each_found);
       spends = subst (位 x. IsSpendingOf x (Some c) s) is_new spends;
       spare = subst LearnsWithin (sym is_tally) (alone (Some c) p numbered_new has).1;
       limited = limit_is;

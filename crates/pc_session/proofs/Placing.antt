@@ -1,7 +1,6 @@
 -- An edit that is put in place leaves a session.
-use Rattle.std.proofs.Common.{◌≡◌, ◌≢◌, ℕ, ◌+◌, ◌<◌, ◌≤◌, ◌⊎◌, inl, inr, Bool, List, [], ◌∷◌, map, length, set, get_or, Contains, Some, slice_get, refl, arith, ap, sym, ◌∙◌, subst}
+use Rattle.std.proofs.Common.{◌≡◌, ◌≢◌, ℕ, ◌+◌, ◌<◌, inl, inr, Bool, List, [], ◌∷◌, map, length, set, get_or, Contains, Some, slice_get, refl, arith, ap, sym, ◌∙◌, subst}
 use Rattle.std.specs.List.{AllZip}
-use Rattle.pc_lits.specs.declared.tally.Tally.{Tally}
 use Rattle.pc_sheet.specs.Sheet.{Sheet}
 use Rattle.pc_sheet.specs.MaximalSets.{AreRulesConsistent}
 use Rattle.pc_sheet.specs.WellFormed.{IsWellFormed}
@@ -18,7 +17,6 @@ use Rattle.pc_edit_laws.specs.Laws.{EditedReasonsAreRight}
 use Rattle.pc_edit_laws.proofs.OtherParts.{same_entries}
 use Rattle.pc_cache.specs.Rows.{TargetRow, HasRowOf, HaveTargets, row_of, target_of}
 use Rattle.pc_world_list.specs.Worlds.{WorldView, AreExact}
-use Rattle.pc_search.specs.Found.{steps_in}
 use Rattle.pc_search.specs.Parts.{AreWorldsOf}
 use Rattle.pc_theory.specs.Theories.{rules_alone, TheoryView, IsTheory, IsPartNumbered}
 use Rattle.pc_theory.specs.Spendings.{IsSpendingOf}
@@ -30,10 +28,9 @@ use Rattle.pc_theory.proofs.OfRules.{division_here, base_here, consistent_by}
 use Rattle.pc_theory.proofs.OfWhole.{all_searched}
 use Rattle.pc_theory.proofs.Parted.{as_many, part_is, part_there, number_within}
 use Rattle.std.proofs.lemmas.Bool.{cases_eq, cases_lt}
-use Rattle.pc_session.specs.Views.{counts_of}
-use Rattle.pc_session.specs.inside.Done.{IsDone}
+use Rattle.pc_session.specs.Views.{counts_of, IsTallyOf}
 use Rattle.pc_session.specs.inside.Sessions.{HavePlaces, IsSession}
-use Rattle.pc_session.specs.inside.Edits.{after, IsEdit, IsMade}
+use Rattle.pc_session.specs.inside.Edits.{after, AreChanges, IsMade}
 use Rattle.pc_session.specs.Answers.{Steps, Stay, OthersStay}
 use Rattle.pc_session.specs.declared.edit.Edit.{Edit}
 
@@ -97,31 +94,32 @@ module _ (sheet : Sheet) (theory : TheoryView) (worlds : List (List WorldView)) 
   pub index_within : (i : ℕ) → i < length theory.components.cells → i < length worlds
   index_within i below = omega (arith, as_many_worlds, below)
 
-  module _ (c : CellId) (gone : Entry → Bool) (added : List Entry) (is_edit : IsEditOf c gone added) (number : ℕ) (ws : List WorldView) (changes : List TargetRow) (most : ℕ) (edit : IsEdit sheet rows c gone added number ws changes most) where
+  module _ (c : CellId) (gone : Entry → Bool) (added : List Entry) (is_edit : IsEditOf c gone added) (number : ℕ) (part : Part) (numbered : IsPartNumbered (rules_alone sheet) number part) (on_part : Contains part.cells c.0)
+      (ws : List WorldView) (worlds_of : AreWorldsOf (edited sheet gone added) part ws) (changes : List TargetRow) (most : ℕ) (changes_are : AreChanges sheet rows gone added part.cells changes most) where
     abbrev new : Sheet
     new = edited sheet gone added
 
     pub number_in : number < length worlds
-    number_in = omega (arith, as_many_worlds, number_within sheet theory.components (all_searched (rules_alone sheet) theory.components session.known.components) number edit.part edit.numbered)
+    number_in = omega (arith, as_many_worlds, number_within sheet theory.components (all_searched (rules_alone sheet) theory.components session.known.components) number part numbered)
 
     worlds_after : AllZip (AreWorldsOf new) (parts_of (rules_alone new)) (set worlds number ws)
     worlds_after =
         zip_from (AreWorldsOf new) [] (parts_of (rules_alone new)) (set worlds number ws) (omega (arith, set_length worlds number ws, zip_length (AreWorldsOf sheet) (parts_of (rules_alone sheet)) worlds session.worlds_of))
         (λ j p below at. elim (cases_eq j number) [
           | inl is ↦
-              let same : edit.part ≡ p = same_some (sym edit.numbered ∙ (ap (slice_get (parts_of (rules_alone sheet))) (sym is) ∙ at)) in
+              let same : part ≡ p = same_some (sym numbered ∙ (ap (slice_get (parts_of (rules_alone sheet))) (sym is) ∙ at)) in
               let here : get_or (set worlds number ws) j [] ≡ ws = ap (λ k. get_or (set worlds number ws) k []) is ∙ get_set_same worlds number ws [] number_in in
-              subst (AreWorldsOf new p) (sym here) (subst (λ q. AreWorldsOf new q ws) same edit.worlds_of)
+              subst (AreWorldsOf new p) (sym here) (subst (λ q. AreWorldsOf new q ws) same worlds_of)
           | inr other ↦
-              let off = apart_at sheet theory session.known number j edit.part p edit.numbered at (λ is. other (sym is)) c.0 edit.has in
+              let off = apart_at sheet theory session.known number j part p numbered at (λ is. other (sym is)) c.0 on_part in
               subst (AreWorldsOf new p) (sym (get_set_other worlds number j ws [] other))
               (worlds_stay sheet c gone added p (get_or worlds j []) is_edit off (world_at j p [] (omega (arith, below, set_length worlds number ws)) at))
         ])
 
     reasons_after : EditedReasonsAreRight → IsWellFormed new → IsJustifying new (after rows changes)
     reasons_after law formed_after =
-        law sheet (parts_of sheet) edit.part c gone added (row_of rows) (after rows changes) (division_here sheet session.known.division) consistent formed formed_after is_edit
-        (at_contained (parts_of (rules_alone sheet)) number edit.part edit.numbered) edit.has session.reasons edit.changes_are.each
+        law sheet (parts_of sheet) part c gone added (row_of rows) (after rows changes) (division_here sheet session.known.division) consistent formed formed_after is_edit
+        (at_contained (parts_of (rules_alone sheet)) number part numbered) on_part session.reasons changes_are.each
 
     pub placed_session : EditedReasonsAreRight → IsWellFormed new → (rows_after : List TargetRow) → map target_of rows_after ≡ map target_of rows → ((t : Target) → row_of rows_after t ≡ after rows changes t)
         → IsSession new theory (set worlds number ws) rows_after
@@ -140,58 +138,52 @@ module _ (sheet : Sheet) (theory : TheoryView) (worlds : List (List WorldView)) 
 
     module _ (rows_after : List TargetRow) (rows_are : (t : Target) → row_of rows_after t ≡ after rows changes t) where
       pub rows_stay : Stay gone rows rows_after
-      rows_stay t j row lacks = rows_are t ∙ edit.changes_are.stays t j row lacks
+      rows_stay t j row lacks = rows_are t ∙ changes_are.stays t j row lacks
 
       pub others_stay : OthersStay c theory.components rows rows_after
       others_stay cells t listed has off =
           let p = place_of theory.components.cells cells listed in
           let are = part_is sheet theory.components (all_searched (rules_alone sheet) theory.components session.known.components) in
-          rows_are t ∙ edit.changes_are.others t (by p.0 p.1)
+          rows_are t ∙ changes_are.others t (by p.0 p.1)
         where
           make : ℕ → CellId
           make n = record { 0 = n }
 
-          by : (i : ℕ) → slice_get theory.components.cells i ≡ Some cells → ¬ Contains edit.part.cells t.cell.0
+          by : (i : ℕ) → slice_get theory.components.cells i ≡ Some cells → ¬ Contains part.cells t.cell.0
           by i at on = elim (cases_eq i number) [
             | inl is ↦
-                let same = part_is sheet theory.components (all_searched (rules_alone sheet) theory.components session.known.components) i cells at edit.part (ap (slice_get (parts_of (rules_alone sheet))) is ∙ edit.numbered) in
+                let same = part_is sheet theory.components (all_searched (rules_alone sheet) theory.components session.known.components) i cells at part (ap (slice_get (parts_of (rules_alone sheet))) is ∙ numbered) in
                 let from = contains_mapped number_of cells t.cell.0 (subst (λ cs. Contains cs t.cell.0) same on) in
                 off (subst (Contains cells) (let e : from.0 ≡ t.cell = (let make : ℕ → CellId = λ n. record { 0 = n } in ap make from.2) in e) from.1)
             | inr other ↦
                 let there = part_there_of i at in
-                apart_at sheet theory session.known i number there.0 edit.part there.1 edit.numbered other c.0
-                (subst (λ cs. Contains cs c.0) (sym there.2) (contains_map number_of cells c has)) edit.has
+                apart_at sheet theory session.known i number there.0 part there.1 numbered other c.0
+                (subst (λ cs. Contains cs c.0) (sym there.2) (contains_map number_of cells c has)) on_part
           ]
             where
               part_there_of : (i : ℕ) → slice_get theory.components.cells i ≡ Some cells → (p : Part) × IsPartNumbered (rules_alone sheet) i p × (p.cells ≡ map number_of cells)
               part_there_of i at = part_there sheet theory.components (all_searched (rules_alone sheet) theory.components session.known.components) i cells at
 
-      pub steps_stay : (tally : Tally) → tally.learned + tally.calls ≡ most → Steps rows rows_after (counts_of tally)
-      steps_stay tally is t j row = subst (λ n. (row_of rows t ≡ Some j) ⊎ (steps_in j.lines ≤ n)) (sym is) (edit.changes_are.steps t j (sym (rows_are t) ∙ row))
-
 -- the edit has been put in place
 pub done : EditedReasonsAreRight → (sheet : Sheet) (theory : TheoryView) (worlds : List (List WorldView)) (rows : List TargetRow) (session : IsSession sheet theory worlds rows) (formed : IsWellFormed sheet)
     (c : CellId) (gone : Entry → Bool) (added : List Entry) (limit : ℕ) (edit : Edit) → IsEditOf c gone added → IsWellFormed (edited sheet gone added) → IsMade sheet rows c gone added limit edit
     → (rows_after : List TargetRow) → map target_of rows_after ≡ map target_of rows → ((t : Target) → row_of rows_after t ≡ after rows edit.patch t)
-    → IsDone sheet theory rows c gone added limit edit.book (set worlds edit.part edit.worlds) rows_after edit.spending.tally
-done law sheet theory worlds rows session formed c gone added limit edit is_edit formed_after made rows_after targets rows_are =
-    let most = edit.spending.tally.learned + edit.spending.tally.calls in
-    record {
-      sheet_is = made.book;
-      session =
-          subst (λ b. IsSession b theory (set worlds edit.part edit.worlds) rows_after) (sym made.book)
-          (placed_session sheet theory worlds rows session formed c gone added is_edit edit.part edit.worlds edit.patch most made.is law formed_after rows_after targets rows_are);
-      spends = (edit.spending, subst (λ b. IsSpendingOf b (Some c) edit.spending) (sym made.book) made.spends, made.limited, made.spare, refl);
-      stays = rows_stay sheet theory worlds rows session formed c gone added is_edit edit.part edit.worlds edit.patch most made.is rows_after rows_are;
-      others = others_stay sheet theory worlds rows session formed c gone added is_edit edit.part edit.worlds edit.patch most made.is rows_after rows_are;
-      steps = steps_stay sheet theory worlds rows session formed c gone added is_edit edit.part edit.worlds edit.patch most made.is rows_after rows_are edit.spending.tally refl;
-    }
+    → IsSession edit.book theory (set worlds edit.part edit.worlds) rows_after × IsTallyOf edit.book (Some c) limit (counts_of edit.spending.tally)
+    × Stay gone rows rows_after × OthersStay c theory.components rows rows_after × Steps rows rows_after (counts_of edit.spending.tally)
+done law sheet theory worlds rows session formed c gone added limit edit is_edit formed_after made rows_after targets rows_are = (
+  subst (λ b. IsSession b theory (set worlds edit.part edit.worlds) rows_after) (sym made.book)
+      (placed_session sheet theory worlds rows session formed c gone added is_edit edit.part made.part made.numbered made.has edit.worlds made.worlds_of edit.patch (edit.spending.tally.learned + edit.spending.tally.calls) made.changes_are law formed_after rows_after targets rows_are),
+  (edit.spending, subst (λ b. IsSpendingOf b (Some c) edit.spending) (sym made.book) made.spends, made.limited, made.spare, refl),
+  rows_stay sheet theory worlds rows session formed c gone added is_edit edit.part made.part made.numbered made.has edit.worlds made.worlds_of edit.patch (edit.spending.tally.learned + edit.spending.tally.calls) made.changes_are rows_after rows_are,
+  others_stay sheet theory worlds rows session formed c gone added is_edit edit.part made.part made.numbered made.has edit.worlds made.worlds_of edit.patch (edit.spending.tally.learned + edit.spending.tally.calls) made.changes_are rows_after rows_are,
+  λ t j row. made.changes_are.steps t j (sym (rows_are t) ∙ row),
+)
 
 -- where the edit may be put in place: its part has worlds, and its changes have places
 pub part_within : (sheet : Sheet) (theory : TheoryView) (worlds : List (List WorldView)) (rows : List TargetRow) (session : IsSession sheet theory worlds rows) (formed : IsWellFormed sheet)
     (c : CellId) (gone : Entry → Bool) (added : List Entry) (limit : ℕ) (edit : Edit) → IsEditOf c gone added → IsMade sheet rows c gone added limit edit → edit.part < length worlds
 part_within sheet theory worlds rows session formed c gone added limit edit is_edit made =
-    number_in sheet theory worlds rows session formed c gone added is_edit edit.part edit.worlds edit.patch (edit.spending.tally.learned + edit.spending.tally.calls) made.is
+    number_in sheet theory worlds rows session formed c gone added is_edit edit.part made.part made.numbered made.has edit.worlds made.worlds_of edit.patch (edit.spending.tally.learned + edit.spending.tally.calls) made.changes_are
 
 pub changes_placed : (sheet : Sheet) (rows : List TargetRow) → HavePlaces sheet rows → (c : CellId) (gone : Entry → Bool) (added : List Entry) (limit : ℕ) (edit : Edit) → IsMade sheet rows c gone added limit edit → HaveTargets rows edit.patch
-changes_placed sheet rows places c gone added limit edit made = have_targets rows edit.patch (λ r has. (places r.target).1 (made.is.changes_are.targets r has))
+changes_placed sheet rows places c gone added limit edit made = have_targets rows edit.patch (λ r has. (places r.target).1 (made.changes_are.targets r has))

@@ -33,5 +33,5 @@ module _ (sheet : Sheet) (theory : TheoryView) (worlds : List (List WorldView)) 
 
   pub unused_session : EditedReasonsAreRight → IsSession (edited sheet gone []) theory (set worlds i ws) rows
   unused_session law =
-      placed_session sheet theory worlds rows session formed c gone [] (record { takes = of_cell; adds = inl refl }) i ws [] 0 (record { part = p; numbered = numbered; has = has; worlds_of = worlds_of; changes_are = no_changes }) law (formed_left gone sheet formed) rows refl
+      placed_session sheet theory worlds rows session formed c gone [] (record { takes = of_cell; adds = inl refl }) i p numbered has ws worlds_of [] 0 no_changes law (formed_left gone sheet formed) rows refl
       (λ t. refl)

@@ -8,7 +8,7 @@ use Rattle.pc_sheet.specs.declared.ids.Target.{Target}
 use Rattle.pc_edit_laws.specs.Edits.{edited}
 use Rattle.pc_cache.specs.Rows.{Cached, TargetRow, bytes_of_rows, row_of}
 use Rattle.pc_theory.specs.Theories.{TheoryView}
-use Rattle.pc_session.specs.Answers.{IsUnchanged}
+use Rattle.pc_session.specs.Answers.{IsUnchanged, OthersStay, Stay, Steps}
 use Rattle.pc_session.specs.Arena.{compacted}
 use Rattle.pc_session.specs.inside.Chosen.{AreChosen}
 use Rattle.pc_session.specs.inside.Sessions.{IsSession}
@@ -86,6 +86,17 @@ but_seen budget sheet old new same =
     ∙ (ap (λ th. seen_with budget sheet (none_spent budget) th new.cache) same.theory ∙ ap (seen_with budget sheet (none_spent budget) old.theory) same.cache))
 
 -- ---- what an edit leaves
+
+-- the derivations may have been compacted before it
+pub edited_compacted : (s : State) (cache : Cached) (c : CellId) (gone : Entry → Bool) (added : List Entry) (limit : ℕ) (new : State) → cache.rows ≡ s.cache.rows → IsEdited (record s { cache = cache }) c gone added limit new → IsEdited s c gone added limit new
+edited_compacted s cache c gone added limit new rows h = record {
+  sheet_is = h.sheet_is;
+  session = h.session;
+  spends = h.spends;
+  stays = subst (λ old. Stay gone old new.cache.rows) rows h.stays;
+  others = subst (λ old. OthersStay c s.theory.components old new.cache.rows) rows h.others;
+  steps = subst (λ old. Steps old new.cache.rows (counts_of new.tally)) rows h.steps;
+}
 
 pub left_edited : (c : CellId) (gone : Entry → Bool) (added : List Entry) (limit : ℕ) (old new : State) → new.theory ≡ old.theory → new.cache.bytes ≤ compacted old.cache.rows old.cache.bytes + bytes_of_rows new.cache.rows → IsEdited old c gone added limit new → IsLeftBy c gone old new
 left_edited c gone added limit old new theory bytes done = record {

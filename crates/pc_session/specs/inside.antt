@@ -1,7 +1,6 @@
 pub mod Chosen
 pub mod Sessions
 pub mod States
-pub mod Done
 pub mod Edits
 pub mod Stale
 pub mod Staleness

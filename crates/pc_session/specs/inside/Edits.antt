@@ -10,7 +10,6 @@ use Rattle.pc_reason.specs.Targets.{IsTargetIn}
 use Rattle.pc_edit_laws.specs.Reasons.{IsRowFor}
 use Rattle.pc_edit_laws.specs.Edits.{HasNone, edited, MayStay}
 use Rattle.pc_cache.specs.Rows.{TargetRow, bytes_of_rows, row_of, row_after}
-use Rattle.pc_world_list.specs.Worlds.{WorldView}
 use Rattle.pc_search.specs.Found.{steps_in}
 use Rattle.pc_search.specs.Parts.{AreWorldsOf}
 use Rattle.pc_theory.specs.Theories.{rules_alone, IsPartNumbered}
@@ -36,18 +35,15 @@ pub record AreChanges (sheet : Sheet) (rows : List TargetRow) (gone : Entry → 
   -- and the new reasons count for no more bytes than all
   pub bytes : (all : List TargetRow) → ((t : Target) → row_of all t ≡ after rows changes t) → bytes_of_rows changes ≤ bytes_of_rows all
 
--- The part of that number has the cell, these are its worlds after the edit, and these the changes.
-pub record IsEdit (sheet : Sheet) (rows : List TargetRow) (c : CellId) (gone : Entry → Bool) (added : List Entry) (number : ℕ) (worlds : List WorldView) (changes : List TargetRow) (most : ℕ) : Type 0 where
-  pub part : Part
-  pub numbered : IsPartNumbered (rules_alone sheet) number part
-  pub has : Contains part.cells c.0
-  pub worlds_of : AreWorldsOf (edited sheet gone added) part worlds
-  pub changes_are : AreChanges sheet rows gone added part.cells changes most
-
--- the new book is that of the edit, and so much was spent within the limit on the part that has the cell
+-- The new book is that of the edit, the part of that number has the cell, and has these worlds after the edit; the changes are so, and so
+-- much was spent within the limit on that part.
 pub record IsMade (sheet : Sheet) (rows : List TargetRow) (c : CellId) (gone : Entry → Bool) (added : List Entry) (limit : ℕ) (edit : Edit) : Type 0 where
   pub book : edit.book ≡ edited sheet gone added
-  pub is : IsEdit sheet rows c gone added edit.part edit.worlds edit.patch (edit.spending.tally.learned + edit.spending.tally.calls)
+  pub part : Part
+  pub numbered : IsPartNumbered (rules_alone sheet) edit.part part
+  pub has : Contains part.cells c.0
+  pub worlds_of : AreWorldsOf (edited sheet gone added) part edit.worlds
+  pub changes_are : AreChanges sheet rows gone added part.cells edit.patch (edit.spending.tally.learned + edit.spending.tally.calls)
   pub spends : IsSpendingOf (edited sheet gone added) (Some c) edit.spending
   pub spare : LearnsWithin edit.spending.tally
   pub limited : edit.spending.tally.limit ≡ limit

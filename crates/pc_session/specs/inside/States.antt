@@ -1,14 +1,14 @@
 -- States of sessions.
-use Rattle.std.specs.Prelude.{◌≡◌, ℕ, Bool, List}
+use Rattle.std.specs.Prelude.{◌≡◌, ℕ, Bool, List, Some}
 use Rattle.pc_sheet.specs.Sheet.{Sheet}
 use Rattle.pc_sheet.specs.declared.ids.CellId.{CellId}
 use Rattle.pc_sheet.specs.declared.ids.Entry.{Entry}
+use Rattle.pc_edits.specs.Edits.{edited}
 use Rattle.pc_session.specs.Answers.{OthersStay, Stay, Steps}
 use Rattle.pc_session.specs.Arena.{IsBounded, IsLeft}
 use Rattle.pc_session.specs.inside.Chosen.{AreChosen}
-use Rattle.pc_session.specs.inside.Done.{IsDone}
 use Rattle.pc_session.specs.inside.Sessions.{IsSession}
-use Rattle.pc_session.specs.Views.{counts_of, none_spent, SessionView}
+use Rattle.pc_session.specs.Views.{counts_of, none_spent, IsTallyOf, SessionView}
 use Rattle.pc_session.specs.declared.state.State.{State}
 
 -- all that is kept is right
@@ -20,9 +20,15 @@ pub record IsKept (s : State) : Type 0 where
   pub state : IsState s
   pub chosen : AreChosen s.book s.chosen
 
--- the edit of the cell's entries has been put in place
-abbrev pub IsEdited : State → CellId → (Entry → Bool) → List Entry → ℕ → State → Type 0
-IsEdited old c gone added limit new = IsDone old.book old.theory old.cache.rows c gone added limit new.book new.worlds.items new.cache.rows new.tally
+-- The edit of the cell's entries has been put in place: the sheet is the edited one, and its worlds and reasons are kept; so much was spent
+-- within the limit on the part of the cell, and what must stay of the old reasons has stayed.
+pub record IsEdited (old : State) (c : CellId) (gone : Entry → Bool) (added : List Entry) (limit : ℕ) (new : State) : Type 0 where
+  pub sheet_is : new.book ≡ edited old.book gone added
+  pub session : IsSession new.book old.theory new.worlds.items new.cache.rows
+  pub spends : IsTallyOf new.book (Some c) limit (counts_of new.tally)
+  pub stays : Stay gone old.cache.rows new.cache.rows
+  pub others : OthersStay c old.theory.components old.cache.rows new.cache.rows
+  pub steps : Steps old.cache.rows new.cache.rows (counts_of new.tally)
 
 -- what an accepted edit of the cell's entries leaves, where some are gone
 pub record IsLeftBy (c : CellId) (gone : Entry → Bool) (old new : State) : Type 0 where

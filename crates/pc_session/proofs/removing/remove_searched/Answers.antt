@@ -1,10 +1,8 @@
-use Rattle.std.proofs.Common.{List, [], inl, arith, refl, sym, ◌∙◌, subst}
-use Rattle.pc_cache.specs.Rows.{TargetRow}
-use Rattle.pc_session.specs.inside.Done.{IsDone}
+use Rattle.std.proofs.Common.{[], inl, arith, refl, sym, subst}
 use Rattle.pc_session.specs.inside.Sessions.{IsSession}
 use Rattle.pc_session.specs.inside.States.{IsSame}
 use Rattle.pc_session.specs.inside.Taken.{takes}
-use Rattle.pc_session.proofs.Viewing.{on_err, same_compacted, same_failed}
+use Rattle.pc_session.proofs.Viewing.{edited_compacted, on_err, same_compacted, same_failed}
 use Rattle.pc_session.proofs.removing.remove_searched.Goals as goal
 
 pub make_edit-requires-clause-state : goal.make_edit-requires-clause-state
@@ -23,8 +21,7 @@ put_in_place-requires-clause-made c = (c.args.cell, takes c.args.taken, [], c.ar
 pub returns-clause-done : goal.returns-clause-done
 returns-clause-done c =
     let s = c.args.state.now in
-    let n = c.put_in_place.new.state in
-    subst (λ (rows : List TargetRow). IsDone s.book s.theory rows c.args.cell (takes c.args.taken) [] c.args.budget n.book n.worlds.items n.cache.rows n.tally) c.in_ok-compact_if_due.ensures.rows
+    edited_compacted s c.compact_if_due.new.cache c.args.cell (takes c.args.taken) [] c.args.budget c.put_in_place.new.state c.in_ok-compact_if_due.ensures.rows
     (c.in_ok-put_in_place.ensures.done c.args.cell (takes c.args.taken) [] c.args.budget (record { takes = c.requires.taken; adds = inl refl }) c.in_ok-edit.ensures.edit)
 
 pub returns-clause-bytes : goal.returns-clause-bytes
