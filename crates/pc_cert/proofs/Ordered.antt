@@ -20,28 +20,39 @@ value_on : (so : Bool) (before : List LineKind) (k : LineKind) → has_value_sin
 value_on so [] k = refl
 value_on so (j ∷ js) k = value_on (if is_set j then false else (is_value j || so)) js k
 
-abbrev made : Bool → Bool → Bool → Bool → Bool → Bool → Bool → Bool → ℕ → Order
-made some heading claim sets entries value derivation end last =
-    record { some = some; heading = heading; claim = claim; sets = sets; entries = entries; value = value; derivation = derivation; end = end; last = last }
-
 -- what it is behind one more line, and behind so many numbered lines
 abbrev pub stepped : Order → LineKind → ℕ → Order
-stepped o k last =
-    made (is_text k || o.some) (is_heading k || o.heading) (is_claim k || o.claim) (is_on_sets k || o.sets) (is_before_entries k || o.entries) (if is_set k then false else (is_value k || o.value))
-    (is_numbered k || o.derivation) (is_end k || o.end) last
+stepped o k last = record {
+  some = is_text k || o.some;
+  heading = is_heading k || o.heading;
+  claim = is_claim k || o.claim;
+  sets = is_on_sets k || o.sets;
+  entries = is_before_entries k || o.entries;
+  value = if is_set k then false else (is_value k || o.value);
+  derivation = is_numbered k || o.derivation;
+  end = is_end k || o.end;
+  last = last;
+}
 
 order_on : (before : List LineKind) (k : LineKind) → stepped (order_of before) k (count_by is_numbered (before ++ k ∷ [])) ≡ order_of (before ++ k ∷ [])
 order_on before k =
     let all = before ++ k ∷ [] in
-    let o = stepped (order_of before) k (count_by is_numbered all) in
-    ap (λ x. made x o.heading o.claim o.sets o.entries o.value o.derivation o.end o.last) (sym (has_on is_text before k))
-    ∙ ap (λ x. made (has is_text all) x o.claim o.sets o.entries o.value o.derivation o.end o.last) (sym (has_on is_heading before k))
-    ∙ ap (λ x. made (has is_text all) (has is_heading all) x o.sets o.entries o.value o.derivation o.end o.last) (sym (has_on is_claim before k))
-    ∙ ap (λ x. made (has is_text all) (has is_heading all) (has is_claim all) x o.entries o.value o.derivation o.end o.last) (sym (has_on is_on_sets before k))
-    ∙ ap (λ x. made (has is_text all) (has is_heading all) (has is_claim all) (has is_on_sets all) x o.value o.derivation o.end o.last) (sym (has_on is_before_entries before k))
-    ∙ ap (λ x. made (has is_text all) (has is_heading all) (has is_claim all) (has is_on_sets all) (has is_before_entries all) x o.derivation o.end o.last) (sym (value_on false before k))
-    ∙ ap (λ x. made (has is_text all) (has is_heading all) (has is_claim all) (has is_on_sets all) (has is_before_entries all) (has_value_since false all) x o.end o.last) (sym (has_on is_numbered before k))
-    ∙ ap (λ x. made (has is_text all) (has is_heading all) (has is_claim all) (has is_on_sets all) (has is_before_entries all) (has_value_since false all) (has is_numbered all) x o.last) (sym (has_on is_end before k))
+    let o : Order = stepped (order_of before) k (count_by is_numbered all) in
+    let some : Order = record o { some = has is_text all } in
+    let heading : Order = record some { heading = has is_heading all } in
+    let claim : Order = record heading { claim = has is_claim all } in
+    let sets : Order = record claim { sets = has is_on_sets all } in
+    let entries : Order = record sets { entries = has is_before_entries all } in
+    let value : Order = record entries { value = has_value_since false all } in
+    let derivation : Order = record value { derivation = has is_numbered all } in
+    ap (λ (x : Bool). record o { some = x }) (sym (has_on is_text before k))
+    ∙ ap (λ (x : Bool). record some { heading = x }) (sym (has_on is_heading before k))
+    ∙ ap (λ (x : Bool). record heading { claim = x }) (sym (has_on is_claim before k))
+    ∙ ap (λ (x : Bool). record claim { sets = x }) (sym (has_on is_on_sets before k))
+    ∙ ap (λ (x : Bool). record sets { entries = x }) (sym (has_on is_before_entries before k))
+    ∙ ap (λ (x : Bool). record entries { value = x }) (sym (value_on false before k))
+    ∙ ap (λ (x : Bool). record value { derivation = x }) (sym (has_on is_numbered before k))
+    ∙ ap (λ (x : Bool). record derivation { end = x }) (sym (has_on is_end before k))
 
 abbrev counted : Bool → ℕ
 counted b = cond b 1 0
