@@ -3,7 +3,7 @@ use Rattle.std.specs.Prelude.{◌≡◌, ℕ, Bool, List, Some}
 use Rattle.pc_sheet.specs.Sheet.{Sheet}
 use Rattle.pc_sheet.specs.declared.ids.CellId.{CellId}
 use Rattle.pc_sheet.specs.declared.ids.Entry.{Entry}
-use Rattle.pc_edits.specs.Edits.{edited}
+use Rattle.pc_edit_laws.specs.Edits.{edited}
 use Rattle.pc_session.specs.Answers.{OthersStay, Stay, Steps}
 use Rattle.pc_session.specs.Arena.{IsBounded, IsLeft}
 use Rattle.pc_session.specs.inside.Chosen.{AreChosen}
