@@ -16,7 +16,7 @@ use Rattle.pc_propagate.specs.Refs.{clause_at}
 use Rattle.pc_propagate.specs.Watched.{IsFalseAt}
 use Rattle.pc_analyze.specs.inside.Marking.{IsMarked, MarksClause, marks_from, AreNegations}
 use Rattle.pc_analyze.specs.FirstPoint.{StandsInReason, IsWay, Leads, IsOfFirstPoint}
-use Rattle.pc_analyze.specs.inside.Refuted.{AreMet, ArePassed}
+use Rattle.pc_analyze.specs.inside.Refuted.{AreLeading, ArePassed}
 use Rattle.pc_propagate.proofs.PlaceLemmas.{false_at_contains, false_at_from, false_at_before, contains_false_at, place_is, not_both, false_at_unique}
 use Rattle.pc_analyze.proofs.LevelLemmas.{level_at-le, level_at-below}
 use Rattle.pc_analyze.proofs.MarkLemmas.{some_mark, unmarked, only_mark, mark_old, marked_within, unmarked_at_first}
@@ -65,7 +65,7 @@ module _ (attached : List ClauseRef) (axioms more : List (List Lit)) (entries : 
 
   -- the marks of the false clause
   pub met_first : (end start added n : ℕ) (blank marks : List Bool) → blank ≡ replicate n false → MarksClause entries conflict end start blank marks added → IsEnd entries conflict end
-      → AreFalse negated (falses entries) conflict → AreMet axioms more entries conflict end marks
+      → AreFalse negated (falses entries) conflict → AreLeading axioms more entries conflict end marks
   met_first end start added n blank marks is h is_end is_false = record {
     leads = λ k marked. ⊎_elim
         (λ was. absurd (unmarked_at_first blank n k is was))
@@ -82,7 +82,7 @@ module _ (attached : List ClauseRef) (axioms more : List (List Lit)) (entries : 
       of_way k below (next ∷ rest) way = absurd (omega (arith, way.0, way_within end next end rest is_end way.2))
 
   -- one place further back: ways by entries at `place` or later, where before they were by entries after it
-  module _ (place : ℕ) (old : List Bool) (met : AreMet axioms more entries conflict (place + 1) old) where
+  module _ (place : ℕ) (old : List Bool) (met : AreLeading axioms more entries conflict (place + 1) old) where
     -- such a way that goes through a later entry first was one before
     old_later : (k next : ℕ) (rest : List ℕ) → k < place → next ≢ place → IsWay axioms more entries conflict place k (next ∷ rest) → IsMarked old k
     old_later k next rest below other way =
@@ -100,7 +100,7 @@ module _ (attached : List ClauseRef) (axioms more : List (List Lit)) (entries : 
     more_leads k leads = (leads.0, way_by_more (place + 1) place k leads.0 (omega arith) leads.1)
 
     -- an entry without a mark is passed over
-    pub met_skip : (IsMarked old place → ⊥) → AreMet axioms more entries conflict place old
+    pub met_skip : (IsMarked old place → ⊥) → AreLeading axioms more entries conflict place old
     met_skip free = record {
       leads = λ k marked.
           let was = met.leads k marked in
@@ -118,7 +118,7 @@ module _ (attached : List ClauseRef) (axioms more : List (List Lit)) (entries : 
 
     -- a marked entry's mark gives way to marks of its reason
     pub met_resolve : (start added : ℕ) (reason : ClauseRef) (clause : List Lit) (marks : List Bool) → place < length entries → HasReason entries place reason → length old ≡ length entries → clause ≡ clause_at axioms more reason
-        → IsMarked old place → MarksClause entries clause place start (set old place false) marks added → AreMet axioms more entries conflict place marks
+        → IsMarked old place → MarksClause entries clause place start (set old place false) marks added → AreLeading axioms more entries conflict place marks
     met_resolve start added reason clause marks within has size same is_marked h = record {
       leads = λ k marked. ⊎_elim (was_met k) (λ new. of_reason k new.0 new.1.0 (subst (λ (c : List Lit). Contains c new.1.0) same new.1.1) new.1.2) (h.only k marked);
       marked = λ k below leads. now_met k below leads.0 leads.1;
@@ -169,7 +169,7 @@ module _ (attached : List ClauseRef) (axioms more : List (List Lit)) (entries : 
             (cases_eq next place)
 
   -- that past each entry from `place` on there is a way from an earlier one of the level: for one entry more
-  pub passed_more : (start place : ℕ) (marks : List Bool) → AreMet axioms more entries conflict (place + 1) marks → (j : ℕ) → start ≤ j → j ≢ place → IsMarked marks j
+  pub passed_more : (start place : ℕ) (marks : List Bool) → AreLeading axioms more entries conflict (place + 1) marks → (j : ℕ) → start ≤ j → j ≢ place → IsMarked marks j
       → ArePassed axioms more entries conflict start (place + 1) → ArePassed axioms more entries conflict start place
   passed_more start place marks met j late apart marked passed k after within =
       ⊎_elim
@@ -188,7 +188,7 @@ module _ (attached : List ClauseRef) (axioms more : List (List Lit)) (entries : 
       is.1
 
   -- what the walk ends with
-  pub first_point : (marks : List Bool) (clause : List Lit) (place start level : ℕ) → AreMet axioms more entries conflict (place + 1) marks → ArePassed axioms more entries conflict start (place + 1)
+  pub first_point : (marks : List Bool) (clause : List Lit) (place start level : ℕ) → AreLeading axioms more entries conflict (place + 1) marks → ArePassed axioms more entries conflict start (place + 1)
       → AreNegations entries marks place start clause → marks_from start marks ≡ 1 → IsMarked marks place → start ≤ place → place < length entries
       → level_at entries start ≡ level → level_at entries place ≡ level → ((d : TrailEntry) → IsNone (get_or entries start d).reason)
       → IsOfFirstPoint axioms more entries conflict level clause
@@ -217,8 +217,8 @@ module _ (attached : List ClauseRef) (axioms more : List (List Lit)) (entries : 
 -- where the ways that lead from marks before `end` are kept by the walk, the marks before `place` are those of ways past it
 abbrev pub KeepsWays : List (List Lit) → List (List Lit) → List TrailEntry → ℕ → ℕ → List Bool → ℕ → List Bool → Type 0
 KeepsWays axioms more entries start end first place marks =
-    (conflict : List Lit) → AreMet axioms more entries conflict end first → ArePassed axioms more entries conflict start end
-    → AreMet axioms more entries conflict place marks × ArePassed axioms more entries conflict start place
+    (conflict : List Lit) → AreLeading axioms more entries conflict end first → ArePassed axioms more entries conflict start end
+    → AreLeading axioms more entries conflict place marks × ArePassed axioms more entries conflict start place
 
 -- two marks: one of them stands at another place
 pub other_mark : (marks : List Bool) (start place : ℕ) → start ≤ place → IsMarked marks place → 1 < marks_from start marks → (j : ℕ) × (start ≤ j) × (j ≢ place) × IsMarked marks j
@@ -232,8 +232,8 @@ other_mark marks start place late marked many =
 pub walked_point : (attached : List ClauseRef) (axioms more : List (List Lit)) (entries : List TrailEntry) (conflict : List Lit) → AreJustified axioms more attached entries → AllPairs Differ entries
     → (end start place level added n : ℕ) (blank first marks : List Bool) (clause : List Lit)
     → blank ≡ replicate n false → MarksClause entries conflict end start blank first added → IsEnd entries conflict end → AreFalse negated (falses entries) conflict
-    → (AreMet axioms more entries conflict end first → ArePassed axioms more entries conflict start end
-    → AreMet axioms more entries conflict (place + 1) marks × ArePassed axioms more entries conflict start (place + 1))
+    → (AreLeading axioms more entries conflict end first → ArePassed axioms more entries conflict start end
+    → AreLeading axioms more entries conflict (place + 1) marks × ArePassed axioms more entries conflict start (place + 1))
     → AreNegations entries marks place start clause → marks_from start marks ≡ 1 → IsMarked marks place → start ≤ place → place < end → end ≤ length entries
     → level_at entries start ≡ level → level_at entries (end - 1) ≡ level → ((d : TrailEntry) → IsNone (get_or entries start d).reason)
     → IsOfFirstPoint axioms more entries conflict level clause

@@ -9,8 +9,8 @@ use Rattle.pc_accept.specs.Literals.{node}
 use Rattle.pc_accept.specs.Axioms.{Axiom}
 use Rattle.pc_axiom_names.specs.declared.kept.Stands.{Stands}
 use Rattle.pc_axiom_names.specs.declared.kept.Stands.TheVariants.{Pair, Node}
-use Rattle.pc_axiom_names.specs.declared.kept.Kept.{Kept}
-use Rattle.pc_axiom_names.specs.declared.kept.Kept.TheVariants.{Any, One, Rule, Node as Part, Atom}
+use Rattle.pc_axiom_names.specs.declared.kept.KeptName.{KeptName}
+use Rattle.pc_axiom_names.specs.declared.kept.KeptName.TheVariants.{Any, One, Rule, Node as Part, Atom}
 use Rattle.pc_axiom_names.specs.Listed.{NameLists, with_variable, with_axiom}
 use Rattle.pc_axiom_names.specs.Keeping.{IsPathAt, symbol_in, axiom_in, IsStandsWithin, IsKeptWithin, AreNamesWithin, names_in}
 
@@ -46,7 +46,7 @@ module _ (ps qs : List NodePath) (rs ss : List (List Entry)) (p : take (length p
   symbol_longer (Pair c v) h = refl
   symbol_longer (Node k) h = let e = get_longer ps qs p k h in cc
 
-  axiom_longer : (a : Kept) → IsKeptWithin (length ps) (length rs) a → axiom_in qs ss a ≡ axiom_in ps rs a
+  axiom_longer : (a : KeptName) → IsKeptWithin (length ps) (length rs) a → axiom_in qs ss a ≡ axiom_in ps rs a
   axiom_longer (Any c) h = refl
   axiom_longer (One c v w) h = refl
   axiom_longer (Rule n) h = refl
@@ -57,18 +57,18 @@ module _ (ps qs : List NodePath) (rs ss : List (List Entry)) (p : take (length p
   symbols_longer [] h = refl
   symbols_longer (v ∷ vs) h = let e = symbol_longer v h.0 in let f = symbols_longer vs h.1 in cc
 
-  axioms_longer : (xs : List Kept) → AllByRecursion (IsKeptWithin (length ps) (length rs)) xs → map (axiom_in qs ss) xs ≡ map (axiom_in ps rs) xs
+  axioms_longer : (xs : List KeptName) → AllByRecursion (IsKeptWithin (length ps) (length rs)) xs → map (axiom_in qs ss) xs ≡ map (axiom_in ps rs) xs
   axioms_longer [] h = refl
   axioms_longer (x ∷ xs) h = let e = axiom_longer x h.0 in let f = axioms_longer xs h.1 in cc
 
-  pub names_longer : (vs : List Stands) (xs : List Kept) (m : NameLists) → AreNamesWithin ps rs vs xs → names_in ps rs vs xs ≡ m → names_in qs ss vs xs ≡ m
+  pub names_longer : (vs : List Stands) (xs : List KeptName) (m : NameLists) → AreNamesWithin ps rs vs xs → names_in ps rs vs xs ≡ m → names_in qs ss vs xs ≡ m
   names_longer vs xs m h e = let f = symbols_longer vs h.0 in let g = axioms_longer xs h.1 in cc
 
   stands_within : (v : Stands) → IsStandsWithin (length ps) v → IsStandsWithin (length qs) v
   stands_within (Pair c v) h = tt
   stands_within (Node k) h = let l = length_longer ps qs p in omega arith
 
-  kept_within : (a : Kept) → IsKeptWithin (length ps) (length rs) a → IsKeptWithin (length qs) (length ss) a
+  kept_within : (a : KeptName) → IsKeptWithin (length ps) (length rs) a → IsKeptWithin (length qs) (length ss) a
   kept_within (Any c) h = tt
   kept_within (One c v w) h = tt
   kept_within (Rule n) h = tt
@@ -79,11 +79,11 @@ module _ (ps qs : List NodePath) (rs ss : List (List Entry)) (p : take (length p
   all_stands_within [] h = tt
   all_stands_within (v ∷ vs) h = (stands_within v h.0, all_stands_within vs h.1)
 
-  all_kept_within : (xs : List Kept) → AllByRecursion (IsKeptWithin (length ps) (length rs)) xs → AllByRecursion (IsKeptWithin (length qs) (length ss)) xs
+  all_kept_within : (xs : List KeptName) → AllByRecursion (IsKeptWithin (length ps) (length rs)) xs → AllByRecursion (IsKeptWithin (length qs) (length ss)) xs
   all_kept_within [] h = tt
   all_kept_within (x ∷ xs) h = (kept_within x h.0, all_kept_within xs h.1)
 
-  pub within_longer : (vs : List Stands) (xs : List Kept) → AreNamesWithin ps rs vs xs → AreNamesWithin qs ss vs xs
+  pub within_longer : (vs : List Stands) (xs : List KeptName) → AreNamesWithin ps rs vs xs → AreNamesWithin qs ss vs xs
   within_longer vs xs h = (all_stands_within vs h.0, all_kept_within xs h.1)
 
 -- ---- one more name
@@ -92,7 +92,7 @@ all_push : {X : Type 0} (P : X → Type 0) (xs : List X) (x : X) → AllByRecurs
 all_push P [] y h p = (p, tt)
 all_push P (x ∷ xs) y h p = (h.0, all_push P xs y h.1 p)
 
-module _ (ps : List NodePath) (rs : List (List Entry)) (vs : List Stands) (xs : List Kept) where
+module _ (ps : List NodePath) (rs : List (List Entry)) (vs : List Stands) (xs : List KeptName) where
   pub node_within : (k rule : ℕ) (steps : List ℕ) → AreNamesWithin ps rs vs xs → IsPathAt ps k rule steps → AreNamesWithin ps rs (vs ++ Node k ∷ []) xs
   node_within k rule steps h at = (all_push (IsStandsWithin (length ps)) vs (Node k) h.0 at.0, h.1)
 
@@ -102,8 +102,8 @@ module _ (ps : List NodePath) (rs : List (List Entry)) (vs : List Stands) (xs : 
       let g : symbol_in ps (Node k) ≡ node rule steps = (let a = at.1 in let b = at.2 in cc) in
       cc
 
-  pub axiom_within : (x : Kept) → AreNamesWithin ps rs vs xs → IsKeptWithin (length ps) (length rs) x → AreNamesWithin ps rs vs (xs ++ x ∷ [])
+  pub axiom_within : (x : KeptName) → AreNamesWithin ps rs vs xs → IsKeptWithin (length ps) (length rs) x → AreNamesWithin ps rs vs (xs ++ x ∷ [])
   axiom_within x h within = (h.0, all_push (IsKeptWithin (length ps) (length rs)) xs x h.1 within)
 
-  pub axiom_added : (x : Kept) (a : Axiom) (m : NameLists) → names_in ps rs vs xs ≡ m → axiom_in ps rs x ≡ a → names_in ps rs vs (xs ++ x ∷ []) ≡ with_axiom m a
+  pub axiom_added : (x : KeptName) (a : Axiom) (m : NameLists) → names_in ps rs vs xs ≡ m → axiom_in ps rs x ≡ a → names_in ps rs vs (xs ++ x ∷ []) ≡ with_axiom m a
   axiom_added x a m e g = let f = map-append (axiom_in ps rs) xs (x ∷ []) in cc

@@ -8,8 +8,8 @@ use Rattle.pc_accept.specs.Axioms.{Axiom, axiom_some, axiom_one, axiom_rule, axi
 use Rattle.pc_axiom_names.specs.Listed.{NameLists}
 use Rattle.pc_axiom_names.specs.declared.kept.Stands.{Stands}
 use Rattle.pc_axiom_names.specs.declared.kept.Stands.TheVariants.{Pair, Node}
-use Rattle.pc_axiom_names.specs.declared.kept.Kept.{Kept}
-use Rattle.pc_axiom_names.specs.declared.kept.Kept.TheVariants.{Any, One, Rule, Node as Part, Atom}
+use Rattle.pc_axiom_names.specs.declared.kept.KeptName.{KeptName}
+use Rattle.pc_axiom_names.specs.declared.kept.KeptName.TheVariants.{Any, One, Rule, Node as Part, Atom}
 
 -- the rule and the steps of a path, if there is one
 abbrev pub rule_of : Option NodePath → ℕ
@@ -28,7 +28,7 @@ abbrev pub symbol_in : List NodePath → Stands → Symbol
 symbol_in paths (Pair c v) = pair c v
 symbol_in paths (Node k) = node (rule_of (slice_get paths k)) (steps_of (slice_get paths k))
 
-abbrev pub axiom_in : List NodePath → List (List Entry) → Kept → Axiom
+abbrev pub axiom_in : List NodePath → List (List Entry) → KeptName → Axiom
 axiom_in paths rows (Any c) = axiom_some c
 axiom_in paths rows (One c v w) = axiom_one c v w
 axiom_in paths rows (Rule r) = axiom_rule r
@@ -40,7 +40,7 @@ abbrev pub IsStandsWithin : ℕ → Stands → Type 0
 IsStandsWithin n (Pair c v) = Unit {0}
 IsStandsWithin n (Node k) = k < n
 
-abbrev pub IsKeptWithin : ℕ → ℕ → Kept → Type 0
+abbrev pub IsKeptWithin : ℕ → ℕ → KeptName → Type 0
 IsKeptWithin n m (Any c) = Unit {0}
 IsKeptWithin n m (One c v w) = Unit {0}
 IsKeptWithin n m (Rule r) = Unit {0}
@@ -48,8 +48,8 @@ IsKeptWithin n m (Part k i) = k < n
 IsKeptWithin n m (Atom k r) = (k < n) × (r < m)
 
 -- of all names
-abbrev pub AreNamesWithin : List NodePath → List (List Entry) → List Stands → List Kept → Type 0
+abbrev pub AreNamesWithin : List NodePath → List (List Entry) → List Stands → List KeptName → Type 0
 AreNamesWithin paths rows variables axioms = AllByRecursion (IsStandsWithin (length paths)) variables × AllByRecursion (IsKeptWithin (length paths) (length rows)) axioms
 
-abbrev pub names_in : List NodePath → List (List Entry) → List Stands → List Kept → NameLists
+abbrev pub names_in : List NodePath → List (List Entry) → List Stands → List KeptName → NameLists
 names_in paths rows variables axioms = record { variables = map (symbol_in paths) variables; axioms = map (axiom_in paths rows) axioms }

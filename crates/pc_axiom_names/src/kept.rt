@@ -19,7 +19,7 @@ pub(crate) enum Stands {
 
 /// An axiom's name. A node's has its path's place, and then its number or the place of its reads.
 #[derive(Clone, Copy)]
-pub(crate) enum Kept {
+pub(crate) enum KeptName {
     Any(CellId),
     One(CellId, ValueId, ValueId),
     Rule(u32),
@@ -111,20 +111,20 @@ pub(crate) fn kept_of(
     paths: &mut Vec<NodePath>,
     rows: &mut Rows<Entry>,
     name: AxiomRef<'_>,
-) -> Result<Kept, AllocError>
+) -> Result<KeptName, AllocError>
     ensures paths { take (length paths.old.items) paths.new.items ≡ paths.old.items }
     ensures rows { take (length rows.old) rows.new ≡ rows.old }
     ensures within { IfOk result (λ kept. IsKeptWithin (length paths.new.items) (length rows.new) kept) }
     ensures named { IfOk result (λ kept. axiom_in paths.new.items rows.new kept ≡ axiom_shown name.entry) }
 {
     match name {
-        AxiomRef::Any(cell) => Ok(Kept::Any(cell)),
-        AxiomRef::One(cell, value, other) => Ok(Kept::One(cell, value, other)),
-        AxiomRef::Rule(rule) => Ok(Kept::Rule(rule)),
-        AxiomRef::Node(path, number) => Ok(Kept::Node(path_place(paths, path)?, number)),
+        AxiomRef::Any(cell) => Ok(KeptName::Any(cell)),
+        AxiomRef::One(cell, value, other) => Ok(KeptName::One(cell, value, other)),
+        AxiomRef::Rule(rule) => Ok(KeptName::Rule(rule)),
+        AxiomRef::Node(path, number) => Ok(KeptName::Node(path_place(paths, path)?, number)),
         AxiomRef::Atom(path, reads) => {
             let place = path_place(paths, path)?;
-            Ok(Kept::Atom(place, reads_place(rows, reads)?))
+            Ok(KeptName::Atom(place, reads_place(rows, reads)?))
         }
     }
 }
@@ -144,17 +144,17 @@ pub(crate) fn variable_shown<'a>(paths: &'a [NodePath], stands: &Stands) -> VarN
 pub(crate) fn name_shown<'a>(
     paths: &'a [NodePath],
     rows: &'a Rows<Entry>,
-    kept: &Kept,
+    kept: &KeptName,
 ) -> AxiomRef<'a>
     requires { IsKeptWithin (length paths.now) (length rows.now) kept.now }
     ensures { axiom_shown result ≡ axiom_in paths.now rows.now kept.now }
 {
     match kept {
-        Kept::Any(cell) => AxiomRef::Any(*cell),
-        Kept::One(cell, value, other) => AxiomRef::One(*cell, *value, *other),
-        Kept::Rule(rule) => AxiomRef::Rule(*rule),
-        Kept::Node(place, number) => AxiomRef::Node(&paths[*place as usize], *number),
-        Kept::Atom(place, row) => {
+        KeptName::Any(cell) => AxiomRef::Any(*cell),
+        KeptName::One(cell, value, other) => AxiomRef::One(*cell, *value, *other),
+        KeptName::Rule(rule) => AxiomRef::Rule(*rule),
+        KeptName::Node(place, number) => AxiomRef::Node(&paths[*place as usize], *number),
+        KeptName::Atom(place, row) => {
             AxiomRef::Atom(&paths[*place as usize], rows.get(*row as usize))
         }
     }

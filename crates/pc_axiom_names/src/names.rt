@@ -5,7 +5,7 @@ ghost use Rattle.pc_axiom_names.specs.Listed.{no_names, with_variable, with_axio
 ghost use Rattle.pc_axiom_names.specs.Shown.{axiom_shown, symbol_shown};
 
 use crate::axiom_name::AxiomRef;
-use crate::kept::{Kept, Stands, kept_of, name_shown, place_of, variable_shown};
+use crate::kept::{KeptName, Stands, kept_of, name_shown, place_of, variable_shown};
 use pc_lits::{Rows, Var};
 use pc_sheet::{CellId, Entry, NodePath, ValueId};
 use std::alloc::{AllocError, Global};
@@ -25,7 +25,7 @@ pub struct Names {
     paths: Vec<NodePath>,
     reads: Rows<Entry>,
     variables: Vec<Stands>,
-    axioms: Vec<Kept>,
+    axioms: Vec<KeptName>,
 }
 
 impl Model for Names {

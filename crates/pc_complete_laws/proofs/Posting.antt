@@ -5,8 +5,8 @@ use Rattle.std.specs.Io.KnownBytes.{Consumes, IsAtEnd}
 use Rattle.std.proofs.KnownBytes.{Consumes-trans}
 use Rattle.pc_port.specs.Shelf.{Files, file_named}
 use Rattle.pc_collab.specs.Journal.{Post}
-use Rattle.pc_collab.specs.Reading.{IsTextOf, LineFault, IsFirstFault}
-use Rattle.pc_collab.specs.ReadBack.{ReadsBack}
+use Rattle.pc_collab.specs.Reading.{IsTextOf, LineFault, IsFirstFaultOfJournal}
+use Rattle.pc_collab.specs.ReadBack.{JournalsReadBack}
 use Rattle.pc_words.specs.Words.{posts, FitsWords}
 use Rattle.pc_words.specs.Laws.{WordsFitOneRequest}
 use Rattle.pc_refusals.specs.declared.refusal.SheetRefusal.{SheetRefusal}
@@ -103,7 +103,7 @@ module _ (budget : ℕ) (file : List ℕ) where
     line : ℕ
     fault : LineFault
     are : events ≡ gave file text ∷ took_rest bytes ∷ more
-    at_fault : IsFirstFault bytes line fault
+    at_fault : IsFirstFaultOfJournal bytes line fault
 
   abbrev IsEither : List Event → Type 0
   IsEither events = IsRefusal budget file events ⊎ IsJournalRefusal events
@@ -147,21 +147,21 @@ journal_taken file text taken bytes more a b known (m, gives, (n, takes, then)) 
     all_known m.input n.input bytes taken (ap (λ (o : Outside). o.input) gives.0 ∙ known) takes.1 takes.2
 
 -- neither may be refused
-not_either : (budget : ℕ) (file : List ℕ) → ReadsBack → TextsOfEnoughAreOpened → 1 ≤ budget → (text bytes : List ℕ) (written : List Post) (files : Files) (state : State) (events spare : List Event) (a b : Outside) → a.kept ≡ Some files → file_named file files ≡ Some text
+not_either : (budget : ℕ) (file : List ℕ) → JournalsReadBack → TextsOfEnoughAreOpened → 1 ≤ budget → (text bytes : List ℕ) (written : List Post) (files : Files) (state : State) (events spare : List Event) (a b : Outside) → a.kept ≡ Some files → file_named file files ≡ Some text
     → Starts budget text state → HasEnoughFor budget text → a.input ≡ Some bytes → IsTextOf bytes written → Happened (events ++ spare) a b → IsEither budget file events → ⊥
 not_either budget file back opened some text bytes written files state events spare a b keeps named starts enough known reads happened (inl r) = not_this budget file opened some text files state events spare a b keeps named starts enough happened r
 not_either budget file back opened some text bytes written files state events spare a b keeps named starts enough known reads happened (inr r) =
     let same = journal_taken file r.text r.bytes bytes (r.more ++ spare) a b known (subst (λ (es : List Event). Happened (es ++ spare) a b) r.are happened) in
-    absurd (back.sound bytes written r.line r.fault reads (subst (λ (t : List ℕ). IsFirstFault t r.line r.fault) same r.at_fault))
+    absurd (back.sound bytes written r.line r.fault reads (subst (λ (t : List ℕ). IsFirstFaultOfJournal t r.line r.fault) same r.at_fault))
 
-not_refused : WordsFitOneRequest → ReadsBack → TextsOfEnoughAreOpened → (words : List (List ℕ)) (file text bytes : List ℕ) (written : List Post) (budget : ℕ) (files : Files) (state : State) (status : Status) (notes notes' : Notes) (a b : Outside)
+not_refused : WordsFitOneRequest → JournalsReadBack → TextsOfEnoughAreOpened → (words : List (List ℕ)) (file text bytes : List ℕ) (written : List Post) (budget : ℕ) (files : Files) (state : State) (status : Status) (notes notes' : Notes) (a b : Outside)
     → FitsWords words record { mode = posts file; budget = budget } → a.kept ≡ Some files → file_named file files ≡ Some text → Starts budget text state → HasEnoughFor budget text → a.input ≡ Some bytes → IsTextOf bytes written
     → (most : ℕ) → Ran (asked.Course words notes) most status notes' a b → status ≢ SheetRefused
 not_refused one back opened words file text bytes written budget files state status notes notes' a b fits keeps named starts enough known reads most ran e =
     not_either budget file back opened (some_budget words record { mode = posts file; budget = budget } fits) text bytes written files state ran.events ran.spare a b keeps named starts enough known reads ran.happened
     (of_run (IsEither budget file) (longer budget file) (asked.Course words notes) (by_words one words record { mode = posts file; budget = budget } fits notes tt (of_posts budget file notes)) ran.events status notes' ran.run e)
 
-pub posts_end : WordsFitOneRequest → ReadsBack → TextsOfEnoughAreOpened → FaultlessPostsAreAnswered → PostsOfEnoughAreAnswered
+pub posts_end : WordsFitOneRequest → JournalsReadBack → TextsOfEnoughAreOpened → FaultlessPostsAreAnswered → PostsOfEnoughAreAnswered
 posts_end one back opened answered words file text bytes written budget files state status notes notes' before after fits keeps named starts enough known reads runs calm short =
     answered words file bytes budget status notes notes' before after fits known runs calm short
     (not_refused one back opened words file text bytes written budget files state status notes notes' before after fits keeps named starts enough known reads runs.0 runs.2)

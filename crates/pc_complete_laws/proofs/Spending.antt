@@ -20,7 +20,7 @@ use Rattle.pc_logic.specs.Edits.{is_same_entry, entered_to, added_to, without_on
 use Rattle.pc_logic.proofs.BookLemmas.{with_entries}
 use Rattle.pc_logic.proofs.EditLemmas.{rules_stay}
 use Rattle.pc_logic.proofs.EntryLemmas.{entries_stay, entries_beside, entries_kept}
-use Rattle.pc_reading_laws.proofs.Entries.{entry_of}
+use Rattle.pc_reading_laws.proofs.Entries.{is_an_entry}
 use Rattle.pc_theory.specs.Spendings.{IsLawful}
 use Rattle.pc_theory.specs.declared.spending.Spending.{Spending}
 use Rattle.pc_enough_laws.specs.Enough.{enough_for_all}
@@ -130,7 +130,7 @@ formed_dropped sheet name k formed at = record { universe = formed.universe; rul
 
 -- a search's sheet is well formed
 pub search_formed : CellsAreNumberedInOrder → (sheet : Sheet) (a : Asked) (cell : Option CellId) (made : Sheet) → IsWellFormed sheet → NeedsSearch sheet a cell made → IsWellFormed made
-search_formed ordered sheet a cell made formed (to_enter {c = c} {v = v} e named alone) = formed_entered sheet e formed (entry_of sheet.universe ordered c v named.sort e named.cell named.value)
+search_formed ordered sheet a cell made formed (to_enter {c = c} {v = v} e named alone) = formed_entered sheet e formed (is_an_entry sheet.universe ordered c v named.sort e named.cell named.value)
 search_formed ordered sheet a cell made formed (to_enter_beside {c = c} {v = v} e named room) = formed_also sheet e formed room.range (inr room.room)
 search_formed ordered sheet a cell made formed (to_clear k named has spare) = formed_cleared sheet k formed
 search_formed ordered sheet a cell made formed (to_remove e named stands spare) = formed_without sheet e formed

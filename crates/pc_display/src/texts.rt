@@ -14,16 +14,16 @@ use std::alloc::{AllocError, Global};
 
 // Keeps what is written, and fails only for want of memory.
 #[derive(Drop)]
-struct Kept {
+struct KeptText {
     bytes: Vec<u8>,
     faults: u64,
 }
 
-impl Kept {
-    fn new(alloc: Global) -> Kept
+impl KeptText {
+    fn new(alloc: Global) -> KeptText
         ensures { result.bytes.items ≡ [] }
     {
-        Kept {
+        KeptText {
             bytes: Vec::new(alloc),
             faults: 0,
         }
@@ -40,7 +40,7 @@ impl Kept {
     }
 }
 
-impl Sink for Kept {
+impl Sink for KeptText {
     ghost given = { λ s. Some s.bytes.items };
 
     ghost faults = { λ s. s.faults };
@@ -60,7 +60,7 @@ pub(crate) fn cell_text(alloc: Global, book: &Book, cell: CellId) -> Result<Stri
     requires cell { cell.0 < length (cell_sizes book.now.universe) }
     ensures { IfOk result (λ text. string_bytes text ≡ cell_text book.now.universe cell) }
 {
-    let mut kept = Kept::new(alloc);
+    let mut kept = KeptText::new(alloc);
     match write_cell(book, cell, &mut kept) {
         Ok(()) => Ok(kept.into_text()),
         Err(Failed) => Err(AllocError),
@@ -78,7 +78,7 @@ pub(crate) fn value_text(
     requires value { value.0 < size_of book.now.universe sort }
     ensures { IfOk result (λ text. string_bytes text ≡ value_text book.now.universe sort value) }
 {
-    let mut kept = Kept::new(alloc);
+    let mut kept = KeptText::new(alloc);
     match write_value(book, sort, value, &mut kept) {
         Ok(()) => Ok(kept.into_text()),
         Err(Failed) => Err(AllocError),
@@ -91,7 +91,7 @@ pub(crate) fn entry_text(alloc: Global, book: &Book, entry: Entry) -> Result<Str
     requires entry { IsEntryOf book.now.universe entry }
     ensures { IfOk result (λ text. string_bytes text ≡ entry_text book.now.universe entry) }
 {
-    let mut kept = Kept::new(alloc);
+    let mut kept = KeptText::new(alloc);
     match write_entry(book, entry, &mut kept) {
         Ok(()) => Ok(kept.into_text()),
         Err(Failed) => Err(AllocError),

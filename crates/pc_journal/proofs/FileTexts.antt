@@ -2,7 +2,7 @@
 use Rattle.std.proofs.Common.{ℕ, List, [], ◌++◌, refl, sym, subst, Option, Err}
 use Rattle.pc_collab.specs.declared.reading.JournalFault.{JournalFault}
 use Rattle.pc_collab.specs.declared.reading.JournalFault.TheVariants.{BadLine, Gap, OutOfOrder, Memory}
-use Rattle.pc_collab.specs.Reading.{LineFault, bad_line, gap, out_of_order, IsFirstFault, ReadGives}
+use Rattle.pc_collab.specs.Reading.{LineFault, bad_line, gap, out_of_order, IsFirstFaultOfJournal, ReadGives}
 use Rattle.pc_refusals.specs.declared.refusal.SheetRefusal.{SheetRefusal}
 use Rattle.pc_refusals.specs.declared.status.Status.{Status}
 use Rattle.pc_refusals.specs.declared.status.Status.TheVariants.{SheetRefused}
@@ -20,7 +20,7 @@ use Rattle.pc_journal.specs.inside.Did.{Ends}
 use Rattle.pc_journal.proofs.Dids.{ends_at}
 
 module _ (text : List ℕ) where
-  faulty : (fault : LineFault) (line : ℕ) (result : Status) (g g' : Option (List ℕ)) → IsFirstFault text line fault → TellsAtEnd SheetRefused (refused_text from_file fault line) result g g' → Ends (MergeText text) [] result tt g g'
+  faulty : (fault : LineFault) (line : ℕ) (result : Status) (g g' : Option (List ℕ)) → IsFirstFaultOfJournal text line fault → TellsAtEnd SheetRefused (refused_text from_file fault line) result g g' → Ends (MergeText text) [] result tt g g'
   faulty fault line result g g' first told =
       ends_at (MergeText text) [] SheetRefused result (refused_text from_file fault line) tt g g' (on_course (text_is_refused line fault first refl)) (λ e. absurd (cc e)) (λ e. absurd (cc e)) told
 

@@ -4,7 +4,7 @@ use Rattle.pc_port.specs.Port.{Rose}
 use Rattle.pc_collab.specs.declared.TheConstants.{JOURNAL_LIMIT}
 use Rattle.pc_collab.specs.declared.reading.JournalFault.TheVariants.{BadLine, Gap, OutOfOrder, Memory}
 use Rattle.pc_collab.specs.Journal.{Post}
-use Rattle.pc_collab.specs.Reading.{IsTextOf, LineFault, bad_line, gap, out_of_order, IsFirstFault}
+use Rattle.pc_collab.specs.Reading.{IsTextOf, LineFault, bad_line, gap, out_of_order, IsFirstFaultOfJournal}
 use Rattle.pc_refusals.specs.declared.input.InputStop.TheVariants.{Failed, TooLong}
 use Rattle.pc_refusals.specs.declared.input.InputStop.TheVariants as stop
 use Rattle.pc_refusals.specs.declared.status.Status.{Status}
@@ -38,7 +38,7 @@ module _ {N : Type 0} (Rest : List Post → List Event → Stage → N → Type 
   lacks text some told same =
       some_told some.text status.Memory memory_text (without_memory memory_text (needs_memory some.text some.small refl)) (λ e. absurd (cc e)) (λ e. absurd (cc e)) (λ o. (around o (streams l' n' g m), took_does o l l' n n' g m some.text same some.taken, refl)) told
 
-  faulty : (fault : LineFault) (line : ℕ) (takes : TakesText l l' (λ text. IsFirstFault text line fault)) → TellsAtEnd SheetRefused (refused_text from_input fault line) result g g' → n' ≡ n → Did (FromInput Rest notes) result notes (streams l n g m) (streams l' n' g' m')
+  faulty : (fault : LineFault) (line : ℕ) (takes : TakesText l l' (λ text. IsFirstFaultOfJournal text line fault)) → TellsAtEnd SheetRefused (refused_text from_input fault line) result g g' → n' ≡ n → Did (FromInput Rest notes) result notes (streams l n g m) (streams l' n' g' m')
   faulty fault line takes told same =
       let text = takes.text in
       ended (FromInput Rest notes) (streams l n g m) (took_rest text ∷ []) result notes l' n' g g' m m'

@@ -3,7 +3,7 @@
 use Rattle.std.specs.Prelude.{◌≡◌, ◌≤◌, ℕ, List, [], ◌∷◌, ◌++◌, length, map}
 use Rattle.pc_collab.specs.declared.TheConstants.{JOURNAL_LIMIT}
 use Rattle.pc_collab.specs.Journal.{Post}
-use Rattle.pc_collab.specs.Reading.{IsTextOf, LineFault, IsFirstFault}
+use Rattle.pc_collab.specs.Reading.{IsTextOf, LineFault, IsFirstFaultOfJournal}
 use Rattle.pc_collab.specs.Merge.{IsMerge, DifferFirstAt}
 use Rattle.pc_collab.specs.Text.{journal_text}
 use Rattle.pc_lines.specs.Lines.{line_text_of}
@@ -31,7 +31,7 @@ pub data FromFile {N : Type 0} (lack : List ℕ) (file : List ℕ) (Rest : List 
 pub data FromInput {N : Type 0} (Rest : List Post → List Event → Stage → N → Type 0) (notes : N) (events : List Event) : Stage → N → Type 0 where
   awaits_journal : events ≡ [] → FromInput Rest notes events (takes (rest_within JOURNAL_LIMIT)) notes
   needs_memory : (some : List ℕ) → length some ≤ JOURNAL_LIMIT → events ≡ took some ∷ [] → FromInput Rest notes events (needs memory_text) notes
-  is_refused : (text : List ℕ) (line : ℕ) (fault : LineFault) → length text ≤ JOURNAL_LIMIT → IsFirstFault text line fault → events ≡ took_rest text ∷ [] → FromInput Rest notes events (ends_with (refused_text from_input fault line) SheetRefused) notes
+  is_refused : (text : List ℕ) (line : ℕ) (fault : LineFault) → length text ≤ JOURNAL_LIMIT → IsFirstFaultOfJournal text line fault → events ≡ took_rest text ∷ [] → FromInput Rest notes events (ends_with (refused_text from_input fault line) SheetRefused) notes
   has_journal : {stage : Stage} {notes' : N} (text : List ℕ) (posts : List Post) (more : List Event) → length text ≤ JOURNAL_LIMIT → IsTextOf text posts → Rest posts more stage notes' → events ≡ took_rest text ∷ more → FromInput Rest notes events stage notes'
 
 -- ---- the mode `merge`
@@ -45,7 +45,7 @@ pub data MergeBoth (a b : List Post) (events : List Event) : Stage → Unit {0} 
 -- from the file's text on
 pub data MergeText (text : List ℕ) (events : List Event) : Stage → Unit {0} → Type 0 where
   needs_memory_for_text : events ≡ [] → MergeText text events (needs memory_text) tt
-  text_is_refused : (line : ℕ) (fault : LineFault) → IsFirstFault text line fault → events ≡ [] → MergeText text events (ends_with (refused_text from_file fault line) SheetRefused) tt
+  text_is_refused : (line : ℕ) (fault : LineFault) → IsFirstFaultOfJournal text line fault → events ≡ [] → MergeText text events (ends_with (refused_text from_file fault line) SheetRefused) tt
   text_is_journal : {stage : Stage} (a : List Post) → IsTextOf text a → FromInput (MergeBoth a) tt events stage tt → MergeText text events stage tt
 
 -- the file's journal, then the input's, and then their merge; no notes are taken

@@ -84,11 +84,11 @@ module _ (u : Universe) where
     cell_below w c h = get_below (cell_sizes u) c.0 _ (cell_size w c h.0 h.1)
 
     -- a value of the cell's sort makes an entry
-    pub entry_of : (w : tree.Cell) (x : tree.Value) (s : SortId) (e : Entry) → IsCell u w e.cell s → StandsForValue u s x e.value → IsEntryOf u e
-    entry_of w x s e cell value = subst (λ o. IsSomeAnd o (λ n. e.value.0 < n)) (sym (cell_size w e.cell s cell)) (value_below s x e.value value)
+    pub is_an_entry : (w : tree.Cell) (x : tree.Value) (s : SortId) (e : Entry) → IsCell u w e.cell s → StandsForValue u s x e.value → IsEntryOf u e
+    is_an_entry w x s e cell value = subst (λ o. IsSomeAnd o (λ n. e.value.0 < n)) (sym (cell_size w e.cell s cell)) (value_below s x e.value value)
 
     pub entry_named : (p : WrittenPair) (e : Entry) → IsPairNamed u p e → IsEntryOf u e
-    entry_named p e h = entry_of p.cell p.value h.sort e h.cell h.value
+    entry_named p e h = is_an_entry p.cell p.value h.sort e h.cell h.value
 
     pub entries_named : (ps : List WrittenPair) (es : List Entry) → AreNamedEach (IsPairNamed u) ps es → AllByRecursion (IsEntryOf u) es
     entries_named [] [] h = tt

@@ -25,7 +25,7 @@ use Rattle.pc_cert.specs.Meaning.{IsAxiomNamed, IsPartNamed, IsSaidLine}
 use Rattle.pc_cert.specs.Text.{SetReading, CertificateReading, certificate, IsTextReading, whole, AllSay, SayTogether, in_front, sets_from, uses_from, values_from, parts_from, claim_in}
 use Rattle.pc_cert.specs.Views.{IsCertTold, symbols_of, reading_of, said_of, set_of, part_of, numbered_part_of, place_of, places_in, places_of, AppearInOrder, AreInFirstOrder}
 use Rattle.pc_cert.specs.ReadFor.{IsSaidOf, IsNamedIn, IsOverSheet, IsPartOver, IsSetSaidOf, IsBare, IsReadFor}
-use Rattle.pc_reading_laws.proofs.Entries.{each_at, each_image, cell_below, entry_of, entry_named, entries_named}
+use Rattle.pc_reading_laws.proofs.Entries.{each_at, each_image, cell_below, is_an_entry, entry_named, entries_named}
 use Rattle.pc_reading_laws.proofs.Standing.{no_sets_beside, bare_beside}
 use Rattle.pc_reading_laws.proofs.Speaks.{rule_within}
 
@@ -169,8 +169,8 @@ module _ (sheet : Sheet) where
     taken_over : (w : WrittenPart) (a : Axiom) → IsAxiomNamed sheet w a → IsAxiomOver a
     taken_over (written_some c) (axiom_some id) is = cell_below sheet.universe ordered c id is
     taken_over (written_one c v w) (axiom_one id first second) is = (
-      entry_of sheet.universe ordered c v is.sort (record { cell = id; value = first }) is.cell is.first_value,
-      entry_of sheet.universe ordered c w is.sort (record { cell = id; value = second }) is.cell is.second_value,
+      is_an_entry sheet.universe ordered c v is.sort (record { cell = id; value = first }) is.cell is.first_value,
+      is_an_entry sheet.universe ordered c w is.sort (record { cell = id; value = second }) is.cell is.second_value,
     )
     taken_over w (axiom_rule r) is = tt
     taken_over w (axiom_node r p i) is = tt

@@ -16,7 +16,7 @@ use Rattle.pc_cert.specs.Order.{LineKind, empty_line, heading_line, use_line, va
 use Rattle.pc_cert.specs.Meaning.{AreNamedEach, IsSymbolNamed, IsLiteralNamed, IsAxiomNamed, IsPartNamed, IsSaidLine}
 use Rattle.pc_cert.specs.Text.{CertificateReading, certificate, IsTextReading, whole, AllSay, SayTogether, in_front, sets_from, uses_from, values_from, parts_from, claim_in}
 use Rattle.pc_reading_laws.specs.Laws.{IsSheetSymbol, IsSheetAxiom, IsPartOverSheet, IsSheetClaim, IsSheetSet, SpeaksOf, WhatIsReadSpeaksOfTheSheet}
-use Rattle.pc_reading_laws.proofs.Entries.{each_at, cell_below, entry_of, entry_named, entries_named}
+use Rattle.pc_reading_laws.proofs.Entries.{each_at, cell_below, is_an_entry, entry_named, entries_named}
 
 pub rule_within : (rules : List NamedStatement) (name : List ℕ) (r : ℕ) → IsSomeAnd (slice_get rules r) (λ rule. rule.name ≡ name) → r < length rules
 rule_within [] name r is = absurd is
@@ -65,8 +65,8 @@ module _ (sheet : Sheet) (ordered : CellsAreNumberedInOrder) where
   axiom_of : (w : WrittenPart) (a : Axiom) → IsAxiomNamed sheet w a → IsSheetAxiom sheet a
   axiom_of (written_some c) (axiom_some id) is = cell_below sheet.universe ordered c id is
   axiom_of (written_one c v w) (axiom_one id first second) is = (
-    entry_of sheet.universe ordered c v is.sort (record { cell = id; value = first }) is.cell is.first_value,
-    entry_of sheet.universe ordered c w is.sort (record { cell = id; value = second }) is.cell is.second_value,
+    is_an_entry sheet.universe ordered c v is.sort (record { cell = id; value = first }) is.cell is.first_value,
+    is_an_entry sheet.universe ordered c w is.sort (record { cell = id; value = second }) is.cell is.second_value,
   )
   axiom_of (written_rule n) (axiom_rule r) is = rule_within sheet.rules n r is
   axiom_of (written_node_clause p i) (axiom_node r steps j) is = is.0.leads

@@ -7,7 +7,7 @@ use Rattle.pc_cert.specs.declared.TheConstants.{CERT_LIMIT}
 use Rattle.pc_checker.specs.declared.verdict.Verdict.TheVariants.{Accepted}
 use Rattle.pc_collab.specs.declared.TheConstants.{JOURNAL_LIMIT}
 use Rattle.pc_collab.specs.Journal.{Post}
-use Rattle.pc_collab.specs.Reading.{IsTextOf, LineFault, IsFirstFault}
+use Rattle.pc_collab.specs.Reading.{IsTextOf, LineFault, IsFirstFaultOfJournal}
 use Rattle.pc_collab.specs.Merge.{IsMerge, DifferFirstAt}
 use Rattle.pc_collab.specs.Text.{journal_text}
 use Rattle.pc_gen.specs.Text.{generated_text}
@@ -98,8 +98,8 @@ pub data RefusesSheet (budget : ℕ) (notes notes' : Notes) (events : List Event
   refuses_to_post : (file text : List ℕ) (why : SheetRefusal) (more : List ℕ) → length text ≤ SHEET_LIMIT → RefusesText budget text why more notes notes' → events ≡ gave file text ∷ [] → line ≡ sheet_refusal_text why ++ more → RefusesSheet budget notes notes' events line (posts file)
   refuses_blocks : (blocks : ℕ) (why : SheetRefusal) (more : List ℕ) → RefusesText budget (generated_text blocks) why more notes notes' → events ≡ [] → line ≡ sheet_refusal_text why ++ more → RefusesSheet budget notes notes' events line (demonstrates blocks)
   refuses_to_check : (file text : List ℕ) (why : SheetRefusal) → length text ≤ SHEET_LIMIT → HasFault text why → ((read : Sheet) → ¬ ReadsAs text read) → events ≡ gave file text ∷ [] → line ≡ sheet_refusal_text why → notes' ≡ notes → RefusesSheet budget notes notes' events line (checks file)
-  no_journal_of_file : (file text : List ℕ) (number : ℕ) (fault : LineFault) → length text ≤ SHEET_LIMIT → IsFirstFault text number fault → events ≡ gave file text ∷ [] → line ≡ refused_text from_file fault number → notes' ≡ notes → RefusesSheet budget notes notes' events line (merges file)
-  no_journal_of_input : (file text journal : List ℕ) (mode : Mode) (number : ℕ) (fault : LineFault) → (mode ≡ merges file) ⊎ (mode ≡ posts file) → length journal ≤ JOURNAL_LIMIT → IsFirstFault journal number fault
+  no_journal_of_file : (file text : List ℕ) (number : ℕ) (fault : LineFault) → length text ≤ SHEET_LIMIT → IsFirstFaultOfJournal text number fault → events ≡ gave file text ∷ [] → line ≡ refused_text from_file fault number → notes' ≡ notes → RefusesSheet budget notes notes' events line (merges file)
+  no_journal_of_input : (file text journal : List ℕ) (mode : Mode) (number : ℕ) (fault : LineFault) → (mode ≡ merges file) ⊎ (mode ≡ posts file) → length journal ≤ JOURNAL_LIMIT → IsFirstFaultOfJournal journal number fault
       → events ≡ gave file text ∷ took_rest journal ∷ [] → line ≡ refused_text from_input fault number → notes' ≡ notes → RefusesSheet budget notes notes' events line mode
   refuses_both : (file text journal : List ℕ) (a b : List Post) (author number : ℕ) → IsTextOf text a → IsTextOf journal b → DifferFirstAt a b author number → events ≡ gave file text ∷ took_rest journal ∷ [] → line ≡ differ_text author number → notes' ≡ notes
       → RefusesSheet budget notes notes' events line (merges file)

@@ -27,7 +27,7 @@ fn kept(alloc: Global, book: &Book, patch: Patch) -> Result<Cache, AllocError>
 }
 
 /// Finds what is known of a book, within the budget.
-pub(crate) fn load_book(alloc: Global, book: Book, budget: u64) -> Result<State, LoadRefused>
+pub(crate) fn load_state(alloc: Global, book: Book, budget: u64) -> Result<State, LoadRefused>
     ensures loaded { IfOk result (IsLoaded book budget) }
     ensures refused { IfErr result (IsLoadCause book budget) }
 {

@@ -11,7 +11,7 @@ ghost use Rattle.pc_session.specs.inside.States.{IsSame, IsState};
 ghost use Rattle.pc_session.specs.declared.refused.EditRefused.TheVariants.{DuplicateRule, NoRule};
 
 use crate::compaction::compact_if_due;
-use crate::loading::load_book;
+use crate::loading::load_state;
 use crate::refused::{EditRefused, refused_edit};
 use crate::state::State;
 use pc_logic::{Book, well_formed};
@@ -38,7 +38,7 @@ fn replace(alloc: Global, state: &mut State, budget: u64, book: Book) -> Result<
     ensures kept { OnErr result (IsSame state.old state.new) }
 {
     compact_if_due(&mut state.cache)?;
-    match load_book(alloc, book, budget) {
+    match load_state(alloc, book, budget) {
         Ok(loaded) => {
             *state = loaded;
             Ok(())

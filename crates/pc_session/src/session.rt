@@ -24,7 +24,7 @@ ghost use Rattle.pc_session.specs.Views.{counts_of, none_spent, IsTallyOf};
 ghost use Rattle.pc_session.specs.declared.refused.EditRefused.TheVariants.{DuplicateRule, NoEntry, NoRule};
 ghost use Rattle.pc_theory.specs.Theories.{rules_alone};
 
-use crate::loading::load_book;
+use crate::loading::load_state;
 use crate::refused::{EditRefused, LoadRefused};
 use crate::removing::remove;
 use crate::state::State;
@@ -81,7 +81,7 @@ impl Session {
         ensures steps { IfOk result (λ s. Steps [] s.rows s.tally) }
         ensures refused { IfErr result (IsLoadCause book budget) }
     {
-        let state = load_book(alloc, book, budget)?;
+        let state = load_state(alloc, book, budget)?;
         Ok(Session {
             alloc,
             budget,

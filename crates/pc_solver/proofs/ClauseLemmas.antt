@@ -23,8 +23,8 @@ use Rattle.pc_analyze.specs.Learning.{IsSubclause}
 use Rattle.pc_solver.specs.New.{AreNewClauses, HasNoForced, ContainNone}
 use Rattle.pc_solver.proofs.NewLemmas.{line_cases, learned_cases, learned_within, new_learned, avoid_learned}
 use Rattle.pc_propagate.specs.TrailView.{TrailView}
-use Rattle.pc_solver.specs.declared.clauses.Kept.{Kept}
-use Rattle.pc_solver.specs.declared.clauses.Kept.TheVariants.{Block, Learned, Dropped}
+use Rattle.pc_solver.specs.declared.clauses.KeptClause.{KeptClause}
+use Rattle.pc_solver.specs.declared.clauses.KeptClause.TheVariants.{Block, Learned, Dropped}
 use Rattle.pc_solver.specs.Clauses.{ClausesView, AreClauses, KeepsClauses, KeepsProblem, blank, number_of, line_of, IsStanding, IsKnown, IsOverOwn, used_clauses, blocks_among, blocks_of}
 use Rattle.pc_solver.specs.InLog.{StandsInLog, IsLogOf, IsKeptAs, ContainsNoKnown}
 use Rattle.pc_solver.specs.inside.Search.{IsSearch, KnowsAll}
@@ -65,8 +65,8 @@ module _ (c : ClausesView) (log : List LogLine) (place : ℕ) (id : StepId) (wit
 
 -- ---- a block gets its line
 
-number_kept : (kept : List Kept) (place number : ℕ) (id : StepId) → place < length kept → get_or kept place blank ≡ Block number None
-    → (n : ℕ) (d : Kept) → n < length kept → number_of (get_or (set kept place (Block number (Some id))) n d) ≡ number_of (get_or kept n blank)
+number_kept : (kept : List KeptClause) (place number : ℕ) (id : StepId) → place < length kept → get_or kept place blank ≡ Block number None
+    → (n : ℕ) (d : KeptClause) → n < length kept → number_of (get_or (set kept place (Block number (Some id))) n d) ≡ number_of (get_or kept n blank)
 number_kept kept place number id within is n d below =
     ⊎_elim
     (λ same. rw same (ap number_of (get_or-set_same kept place (Block number (Some id)) d within) ∙ sym (ap number_of is)))
@@ -74,20 +74,20 @@ number_kept kept place number id within is n d below =
     (cases_eq n place)
 
 -- and it stands as before
-pub standing_kept : (kept : List Kept) (place number : ℕ) (id : StepId) → place < length kept → get_or kept place blank ≡ Block number None
+pub standing_kept : (kept : List KeptClause) (place number : ℕ) (id : StepId) → place < length kept → get_or kept place blank ≡ Block number None
     → (n : ℕ) → IsStanding (get_or (set kept place (Block number (Some id))) n blank) ↔ IsStanding (get_or kept n blank)
 standing_kept kept place number id within is n =
     ⊎_elim
     (λ same. (
-      λ yes. subst (λ (k : Kept). IsStanding k) (sym (ap (λ m. get_or kept m blank) same ∙ is)) tt,
-      λ yes. subst (λ (k : Kept). IsStanding k) (sym (ap (λ m. get_or (set kept place (Block number (Some id))) m blank) same ∙ get_or-set_same kept place (Block number (Some id)) blank within)) tt,
+      λ yes. subst (λ (k : KeptClause). IsStanding k) (sym (ap (λ m. get_or kept m blank) same ∙ is)) tt,
+      λ yes. subst (λ (k : KeptClause). IsStanding k) (sym (ap (λ m. get_or (set kept place (Block number (Some id))) m blank) same ∙ get_or-set_same kept place (Block number (Some id)) blank within)) tt,
     ))
     (λ differs.
     let as_was = get_or-set_other kept place n (Block number (Some id)) blank differs in
-    (λ yes. subst (λ (k : Kept). IsStanding k) as_was yes, λ yes. subst (λ (k : Kept). IsStanding k) (sym as_was) yes))
+    (λ yes. subst (λ (k : KeptClause). IsStanding k) as_was yes, λ yes. subst (λ (k : KeptClause). IsStanding k) (sym as_was) yes))
     (cases_eq n place)
 
-pub blocks_kept : (more : List (List Lit)) (kept : List Kept) (place number : ℕ) (line : Option StepId) → get_or kept place blank ≡ Block number None → blocks_among more (set kept place (Block number line)) ≡ blocks_among more kept
+pub blocks_kept : (more : List (List Lit)) (kept : List KeptClause) (place number : ℕ) (line : Option StepId) → get_or kept place blank ≡ Block number None → blocks_among more (set kept place (Block number line)) ≡ blocks_among more kept
 blocks_kept [] kept place number line is = refl
 blocks_kept (m ∷ more) [] place number line is = refl
 blocks_kept (m ∷ more) (k ∷ kept) zero number line is = rw is refl
@@ -135,7 +135,7 @@ module _ (c : ClausesView) (place number : ℕ) (id : StepId) (within : place < 
 
 -- ---- a clause is added
 
-pub blocks-push : (more : List (List Lit)) (kept : List Kept) (clause : List Lit) (k : Kept) → length kept ≡ length more
+pub blocks-push : (more : List (List Lit)) (kept : List KeptClause) (clause : List Lit) (k : KeptClause) → length kept ≡ length more
     → blocks_among (more ++ clause ∷ []) (kept ++ k ∷ []) ≡ blocks_among more kept ++ cond (is_some (number_of k)) (clause ∷ []) []
 blocks-push [] [] clause k same = refl
 blocks-push [] (k ∷ kept) clause l same = absurd (omega arith)
@@ -155,11 +155,11 @@ slice_get-more xs ys i x at =
 slice_get-last : {A : Type 0} (xs : List A) (x : A) (i : ℕ) → length xs ≡ i → slice_get (xs ++ x ∷ []) i ≡ Some x
 slice_get-last xs x i at = slice_get-get_or (xs ++ x ∷ []) i x (omega (arith, at, length_push xs x)) ∙ ap Some (get_or_push xs x x i at)
 
-module _ (c : ClausesView) (blocks : ℕ) (h : AreClauses c blocks) (clause : List Lit) (k : Kept) where
+module _ (c : ClausesView) (blocks : ℕ) (h : AreClauses c blocks) (clause : List Lit) (k : KeptClause) where
   -- the clauses that stood before keep their numbers
   pub added_numbered : (bs : List (List Lit)) → blocks_among (c.more ++ clause ∷ []) (c.kept ++ k ∷ []) ≡ blocks_of c ++ bs
       → ((number : ℕ) → number_of k ≡ Some number → slice_get (blocks_of c ++ bs) number ≡ Some clause)
-      → (n number : ℕ) (d : Kept) → n < length (c.kept ++ k ∷ []) → number_of (get_or (c.kept ++ k ∷ []) n d) ≡ Some number
+      → (n number : ℕ) (d : KeptClause) → n < length (c.kept ++ k ∷ []) → number_of (get_or (c.kept ++ k ∷ []) n d) ≡ Some number
       → slice_get (blocks_among (c.more ++ clause ∷ []) (c.kept ++ k ∷ [])) number ≡ Some (get_or (c.more ++ clause ∷ []) n [])
   added_numbered bs is last n number d below at =
       rw is (⊎_elim
@@ -205,7 +205,7 @@ module _ (c : ClausesView) (blocks : ℕ) (h : AreClauses c blocks) (clause : Li
         was.0,
         omega (arith, was.1, length_push c.more clause),
         get_or_append_left c.more (clause ∷ []) [] was.0 was.1 ∙ was.2,
-        subst (λ (l : Kept). IsStanding l) (sym (get_or_append_left c.kept (k ∷ []) blank was.0 (omega (arith, was.1, h.kept_each)))) was.3,
+        subst (λ (l : KeptClause). IsStanding l) (sym (get_or_append_left c.kept (k ∷ []) blank was.0 (omega (arith, was.1, h.kept_each)))) was.3,
       )
 
   pub block_added : k ≡ Block blocks None → AreClauses (record c { more = c.more ++ clause ∷ []; kept = c.kept ++ k ∷ [] }) (blocks + 1)
@@ -302,7 +302,7 @@ axiom_stands v c blocks are number place read id log same h there at is =
     (ap (λ (w : ClausesView). get_or w.axiom_lines place None) (sym same) ∙ default v.axiom_lines place None read under ∙ sym at ∙ is) in
     subst (λ m. StandsInLog c.axioms log id (get_or c.axioms m [])) of_number found
 
-pub kept_stands : (v c : ClausesView) (blocks : ℕ) → AreClauses v blocks → (place : ℕ) (read k : Kept) (id : StepId) (log : List LogLine) → v ≡ c → IsLogOf c log → place < length c.more
+pub kept_stands : (v c : ClausesView) (blocks : ℕ) → AreClauses v blocks → (place : ℕ) (read k : KeptClause) (id : StepId) (log : List LogLine) → v ≡ c → IsLogOf c log → place < length c.more
     → read ≡ get_or v.kept place read → read ≡ k → line_of k ≡ Some id → StandsInLog c.axioms log id (get_or c.more place [])
 kept_stands v c blocks are place read k id log same h within at is has =
     let under : place < length v.kept = omega (arith, within, ap (λ (w : ClausesView). length w.more) same, are.kept_each) in
@@ -310,7 +310,7 @@ kept_stands v c blocks are place read k id log same h within at is has =
 
 -- ---- the calls that add a clause
 
-pub blocks_few : (more : List (List Lit)) (kept : List Kept) → length (blocks_among more kept) ≤ length kept
+pub blocks_few : (more : List (List Lit)) (kept : List KeptClause) → length (blocks_among more kept) ≤ length kept
 blocks_few [] kept = omega arith
 blocks_few (m ∷ more) [] = omega arith
 blocks_few (m ∷ more) (k ∷ kept) = head (is_some (number_of k)) (blocks_few more kept)
@@ -319,7 +319,7 @@ blocks_few (m ∷ more) (k ∷ kept) = head (is_some (number_of k)) (blocks_few 
     head true h = omega (arith, h)
     head false h = omega (arith, h)
 
-pub at_lists : (P : List (List Lit) → List Kept → Type 0) (more same_more : List (List Lit)) (kept same_kept : List Kept) → same_more ≡ more → same_kept ≡ kept → P more kept → P same_more same_kept
+pub at_lists : (P : List (List Lit) → List KeptClause → Type 0) (more same_more : List (List Lit)) (kept same_kept : List KeptClause) → same_more ≡ more → same_kept ≡ kept → P more kept → P same_more same_kept
 at_lists P more same_more kept same_kept one two h = rw (one, two) h
 
 pub with_block : (v c : ClausesView) (blocks : ℕ) → AreClauses v blocks → v ≡ c → (clause : List Lit) → blocks_among (v.more ++ clause ∷ []) (v.kept ++ Block blocks None ∷ []) ≡ blocks_of c ++ clause ∷ []
@@ -334,7 +334,7 @@ with_block_logged v c blocks h same clause log logged =
     none id e = cc
 
 -- a clause that is no block
-pub with_other : (v c : ClausesView) (blocks : ℕ) → AreClauses v blocks → v ≡ c → (clause : List Lit) (k : Kept) → number_of k ≡ None → blocks_among (v.more ++ clause ∷ []) (v.kept ++ k ∷ []) ≡ blocks_of c
+pub with_other : (v c : ClausesView) (blocks : ℕ) → AreClauses v blocks → v ≡ c → (clause : List Lit) (k : KeptClause) → number_of k ≡ None → blocks_among (v.more ++ clause ∷ []) (v.kept ++ k ∷ []) ≡ blocks_of c
 with_other v c blocks h same clause k is = blocks-push v.more v.kept clause k h.kept_each ∙ rw is (append-nil (blocks_of v)) ∙ ap (λ (w : ClausesView). blocks_of w) same
 
 pub with_dropped_logged : (v c : ClausesView) (blocks : ℕ) → AreClauses v blocks → v ≡ c → (clause : List Lit) (log : List LogLine) → IsLogOf c log → IsLogOf (record v { more = v.more ++ clause ∷ []; kept = v.kept ++ Dropped ∷ [] }) log
@@ -347,18 +347,18 @@ with_dropped_logged v c blocks h same clause log logged =
 
 -- ---- the trail
 
-module _ (law : ClausesMayBeAdded) (quiet : QuietIsKept) (v c : ClausesView) (blocks : ℕ) (h : AreClauses v blocks) (same : v ≡ c) (clause : List Lit) (k : Kept) where
+module _ (law : ClausesMayBeAdded) (quiet : QuietIsKept) (v c : ClausesView) (blocks : ℕ) (h : AreClauses v blocks) (same : v ≡ c) (clause : List Lit) (k : KeptClause) where
   -- a clause that was added last isn't known yet
   known_still : (r : ClauseRef) → IsKnown (record v { more = v.more ++ clause ∷ []; kept = v.kept ++ k ∷ [] }) r ↔ IsKnown v r
   known_still (Axiom n) = (λ is. is, λ is. is)
   known_still (More n) = (
     λ is.
         let within : n < length v.more = omega (arith, is.1, h.reached) in
-        (within, is.1, subst (λ (l : Kept). IsStanding l) (get_or_append_left v.kept (k ∷ []) blank n (omega (arith, within, h.kept_each))) is.2),
+        (within, is.1, subst (λ (l : KeptClause). IsStanding l) (get_or_append_left v.kept (k ∷ []) blank n (omega (arith, within, h.kept_each))) is.2),
     λ is. (
       omega (arith, is.0, length_push v.more clause),
       is.1,
-      subst (λ (l : Kept). IsStanding l) (sym (get_or_append_left v.kept (k ∷ []) blank n (omega (arith, is.0, h.kept_each)))) is.2,
+      subst (λ (l : KeptClause). IsStanding l) (sym (get_or_append_left v.kept (k ∷ []) blank n (omega (arith, is.0, h.kept_each)))) is.2,
     ),
   )
 
@@ -463,7 +463,7 @@ own_in_range own variables clause within over k d below = All-contains (λ (v : 
 
 -- ---- the next clause is made known
 
-module _ (quiet : QuietIsKept) (v c : ClausesView) (blocks : ℕ) (h : AreClauses v blocks) (same : v ≡ c) (some : c.known < length c.more) (k : Kept) (read : get_or v.kept v.known blank ≡ k) where
+module _ (quiet : QuietIsKept) (v c : ClausesView) (blocks : ℕ) (h : AreClauses v blocks) (same : v ≡ c) (some : c.known < length c.more) (k : KeptClause) (read : get_or v.kept v.known blank ≡ k) where
   -- what is known now was known, or is that clause
   known_cases : (r : ClauseRef) → IsKnown (record v { known = v.known + 1 }) r → IsKnown v r ⊎ ((More v.known ≡ r) × IsStanding k)
   known_cases (Axiom n) is = inl is
@@ -472,7 +472,7 @@ module _ (quiet : QuietIsKept) (v c : ClausesView) (blocks : ℕ) (h : AreClause
       (λ before. inl (is.0, before, is.2))
       (λ end.
       let here : v.known ≡ n = omega (arith, is.1, end) in
-      inr (ap More here, subst (λ (l : Kept). IsStanding l) read (subst (λ m. IsStanding (get_or v.kept m blank)) (sym here) is.2)))
+      inr (ap More here, subst (λ (l : KeptClause). IsStanding l) read (subst (λ m. IsStanding (get_or v.kept m blank)) (sym here) is.2)))
       (cases_lt n v.known)
 
   still_known : (r : ClauseRef) → IsKnown v r → IsKnown (record v { known = v.known + 1 }) r
@@ -541,7 +541,7 @@ next_in_range v c t lits same search some at =
 -- ---- a learned clause and its line
 
 -- a block is a given clause
-pub block_given_at : (more : List (List Lit)) (kept : List Kept) (clause : List Lit) → Contains (blocks_among more kept) clause → (n : ℕ) × (n < length more) × IsSome (number_of (get_or kept n blank)) × (get_or more n [] ≡ clause)
+pub block_given_at : (more : List (List Lit)) (kept : List KeptClause) (clause : List Lit) → Contains (blocks_among more kept) clause → (n : ℕ) × (n < length more) × IsSome (number_of (get_or kept n blank)) × (get_or more n [] ≡ clause)
 block_given_at [] kept clause has = absurd (omega (arith, has.1))
 block_given_at (m ∷ more) [] clause has = absurd (omega (arith, has.1))
 block_given_at (m ∷ more) (k ∷ kept) clause has = head (number_of k) refl (λ rest. block_given_at more kept clause rest)
@@ -563,7 +563,7 @@ block_is_known c all block has =
     let b = block_given_at c.more c.kept block has in
     (More b.0, (b.1, omega (arith, b.1, all), numbered_stands (get_or c.kept b.0 blank) b.2), b.3)
   where
-    numbered_stands : (k : Kept) → IsSome (number_of k) → IsStanding k
+    numbered_stands : (k : KeptClause) → IsSome (number_of k) → IsStanding k
     numbered_stands (Block number line) h = tt
     numbered_stands (Learned line) h = tt
     numbered_stands Dropped h = cc
@@ -647,7 +647,7 @@ module _ (v : ClausesView) (blocks : ℕ) (h : AreClauses v blocks) (clause : Li
         was.0,
         omega (arith, was.1, length_push v.more clause),
         get_or_append_left v.more (clause ∷ []) [] was.0 was.1 ∙ was.2,
-        subst (λ (l : Kept). IsStanding l) (sym (get_or_append_left v.kept (Learned id ∷ []) blank was.0 (omega (arith, was.1, h.kept_each)))) was.3,
+        subst (λ (l : KeptClause). IsStanding l) (sym (get_or_append_left v.kept (Learned id ∷ []) blank was.0 (omega (arith, was.1, h.kept_each)))) was.3,
       )
 
       kept_last : IsKeptAs (record v { more = v.more ++ clause ∷ []; kept = v.kept ++ Learned id ∷ [] }) clause
@@ -655,8 +655,8 @@ module _ (v : ClausesView) (blocks : ℕ) (h : AreClauses v blocks) (clause : Li
         length v.more,
         omega (arith, length_push v.more clause),
         get_or_push v.more clause [] (length v.more) refl,
-        subst (λ (l : Kept). IsStanding l) (sym (get_or_push v.kept (Learned id) blank (length v.more) h.kept_each)) tt,
+        subst (λ (l : KeptClause). IsStanding l) (sym (get_or_push v.kept (Learned id) blank (length v.more) h.kept_each)) tt,
       )
 
-pub learned_stands : (v : ClausesView) (kept : List Kept) (id : StepId) → KnowsAll v → length v.kept ≡ length v.more → kept ≡ v.kept ++ Learned id ∷ [] → IsStanding (get_or kept v.known blank)
-learned_stands v kept id all each is = subst (λ (k : Kept). IsStanding k) (sym (ap (λ (ks : List Kept). get_or ks v.known blank) is ∙ get_or_push v.kept (Learned id) blank v.known (each ∙ sym all))) tt
+pub learned_stands : (v : ClausesView) (kept : List KeptClause) (id : StepId) → KnowsAll v → length v.kept ≡ length v.more → kept ≡ v.kept ++ Learned id ∷ [] → IsStanding (get_or kept v.known blank)
+learned_stands v kept id all each is = subst (λ (k : KeptClause). IsStanding k) (sym (ap (λ (ks : List KeptClause). get_or ks v.known blank) is ∙ get_or_push v.kept (Learned id) blank v.known (each ∙ sym all))) tt

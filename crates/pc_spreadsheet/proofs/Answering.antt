@@ -45,7 +45,7 @@ use Rattle.pc_refusals.specs.declared.refusal.Refusal.TheVariants.{DuplicateRule
 use Rattle.pc_transcript.specs.declared.machine.Reply.TheVariants.{Refused}
 use Rattle.pc_spreadsheet.specs.declared.page.AskProof.{AskProof}
 use Rattle.pc_spreadsheet.specs.Refused.{of_rule_ask, too_large_asked}
-use Rattle.pc_spreadsheet.specs.Tasks.{State, shows, ask_page, IsDenial, IsNewDenial, IsLight, IsTaskOf, inquiring}
+use Rattle.pc_spreadsheet.specs.Tasks.{State, shows, ask_page, IsDenialRule, IsNewDenial, IsLight, IsTaskOf, inquiring}
 use Rattle.pc_spreadsheet.specs.Pages.{ProvesAsked, IsAnsweredIn, by_support}
 use Rattle.pc_spreadsheet.specs.Allowed.{Notes, to_answer}
 use Rattle.pc_spreadsheet.specs.Commands.{Told, state_of, Obeys, judged, ask_spent}
@@ -73,7 +73,7 @@ denied_nesting s n same within =
     let is : nesting_of (negation s) ≡ 1 + parentheses 5 s + nesting_of s = refl in
     omega (arith, is, one, same, within)
 
-pub denial_found : (sheet : Sheet) (f : written.Formula) (s : Statement) (n : ℕ) → IsStatement sheet.universe [] f s × IsWellSorted sheet.universe [] s → nesting_of s ≡ n → n ≤ 126 → length sheet.rules < 1024 → IsDenial sheet f s
+pub denial_found : (sheet : Sheet) (f : written.Formula) (s : Statement) (n : ℕ) → IsStatement sheet.universe [] f s × IsWellSorted sheet.universe [] s → nesting_of s ≡ n → n ≤ 126 → length sheet.rules < 1024 → IsDenialRule sheet f s
 denial_found sheet f s n told same within room = record {
   name = refl;
   states = is_negation [] f s told.0;
@@ -99,8 +99,8 @@ pub no_room_denied : (sheet : Sheet) (f : written.Formula) (s : Statement) → I
 no_room_denied sheet f s told many = inr ((negation s, is_negation [] f s told.0, told.1), inl ((λ room. absurd (omega (arith, room, many))), refl))
 
 -- what the making of the rule answers
-pub denied_told : (sheet : Sheet) (f : written.Formula) (s : Statement) (r : Result Rule SortFault) → IsDenial sheet f s → IfOk r (λ rule. rule_of rule ≡ denial s) → IfErr r (λ e. e ≡ sort_fault.Memory)
-    → MatchResult r (λ rule. (t : Statement) × (rule_of rule ≡ denial t) × IsDenial sheet f t) (IsFaultOf (IsRuleFault sheet (not f) no_test))
+pub denied_told : (sheet : Sheet) (f : written.Formula) (s : Statement) (r : Result Rule SortFault) → IsDenialRule sheet f s → IfOk r (λ rule. rule_of rule ≡ denial s) → IfErr r (λ e. e ≡ sort_fault.Memory)
+    → MatchResult r (λ rule. (t : Statement) × (rule_of rule ≡ denial t) × IsDenialRule sheet f t) (IsFaultOf (IsRuleFault sheet (not f) no_test))
 denied_told sheet f s (Ok rule) is same want = (s, same, is)
 denied_told sheet f s (Err e) is same want = subst (IsFaultOf (IsRuleFault sheet (not f) no_test)) (sym want) tt
 
@@ -109,7 +109,7 @@ denied_told sheet f s (Err e) is same want = subst (IsFaultOf (IsRuleFault sheet
 abbrev pair_of : State → Notes → State × Notes
 pair_of state notes = (state, notes)
 
-pub name_taken : (s : SessionView) (n : Notes) (f : written.Formula) (st : Statement) (place : ℕ) → IsDenial s.sheet f st → IsRuleAt s.sheet.rules ask_name place → Obeys (state_of s, n) (asks_ask f) (Refused DuplicateRule None) (state_of s, n)
+pub name_taken : (s : SessionView) (n : Notes) (f : written.Formula) (st : Statement) (place : ℕ) → IsDenialRule s.sheet f st → IsRuleAt s.sheet.rules ask_name place → Obeys (state_of s, n) (asks_ask f) (Refused DuplicateRule None) (state_of s, n)
 name_taken s n f st place is at = judged (of_rule_ask st is (λ new. not_new s.sheet.rules ask_name place (denial st) at new)) refl refl
 
 page_task : (sheet : Sheet) (f : written.Formula) (st : Statement) (made : Sheet) → IsNewDenial sheet f st → IsLight (asked sheet st) → made ≡ asked sheet st → IsTaskOf sheet (asks_ask f) (shows (ask_page made))
@@ -178,16 +178,16 @@ answered_text sheet f p c proves against =
 named_ask : (r : Rule) (st : Statement) → rule_of r ≡ denial st → r.name ≡ ask_name
 named_ask r st same = ap (λ (q : NamedStatement). q.name) same
 
-pub name_taken_in : (s : SessionView) (n : Notes) (book : Sheet) (f : written.Formula) (st : Statement) (r : Rule) (rules : List NamedStatement) (place : ℕ) → book ≡ s.sheet → rules ≡ book.rules → rule_of r ≡ denial st → IsDenial book f st → IsRuleAt rules r.name place
+pub name_taken_in : (s : SessionView) (n : Notes) (book : Sheet) (f : written.Formula) (st : Statement) (r : Rule) (rules : List NamedStatement) (place : ℕ) → book ≡ s.sheet → rules ≡ book.rules → rule_of r ≡ denial st → IsDenialRule book f st → IsRuleAt rules r.name place
     → Obeys (state_of s, n) (asks_ask f) (Refused DuplicateRule None) (state_of s, n)
 name_taken_in s n book f st r rules place made are same is at =
     let here : IsRuleAt book.rules ask_name place = subst (λ name. IsRuleAt book.rules name place) (named_ask r st same) (subst (λ rs. IsRuleAt rs r.name place) are at) in
-    name_taken s n f st place (subst (λ (b : Sheet). IsDenial b f st) made is) (subst (λ (b : Sheet). IsRuleAt b.rules ask_name place) made here)
+    name_taken s n f st place (subst (λ (b : Sheet). IsDenialRule b f st) made is) (subst (λ (b : Sheet). IsRuleAt b.rules ask_name place) made here)
 
-pub new_in : (sheet book : Sheet) (f : written.Formula) (st : Statement) (r : Rule) (rules : List NamedStatement) → book ≡ sheet → rules ≡ book.rules → rule_of r ≡ denial st → IsDenial book f st → IsNewName rules r.name → IsNewDenial sheet f st
+pub new_in : (sheet book : Sheet) (f : written.Formula) (st : Statement) (r : Rule) (rules : List NamedStatement) → book ≡ sheet → rules ≡ book.rules → rule_of r ≡ denial st → IsDenialRule book f st → IsNewName rules r.name → IsNewDenial sheet f st
 new_in sheet book f st r rules made are same is new =
     let here : IsNewName book.rules ask_name = subst (λ name. IsNewName book.rules name) (named_ask r st same) (subst (λ rs. IsNewName rs r.name) are new) in
-    (subst (λ (b : Sheet). IsDenial b f st) made is, subst (λ (b : Sheet). IsNewName b.rules ask_name) made here)
+    (subst (λ (b : Sheet). IsDenialRule b f st) made is, subst (λ (b : Sheet). IsNewName b.rules ask_name) made here)
 
 pub question_formed : (sheet : Sheet) (f : written.Formula) (st : Statement) (r : Rule) → IsWellFormed sheet → rule_of r ≡ denial st → IsNewDenial sheet f st → IsWellFormed (with_rule sheet (rule_of r))
 question_formed sheet f st r formed same new = subst (λ q. IsWellFormed (with_rule sheet q)) (sym same) (formed_with sheet ask_name (not f) (denial st) formed new)

@@ -7,7 +7,7 @@ use Rattle.pc_logic.specs.Edits.{added_to, entered_to, without_one, cleared, is_
 use Rattle.pc_logic.proofs.BookLemmas.{with_entries}
 use Rattle.pc_logic.proofs.EditLemmas.{rules_stay}
 use Rattle.pc_logic.proofs.EntryLemmas.{entries_stay, entries_beside, entries_kept}
-use Rattle.pc_reading_laws.proofs.Entries.{entry_of}
+use Rattle.pc_reading_laws.proofs.Entries.{is_an_entry}
 use Rattle.pc_transcript.specs.Answer.{silent, accepted, shown, refused, no_memory}
 use Rattle.pc_sortcheck.specs.Laws.{SheetsAreWellFormed}
 use Rattle.pc_spreadsheet.specs.Tasks.{State, Task, entering, entering_beside, clearing, removing, adding, dropping, budgeting, asking, showing, showing_grid, showing_json, dumping, listing, proving, doubting, inquiring, IsTaskOf, IsEdit, state_after}
@@ -27,9 +27,9 @@ same_pair_formed old new formed same = subst (λ (s : State × Notes). IsWellFor
 module _ (ordered : CellsAreNumberedInOrder) where
   edit_keeps : (state : State) (asked : Asked) (task : Task) → IsWellFormed state.sheet → IsTaskOf state.sheet asked task → IsEdit task → IsWellFormed (state_after state task).sheet
   edit_keeps state asked task formed (entering {c = c} {v = v} e named) edit =
-      with_entries state.sheet (entered_to state.sheet.entries e) formed (entries_stay state.sheet.universe state.sheet.entries e formed.entries (entry_of state.sheet.universe ordered c v named.sort e named.cell named.value))
+      with_entries state.sheet (entered_to state.sheet.entries e) formed (entries_stay state.sheet.universe state.sheet.entries e formed.entries (is_an_entry state.sheet.universe ordered c v named.sort e named.cell named.value))
   edit_keeps state asked task formed (entering_beside {c = c} {v = v} e named room) edit =
-      with_entries state.sheet (added_to state.sheet.entries e) formed (entries_beside state.sheet.universe state.sheet.entries e formed.entries (entry_of state.sheet.universe ordered c v named.sort e named.cell named.value) room)
+      with_entries state.sheet (added_to state.sheet.entries e) formed (entries_beside state.sheet.universe state.sheet.entries e formed.entries (is_an_entry state.sheet.universe ordered c v named.sort e named.cell named.value) room)
   edit_keeps state asked task formed (removing e named stands) edit = with_entries state.sheet (without_one e state.sheet.entries) formed (entries_kept state.sheet.universe (λ f. not (is_same_entry e f)) state.sheet.entries formed.entries)
   edit_keeps state asked task formed (clearing k named has) edit = with_entries state.sheet (cleared state.sheet.entries k) formed (entries_kept state.sheet.universe (λ e. not (is_of_cell k e)) state.sheet.entries formed.entries)
   edit_keeps state asked task formed (adding {n = n} {f = f} r new light consistent) edit = formed_with state.sheet n f r formed new

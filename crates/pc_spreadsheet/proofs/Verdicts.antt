@@ -28,7 +28,7 @@ use Rattle.pc_load.specs.Refusals.{IsSortRefusal}
 use Rattle.pc_load.proofs.OneRefusal.{one_refusal, some_is}
 use Rattle.pc_spreadsheet.specs.Judgement.{Verdict, nothing, does, refuses, contradicts, IsVerdictOn}
 use Rattle.pc_spreadsheet.specs.Refused.{IsAskedFault, IsRefusalOf, by_fault, without_entry, without_that, of_old_name, of_no_rule, too_large, too_many_sets, too_many_for, of_rule_ask, too_large_asked, MakesContradiction, contradicting, IsRefused, for_utf8, for_depth, for_syntax, for_asked}
-use Rattle.pc_spreadsheet.specs.Tasks.{State, IsLight, Task, enters, enters_beside, clears, removes, adds, drops, shows, why_page, whynot_page, ask_page, HasEntryOf, IsRuleOf, IsDenial, IsTaskOf, entering, entering_beside, clearing, removing, adding, dropping, budgeting, asking, showing, showing_grid, showing_json, dumping, listing, proving, doubting, inquiring}
+use Rattle.pc_spreadsheet.specs.Tasks.{State, IsLight, Task, enters, enters_beside, clears, removes, adds, drops, shows, why_page, whynot_page, ask_page, HasEntryOf, IsRuleOf, IsDenialRule, IsTaskOf, entering, entering_beside, clearing, removing, adding, dropping, budgeting, asking, showing, showing_grid, showing_json, dumping, listing, proving, doubting, inquiring}
 use Rattle.pc_spreadsheet.specs.Tasks as tasks
 use Rattle.pc_spreadsheet.proofs.Places.{not_new, one_place}
 use Rattle.pc_spreadsheet.specs.Laws.{LinesHaveOneVerdict}
@@ -134,7 +134,7 @@ module _ (sheet : Sheet) (one : HaveOneOutcome sheet.universe) (formed : IsWellF
   rule_of_never : (n : List ℕ) (f : Formula) (r : NamedStatement) → IsRuleOf sheet n f r → (e : SortFault) → ¬ IsRuleFault sheet f no_test e
   rule_of_never n f r is e = rule_never f (r.states, is.states, is.formed.sorted) is.room e
 
-  denied_is : (f : Formula) (s t : Statement) → IsDenial sheet f s → IsDenial sheet f t → s ≡ t
+  denied_is : (f : Formula) (s t : Statement) → IsDenialRule sheet f s → IsDenialRule sheet f t → s ≡ t
   denied_is f s t first second = same_denied s t (ap (λ (r : NamedStatement). r.states) (statement_is ask_name (not f) (denial s) (denial t) first second))
 
   light_or_heavy : (n : List ℕ) (f : Formula) (r q : NamedStatement) → IsRuleOf sheet n f r → IsRuleOf sheet n f q → 4000000 < weight (with_rule sheet r) → ¬ IsLight (with_rule sheet q)

@@ -22,7 +22,7 @@ use Rattle.pc_session.specs.RuleNames.{IsNewName}
 use Rattle.pc_refusals.specs.declared.refusal.Refusal.{Refusal}
 use Rattle.pc_refusals.specs.declared.refusal.Refusal.TheVariants.{NotUtf8, Syntax, TooManySets, TooLarge, NoEntry, DuplicateRule, NoRule, TooDeep}
 use Rattle.pc_load.specs.Refusals.{IsSortRefusal}
-use Rattle.pc_spreadsheet.specs.Tasks.{State, IsLight, HasEntryOf, IsRuleOf, IsNewRule, IsDenial, IsNewDenial, IsBudget}
+use Rattle.pc_spreadsheet.specs.Tasks.{State, IsLight, HasEntryOf, IsRuleOf, IsNewRule, IsDenialRule, IsNewDenial, IsBudget}
 
 -- ---- commands
 
@@ -51,7 +51,7 @@ pub data IsRefusalOf (sheet : Sheet) : Asked → Refusal → Type 0 where
   too_large : {n : List ℕ} {f : Formula} (r : NamedStatement) → IsNewRule sheet n f r → most_weight < weight (with_rule sheet r) → IsRefusalOf sheet (asks_rule n f) TooLarge
   too_many_sets : HasManySets sheet → IsRefusalOf sheet asks_prove_repairs TooManySets
   too_many_for : {c : Cell} {v : Value} (e : Entry) → IsEntryNamed sheet.universe c v e → HasManySets sheet → IsRefusalOf sheet (asks_whynot c v) TooManySets
-  of_rule_ask : {f : Formula} (s : Statement) → IsDenial sheet f s → ¬ IsNewName sheet.rules ask_name → IsRefusalOf sheet (asks_ask f) DuplicateRule
+  of_rule_ask : {f : Formula} (s : Statement) → IsDenialRule sheet f s → ¬ IsNewName sheet.rules ask_name → IsRefusalOf sheet (asks_ask f) DuplicateRule
   too_large_asked : {f : Formula} (s : Statement) → IsNewDenial sheet f s → most_weight < weight (asked sheet s) → IsRefusalOf sheet (asks_ask f) TooLarge
 
 -- The command asks to add this rule, with which the sheet isn't too large and no assignment makes every rule true.

@@ -77,8 +77,8 @@ abbrev pub IsNewRule : Sheet → List ℕ → Formula → NamedStatement → Typ
 IsNewRule sheet n f r = IsRuleOf sheet n f r × IsNewName sheet.rules n
 
 -- the rule `ask : !F` stands for this statement's denial, is well formed, and there is room for it
-abbrev pub IsDenial : Sheet → Formula → Statement → Type 0
-IsDenial sheet f s = IsRuleOf sheet ask_name (not f) (denial s)
+abbrev pub IsDenialRule : Sheet → Formula → Statement → Type 0
+IsDenialRule sheet f s = IsRuleOf sheet ask_name (not f) (denial s)
 
 -- ... and no rule has that name yet
 abbrev pub IsNewDenial : Sheet → Formula → Statement → Type 0

@@ -16,7 +16,7 @@ ghost use Rattle.pc_sortcheck.specs.DeclarationFaults.{IsRuleFault};
 ghost use Rattle.pc_syntax.specs.Command.{most_asked_nesting};
 ghost use Rattle.pc_syntax.specs.Tree.{asks_ask, formula_of};
 ghost use Rattle.pc_spreadsheet.specs.Commands.{Obeys, state_of};
-ghost use Rattle.pc_spreadsheet.specs.Tasks.{IsDenial};
+ghost use Rattle.pc_spreadsheet.specs.Tasks.{IsDenialRule};
 ghost use Rattle.pc_spreadsheet.specs.inside.Asking.{Answers, Certified};
 
 use crate::edits::place_of;
@@ -54,7 +54,7 @@ fn deny(alloc: Global, formula: Formula) -> Result<Rule, SortFault>
 fn denying(alloc: Global, book: &Book, tree: &FormulaTree) -> Result<Rule, SortFault>
     requires sized { IsSized (formula_of tree.now) }
     requires nested { written.nesting_of (formula_of tree.now) ≤ most_asked_nesting }
-    ensures { MatchResult result (λ rule. (s : Statement) × (rule_of rule ≡ denial s) × IsDenial book.now (formula_of tree.now) s) (IsFaultOf (IsRuleFault book.now (not (formula_of tree.now)) no_test)) }
+    ensures { MatchResult result (λ rule. (s : Statement) × (rule_of rule ≡ denial s) × IsDenialRule book.now (formula_of tree.now) s) (IsFaultOf (IsRuleFault book.now (not (formula_of tree.now)) no_test)) }
 {
     let formula = match check_formula(alloc, book, tree) {
         Ok(formula) => formula,

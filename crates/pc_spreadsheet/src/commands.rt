@@ -24,7 +24,7 @@ use pc_transcript::{MOST_BUDGET, Reply};
 use std::alloc::{AllocError, Global};
 
 // Asks why the cell has the value, or why it hasn't.
-fn explain(book: &Book, cell: &CellTree, value: &ValueTree, holds: bool) -> Told
+fn answer_why(book: &Book, cell: &CellTree, value: &ValueTree, holds: bool) -> Told
     ensures { Explains book.now (asks_why (cell_of cell.now) (value_of value.now) holds) result }
 {
     match find_entry(book, cell, value) {
@@ -79,7 +79,7 @@ pub(crate) fn obey(
         Command::ClearOne(cell, value) => remove(alloc, session, cell, value, notes),
         Command::AddRule(rule) => add_rule(alloc, session, rule, notes),
         Command::DropRule(name) => drop_rule(alloc, session, name, notes),
-        Command::Why { cell, value, holds } => explain(session.book(), cell, value, *holds),
+        Command::Why { cell, value, holds } => answer_why(session.book(), cell, value, *holds),
         Command::Budget(number) => set_budget(session, *number),
         Command::Grid => Reply::Shown(Page::Grid),
         Command::Json => show_json(alloc, session),

@@ -66,7 +66,7 @@ fn write_line<O: Sink>(text: &String, out: &mut O) -> Result<(), Failed>
 }
 
 // Writes why the target is implied, or that it isn't.
-fn explain<O: Sink>(session: &Session, target: Target, out: &mut O) -> Result<(), Failed>
+fn show_why<O: Sink>(session: &Session, target: Target, out: &mut O) -> Result<(), Failed>
     requires { IsTargetIn session.now.sheet.universe target }
     ensures { (text : List ℕ) × IsWhy session.now.sheet target text × Writes O.given O.faults out.old out.new result text }
 {
@@ -158,7 +158,7 @@ pub(crate) fn write_page<O: Sink>(session: &Session, page: &Page, out: &mut O) -
         Page::Grid => write_table(session, out),
         Page::Json(text) => write_line(text, out),
         Page::SheetText => write_sheet(session.book(), out),
-        Page::Why(target) => explain(session, *target, out),
+        Page::Why(target) => show_why(session, *target, out),
         Page::Listed(text) => write_text(text.as_slice(), out),
         Page::Proof(proof) => write_repairs(session, proof, out),
         Page::Implied(_) => write_text(b"implied\n", out),

@@ -4,7 +4,7 @@ use Rattle.pc_sheet.specs.Sheet.{Sheet}
 use Rattle.pc_sortcheck.specs.Declaring.{ReadsAs}
 use Rattle.pc_collab.specs.Journal.{Post}
 use Rattle.pc_collab.specs.Reading.{IsTextOf, LineFault, bad_line, gap, out_of_order}
-use Rattle.pc_collab.specs.ReadBack.{ReadsBack}
+use Rattle.pc_collab.specs.ReadBack.{JournalsReadBack}
 use Rattle.pc_collab.specs.Merge.{IsMerge, DifferFirstAt}
 use Rattle.pc_collab.specs.Text.{journal_text}
 use Rattle.pc_collab.proofs.Whole.{one_in_journal}
@@ -115,7 +115,7 @@ MergeAt file events (ends_with line status) = Merges file events line status
 MergeAt file events (ends status) = ⊥
 MergeAt file events stage = Unit {0}
 
-module _ (back : ReadsBack) (file text : List ℕ) (a : List Post) (reads : IsTextOf text a) where
+module _ (back : JournalsReadBack) (file text : List ℕ) (a : List Post) (reads : IsTextOf text a) where
   -- from the input's text on
   same_events : (input : List ℕ) (more events : List Event) → more ≡ [] → events ≡ took_rest input ∷ more → gave file text ∷ events ≡ gave file text ∷ took_rest input ∷ []
   same_events input more events none is = ap (λ es. gave file text ∷ es) (is ∙ ap (λ es. took_rest input ∷ es) none)
@@ -138,7 +138,7 @@ module _ (back : ReadsBack) (file text : List ℕ) (a : List Post) (reads : IsTe
       without_both text input refl (ap (λ es. gave file text ∷ es) is) (fault_told from_input fault line) (λ x y merged read_x read_y merge. back.sound input y line fault read_y first)
   journal_at events stage notes (journal.has_journal input b more small other h is) = input_at input b more events stage other is (both_at a b more stage notes h)
 
-module _ (back : ReadsBack) where
+module _ (back : JournalsReadBack) where
   text_at : (file text : List ℕ) (events : List Event) (stage : Stage) (notes : Unit {0}) → MergeText text events stage notes → MergeAt file (gave file text ∷ events) stage
   text_at file text events stage notes (journal.needs_memory_for_text is) = tt
   text_at file text events stage notes (journal.text_is_refused line fault first is) = without_first text refl (ap (λ es. gave file text ∷ es) is) (fault_told from_file fault line) (λ a reads. back.sound text a line fault reads first)

@@ -6,7 +6,7 @@ use Rattle.pc_port.specs.Shelf.{file_named}
 use Rattle.pc_lines.specs.Lines.{lines_of, line_text_of}
 use Rattle.pc_sheet.specs.Sheet.{Sheet, NamedStatement, with_rule}
 use Rattle.pc_collab.specs.Reading.{IsTextOf}
-use Rattle.pc_collab.specs.ReadBack.{ReadsBack}
+use Rattle.pc_collab.specs.ReadBack.{JournalsReadBack}
 use Rattle.pc_accept.specs.Laws.{CertificatesAreSound}
 use Rattle.pc_writer.specs.SheetText.{ended}
 use Rattle.pc_display.specs.Show.{IsShown}
@@ -650,7 +650,7 @@ module _ (sums : EventsAddUp) (formed : SheetsAreWellFormed) (sound : Certificat
 
 -- ---- merges
 
-module _ (sums : EventsAddUp) (back : ReadsBack) where
+module _ (sums : EventsAddUp) (back : JournalsReadBack) where
   module _ (run : page.Run) (file : List ℕ) (budget : ℕ) (g : GoesIn run (merges file) budget) where
     record Ended : Type 0 where
       before : List Event

@@ -5,7 +5,7 @@ use Rattle.std.specs.Fmt.{decimal}
 use Rattle.std.proofs.lemmas.Fmt.{decimal_digit}
 use Rattle.pc_lemmas.proofs.Elements.{contains_none}
 use Rattle.pc_port.specs.Shelf.{Files}
-use Rattle.pc_collab.specs.Journal.{Post, IsOneLine, IsPost, AreNumbered, IsJournal}
+use Rattle.pc_collab.specs.Journal.{Post, IsOneLine, IsPost, AreNumberedByAuthor, IsJournal}
 use Rattle.pc_collab.proofs.Numbered.{numbered_push}
 use Rattle.pc_collab.specs.Text.{journal_text}
 use Rattle.pc_refusals.specs.declared.status.Status.TheVariants.{Done}
@@ -36,7 +36,7 @@ short_text = refl
 is_post : IsPost the_post
 is_post = record { author = (omega arith, omega arith); number = (omega arith, omega arith); stamp = (omega arith, omega arith); short = omega (arith, short_text); one_line = is_one_line }
 
-no_numbers : AreNumbered []
+no_numbers : AreNumberedByAuthor []
 no_numbers author = refl
 
 one_long : length (the_post ∷ []) ≡ 1

@@ -24,13 +24,13 @@ RefutesByEach falses (hint ∷ next ∷ hints) =
 
 -- The hints refute every list of literals that has the marked ones and, beside the literals of `base`, only such as are
 -- false by the entries before `place`.
-pub record IsRefuted (entries : List TrailEntry) (base : List Lit) (place : ℕ) (marks : List Bool) (hints : List (List Lit)) : Type 0 where
+pub record AreRefuting (entries : List TrailEntry) (base : List Lit) (place : ℕ) (marks : List Bool) (hints : List (List Lit)) : Type 0 where
   pub below : (k : ℕ) → IsMarked marks k → k < place
   pub refutes : (lits : List Lit) → Covers entries marks lits → AreFalse negated lits base → ((m : Lit) → Contains lits m → Contains (falses (take place entries)) m ⊎ Contains base m) → RefutesByEach lits hints
 
 -- each literal that became false at a marked place stands in one of the hints' clauses
-abbrev pub AreAsked : List TrailEntry → List Bool → List (List Lit) → Type 0
-AreAsked entries marks hints = (k : ℕ) (m : Lit) → IsMarked marks k → IsFalseAt entries k m → IsInOne hints m
+abbrev pub AreAskedByMarks : List TrailEntry → List Bool → List (List Lit) → Type 0
+AreAskedByMarks entries marks hints = (k : ℕ) (m : Lit) → IsMarked marks k → IsFalseAt entries k m → IsInOne hints m
 
 -- the literals' variables are those of entries at `place` or later
 abbrev pub AreLater : List TrailEntry → ℕ → List Lit → Type 0
@@ -42,7 +42,7 @@ abbrev pub IsOfDecision : List TrailEntry → ℕ → Lit → Type 0
 IsOfDecision entries end m = (k : ℕ) × (k < end) × IsFalseAt entries k m × ((d : TrailEntry) → IsNone (slice_index_or entries k d).reason)
 
 -- the marked places are those before `from` that have a way to the false clause by entries at `from` or later
-pub record AreMet (axioms more : List (List Lit)) (entries : List TrailEntry) (conflict : List Lit) (from : ℕ) (marks : List Bool) : Type 0 where
+pub record AreLeading (axioms more : List (List Lit)) (entries : List TrailEntry) (conflict : List Lit) (from : ℕ) (marks : List Bool) : Type 0 where
   pub leads : (k : ℕ) → IsMarked marks k → (k < from) × Leads axioms more entries conflict from k
   pub marked : (k : ℕ) → k < from → Leads axioms more entries conflict from k → IsMarked marks k
 

@@ -18,7 +18,7 @@ pub returns-in-Json : goal.returns-in-Json
 returns-in-Json c = rw c.in-Json.is (shown_json c.args.session.now c.args.notes.now c.show_json.result c.show_json.ensures)
 
 pub returns-in-Why : goal.returns-in-Why
-returns-in-Why c = rw c.in-Why.is (explained_in c.args.session.now c.args.notes.now c.book.result.now (cell_of c.in-Why.cell) (value_of c.in-Why.value) c.in-Why.holds c.explain.result c.book.ensures c.explain.ensures)
+returns-in-Why c = rw c.in-Why.is (explained_in c.args.session.now c.args.notes.now c.book.result.now (cell_of c.in-Why.cell) (value_of c.in-Why.value) c.in-Why.holds c.answer_why.result c.book.ensures c.answer_why.ensures)
 
 pub returns-in-Repairs : goal.returns-in-Repairs
 returns-in-Repairs c = rw c.in-Repairs.is (repairs_listed c.args.session.now c.args.notes.now c.list_repairs.result c.list_repairs.ensures)

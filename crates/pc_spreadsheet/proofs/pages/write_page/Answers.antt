@@ -4,7 +4,7 @@ use Rattle.pc_spreadsheet.specs.Pages.{implied, by_none}
 use Rattle.pc_spreadsheet.proofs.pages.write_page.Goals as goal
 
 pub returns-in-Why : goal.returns-in-Why
-returns-in-Why g c = rw c.in-Why.is c.explain.ensures
+returns-in-Why g c = rw c.in-Why.is c.show_why.ensures
 
 pub returns-in-Proof : goal.returns-in-Proof
 returns-in-Proof g c = rw c.in-Proof.is c.write_repairs.ensures

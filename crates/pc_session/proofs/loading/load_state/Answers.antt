@@ -1,6 +1,6 @@
 use Rattle.std.proofs.Common.{refl}
 use Rattle.pc_session.proofs.LoadedBook.{is_loaded}
-use Rattle.pc_session.proofs.loading.load_book.Goals as goal
+use Rattle.pc_session.proofs.loading.load_state.Goals as goal
 
 pub returns-in_ok-chosen-in-Ok-clause-loaded : goal.returns-in_ok-chosen-in-Ok-clause-loaded
 returns-in_ok-chosen-in-Ok-clause-loaded c =

@@ -5,7 +5,7 @@ use Rattle.pc_spreadsheet.specs.Tasks.{asking}
 use Rattle.pc_spreadsheet.specs.Commands.{by_page}
 use Rattle.pc_spreadsheet.proofs.Ample.{entry_ample}
 use Rattle.pc_spreadsheet.proofs.Telling.{not_explained}
-use Rattle.pc_spreadsheet.proofs.commands.explain.Goals as goal
+use Rattle.pc_spreadsheet.proofs.commands.answer_why.Goals as goal
 
 pub returns-in-Ok : goal.returns-in-Ok
 returns-in-Ok c =

@@ -1,6 +1,6 @@
 use Rattle.std.proofs.Common.{refl}
 use Rattle.pc_spreadsheet.specs.Pages.{certified, not_implied}
-use Rattle.pc_spreadsheet.proofs.pages.explain.Goals as goal
+use Rattle.pc_spreadsheet.proofs.pages.show_why.Goals as goal
 
 pub returns-in-None : goal.returns-in-None
 returns-in-None g c = (_, not_implied c.in-None.ensures.right refl, c.write_text.ensures)
