@@ -5,7 +5,7 @@ use Rattle.std.proofs.lemmas.List.{append-nil, append_cancel_left, length_push}
 use Rattle.std.proofs.lemmas.List.Elements.{recursion_from_All}
 use Rattle.pc_lines.specs.Lines.{before_end, HasNoEnd, IsWholeLine}
 use Rattle.pc_lines.proofs.Ends.{before_end-feed, before_end-none}
-use Rattle.pc_refusals.specs.declared.TheConstants.{SHEET_LIMIT}
+use Rattle.pc_lines.specs.declared.TheConstants.{SHEET_LIMIT}
 use Rattle.pc_transcript.specs.SheetPart.{IsBeginLine, IsEarlier, joined_lines, EndsSheet}
 use Rattle.pc_complete_laws.specs.Inputs.{InputsHaveOneSheetPart}
 

@@ -5,12 +5,13 @@ use Rattle.std.specs.Io.KnownBytes.{Consumes, Appends, IsAtEnd}
 use Rattle.std.proofs.lemmas.List.Concat.{flat_map-append}
 use Rattle.pc_port.specs.Port.{Rose}
 use Rattle.pc_port.specs.declared.TheConstants.{CHUNK}
-use Rattle.pc_refusals.specs.declared.TheConstants.{SHEET_LIMIT}
+use Rattle.pc_lines.specs.declared.TheConstants.{SHEET_LIMIT}
 use Rattle.pc_refusals.specs.declared.status.Status.{Status}
 use Rattle.pc_refusals.specs.declared.status.Status.TheVariants.{ReadFault, WriteFault, Memory}
 use Rattle.pc_refusals.specs.declared.refusal.SheetRefusal.{SheetRefusal}
 use Rattle.pc_refusals.specs.Endings.{Printing, printed, too_long_text, sheet_memory_text, IsPrinted}
-use Rattle.pc_refusals.specs.Files.{AsksOnce, TakesFile, LacksMemoryForFile, HasLongFile}
+use Rattle.pc_lines.specs.Files.{AsksOnce, TakesFile}
+use Rattle.pc_refusals.specs.Files.{LacksMemoryForFile, HasLongFile}
 use Rattle.pc_course.specs.Events.{Outside, Event, took, took_rest, gave, told, input_failed, shelf_failed, output_failed, Does, Happened}
 use Rattle.pc_course.specs.Stages.{Intake, sheet_file, Stage, takes, tells, ends, ends_with, CanBegin, PassesLimit}
 use Rattle.pc_course.specs.Runs.{HasTook, last_or, IsOutput, IsSpare, nothing, ahead, Tells, goes_on, ends_so, Comes, on_course, past_limit, without_memory, Run, ended, ended_with, read_failed, read_failed_at_file, write_failed, Ran}

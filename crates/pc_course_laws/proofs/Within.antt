@@ -5,7 +5,7 @@ use Rattle.std.proofs.lemmas.List.{length_push, append_cancel_left}
 use Rattle.std.proofs.lemmas.List.Elements.{All-weaker, recursion_from_All}
 use Rattle.pc_lines.specs.Lines.{before_end, IsWholeLine, IsLongStart}
 use Rattle.pc_lines.proofs.Ends.{before_end-none, before_end-feed}
-use Rattle.pc_refusals.specs.declared.TheConstants.{SHEET_LIMIT}
+use Rattle.pc_lines.specs.declared.TheConstants.{SHEET_LIMIT}
 use Rattle.pc_refusals.specs.declared.status.Status.TheVariants.{TooLong}
 use Rattle.pc_refusals.specs.declared.refusal.SheetRefusal.{SheetRefusal}
 use Rattle.pc_course.specs.Events.{Event, took, took_rest, gave}

@@ -3,13 +3,14 @@
 use Rattle.std.specs.Prelude.{◌≡◌, ℕ, ◌≤◌, List, [], ◌++◌, length}
 use Rattle.std.specs.declared.option.Option.{Option}
 use Rattle.pc_port.specs.Port.{Rose}
-use Rattle.pc_refusals.specs.declared.TheConstants.{SHEET_LIMIT}
+use Rattle.pc_lines.specs.declared.TheConstants.{SHEET_LIMIT}
 use Rattle.pc_refusals.specs.declared.refusal.SheetRefusal.{SheetRefusal}
 use Rattle.pc_refusals.specs.declared.status.Status.{Status}
 use Rattle.pc_refusals.specs.declared.status.Status.TheVariants.{SheetRefused, ReadFault, WriteFault, Memory, TooLong}
 use Rattle.pc_refusals.specs.Refusals.{sheet_refusal_text}
 use Rattle.pc_refusals.specs.Endings.{Printing, printed, IsPrinted}
-use Rattle.pc_refusals.specs.Files.{AsksOnce, TakesFile, LacksFile, LacksMemoryForFile, HasLongFile}
+use Rattle.pc_lines.specs.Files.{AsksOnce, TakesFile}
+use Rattle.pc_refusals.specs.Files.{LacksFile, LacksMemoryForFile, HasLongFile}
 use Rattle.pc_transcript.specs.Answer.{Answer}
 use Rattle.pc_course_laws.specs.Moments.{Moment}
 use Rattle.pc_course_laws.specs.Answered.{AnswersAll, AnswersTaken, StopsAtLimit, AnswersSome}

@@ -3,10 +3,10 @@ use Rattle.std.proofs.Common.{◌≡◌, ◌≢◌, ℕ, List, [], ◌∷◌, �
 use Rattle.std.proofs.lemmas.List.{append-nil}
 use Rattle.pc_port.specs.Port.{Rose}
 use Rattle.pc_port.specs.Shelf.{Files, file_named}
-use Rattle.pc_refusals.specs.declared.TheConstants.{SHEET_LIMIT}
+use Rattle.pc_lines.specs.declared.TheConstants.{SHEET_LIMIT}
 use Rattle.pc_refusals.specs.declared.status.Status.{Status}
 use Rattle.pc_refusals.specs.declared.status.Status.TheVariants.{ReadFault, WriteFault, Memory, TooLong}
-use Rattle.pc_refusals.specs.Files.{TakesFile, TakesLongFile}
+use Rattle.pc_lines.specs.Files.{TakesFile, TakesLongFile}
 use Rattle.pc_refusals.specs.Endings.{too_long_text, TellsAtEnd}
 use Rattle.pc_course.specs.Events.{Outside, Event, gave, shelf_failed, Does, Happened, Streams, streams, around, outside}
 use Rattle.pc_course.specs.Stages.{Stage, sheet_file, ends_with}

@@ -7,7 +7,7 @@ use Rattle.pc_collab.specs.Reading.{IsTextOf, LineFault, IsFirstFaultOfJournal}
 use Rattle.pc_collab.specs.Merge.{IsMerge, DifferFirstAt}
 use Rattle.pc_collab.specs.Text.{journal_text}
 use Rattle.pc_lines.specs.Lines.{line_text_of}
-use Rattle.pc_refusals.specs.declared.TheConstants.{SHEET_LIMIT}
+use Rattle.pc_lines.specs.declared.TheConstants.{SHEET_LIMIT}
 use Rattle.pc_refusals.specs.declared.refusal.SheetRefusal.{SheetRefusal}
 use Rattle.pc_refusals.specs.declared.status.Status.TheVariants.{Done, SheetRefused}
 use Rattle.pc_refusals.specs.Refusals.{sheet_refusal_text}

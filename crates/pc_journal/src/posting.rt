@@ -2,7 +2,7 @@
 ghost use Rattle.std.specs.Prelude.{◌≡◌, ◌≢◌, ◌≤◌, ℕ, List, Option, length};
 ghost use Rattle.pc_port.specs.Port.{Rose};
 ghost use Rattle.pc_collab.specs.Journal.{IsJournal};
-ghost use Rattle.pc_refusals.specs.Files.{AsksOnce, FailsToRead};
+ghost use Rattle.pc_lines.specs.Files.{AsksOnce, FailsToRead};
 ghost use Rattle.pc_course.specs.Events.{outside, streams};
 ghost use Rattle.pc_course.specs.Runs.{Ran};
 ghost use Rattle.pc_journal.specs.Course.{AnswersPosts, FromInput, PostText, Posts};
@@ -10,10 +10,9 @@ ghost use Rattle.pc_journal.specs.inside.Did.{Did};
 
 use crate::taking::{take_journal, tell_stop};
 use pc_collab::Journal;
+use pc_lines::{SHEET_LIMIT, SheetStop, take_file};
 use pc_port::{Failed, Shelf, Sink, Source};
-use pc_refusals::{
-    SHEET_LIMIT, SheetStop, Status, take_file, tell_no_memory_for_sheet, tell_too_long,
-};
+use pc_refusals::{Status, tell_no_memory_for_sheet, tell_too_long};
 use pc_transcript::{Answering, Machine, Resources, tell_stop as tell_load_stop};
 use std::alloc::Global;
 

@@ -3,3 +3,4 @@ pub mod First
 pub mod Held
 pub mod SameLines
 pub mod TextLines
+pub mod Contents

@@ -7,8 +7,9 @@ ghost use Rattle.pc_sortcheck.specs.Declaring.{ReadsAs};
 
 use crate::law::texts_have_one_outcome;
 use crate::refusal::{refuse_sort, refuse_text};
+use pc_lines::SHEET_LIMIT;
 use pc_logic::Book;
-use pc_refusals::{LoadFault, SHEET_LIMIT};
+use pc_refusals::LoadFault;
 use pc_sortcheck::check_sheet;
 use pc_syntax::parse_sheet;
 use std::alloc::Global;

@@ -1,21 +1,16 @@
-//! Why sheets and commands are refused, how a run ends, and how both are told; a sheet's text from a file, and all of an input.
+//! Why sheets and commands are refused, how a run ends, and how both are told; and all of an input.
 //!
 //! They stand apart from the loop of a run, since a certificate's check and the generated sheet's run tell the same.
 #![tactic(auto)]
 
-mod file;
 mod input;
 mod refusal;
 mod status;
 mod tell;
 
-pub use file::{SheetStop, take_file};
 pub use input::{InputStop, take_all};
 pub use refusal::{
     COMMAND_REFUSED, Counts, LoadFault, Refusal, SHEET_REFUSED, SheetRefusal, write_refusal,
 };
 pub use status::Status;
 pub use tell::{end_with, refuse, tell_no_memory, tell_no_memory_for_sheet, tell_too_long};
-
-/// The most bytes of a sheet, its `begin` line with that line's end included.
-pub const SHEET_LIMIT: usize = 4_194_304;

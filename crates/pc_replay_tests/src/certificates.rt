@@ -1,6 +1,7 @@
 // Certificates that are cut, and the longest files that are read before one.
 use crate::sheets::{ends_so, run_with};
-use pc_refusals::{SHEET_LIMIT, Status};
+use pc_lines::SHEET_LIMIT;
+use pc_refusals::Status;
 use std::alloc::{AllocError, Global};
 use std::test::Fail;
 

@@ -2,8 +2,9 @@
 // source is read again. The machine of these tests counts.
 ghost use Rattle.std.specs.Prelude.{◌<◌, ◌≢◌, length, slice_index, None};
 
+use pc_lines::SHEET_LIMIT;
 use pc_port::{Failed, MemoryShelf, MemorySink, MemorySource, Sink, Source};
-use pc_refusals::{Counts, Refusal, SHEET_LIMIT, SheetRefusal, Status};
+use pc_refusals::{Counts, Refusal, SheetRefusal, Status};
 use pc_sheet::Limited;
 use pc_transcript::{
     LINE_LIMIT, LoadStop, MAX_LINES, MOST_BUDGET, Machine, Reply, Resources, edit, replay,

@@ -8,7 +8,7 @@ use Rattle.pc_cert.specs.declared.TheConstants.{CERT_LIMIT}
 use Rattle.pc_refusals.specs.declared.status.Status.{Status}
 use Rattle.pc_refusals.specs.declared.status.Status.TheVariants.{ReadFault, WriteFault}
 use Rattle.pc_refusals.specs.Endings.{Printing, printed}
-use Rattle.pc_refusals.specs.Files.{AsksOnce, TakesFile}
+use Rattle.pc_lines.specs.Files.{AsksOnce, TakesFile}
 use Rattle.pc_course.specs.Events.{Outside, Event, took, took_rest, gave, told, input_failed, shelf_failed, output_failed, Does, Happened}
 use Rattle.pc_course.specs.Stages.{Intake, rest_within, sheet_file, takes, tells, ends_with, CanBegin, PassesLimit}
 use Rattle.pc_course.specs.Runs.{HasTook, last_or, IsOutput, EndsTelling, IsSpare, nothing, ahead, goes_on, ends_so, Comes, on_course, past_limit, without_memory, Run, ended, ended_with, read_failed, read_failed_at_file, write_failed, Ran}

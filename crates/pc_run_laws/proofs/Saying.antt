@@ -9,7 +9,7 @@ use Rattle.pc_collab.specs.Reading.{IsTextOf}
 use Rattle.pc_collab.specs.Merge.{IsMerge}
 use Rattle.pc_collab.specs.Text.{journal_text}
 use Rattle.pc_words.specs.Words.{Mode, replays, edits, checks, merges, posts, demonstrates}
-use Rattle.pc_refusals.specs.declared.TheConstants.{SHEET_LIMIT}
+use Rattle.pc_lines.specs.declared.TheConstants.{SHEET_LIMIT}
 use Rattle.pc_refusals.specs.declared.refusal.SheetRefusal.{SheetRefusal}
 use Rattle.pc_refusals.specs.declared.status.Status.{Status}
 use Rattle.pc_refusals.specs.declared.status.Status.TheVariants.{Done, SheetRefused}

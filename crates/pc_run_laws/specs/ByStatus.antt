@@ -5,7 +5,7 @@ use Rattle.pc_sheet.specs.Sheet.{Sheet}
 use Rattle.pc_sortcheck.specs.Declaring.{ReadsAs}
 use Rattle.pc_cert.specs.declared.TheConstants.{CERT_LIMIT}
 use Rattle.pc_words.specs.Words.{Mode, checks, merges, posts, Request, FitsWords, FitNothing}
-use Rattle.pc_refusals.specs.declared.TheConstants.{SHEET_LIMIT}
+use Rattle.pc_lines.specs.declared.TheConstants.{SHEET_LIMIT}
 use Rattle.pc_refusals.specs.declared.status.Status.{Status}
 use Rattle.pc_refusals.specs.declared.status.Status.TheVariants.{Usage, WriteFault, Memory, CertRefused}
 use Rattle.pc_refusals.specs.Endings.{memory_text, sheet_memory_text}

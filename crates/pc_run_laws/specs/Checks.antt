@@ -10,13 +10,14 @@ use Rattle.pc_sheet.specs.Sheet.{Sheet}
 use Rattle.pc_sortcheck.specs.Declaring.{ReadsAs}
 use Rattle.pc_load.specs.Outcome.{HasFault}
 use Rattle.pc_cert.specs.declared.TheConstants.{CERT_LIMIT}
-use Rattle.pc_refusals.specs.declared.TheConstants.{SHEET_LIMIT}
+use Rattle.pc_lines.specs.declared.TheConstants.{SHEET_LIMIT}
 use Rattle.pc_refusals.specs.declared.refusal.SheetRefusal.{SheetRefusal}
 use Rattle.pc_refusals.specs.declared.status.Status.{Status}
 use Rattle.pc_refusals.specs.declared.status.Status.TheVariants.{SheetRefused, ReadFault, WriteFault, Memory, TooLong}
 use Rattle.pc_refusals.specs.Refusals.{sheet_refusal_text}
 use Rattle.pc_refusals.specs.Endings.{Printing, printed, too_long_text, memory_text, IsPrinted}
-use Rattle.pc_refusals.specs.Files.{AsksOnce, TakesFile, LacksFile, LacksMemoryForFile, HasLongFile}
+use Rattle.pc_lines.specs.Files.{AsksOnce, TakesFile}
+use Rattle.pc_refusals.specs.Files.{LacksFile, LacksMemoryForFile, HasLongFile}
 use Rattle.pc_refusals.specs.Inputs.{TakesAll, TakesSome, InputPassesLimit}
 use Rattle.pc_course.specs.Events.{Outside}
 use Rattle.pc_judge.specs.declared.told.Told.{Told}

@@ -14,7 +14,7 @@ use Rattle.pc_gen.specs.Text.{generated_text}
 use Rattle.pc_lines.specs.Lines.{lines_of}
 use Rattle.pc_load.specs.Outcome.{HasFault}
 use Rattle.pc_words.specs.Words.{Mode, replays, edits, checks, merges, posts, demonstrates, Request, FitsWords}
-use Rattle.pc_refusals.specs.declared.TheConstants.{SHEET_LIMIT}
+use Rattle.pc_lines.specs.declared.TheConstants.{SHEET_LIMIT}
 use Rattle.pc_refusals.specs.declared.refusal.SheetRefusal.{SheetRefusal}
 use Rattle.pc_refusals.specs.declared.status.Status.{Status}
 use Rattle.pc_refusals.specs.declared.status.Status.TheVariants.{Done, SomeRefused, SheetRefused, ReadFault, WriteFault, TooLong}

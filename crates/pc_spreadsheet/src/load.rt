@@ -8,10 +8,11 @@ ghost use Rattle.pc_transcript.specs.declared.machine.LoadStop.TheVariants.{Refu
 
 use crate::spending::counts_of;
 use crate::spreadsheet::Spreadsheet;
+use pc_lines::SHEET_LIMIT;
 use pc_load::load_book;
 use pc_logic::Book;
 use pc_reason::Refutation;
-use pc_refusals::{LoadFault, Refusal, SHEET_LIMIT, SheetRefusal};
+use pc_refusals::{LoadFault, Refusal, SheetRefusal};
 use pc_session::{LoadRefused, Session, Spending, Spendings};
 use pc_transcript::{LoadStop, MOST_BUDGET};
 use std::alloc::{AllocError, Global};

@@ -4,7 +4,7 @@ use Rattle.std.specs.Io.KnownBytes.{Consumes, prepend_known}
 use Rattle.std.proofs.lemmas.List.{append-nil}
 use Rattle.pc_port.specs.Port.{Rose}
 use Rattle.pc_port.specs.declared.TheConstants.{CHUNK}
-use Rattle.pc_refusals.specs.declared.TheConstants.{SHEET_LIMIT}
+use Rattle.pc_lines.specs.declared.TheConstants.{SHEET_LIMIT}
 use Rattle.pc_refusals.specs.declared.status.Status.{Status}
 use Rattle.pc_refusals.specs.declared.status.Status.TheVariants.{SheetRefused, ReadFault, WriteFault, Memory, TooLong}
 use Rattle.pc_refusals.specs.declared.refusal.SheetRefusal.{SheetRefusal}

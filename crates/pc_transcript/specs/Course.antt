@@ -2,7 +2,7 @@
 use Rattle.std.specs.Prelude.{◌≡◌, ℕ, ◌<◌, ◌≤◌, ◌⊎◌, List, [], ◌∷◌, ◌++◌, length, All}
 use Rattle.std.specs.List.{flat_map}
 use Rattle.pc_lines.specs.Lines.{HasNoEnd, IsWholeLine, IsOpenLine, lines_of, line_text_of}
-use Rattle.pc_refusals.specs.declared.TheConstants.{SHEET_LIMIT}
+use Rattle.pc_lines.specs.declared.TheConstants.{SHEET_LIMIT}
 use Rattle.pc_refusals.specs.declared.refusal.SheetRefusal.{SheetRefusal}
 use Rattle.pc_refusals.specs.declared.status.Status.TheVariants.{SheetRefused}
 use Rattle.pc_refusals.specs.Refusals.{sheet_refusal_text}

@@ -1,7 +1,7 @@
 // The sheet of a file and commands on it, from the file's name to the status.
 ghost use Rattle.std.specs.Prelude.{◌≡◌, ◌≢◌};
 ghost use Rattle.pc_port.specs.Port.{Rose};
-ghost use Rattle.pc_refusals.specs.Files.{AsksOnce, FailsToRead};
+ghost use Rattle.pc_lines.specs.Files.{AsksOnce, FailsToRead};
 ghost use Rattle.pc_port.specs.declared.TheConstants.{CHUNK};
 ghost use Rattle.pc_course.specs.Events.{outside, streams};
 ghost use Rattle.pc_course.specs.Runs.{Ran};
@@ -11,9 +11,9 @@ use crate::LINE_LIMIT;
 use crate::machine::Machine;
 use crate::resources::Resources;
 use crate::run::open;
-use pc_lines::LineReader;
+use pc_lines::{LineReader, SheetStop, take_file};
 use pc_port::{Shelf, Sink, Source};
-use pc_refusals::{SheetStop, Status, take_file, tell_no_memory_for_sheet, tell_too_long};
+use pc_refusals::{Status, tell_no_memory_for_sheet, tell_too_long};
 
 /// Runs the commands on the input, on the sheet in the shelf's file of that name.
 ///

@@ -14,9 +14,9 @@ use crate::machine::Machine;
 use crate::resources::Resources;
 use crate::sheet::take_sheet;
 use crate::showing::tell_stop;
-use pc_lines::LineReader;
+use pc_lines::{LineReader, SHEET_LIMIT, SheetStop};
 use pc_port::{Sink, Source};
-use pc_refusals::{SHEET_LIMIT, SheetStop, Status, tell_no_memory_for_sheet, tell_too_long};
+use pc_refusals::{Status, tell_no_memory_for_sheet, tell_too_long};
 
 /// Reads the sheet, and then answers each command line that is still to come.
 pub(crate) fn open<M: Machine, I: Source, O: Sink>(

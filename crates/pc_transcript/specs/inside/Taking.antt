@@ -4,9 +4,9 @@ use Rattle.std.specs.declared.alloc.Global.{Global}
 use Rattle.std.specs.declared.option.Option.{Option}
 use Rattle.std.specs.Io.KnownBytes.{Consumes}
 use Rattle.pc_lines.specs.Lines.{HasNoEnd}
-use Rattle.pc_refusals.specs.declared.TheConstants.{SHEET_LIMIT}
-use Rattle.pc_refusals.specs.declared.file.SheetStop.{SheetStop}
-use Rattle.pc_refusals.specs.declared.file.SheetStop.TheVariants.{Failed, TooLong, Memory}
+use Rattle.pc_lines.specs.declared.TheConstants.{SHEET_LIMIT}
+use Rattle.pc_lines.specs.declared.file.SheetStop.{SheetStop}
+use Rattle.pc_lines.specs.declared.file.SheetStop.TheVariants.{Failed, TooLong, Memory}
 use Rattle.pc_transcript.specs.declared.sheet.Step.{Step}
 use Rattle.pc_transcript.specs.declared.sheet.Step.TheVariants.{More, Complete}
 use Rattle.pc_transcript.specs.SheetPart.{IsEarlier, joined_lines, EndsSheet}

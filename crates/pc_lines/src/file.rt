@@ -1,7 +1,7 @@
 //! A sheet's text from a file of a shelf.
 ghost use Rattle.std.specs.Prelude.{◌≡◌, ◌≢◌};
 ghost use Rattle.pc_port.specs.Port.{Rose};
-ghost use Rattle.pc_refusals.specs.Files.{AsksOnce, FileGives};
+ghost use Rattle.pc_lines.specs.Files.{AsksOnce, FileGives};
 
 use crate::SHEET_LIMIT;
 use pc_port::{Shelf, ShelfFault};
@@ -19,7 +19,7 @@ pub enum SheetStop {
 }
 
 impl From<AllocError> for SheetStop {
-    ghost use Rattle.pc_refusals.specs.declared.file.SheetStop.TheVariants.{Memory};
+    ghost use Rattle.pc_lines.specs.declared.file.SheetStop.TheVariants.{Memory};
 
     ghost from_gives = { λ _ stop. stop ≡ Memory };
 

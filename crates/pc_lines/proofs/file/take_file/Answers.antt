@@ -1,7 +1,7 @@
 use Rattle.std.proofs.Common.{◌<◌, ◌≤◌, length, arith}
-use Rattle.pc_refusals.specs.declared.TheConstants.{SHEET_LIMIT}
-use Rattle.pc_refusals.proofs.Contents.{small_file, long_file}
-use Rattle.pc_refusals.proofs.file.take_file.Goals as goal
+use Rattle.pc_lines.specs.declared.TheConstants.{SHEET_LIMIT}
+use Rattle.pc_lines.proofs.Contents.{small_file, long_file}
+use Rattle.pc_lines.proofs.file.take_file.Goals as goal
 
 pub returns-in-Ok-clause-gives : goal.returns-in-Ok-clause-gives
 returns-in-Ok-clause-gives g c =

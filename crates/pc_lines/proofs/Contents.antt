@@ -6,8 +6,8 @@ use Rattle.pc_port.specs.Shelf.{Files, file_named, readable, GivesFile, asked_af
 use Rattle.pc_port.specs.declared.shelf.ShelfFault.{ShelfFault}
 use Rattle.pc_port.specs.declared.shelf.ShelfFault.TheVariants.{Failed, Memory}
 use Rattle.pc_port.specs.declared.shelf.TheConstants.{READ_LIMIT}
-use Rattle.pc_refusals.specs.declared.TheConstants.{SHEET_LIMIT}
-use Rattle.pc_refusals.specs.Files.{AsksOnce, TakesLongFile}
+use Rattle.pc_lines.specs.declared.TheConstants.{SHEET_LIMIT}
+use Rattle.pc_lines.specs.Files.{AsksOnce, TakesLongFile}
 
 some_is : (xs ys : List ℕ) → Some xs ≡ Some ys → xs ≡ ys
 some_is xs ys same = cc same
