@@ -145,11 +145,11 @@ answer_formed sheet a f formed (to_answer {f = tree} s new light) = formed_with 
 
 pub calls_spend : CallsSpendTooLittle
 calls_spend sheet budget formed some = record {
-  load = λ s cause. too_little sheet formed None budget some s cause.1;
-  enter = λ e s is cause. too_little (entered sheet e) (formed_entered sheet e formed is) (Some e.cell) budget some s cause;
-  also = λ e s is place cause. too_little (also_entered sheet e) (formed_also sheet e formed is place) (Some e.cell) budget some s cause;
-  clear = λ c s cause. too_little (without_cell sheet c) (formed_cleared sheet c formed) (Some c) budget some s cause;
-  clear_one = λ e s cause. too_little (without_entry sheet e) (formed_without sheet e formed) (Some e.cell) budget some s cause;
-  add_rule = λ r s is few cause. too_little (with_rule sheet r) (formed_with_rule sheet r formed is few cause.0) None budget some s cause.2;
-  drop_rule = λ name s cause. (cause.0, cause.1, too_little (without_rule sheet cause.0) (formed_dropped sheet name cause.0 formed cause.1) None budget some s cause.2);
+  load = λ book s cause. too_little sheet formed None budget some s cause.2;
+  enter = λ e book s is cause. too_little (entered sheet e) (formed_entered sheet e formed is) (Some e.cell) budget some s cause.1;
+  also = λ e book s is place cause. too_little (also_entered sheet e) (formed_also sheet e formed is place) (Some e.cell) budget some s cause.1;
+  clear = λ c book s cause. too_little (without_cell sheet c) (formed_cleared sheet c formed) (Some c) budget some s cause.1;
+  clear_one = λ e book s cause. too_little (without_entry sheet e) (formed_without sheet e formed) (Some e.cell) budget some s cause.1;
+  add_rule = λ r book s is few cause. too_little (with_rule sheet r) (formed_with_rule sheet r formed is few cause.0) None budget some s cause.3;
+  drop_rule = λ name book s cause. (cause.0, cause.1, too_little (without_rule sheet cause.0) (formed_dropped sheet name cause.0 formed cause.1) None budget some s cause.3);
 }

@@ -43,13 +43,13 @@ IsEnoughToAsk sheet f budget = (entries : ℕ) × (sets : ℕ) × AreReadSizes s
 
 -- A load of the sheet, and each edit of it, answers that its budget is spent only where that is too little for the sheet that it would make.
 pub record SpendsTooLittle (sheet : Sheet) (budget : ℕ) : Type 0 where
-  pub load : (s : Spending) → IsLoadCause sheet budget (load_refused.Spent s) → IsTooLittle sheet None budget
-  pub enter : (e : Entry) (s : Spending) → IsEntryOf sheet.universe e → IsEntryCause (entered sheet e) e.cell budget (edit_refused.Spent s) → IsTooLittle (entered sheet e) (Some e.cell) budget
-  pub also : (e : Entry) (s : Spending) → IsEntryOf sheet.universe e → HasPlaceFor sheet.entries e → IsEntryCause (also_entered sheet e) e.cell budget (edit_refused.Spent s) → IsTooLittle (also_entered sheet e) (Some e.cell) budget
-  pub clear : (c : CellId) (s : Spending) → IsRemovalCause (is_of_cell c) sheet.entries (without_cell sheet c) c budget (edit_refused.Spent s) → IsTooLittle (without_cell sheet c) (Some c) budget
-  pub clear_one : (e : Entry) (s : Spending) → IsRemovalCause (is_same_entry e) sheet.entries (without_entry sheet e) e.cell budget (edit_refused.Spent s) → IsTooLittle (without_entry sheet e) (Some e.cell) budget
-  pub add_rule : (r : NamedStatement) (s : Spending) → IsWellFormedRule sheet.universe r → length sheet.rules < most_rules → IsAddCause sheet r budget (edit_refused.Spent s) → IsTooLittle (with_rule sheet r) None budget
-  pub drop_rule : (name : List ℕ) (s : Spending) → IsDropCause sheet name budget (edit_refused.Spent s) → (k : ℕ) × IsRuleAt sheet.rules name k × IsTooLittle (without_rule sheet k) None budget
+  pub load : (book : Sheet) (s : Spending) → IsLoadCause sheet budget (load_refused.Spent book s) → IsTooLittle sheet None budget
+  pub enter : (e : Entry) (book : Sheet) (s : Spending) → IsEntryOf sheet.universe e → IsEntryCause (entered sheet e) e.cell budget (edit_refused.Spent book s) → IsTooLittle (entered sheet e) (Some e.cell) budget
+  pub also : (e : Entry) (book : Sheet) (s : Spending) → IsEntryOf sheet.universe e → HasPlaceFor sheet.entries e → IsEntryCause (also_entered sheet e) e.cell budget (edit_refused.Spent book s) → IsTooLittle (also_entered sheet e) (Some e.cell) budget
+  pub clear : (c : CellId) (book : Sheet) (s : Spending) → IsRemovalCause (is_of_cell c) sheet.entries (without_cell sheet c) c budget (edit_refused.Spent book s) → IsTooLittle (without_cell sheet c) (Some c) budget
+  pub clear_one : (e : Entry) (book : Sheet) (s : Spending) → IsRemovalCause (is_same_entry e) sheet.entries (without_entry sheet e) e.cell budget (edit_refused.Spent book s) → IsTooLittle (without_entry sheet e) (Some e.cell) budget
+  pub add_rule : (r : NamedStatement) (book : Sheet) (s : Spending) → IsWellFormedRule sheet.universe r → length sheet.rules < most_rules → IsAddCause sheet r budget (edit_refused.Spent book s) → IsTooLittle (with_rule sheet r) None budget
+  pub drop_rule : (name : List ℕ) (book : Sheet) (s : Spending) → IsDropCause sheet name budget (edit_refused.Spent book s) → (k : ℕ) × IsRuleAt sheet.rules name k × IsTooLittle (without_rule sheet k) None budget
 
 -- so it is of each well-formed sheet
 abbrev pub CallsSpendTooLittle : Type 0

@@ -80,10 +80,10 @@ module _ (sheet new : Sheet) (theory : TheoryView) (c : CellId) (gone : Entry �
 
 -- ---- causes of refusals
 
-pub entry_refused : (sheet : Sheet) (c : CellId) (limit : ℕ) (ended : Stop) (tally : Tally) (s : Spending) (refused : EditRefused) → IsStopTold ended s refused → StopSays tally ended
+pub entry_refused : (sheet : Sheet) (c : CellId) (limit : ℕ) (ended : Stop) (tally : Tally) (book : Sheet) (s : Spending) (refused : EditRefused) → IsStopTold ended book s refused → StopSays tally ended → book ≡ sheet
     → (tally.placed ≡ tally.limit → IsLawful sheet (Some c) limit s) → IsEntryCause sheet c limit refused
-entry_refused sheet c limit stop.Spent tally s refused told says law = subst (IsEntryCause sheet c limit) (sym told) (law says)
-entry_refused sheet c limit stop.Memory tally s refused told says law = subst (IsEntryCause sheet c limit) (sym told) tt
+entry_refused sheet c limit stop.Spent tally book s refused told says is law = subst (IsEntryCause sheet c limit) (sym told) (is, law says)
+entry_refused sheet c limit stop.Memory tally book s refused told says is law = subst (IsEntryCause sheet c limit) (sym told) tt
 
 -- a refusal of the edit that takes entries away is one of taking them away
 pub removal_refused : (gone : Entry → Bool) (es : List Entry) (sheet : Sheet) (c : CellId) (limit : ℕ) (refused : EditRefused) → IsEntryCause sheet c limit refused → IsRemovalCause gone es sheet c limit refused
@@ -92,5 +92,5 @@ removal_refused gone es sheet c limit edit.DuplicateRule h = h
 removal_refused gone es sheet c limit edit.NoRule h = h
 removal_refused gone es sheet c limit edit.TooLarge h = h
 removal_refused gone es sheet c limit (edit.Inconsistent refutation) h = h
-removal_refused gone es sheet c limit (edit.Spent spending) h = h
+removal_refused gone es sheet c limit (edit.Spent book spending) h = h
 removal_refused gone es sheet c limit edit.Memory h = h

@@ -72,7 +72,7 @@ still_consistent sheet k (a, assigns, fits) =
 pub same_cause : (sheet : Sheet) (budget : ℕ) (loaded : LoadRefused) (refused : EditRefused) → IsSameRefusal loaded refused → IsLoadCause sheet budget loaded → IsRuleCause sheet budget refused
 same_cause sheet budget load.TooLarge refused same cause = subst (IsRuleCause sheet budget) (sym same) cause
 same_cause sheet budget (load.Inconsistent refutation) refused same cause = subst (IsRuleCause sheet budget) (sym same) cause
-same_cause sheet budget (load.Spent spending) refused same cause = subst (IsRuleCause sheet budget) (sym same) cause
+same_cause sheet budget (load.Spent book spending) refused same cause = subst (IsRuleCause sheet budget) (sym same) cause
 same_cause sheet budget load.Memory refused same cause = subst (IsRuleCause sheet budget) (sym same) tt
 
 pub add_cause : (sheet : Sheet) (rule : NamedStatement) (budget : ℕ) (refused : EditRefused) → IsNewName sheet.rules rule.name → IsRuleCause (with_rule sheet rule) budget refused → IsAddCause sheet rule budget refused
@@ -81,7 +81,7 @@ add_cause sheet rule budget edit.DuplicateRule new cause = absurd cause
 add_cause sheet rule budget edit.NoRule new cause = cause
 add_cause sheet rule budget edit.TooLarge new cause = (new, cause)
 add_cause sheet rule budget (edit.Inconsistent refutation) new cause = (new, cause.0, cause.1, cause.2)
-add_cause sheet rule budget (edit.Spent spending) new cause = (new, cause.0, cause.1)
+add_cause sheet rule budget (edit.Spent book spending) new cause = (new, cause.0, cause.1, cause.2)
 add_cause sheet rule budget edit.Memory new cause = tt
 
 pub drop_cause : (sheet : Sheet) (name : List ℕ) (budget : ℕ) (k : ℕ) (refused : EditRefused) → IsRuleAt sheet.rules name k → weight sheet ≤ 4000000 → AreRulesConsistent sheet → IsRuleCause (without_rule sheet k) budget refused
@@ -91,7 +91,7 @@ drop_cause sheet name budget k edit.DuplicateRule at light consistent cause = ca
 drop_cause sheet name budget k edit.NoRule at light consistent cause = absurd cause
 drop_cause sheet name budget k edit.TooLarge at light consistent cause = omega (arith, light, cause, less_weight sheet k at.0)
 drop_cause sheet name budget k (edit.Inconsistent refutation) at light consistent cause = cause.2 (still_consistent sheet k consistent)
-drop_cause sheet name budget k (edit.Spent spending) at light consistent cause = (k, at, cause.1)
+drop_cause sheet name budget k (edit.Spent book spending) at light consistent cause = (k, at, cause.1, cause.2)
 drop_cause sheet name budget k edit.Memory at light consistent cause = tt
 
 pub same_new : (rules named : List NamedStatement) (text name : List ℕ) → rules ≡ named → text ≡ name → IsNewName rules text → IsNewName named name

@@ -17,12 +17,12 @@ use Rattle.pc_session.specs.declared.refused.EditRefused.TheVariants as edit
 abbrev pub IsLoadCause : Sheet → ℕ → LoadRefused → Type 0
 IsLoadCause sheet budget load.TooLarge = most_weight < weight sheet
 IsLoadCause sheet budget (load.Inconsistent refutation) = (weight sheet ≤ most_weight) × (refutation ≡ sheet) × (¬ AreRulesConsistent sheet)
-IsLoadCause sheet budget (load.Spent spending) = (weight sheet ≤ most_weight) × IsLawful sheet None budget spending
+IsLoadCause sheet budget (load.Spent book spending) = (weight sheet ≤ most_weight) × (book ≡ sheet) × IsLawful sheet None budget spending
 IsLoadCause sheet budget load.Memory = Unit {0}
 
 -- of an edit of a cell's entry that would make this sheet; no other answer comes
 abbrev pub IsEntryCause : Sheet → CellId → ℕ → EditRefused → Type 0
-IsEntryCause sheet cell budget (edit.Spent spending) = IsLawful sheet (Some cell) budget spending
+IsEntryCause sheet cell budget (edit.Spent book spending) = (book ≡ sheet) × IsLawful sheet (Some cell) budget spending
 IsEntryCause sheet cell budget edit.Memory = Unit {0}
 IsEntryCause sheet cell budget edit.NoEntry = ⊥
 IsEntryCause sheet cell budget edit.DuplicateRule = ⊥
@@ -37,5 +37,5 @@ IsRemovalCause gone es made cell budget edit.DuplicateRule = ⊥
 IsRemovalCause gone es made cell budget edit.NoRule = ⊥
 IsRemovalCause gone es made cell budget edit.TooLarge = ⊥
 IsRemovalCause gone es made cell budget (edit.Inconsistent refutation) = ⊥
-IsRemovalCause gone es made cell budget (edit.Spent spending) = IsLawful made (Some cell) budget spending
+IsRemovalCause gone es made cell budget (edit.Spent book spending) = (book ≡ made) × IsLawful made (Some cell) budget spending
 IsRemovalCause gone es made cell budget edit.Memory = Unit {0}

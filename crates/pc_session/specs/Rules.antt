@@ -21,7 +21,7 @@ IsRuleCause sheet budget edit.DuplicateRule = ⊥
 IsRuleCause sheet budget edit.NoRule = ⊥
 IsRuleCause sheet budget edit.TooLarge = most_weight < weight sheet
 IsRuleCause sheet budget (edit.Inconsistent refutation) = (weight sheet ≤ most_weight) × (refutation ≡ sheet) × (¬ AreRulesConsistent sheet)
-IsRuleCause sheet budget (edit.Spent spending) = (weight sheet ≤ most_weight) × IsLawful sheet None budget spending
+IsRuleCause sheet budget (edit.Spent book spending) = (weight sheet ≤ most_weight) × (book ≡ sheet) × IsLawful sheet None budget spending
 IsRuleCause sheet budget edit.Memory = Unit {0}
 
 -- of a rule that would be added
@@ -32,7 +32,8 @@ IsAddCause sheet rule budget edit.NoRule = ⊥
 IsAddCause sheet rule budget edit.TooLarge = IsNewName sheet.rules rule.name × (most_weight < weight (with_rule sheet rule))
 IsAddCause sheet rule budget (edit.Inconsistent refutation) =
     IsNewName sheet.rules rule.name × (weight (with_rule sheet rule) ≤ most_weight) × (refutation ≡ with_rule sheet rule) × (¬ AreRulesConsistent (with_rule sheet rule))
-IsAddCause sheet rule budget (edit.Spent spending) = IsNewName sheet.rules rule.name × (weight (with_rule sheet rule) ≤ most_weight) × IsLawful (with_rule sheet rule) None budget spending
+IsAddCause sheet rule budget (edit.Spent book spending) =
+    IsNewName sheet.rules rule.name × (weight (with_rule sheet rule) ≤ most_weight) × (book ≡ with_rule sheet rule) × IsLawful (with_rule sheet rule) None budget spending
 IsAddCause sheet rule budget edit.Memory = Unit {0}
 
 -- of dropping the rule of that name: none stands, or its removal spends too much
@@ -42,5 +43,5 @@ IsDropCause sheet name budget edit.DuplicateRule = ⊥
 IsDropCause sheet name budget edit.NoRule = IsNewName sheet.rules name
 IsDropCause sheet name budget edit.TooLarge = ⊥
 IsDropCause sheet name budget (edit.Inconsistent refutation) = ⊥
-IsDropCause sheet name budget (edit.Spent spending) = (k : ℕ) × IsRuleAt sheet.rules name k × IsLawful (without_rule sheet k) None budget spending
+IsDropCause sheet name budget (edit.Spent book spending) = (k : ℕ) × IsRuleAt sheet.rules name k × (book ≡ without_rule sheet k) × IsLawful (without_rule sheet k) None budget spending
 IsDropCause sheet name budget edit.Memory = Unit {0}

@@ -65,7 +65,7 @@ fn make_edit(
             patch,
             spending,
         }),
-        Err(stop) => Err(refused_by(stop, spending)),
+        Err(stop) => Err(refused_by(stop, made, spending)),
     }
 }
 

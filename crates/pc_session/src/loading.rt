@@ -56,7 +56,7 @@ pub(crate) fn load_state(alloc: Global, book: Book, budget: u64) -> Result<State
         Err(Fault::Inconsistent(Disproof { names, log, span })) => Err(LoadRefused::Inconsistent(
             Refutation::new(book, names, log, span),
         )),
-        Err(Fault::Spent(spending)) => Err(LoadRefused::Spent(spending)),
+        Err(Fault::Spent(spending)) => Err(LoadRefused::Spent(book, spending)),
         Err(Fault::Memory) => Err(LoadRefused::Memory),
     }
 }

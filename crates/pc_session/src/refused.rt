@@ -2,6 +2,7 @@
 ghost use Rattle.std.specs.Prelude.{◌≡◌};
 ghost use Rattle.pc_session.specs.inside.Refusals.{IsSameRefusal, IsStopTold};
 
+use pc_logic::Book;
 use pc_reason::Refutation;
 use pc_solver::Stop;
 use pc_theory::Spending;
@@ -14,8 +15,8 @@ pub enum LoadRefused {
     TooLarge,
     /// No assignment makes every rule true.
     Inconsistent(Refutation),
-    /// The budget ran out.
-    Spent(Spending),
+    /// The budget ran out: the book, and what its search has spent.
+    Spent(Book, Spending),
     /// Memory was wanting.
     Memory,
 }
@@ -33,8 +34,8 @@ pub enum EditRefused {
     TooLarge,
     /// No assignment makes every rule of the new book true.
     Inconsistent(Refutation),
-    /// The budget ran out.
-    Spent(Spending),
+    /// The budget ran out: the book that the edit would have made, and what its search has spent.
+    Spent(Book, Spending),
     /// Memory was wanting.
     Memory,
 }
@@ -66,17 +67,17 @@ pub(crate) fn refused_edit(refused: LoadRefused) -> EditRefused
     match refused {
         LoadRefused::TooLarge => EditRefused::TooLarge,
         LoadRefused::Inconsistent(refutation) => EditRefused::Inconsistent(refutation),
-        LoadRefused::Spent(spending) => EditRefused::Spent(spending),
+        LoadRefused::Spent(book, spending) => EditRefused::Spent(book, spending),
         LoadRefused::Memory => EditRefused::Memory,
     }
 }
 
-/// The refusal of an edit whose search ended early.
-pub(crate) fn refused_by(stop: Stop, spending: Spending) -> EditRefused
-    ensures { IsStopTold stop spending result }
+/// The refusal of an edit that would have made the book, and whose search ended early.
+pub(crate) fn refused_by(stop: Stop, made: Book, spending: Spending) -> EditRefused
+    ensures { IsStopTold stop made spending result }
 {
     match stop {
-        Stop::Spent => EditRefused::Spent(spending),
+        Stop::Spent => EditRefused::Spent(made, spending),
         Stop::Memory => EditRefused::Memory,
     }
 }

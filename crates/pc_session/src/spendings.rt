@@ -56,12 +56,12 @@ impl Spendings {
     /// memory it stays as it is.
     pub fn note(
         &mut self,
-        book: &Book,
+        book: Book,
         cell: Option<CellId>,
         spending: &Spending,
     ) -> Result<(), AllocError>
-        requires { IsLawful book.now cell spending.now.tally.limit spending.now }
-        ensures ok { OnOk result (self.new ≡ self.old ++ (record { sheet = book.now; cell = cell; tally = counts_of spending.now.tally }) ∷ []) }
+        requires { IsLawful book cell spending.now.tally.limit spending.now }
+        ensures ok { OnOk result (self.new ≡ self.old ++ (record { sheet = book; cell = cell; tally = counts_of spending.now.tally }) ∷ []) }
         ensures err { OnErr result (self.new ≡ self.old) }
     {
         self.add(book, cell, spending.tally)
@@ -75,15 +75,15 @@ impl Spendings {
         ensures err { OnErr result (self.new ≡ self.old) }
     {
         let _logs = logs;
+        let book = book.copy(self.alloc)?;
         self.add(book, None, tally)
     }
 
     // Adds a note as the last one.
-    fn add(&mut self, book: &Book, cell: Option<CellId>, tally: Tally) -> Result<(), AllocError>
-        ensures ok { OnOk result (self.new ≡ self.old ++ (record { sheet = book.now; cell = cell; tally = counts_of tally }) ∷ []) }
+    fn add(&mut self, book: Book, cell: Option<CellId>, tally: Tally) -> Result<(), AllocError>
+        ensures ok { OnOk result (self.new ≡ self.old ++ (record { sheet = book; cell = cell; tally = counts_of tally }) ∷ []) }
         ensures err { OnErr result (self.new ≡ self.old) }
     {
-        let book = book.copy(self.alloc)?;
         self.notes.push(Note { book, cell, tally })?;
         Ok(())
     }

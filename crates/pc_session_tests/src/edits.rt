@@ -53,7 +53,7 @@ pub fn load_told(alloc: Global, text: &str, budget: u64) -> Result<String, Alloc
         Ok(_) => String::from_str(alloc, "ok"),
         Err(LoadRefused::TooLarge) => String::from_str(alloc, "too large"),
         Err(LoadRefused::Inconsistent(_)) => String::from_str(alloc, "inconsistent"),
-        Err(LoadRefused::Spent(spending)) => spent_text(alloc, &spending.tally),
+        Err(LoadRefused::Spent(_, spending)) => spent_text(alloc, &spending.tally),
         Err(LoadRefused::Memory) => Err(AllocError),
     }
 }
@@ -80,7 +80,7 @@ fn refusal_text(alloc: Global, refused: &EditRefused) -> Result<String, AllocErr
         EditRefused::NoRule => String::from_str(alloc, "no rule"),
         EditRefused::TooLarge => String::from_str(alloc, "too large"),
         EditRefused::Inconsistent(_) => String::from_str(alloc, "inconsistent"),
-        EditRefused::Spent(spending) => spent_text(alloc, &spending.tally),
+        EditRefused::Spent(_, spending) => spent_text(alloc, &spending.tally),
         EditRefused::Memory => Err(AllocError),
     }
 }

@@ -25,7 +25,7 @@ use Rattle.pc_refusals.specs.declared.refusal.Refusal.TheVariants.{TooLarge, Inc
 use Rattle.pc_spreadsheet.specs.Refused.{IsRefusalOf, without_entry as lacks_entry, without_that, of_old_name, of_no_rule, too_large, contradicting}
 use Rattle.pc_spreadsheet.specs.Tasks.{State, IsLight, enters, enters_beside, clears, removes, adds, drops, IsRuleOf, IsNewRule, entering, entering_beside, clearing, removing, adding, dropping}
 use Rattle.pc_spreadsheet.specs.Allowed.{Notes, NeedsSearch, to_enter, to_enter_beside, to_clear, to_remove, to_add, to_drop}
-use Rattle.pc_spreadsheet.specs.Commands.{Told, state_of, parted, NotesSpent, noted, not_noted, MayWantMemory, Obeys, judged, contradicted, spent}
+use Rattle.pc_spreadsheet.specs.Commands.{Told, state_of, IsSpentLawfully, TellsRefused, NotesSpent, noted, not_noted, MayWantMemory, Obeys, judged, contradicted, spent}
 use Rattle.pc_spreadsheet.proofs.Places.{placed_or_new, has_or_lacks, lacks_none, stands_or_not, lacks_that}
 
 -- ---- states
@@ -43,18 +43,11 @@ IsAsBefore s s' = s' ≡ record s { bytes = s'.bytes }
 same_pair : (s s' : SessionView) (n : Notes) → IsAsBefore s s' → pair_of (state_of s') n ≡ pair_of (state_of s) n
 same_pair s s' n same = ap (λ (v : SessionView). pair_of (state_of v) n) same
 
-pub same_sheet : (s s' : SessionView) → IsAsBefore s s' → s'.sheet ≡ s.sheet
-same_sheet s s' same = ap (λ (v : SessionView). v.sheet) same
-
 -- the state after an edit of the sheet
 edited_pair : (s s' : SessionView) (n : Notes) (sheet : Sheet) → s'.sheet ≡ sheet → s'.budget ≡ s.budget → pair_of (state_of s') n ≡ pair_of (state_from sheet s.budget) n
 edited_pair s s' n sheet sheet_is budget_is = ap₂ (λ (t : Sheet) (b : ℕ). pair_of (state_from t b) n) sheet_is budget_is
 
 -- ---- what is spent
-
--- with the limit that the spending itself names
-pub by_limit : (sheet : Sheet) (cell : Option CellId) (budget : ℕ) (spending : Spending) → IsLawful sheet cell budget spending → IsLawful sheet cell spending.tally.limit spending
-by_limit sheet cell budget spending lawful = subst (λ (l : ℕ). IsLawful sheet cell l spending) (sym lawful.limited) lawful
 
 -- an edit that needs a search may want memory
 wants : (sheet : Sheet) {a : Asked} {cell : Option CellId} {made : Sheet} → NeedsSearch sheet a cell made → MayWantMemory sheet a
@@ -65,44 +58,27 @@ wants sheet (to_remove e named stands used) = (_, _, to_remove e named stands us
 wants sheet (to_add r new light) = tt
 wants sheet (to_drop place at) = (_, _, to_drop place at)
 
--- what was spent on the sheet that is made of the book after the refusal
-pub spent_so : (s s' : SessionView) (n : Notes) (a : Asked) (cell : Option CellId) (make : Sheet → Sheet) (spending : Spending) (book : Sheet) (n' : Notes) (reply : Told) → NeedsSearch s.sheet a cell (make s.sheet) → IsLawful (make s.sheet) cell s.budget spending → IsAsBefore s s' → book ≡ s'.sheet
-    → NotesSpent (make book) cell spending n n' reply → Obeys (pair_of (state_of s) n) a reply (pair_of (state_of s') n')
-spent_so s s' n a cell make spending book n' reply needs lawful same book_is notes =
-    by reply (subst (λ (b : Sheet). NotesSpent (make b) cell spending n n' reply) (book_is ∙ same_sheet s s' same) notes)
+-- what was spent on the sheet that the edit would have made
+spent_so : (s s' : SessionView) (n : Notes) (a : Asked) (cell : Option CellId) (made book : Sheet) (spending : Spending) (n' : Notes) (reply : Told) → NeedsSearch s.sheet a cell made → book ≡ made → IsLawful made cell s.budget spending → IsAsBefore s s'
+    → NotesSpent book cell spending n n' reply → Obeys (pair_of (state_of s) n) a reply (pair_of (state_of s') n')
+spent_so s s' n a cell made book spending n' reply needs is_made lawful same notes =
+    by reply (subst (λ (b : Sheet). NotesSpent b cell spending n n' reply) is_made notes)
   where
-    by : (told : Told) → NotesSpent (make s.sheet) cell spending n n' told → Obeys (pair_of (state_of s) n) a told (pair_of (state_of s') n')
+    by : (told : Told) → NotesSpent made cell spending n n' told → Obeys (pair_of (state_of s) n) a told (pair_of (state_of s') n')
     by told (noted counts is now_noted) =
-        spent counts record { cell = cell; made = make s.sheet; needs = needs; spent = record { spending = spending; lawful = lawful; counts_are = is; noted = now_noted } } refl refl (ap state_of same)
+        spent counts record { cell = cell; made = made; needs = needs; spent = record { spending = spending; lawful = lawful; counts_are = is; noted = now_noted } } refl refl (ap state_of same)
     by told (not_noted none) = (wants s.sheet needs, ap₂ pair_of (ap state_of same) none)
+
+-- with the limit that the spending itself names, on the book that is handed out
+pub lawful_on : (book sheet : Sheet) (cell : Option CellId) (budget : ℕ) (spending : Spending) → book ≡ sheet → IsLawful sheet cell budget spending → IsLawful book cell spending.tally.limit spending
+lawful_on book sheet cell budget spending is lawful = subst (λ (b : Sheet). IsLawful b cell spending.tally.limit spending) (sym is) (subst (λ (l : ℕ). IsLawful sheet cell l spending) (sym lawful.limited) lawful)
 
 -- ---- refused edits
 
-abbrev told_of : Told → Result Spending Told
-told_of told = Err told
-
-abbrev spent_of : Spending → Result Spending Told
-spent_of spending = Ok spending
-
-err_is : (x y : Told) → told_of x ≡ told_of y → x ≡ y
-err_is x y is = cc is
-
-spent_is : (x y : Spending) → spent_of x ≡ spent_of y → x ≡ y
-spent_is x y is = cc is
-
--- the refusal is what was spent
-pub of_spent : (refused : EditRefused) (spending : Spending) → parted refused ≡ Ok spending → refused ≡ edit.Spent spending
-of_spent (edit.Spent s) spending is = ap edit.Spent (spent_is s spending is)
-of_spent edit.NoEntry spending is = absurd (cc is)
-of_spent edit.DuplicateRule spending is = absurd (cc is)
-of_spent edit.NoRule spending is = absurd (cc is)
-of_spent edit.TooLarge spending is = absurd (cc is)
-of_spent (edit.Inconsistent sheet) spending is = absurd (cc is)
-of_spent edit.Memory spending is = absurd (cc is)
-
--- a refused edit is answered by the reply of its refusal
-answered_by : (old new : State × Notes) (a : Asked) (reply told : Told) → told_of reply ≡ told_of told → Obeys old a reply new → Obeys old a told new
-answered_by old new a reply told is does = subst (λ (r : Told). Obeys old a r new) (err_is reply told is) does
+-- a refused edit is answered by the reply of its refusal, and nothing is noted
+answered_by : (s s' : SessionView) (n n' : Notes) (a : Asked) (reply told : Told) → told ≡ reply → n' ≡ n → Obeys (pair_of (state_of s) n) a reply (pair_of (state_of s') n) → Obeys (pair_of (state_of s) n) a told (pair_of (state_of s') n')
+answered_by s s' n n' a reply told is none does =
+    subst (λ (r : Told). Obeys (pair_of (state_of s) n) a r (pair_of (state_of s') n')) (sym is) (subst (λ (m : Notes). Obeys (pair_of (state_of s) n) a reply (pair_of (state_of s') m)) (sym none) does)
 
 abbrev refused_by : EditRefused → Result (Unit {0}) EditRefused
 refused_by refused = Err refused
@@ -110,35 +86,50 @@ refused_by refused = Err refused
 refusal_is : (x y : EditRefused) → refused_by x ≡ refused_by y → x ≡ y
 refusal_is x y is = cc is
 
--- it isn't for want of an entry
-pub no_entry_spent : (refused : EditRefused) (spending : Spending) → refused ≡ edit.Spent spending → refused ≡ edit.NoEntry → ⊥
-no_entry_spent refused spending is none = absurd (cc (sym is ∙ none))
-
 module _ (s s' : SessionView) (n : Notes) where
   -- ---- edits of entries
 
   -- that add an entry
-  pub entry_told : (a : Asked) (made : Sheet) (cell : CellId) (refused : EditRefused) (told : Told) → parted refused ≡ Err told → NeedsSearch s.sheet a (Some cell) made → IsEntryCause made cell s.budget refused → IsAsBefore s s'
-      → Obeys (pair_of (state_of s) n) a told (pair_of (state_of s') n)
-  entry_told a made cell edit.Memory told is needs cause same = answered_by (pair_of (state_of s) n) (pair_of (state_of s') n) a Memory told is (wants s.sheet needs, same_pair s s' n same)
-  entry_told a made cell (edit.Spent spending) told is needs cause same = absurd (cc is)
-  entry_told a made cell edit.NoEntry told is needs cause same = absurd cause
-  entry_told a made cell edit.DuplicateRule told is needs cause same = absurd cause
-  entry_told a made cell edit.NoRule told is needs cause same = absurd cause
-  entry_told a made cell edit.TooLarge told is needs cause same = absurd cause
-  entry_told a made cell (edit.Inconsistent sheet) told is needs cause same = absurd cause
+  pub entry_told : (a : Asked) (made : Sheet) (cell : CellId) (refused : EditRefused) (n' : Notes) (told : Told) → TellsRefused refused (Some cell) n n' told → NeedsSearch s.sheet a (Some cell) made → IsEntryCause made cell s.budget refused → IsAsBefore s s'
+      → Obeys (pair_of (state_of s) n) a told (pair_of (state_of s') n')
+  entry_told a made cell edit.Memory n' told tells needs cause same = answered_by s s' n n' a Memory told tells.0 tells.1 (wants s.sheet needs, same_pair s s' n same)
+  entry_told a made cell (edit.Spent book spending) n' told tells needs cause same = spent_so s s' n a (Some cell) made book spending n' told needs cause.0 cause.1 same tells
+  entry_told a made cell edit.NoEntry n' told tells needs cause same = absurd cause
+  entry_told a made cell edit.DuplicateRule n' told tells needs cause same = absurd cause
+  entry_told a made cell edit.NoRule n' told tells needs cause same = absurd cause
+  entry_told a made cell edit.TooLarge n' told tells needs cause same = absurd cause
+  entry_told a made cell (edit.Inconsistent sheet) n' told tells needs cause same = absurd cause
+
+  pub entry_lawful : (made : Sheet) (cell : CellId) (refused : EditRefused) → IsEntryCause made cell s.budget refused → IsSpentLawfully refused (Some cell)
+  entry_lawful made cell edit.Memory cause = tt
+  entry_lawful made cell (edit.Spent book spending) cause = lawful_on book made (Some cell) s.budget spending cause.0 cause.1
+  entry_lawful made cell edit.NoEntry cause = absurd cause
+  entry_lawful made cell edit.DuplicateRule cause = absurd cause
+  entry_lawful made cell edit.NoRule cause = absurd cause
+  entry_lawful made cell edit.TooLarge cause = absurd cause
+  entry_lawful made cell (edit.Inconsistent sheet) cause = absurd cause
 
   -- that take entries away: there are none such, or the edit needs a search
-  pub removal_told : (a : Asked) (gone : Entry → Bool) (made : Sheet) (cell : CellId) (refused : EditRefused) (told : Told) → parted refused ≡ Err told → (HasNone gone s.sheet.entries → IsRefusalOf s.sheet a NoEntry) → ((refused ≡ edit.NoEntry → ⊥) → NeedsSearch s.sheet a (Some cell) made)
-      → IsRemovalCause gone s.sheet.entries made cell s.budget refused → IsAsBefore s s' → Obeys (pair_of (state_of s) n) a told (pair_of (state_of s') n)
-  removal_told a gone made cell edit.NoEntry told is lacks needs cause same = answered_by (pair_of (state_of s) n) (pair_of (state_of s') n) a (Refused NoEntry None) told is (judged (lacks cause) refl (same_pair s s' n same))
-  removal_told a gone made cell edit.Memory told is lacks needs cause same =
-      answered_by (pair_of (state_of s) n) (pair_of (state_of s') n) a Memory told is (wants s.sheet (needs (λ other. absurd (cc other))), same_pair s s' n same)
-  removal_told a gone made cell (edit.Spent spending) told is lacks needs cause same = absurd (cc is)
-  removal_told a gone made cell edit.DuplicateRule told is lacks needs cause same = absurd cause
-  removal_told a gone made cell edit.NoRule told is lacks needs cause same = absurd cause
-  removal_told a gone made cell edit.TooLarge told is lacks needs cause same = absurd cause
-  removal_told a gone made cell (edit.Inconsistent sheet) told is lacks needs cause same = absurd cause
+  pub removal_told : (a : Asked) (gone : Entry → Bool) (made : Sheet) (cell : CellId) (refused : EditRefused) (n' : Notes) (told : Told) → TellsRefused refused (Some cell) n n' told → (HasNone gone s.sheet.entries → IsRefusalOf s.sheet a NoEntry) → ((refused ≡ edit.NoEntry → ⊥) → NeedsSearch s.sheet a (Some cell) made)
+      → IsRemovalCause gone s.sheet.entries made cell s.budget refused → IsAsBefore s s' → Obeys (pair_of (state_of s) n) a told (pair_of (state_of s') n')
+  removal_told a gone made cell edit.NoEntry n' told tells lacks needs cause same = answered_by s s' n n' a (Refused NoEntry None) told tells.0 tells.1 (judged (lacks cause) refl (same_pair s s' n same))
+  removal_told a gone made cell edit.Memory n' told tells lacks needs cause same =
+      answered_by s s' n n' a Memory told tells.0 tells.1 (wants s.sheet (needs (λ other. absurd (cc other))), same_pair s s' n same)
+  removal_told a gone made cell (edit.Spent book spending) n' told tells lacks needs cause same =
+      spent_so s s' n a (Some cell) made book spending n' told (needs (λ other. absurd (cc other))) cause.0 cause.1 same tells
+  removal_told a gone made cell edit.DuplicateRule n' told tells lacks needs cause same = absurd cause
+  removal_told a gone made cell edit.NoRule n' told tells lacks needs cause same = absurd cause
+  removal_told a gone made cell edit.TooLarge n' told tells lacks needs cause same = absurd cause
+  removal_told a gone made cell (edit.Inconsistent sheet) n' told tells lacks needs cause same = absurd cause
+
+  pub removal_lawful : (gone : Entry → Bool) (made : Sheet) (cell : CellId) (refused : EditRefused) → IsRemovalCause gone s.sheet.entries made cell s.budget refused → IsSpentLawfully refused (Some cell)
+  removal_lawful gone made cell edit.NoEntry cause = tt
+  removal_lawful gone made cell edit.Memory cause = tt
+  removal_lawful gone made cell (edit.Spent book spending) cause = lawful_on book made (Some cell) s.budget spending cause.0 cause.1
+  removal_lawful gone made cell edit.DuplicateRule cause = absurd cause
+  removal_lawful gone made cell edit.NoRule cause = absurd cause
+  removal_lawful gone made cell edit.TooLarge cause = absurd cause
+  removal_lawful gone made cell (edit.Inconsistent sheet) cause = absurd cause
 
   -- ---- entering
 
@@ -209,37 +200,30 @@ module _ (s s' : SessionView) (n : Notes) where
       let stable : IsNewName s.sheet.rules r.name = λ k. λ d. λ lt. λ same. cc (sym ok ∙ duplicate (λ new. new k d lt same)) in
       (adds r, adding r (is, subst (IsNewName s.sheet.rules) is.name stable) (subst IsLight sheet_is light) (subst AreRulesConsistent sheet_is consistent), tt, edited_pair s s' n (with_rule s.sheet r) sheet_is budget_is)
 
-  pub adding_told : (m : List ℕ) (f : Formula) (r : NamedStatement) (refused : EditRefused) (told : Told) → parted refused ≡ Err told → IsRuleOf s.sheet m f r → IsAddCause s.sheet r s.budget refused → IsAsBefore s s'
-      → Obeys (pair_of (state_of s) n) (asks_rule m f) told (pair_of (state_of s') n)
-  adding_told m f r edit.DuplicateRule told is of cause same =
-      answered_by (pair_of (state_of s) n) (pair_of (state_of s') n) (asks_rule m f) (Refused DuplicateRule None) told is (judged (of_old_name r of (subst (λ (name : List ℕ). ¬ IsNewName s.sheet.rules name) of.name cause)) refl (same_pair s s' n same))
-  adding_told m f r edit.TooLarge told is of cause same =
-      answered_by (pair_of (state_of s) n) (pair_of (state_of s') n) (asks_rule m f) (Refused TooLarge None) told is
+  pub adding_told : (m : List ℕ) (f : Formula) (r : NamedStatement) (refused : EditRefused) (n' : Notes) (told : Told) → TellsRefused refused None n n' told → IsRuleOf s.sheet m f r → IsAddCause s.sheet r s.budget refused → IsAsBefore s s'
+      → Obeys (pair_of (state_of s) n) (asks_rule m f) told (pair_of (state_of s') n')
+  adding_told m f r edit.DuplicateRule n' told tells of cause same =
+      answered_by s s' n n' (asks_rule m f) (Refused DuplicateRule None) told tells.0 tells.1 (judged (of_old_name r of (subst (λ (name : List ℕ). ¬ IsNewName s.sheet.rules name) of.name cause)) refl (same_pair s s' n same))
+  adding_told m f r edit.TooLarge n' told tells of cause same =
+      answered_by s s' n n' (asks_rule m f) (Refused TooLarge None) told tells.0 tells.1
       (judged (too_large r (of, subst (IsNewName s.sheet.rules) of.name cause.0) cause.1) refl (same_pair s s' n same))
-  adding_told m f r (edit.Inconsistent sheet) told is of cause same =
-      answered_by (pair_of (state_of s) n) (pair_of (state_of s') n) (asks_rule m f) (Refused Inconsistent (Some sheet)) told is
+  adding_told m f r (edit.Inconsistent sheet) n' told tells of cause same =
+      answered_by s s' n n' (asks_rule m f) (Refused Inconsistent (Some sheet)) told tells.0 tells.1
       (contradicted r (contradicting r (of, subst (IsNewName s.sheet.rules) of.name cause.0) cause.1 cause.3) refl (ap (λ (t : Sheet). Some t) cause.2) (same_pair s s' n same))
-  adding_told m f r edit.Memory told is of cause same = answered_by (pair_of (state_of s) n) (pair_of (state_of s') n) (asks_rule m f) Memory told is (tt, same_pair s s' n same)
-  adding_told m f r (edit.Spent spending) told is of cause same = absurd (cc is)
-  adding_told m f r edit.NoEntry told is of cause same = absurd cause
-  adding_told m f r edit.NoRule told is of cause same = absurd cause
+  adding_told m f r edit.Memory n' told tells of cause same = answered_by s s' n n' (asks_rule m f) Memory told tells.0 tells.1 (tt, same_pair s s' n same)
+  adding_told m f r (edit.Spent book spending) n' told tells of cause same =
+      spent_so s s' n (asks_rule m f) None (with_rule s.sheet r) book spending n' told (to_add r (of, subst (IsNewName s.sheet.rules) of.name cause.0) cause.1) cause.2 cause.3 same tells
+  adding_told m f r edit.NoEntry n' told tells of cause same = absurd cause
+  adding_told m f r edit.NoRule n' told tells of cause same = absurd cause
 
-  pub adding_spent : (m : List ℕ) (f : Formula) (r : NamedStatement) (spending : Spending) (book : Sheet) (n' : Notes) (told : Told) → IsNewRule s.sheet m f r → IsLight (with_rule s.sheet r) → IsLawful (with_rule s.sheet r) None s.budget spending → IsAsBefore s s' → book ≡ s'.sheet
-      → NotesSpent (with_rule book r) None spending n n' told → Obeys (pair_of (state_of s) n) (asks_rule m f) told (pair_of (state_of s') n')
-  adding_spent m f r spending book n' told new light lawful same book_is notes =
-      spent_so s s' n (asks_rule m f) None (λ (b : Sheet). with_rule b r) spending book n' told (to_add r new light) lawful same book_is notes
-
-  -- the same of the book that is there after the refusal
-  pub adding_lawful : (m : List ℕ) (f : Formula) (r : NamedStatement) (spending : Spending) (book : Sheet) → IsNewRule s.sheet m f r → IsLawful (with_rule s.sheet r) None s.budget spending → IsAsBefore s s' → book ≡ s'.sheet
-      → (rule : NamedStatement) × IsNewRule book m f rule × IsLawful (with_rule book rule) None spending.tally.limit spending
-  adding_lawful m f r spending book new lawful same book_is =
-      let back : s.sheet ≡ book = sym (book_is ∙ same_sheet s s' same) in
-      (r, subst (λ (b : Sheet). IsNewRule b m f r) back new, subst (λ (b : Sheet). IsLawful (with_rule b r) None spending.tally.limit spending) back (by_limit (with_rule s.sheet r) None s.budget spending lawful))
-
-  pub adding_spent_by : (m : List ℕ) (f : Formula) (r : NamedStatement) (spending : Spending) (book : Sheet) (n' : Notes) (told : Told) → IsNewRule s.sheet m f r → IsLight (with_rule s.sheet r) → IsLawful (with_rule s.sheet r) None s.budget spending → IsAsBefore s s' → book ≡ s'.sheet
-      → ((rule : NamedStatement) → IsNewRule book m f rule → NotesSpent (with_rule book rule) None spending n n' told) → Obeys (pair_of (state_of s) n) (asks_rule m f) told (pair_of (state_of s') n')
-  adding_spent_by m f r spending book n' told new light lawful same book_is notes =
-      adding_spent m f r spending book n' told new light lawful same book_is (notes r (subst (λ (b : Sheet). IsNewRule b m f r) (sym (book_is ∙ same_sheet s s' same)) new))
+  pub adding_lawful : (r : NamedStatement) (refused : EditRefused) → IsAddCause s.sheet r s.budget refused → IsSpentLawfully refused None
+  adding_lawful r edit.DuplicateRule cause = tt
+  adding_lawful r edit.TooLarge cause = tt
+  adding_lawful r (edit.Inconsistent sheet) cause = tt
+  adding_lawful r edit.Memory cause = tt
+  adding_lawful r (edit.Spent book spending) cause = lawful_on book (with_rule s.sheet r) None s.budget spending cause.2 cause.3
+  adding_lawful r edit.NoEntry cause = absurd cause
+  adding_lawful r edit.NoRule cause = absurd cause
 
   -- ---- dropping a rule
 
@@ -253,23 +237,22 @@ module _ (s s' : SessionView) (n : Notes) where
     | inr new ↦ absurd (other (refusal_is refused edit.NoRule (sym err ∙ no_rule new)))
   ]
 
-  pub dropping_told : (m : List ℕ) (result : Result (Unit {0}) EditRefused) (refused : EditRefused) (told : Told) → parted refused ≡ Err told → result ≡ Err refused → (IsNewName s.sheet.rules m → result ≡ Err edit.NoRule) → IsDropCause s.sheet m s.budget refused → IsAsBefore s s' → Obeys (pair_of (state_of s) n) (asks_drop m) told (pair_of (state_of s') n)
-  dropping_told m result edit.NoRule told is err no_rule cause same = answered_by (pair_of (state_of s) n) (pair_of (state_of s') n) (asks_drop m) (Refused NoRule None) told is (judged (of_no_rule cause) refl (same_pair s s' n same))
-  dropping_told m result edit.Memory told is err no_rule cause same =
-      answered_by (pair_of (state_of s) n) (pair_of (state_of s') n) (asks_drop m) Memory told is (dropping_wants m result edit.Memory err no_rule (λ other. absurd (cc other)), same_pair s s' n same)
-  dropping_told m result (edit.Spent spending) told is err no_rule cause same = absurd (cc is)
-  dropping_told m result edit.NoEntry told is err no_rule cause same = absurd cause
-  dropping_told m result edit.DuplicateRule told is err no_rule cause same = absurd cause
-  dropping_told m result edit.TooLarge told is err no_rule cause same = absurd cause
-  dropping_told m result (edit.Inconsistent sheet) told is err no_rule cause same = absurd cause
+  pub dropping_told : (m : List ℕ) (result : Result (Unit {0}) EditRefused) (refused : EditRefused) (n' : Notes) (told : Told) → TellsRefused refused None n n' told → result ≡ Err refused → (IsNewName s.sheet.rules m → result ≡ Err edit.NoRule) → IsDropCause s.sheet m s.budget refused → IsAsBefore s s' → Obeys (pair_of (state_of s) n) (asks_drop m) told (pair_of (state_of s') n')
+  dropping_told m result edit.NoRule n' told tells err no_rule cause same = answered_by s s' n n' (asks_drop m) (Refused NoRule None) told tells.0 tells.1 (judged (of_no_rule cause) refl (same_pair s s' n same))
+  dropping_told m result edit.Memory n' told tells err no_rule cause same =
+      answered_by s s' n n' (asks_drop m) Memory told tells.0 tells.1 (dropping_wants m result edit.Memory err no_rule (λ other. absurd (cc other)), same_pair s s' n same)
+  dropping_told m result (edit.Spent book spending) n' told tells err no_rule cause same =
+      spent_so s s' n (asks_drop m) None (without_rule s.sheet cause.0) book spending n' told (to_drop cause.0 cause.1) cause.2 cause.3 same tells
+  dropping_told m result edit.NoEntry n' told tells err no_rule cause same = absurd cause
+  dropping_told m result edit.DuplicateRule n' told tells err no_rule cause same = absurd cause
+  dropping_told m result edit.TooLarge n' told tells err no_rule cause same = absurd cause
+  dropping_told m result (edit.Inconsistent sheet) n' told tells err no_rule cause same = absurd cause
 
-  pub dropping_spent : (m : List ℕ) (place : ℕ) (spending : Spending) (book : Sheet) (n' : Notes) (told : Told) → IsRuleAt s.sheet.rules m place → IsLawful (without_rule s.sheet place) None s.budget spending → IsAsBefore s s' → book ≡ s'.sheet
-      → NotesSpent (without_rule book place) None spending n n' told → Obeys (pair_of (state_of s) n) (asks_drop m) told (pair_of (state_of s') n')
-  dropping_spent m place spending book n' told at lawful same book_is notes =
-      spent_so s s' n (asks_drop m) None (λ (b : Sheet). without_rule b place) spending book n' told (to_drop place at) lawful same book_is notes
-
-  -- the same of the book that is there after the refusal
-  pub dropping_spent_by : (m : List ℕ) (place : ℕ) (spending : Spending) (book : Sheet) (n' : Notes) (told : Told) → IsRuleAt s.sheet.rules m place → IsLawful (without_rule s.sheet place) None s.budget spending → IsAsBefore s s' → book ≡ s'.sheet
-      → ((k : ℕ) → IsRuleAt book.rules m k → NotesSpent (without_rule book k) None spending n n' told) → Obeys (pair_of (state_of s) n) (asks_drop m) told (pair_of (state_of s') n')
-  dropping_spent_by m place spending book n' told at lawful same book_is notes =
-      dropping_spent m place spending book n' told at lawful same book_is (notes place (subst (λ (b : Sheet). IsRuleAt b.rules m place) (sym (book_is ∙ same_sheet s s' same)) at))
+  pub dropping_lawful : (m : List ℕ) (refused : EditRefused) → IsDropCause s.sheet m s.budget refused → IsSpentLawfully refused None
+  dropping_lawful m edit.NoRule cause = tt
+  dropping_lawful m edit.Memory cause = tt
+  dropping_lawful m (edit.Spent book spending) cause = lawful_on book (without_rule s.sheet cause.0) None s.budget spending cause.2 cause.3
+  dropping_lawful m edit.NoEntry cause = absurd cause
+  dropping_lawful m edit.DuplicateRule cause = absurd cause
+  dropping_lawful m edit.TooLarge cause = absurd cause
+  dropping_lawful m (edit.Inconsistent sheet) cause = absurd cause

@@ -1,6 +1,5 @@
 pub mod Ample
 pub mod Answering
-pub mod Clearing
 pub mod Counting
 pub mod Deciding
 pub mod Editing

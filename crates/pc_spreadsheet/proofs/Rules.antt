@@ -5,7 +5,7 @@ use Rattle.std.proofs.lemmas.List.Quantifiers.{all_pairs_push}
 use Rattle.std.proofs.lemmas.List.Elements.{All-push, All-map}
 use Rattle.pc_name.specs.Names.{IsName}
 use Rattle.pc_syntax.specs.Tree.{Formula}
-use Rattle.pc_sheet.specs.Sheet.{Sheet, some_of, no_statements, NamedStatement, with_rule}
+use Rattle.pc_sheet.specs.Sheet.{Sheet, NamedStatement, with_rule}
 use Rattle.pc_sheet.specs.Views.{rule_of}
 use Rattle.pc_sheet.specs.declared.formula.Rule.{Rule}
 use Rattle.pc_sheet.specs.Nesting.{nesting_of}
@@ -15,9 +15,8 @@ use Rattle.pc_elaborate.specs.declared.fault.SortFault.{SortFault}
 use Rattle.pc_elaborate.specs.Elaboration.{IsStatement}
 use Rattle.pc_elaborate.specs.Tests.{no_test}
 use Rattle.pc_sortcheck.specs.DeclarationFaults.{IsRuleFault}
-use Rattle.pc_session.specs.RuleNames.{IsNewName, IsRuleAt}
+use Rattle.pc_session.specs.RuleNames.{IsNewName}
 use Rattle.pc_spreadsheet.specs.Tasks.{IsRuleOf, IsNewRule}
-use Rattle.pc_spreadsheet.proofs.Places.{one_place}
 use Rattle.pc_spreadsheet.proofs.Telling.{below_limit}
 
 formed_rule : (book : Sheet) (n : List ℕ) (r : NamedStatement) (m : ℕ) → r.name ≡ n → IsName n → IsWellSorted book.universe [] r.states → nesting_of r.states ≡ m → m ≤ 128 → IsWellFormedRule book.universe r
@@ -40,14 +39,7 @@ formed_with sheet n f r formed new = record {
   entries = formed.entries;
 }
 
--- ---- places
+-- ---- names
 
 pub new_name : (rules : List Rule) (name : List ℕ) → ((k : ℕ) (d : Rule) → k < length rules → (get_or rules k d).name ≢ name) → IsNewName (map rule_of rules) name
 new_name rules name none = All-map (λ r. r.name ≢ name) rule_of rules none
-
-abbrev no_rule : NamedStatement
-no_rule = record { name = []; states = some_of no_statements }
-
--- the place that was found is the rule's
-pub placed_rule : (book : Sheet) (rules : List NamedStatement) (n : List ℕ) (place found : ℕ) → IsWellFormed book → rules ≡ book.rules → IsRuleAt book.rules n place → IsRuleAt rules n found → place ≡ found
-placed_rule book rules n place found formed same at there = one_place book n no_rule place found formed at (subst (λ (rs : List NamedStatement). IsRuleAt rs n found) same there)

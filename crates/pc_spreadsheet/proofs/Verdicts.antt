@@ -128,7 +128,7 @@ module _ (sheet : Sheet) (one : HaveOneOutcome sheet.universe) (formed : IsWellF
   rule_same g e f (inr x) (inl y) = absurd ((one.formulas g).never x.0.0 (x.0.1, x.0.2) f y)
   rule_same g e f (inr x) (inr y) = test_same e f x.1 y.1
 
-  pub statement_is : (n : List ℕ) (f : Formula) (r q : NamedStatement) → IsRuleOf sheet n f r → IsRuleOf sheet n f q → r ≡ q
+  statement_is : (n : List ℕ) (f : Formula) (r q : NamedStatement) → IsRuleOf sheet n f r → IsRuleOf sheet n f q → r ≡ q
   statement_is n f r q first second = ap₂ rule_from (first.name ∙ sym second.name) ((one.formulas f).one r.states q.states (first.states, first.formed.sorted) (second.states, second.formed.sorted))
 
   rule_of_never : (n : List ℕ) (f : Formula) (r : NamedStatement) → IsRuleOf sheet n f r → (e : SortFault) → ¬ IsRuleFault sheet f no_test e

@@ -1,5 +1,5 @@
 -- What is done at a line.
-use Rattle.std.specs.Prelude.{◌≡◌, [], ◌∷◌, ◌++◌, Result, Ok, Err, String, string_bytes}
+use Rattle.std.specs.Prelude.{◌≡◌, [], ◌∷◌, ◌++◌, String, string_bytes}
 use Rattle.std.specs.declared.alloc.Global.{Global}
 use Rattle.std.specs.declared.option.Option.{Option}
 use Rattle.std.specs.declared.option.Option.TheVariants.{Some, None}
@@ -15,6 +15,7 @@ use Rattle.pc_reason.specs.Targets.{IsTargetIn}
 use Rattle.pc_refusals.specs.declared.refusal.Counts.{Counts}
 use Rattle.pc_elaborate.specs.declared.fault.SortFault.{SortFault}
 use Rattle.pc_elaborate.specs.declared.fault.SortFault.TheVariants as sort_fault
+use Rattle.pc_theory.specs.Spendings.{IsLawful}
 use Rattle.pc_theory.specs.declared.spending.Spending.{Spending}
 use Rattle.pc_session.specs.Views.{SessionView}
 use Rattle.pc_session.specs.Views as session
@@ -52,20 +53,30 @@ pub data IsToldAs (e : SortFault) : Told → Type 0 where
   as_refusal : (why : Refusal) → IsSortRefusal e why → IsToldAs e (Refused why None)
   as_memory : e ≡ sort_fault.Memory → IsToldAs e Memory
 
--- what a refused edit has spent, or how else it is told
-abbrev pub parted : EditRefused → Result Spending Told
-parted edit.NoEntry = Err (Refused NoEntry None)
-parted edit.DuplicateRule = Err (Refused DuplicateRule None)
-parted edit.NoRule = Err (Refused NoRule None)
-parted edit.TooLarge = Err (Refused TooLarge None)
-parted (edit.Inconsistent sheet) = Err (Refused Inconsistent (Some sheet))
-parted (edit.Spent spending) = Ok spending
-parted edit.Memory = Err Memory
-
 -- what was spent on the sheet is noted and told, or there was no memory for it
 pub data NotesSpent (sheet : Sheet) (cell : Option CellId) (spending : Spending) (old new : Notes) : Told → Type 0 where
   noted : (counts : Counts) → counts ≡ told_counts_of spending.tally → new ≡ old ++ record { sheet = sheet; cell = cell; tally = session.counts_of spending.tally } ∷ [] → NotesSpent sheet cell spending old new (Refused (Spent counts) None)
   not_noted : new ≡ old → NotesSpent sheet cell spending old new Memory
+
+-- what a refused edit of that cell, or of a rule, has spent is lawful for the sheet that it would have made
+abbrev pub IsSpentLawfully : EditRefused → Option CellId → Type 0
+IsSpentLawfully edit.NoEntry cell = Unit {0}
+IsSpentLawfully edit.DuplicateRule cell = Unit {0}
+IsSpentLawfully edit.NoRule cell = Unit {0}
+IsSpentLawfully edit.TooLarge cell = Unit {0}
+IsSpentLawfully (edit.Inconsistent sheet) cell = Unit {0}
+IsSpentLawfully (edit.Spent made spending) cell = IsLawful made cell spending.tally.limit spending
+IsSpentLawfully edit.Memory cell = Unit {0}
+
+-- how a refused edit is told; what it has spent is noted too
+abbrev pub TellsRefused : EditRefused → Option CellId → Notes → Notes → Told → Type 0
+TellsRefused edit.NoEntry cell old new told = (told ≡ Refused NoEntry None) × (new ≡ old)
+TellsRefused edit.DuplicateRule cell old new told = (told ≡ Refused DuplicateRule None) × (new ≡ old)
+TellsRefused edit.NoRule cell old new told = (told ≡ Refused NoRule None) × (new ≡ old)
+TellsRefused edit.TooLarge cell old new told = (told ≡ Refused TooLarge None) × (new ≡ old)
+TellsRefused (edit.Inconsistent sheet) cell old new told = (told ≡ Refused Inconsistent (Some sheet)) × (new ≡ old)
+TellsRefused (edit.Spent made spending) cell old new told = NotesSpent made cell spending old new told
+TellsRefused edit.Memory cell old new told = (told ≡ Memory) × (new ≡ old)
 
 -- a question is a page, or it is refused; it wants no memory
 pub data Explains (sheet : Sheet) (a : Asked) : Told → Type 0 where

@@ -11,7 +11,6 @@ mod commands;
 mod edits;
 mod law;
 mod load;
-mod made;
 pub mod page;
 mod pages;
 mod refusal;

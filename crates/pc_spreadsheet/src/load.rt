@@ -31,9 +31,9 @@ fn refuse_whole(refusal: Refusal, proof: Option<Refutation>) -> LoadStop<Refutat
 }
 
 // Notes what the search of a book has spent, and tells it.
-fn note_load(book: &Book, spending: &Spending, notes: &mut Spendings) -> LoadStop<Refutation>
-    requires { IsLawful book.now None spending.now.tally.limit spending.now }
-    ensures { NotesLoad book.now spending.now notes.old notes.new result }
+fn note_load(book: Book, spending: &Spending, notes: &mut Spendings) -> LoadStop<Refutation>
+    requires { IsLawful book None spending.now.tally.limit spending.now }
+    ensures { NotesLoad book spending.now notes.old notes.new result }
 {
     match notes.note(book, None, spending) {
         Ok(()) => refuse_whole(Refusal::Spent(counts_of(spending.tally)), None),
@@ -52,16 +52,13 @@ fn open(
     requires at_most { budget ≤ MOST_BUDGET }
     ensures { OpensAs budget book notes.old notes.new result }
 {
-    let Ok(kept) = book.copy(alloc) else {
-        return Err(LoadStop::Memory);
-    };
     match Session::load(alloc, book, budget) {
         Ok(session) => Ok(Spreadsheet { session }),
         Err(LoadRefused::TooLarge) => Err(refuse_whole(Refusal::TooLarge, None)),
         Err(LoadRefused::Inconsistent(refutation)) => {
             Err(refuse_whole(Refusal::Inconsistent, Some(refutation)))
         }
-        Err(LoadRefused::Spent(spending)) => Err(note_load(&kept, &spending, notes)),
+        Err(LoadRefused::Spent(made, spending)) => Err(note_load(made, &spending, notes)),
         Err(LoadRefused::Memory) => Err(LoadStop::Memory),
     }
 }

@@ -3,7 +3,7 @@ ghost use Rattle.std.specs.Prelude.{◌≡◌};
 ghost use Rattle.pc_theory.specs.Spendings.{IsLawful};
 ghost use Rattle.pc_theory.specs.WholeSpendings.{IsSpentWhole};
 ghost use Rattle.pc_spreadsheet.specs.Allowed.{told_counts_of};
-ghost use Rattle.pc_spreadsheet.specs.Commands.{NotesSpent, parted};
+ghost use Rattle.pc_spreadsheet.specs.Commands.{IsSpentLawfully, NotesSpent, TellsRefused};
 ghost use Rattle.pc_spreadsheet.specs.inside.Repairs.{NotesWhole};
 
 use crate::page::Page;
@@ -31,23 +31,6 @@ pub(crate) fn counts_of(tally: Tally) -> Counts
     }
 }
 
-/// What a refused edit has spent, or how else it is told.
-pub(crate) fn parted(refused: EditRefused) -> Result<Spending, Told>
-    ensures { result ≡ parted refused }
-{
-    match refused {
-        EditRefused::NoEntry => Err(Reply::Refused(Refusal::NoEntry, None)),
-        EditRefused::DuplicateRule => Err(Reply::Refused(Refusal::DuplicateRule, None)),
-        EditRefused::NoRule => Err(Reply::Refused(Refusal::NoRule, None)),
-        EditRefused::TooLarge => Err(Reply::Refused(Refusal::TooLarge, None)),
-        EditRefused::Inconsistent(refutation) => {
-            Err(Reply::Refused(Refusal::Inconsistent, Some(refutation)))
-        }
-        EditRefused::Spent(spending) => Ok(spending),
-        EditRefused::Memory => Err(Reply::Memory),
-    }
-}
-
 /// Notes what searches of the whole book have spent, and tells it.
 pub(crate) fn note_whole(book: &Book, logs: &[Log], tally: Tally, notes: &mut Spendings) -> Told
     requires { IsSpentWhole book.now logs.now tally }
@@ -59,18 +42,35 @@ pub(crate) fn note_whole(book: &Book, logs: &[Log], tally: Tally, notes: &mut Sp
     }
 }
 
-/// Notes what the search of an edit has spent that would have made the book, and tells it.
-pub(crate) fn note_spent(
-    made: &Book,
-    cell: Option<CellId>,
-    spending: &Spending,
-    notes: &mut Spendings,
-) -> Told
-    requires { IsLawful made.now cell spending.now.tally.limit spending.now }
-    ensures { NotesSpent made.now cell spending.now notes.old notes.new result }
+// Notes what the search of an edit has spent that would have made the book, and tells it.
+fn note_spent(made: Book, cell: Option<CellId>, spending: &Spending, notes: &mut Spendings) -> Told
+    requires { IsLawful made cell spending.now.tally.limit spending.now }
+    ensures { NotesSpent made cell spending.now notes.old notes.new result }
 {
     match notes.note(made, cell, spending) {
         Ok(()) => Reply::Refused(Refusal::Spent(counts_of(spending.tally)), None),
         Err(AllocError) => Reply::Memory,
+    }
+}
+
+/// Tells why an edit of that cell, or of a rule, is refused; what its search has spent is noted too.
+pub(crate) fn tell_refused(
+    refused: EditRefused,
+    cell: Option<CellId>,
+    notes: &mut Spendings,
+) -> Told
+    requires { IsSpentLawfully refused cell }
+    ensures { TellsRefused refused cell notes.old notes.new result }
+{
+    match refused {
+        EditRefused::NoEntry => Reply::Refused(Refusal::NoEntry, None),
+        EditRefused::DuplicateRule => Reply::Refused(Refusal::DuplicateRule, None),
+        EditRefused::NoRule => Reply::Refused(Refusal::NoRule, None),
+        EditRefused::TooLarge => Reply::Refused(Refusal::TooLarge, None),
+        EditRefused::Inconsistent(refutation) => {
+            Reply::Refused(Refusal::Inconsistent, Some(refutation))
+        }
+        EditRefused::Spent(made, spending) => note_spent(made, cell, &spending, notes),
+        EditRefused::Memory => Reply::Memory,
     }
 }

@@ -1,5 +1,6 @@
 -- The refusal of a load, and of a search that ended early, as that of an edit.
 use Rattle.std.specs.Prelude.{◌≡◌}
+use Rattle.pc_sheet.specs.Sheet.{Sheet}
 use Rattle.pc_solver.specs.declared.stop.Stop.{Stop}
 use Rattle.pc_solver.specs.declared.stop.Stop.TheVariants as stop
 use Rattle.pc_theory.specs.declared.spending.Spending.{Spending}
@@ -11,9 +12,9 @@ use Rattle.pc_session.specs.declared.refused.EditRefused.TheVariants as edit
 abbrev pub IsSameRefusal : LoadRefused → EditRefused → Type 0
 IsSameRefusal load.TooLarge refused = refused ≡ edit.TooLarge
 IsSameRefusal (load.Inconsistent refutation) refused = refused ≡ edit.Inconsistent refutation
-IsSameRefusal (load.Spent spending) refused = refused ≡ edit.Spent spending
+IsSameRefusal (load.Spent book spending) refused = refused ≡ edit.Spent book spending
 IsSameRefusal load.Memory refused = refused ≡ edit.Memory
 
-abbrev pub IsStopTold : Stop → Spending → EditRefused → Type 0
-IsStopTold stop.Spent spending refused = refused ≡ edit.Spent spending
-IsStopTold stop.Memory spending refused = refused ≡ edit.Memory
+abbrev pub IsStopTold : Stop → Sheet → Spending → EditRefused → Type 0
+IsStopTold stop.Spent made spending refused = refused ≡ edit.Spent made spending
+IsStopTold stop.Memory made spending refused = refused ≡ edit.Memory

@@ -39,11 +39,11 @@ returns-in-Ok-clause-edit c =
     c.in-Ok.worlds (λ r at. IfOk-at_ok (AreWorldsOf a.made r) c.in-Ok.is (c.search_part-outcome.ensures.worlds r at)) c.new-patch.result c.search_part-outcome.new.patch c.new-patch.ensures
     (IfOk-at_ok (λ _. Finds a.made (c.search_part-outcome.new.place.tally.learned + c.search_part-outcome.new.place.tally.calls) ts c.new-patch.result c.search_part-outcome.new.patch) c.in-Ok.is c.search_part-outcome.ensures.found)
 
-pub returns-in-Err-clause-refused : goal.returns-in-Err-clause-refused
-returns-in-Err-clause-refused c =
+pub returns-clause-refused : goal.returns-clause-refused
+returns-clause-refused c =
     let a = c.args in
     let p = c.part_of-part.ensures.has in
-    entry_refused (edited a.state.now.book (takes a.taken) (a.entry ∷ [])) a.entry.cell a.budget c.in-Err.stop c.search_part-outcome.new.place.tally c.in_ok-spending.spending c.refused_by.result c.refused_by.ensures (IfErr-at_err (StopSays c.search_part-outcome.new.place.tally) c.in-Err.is c.search_part-outcome.ensures.stop)
+    entry_refused (edited a.state.now.book (takes a.taken) (a.entry ∷ [])) a.entry.cell a.budget c.in-Err.stop c.search_part-outcome.new.place.tally a.made c.in_ok-spending.spending c.refused_by.result c.refused_by.ensures (IfErr-at_err (StopSays c.search_part-outcome.new.place.tally) c.in-Err.is c.search_part-outcome.ensures.stop) c.requires.made
     (λ reached. subst (λ b. IsLawful b (Some a.entry.cell) a.budget c.in_ok-spending.spending) c.requires.made
     (lawful a.state.now.book a.made a.state.now.theory a.entry.cell (takes a.taken) (a.entry ∷ []) c.requires.made c.requires.state.known c.part_of-part.result p.0 p.1 p.2 c.search_part-outcome.new.place c.in_ok-spending.spending a.budget c.in_ok-spending.ensures.spends c.search_part-outcome.ensures.spends
     c.in_ok-spending.ensures.tally (c.search_part-outcome.ensures.limit ∙ c.blank_place-place.ensures.limit) reached))

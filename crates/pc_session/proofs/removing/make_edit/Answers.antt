@@ -68,7 +68,7 @@ returns-clause-refused c =
     let s = a.state.now in
     let p = c.part_of-part.ensures.has in
     let is_new = c.take_away.ensures.book ∙ ap (λ (b : Sheet). edited b (takes a.taken) []) c.in_ok-made.ensures in
-    entry_refused (edited s.book (takes a.taken) []) a.cell a.budget c.in-Err.stop c.find_reasons-outcome.new.place.tally c.in_ok-spending.spending c.refused_by.result c.refused_by.ensures (IfErr-at_err (StopSays c.find_reasons-outcome.new.place.tally) c.in-Err.is c.find_reasons-outcome.ensures.stop)
+    entry_refused (edited s.book (takes a.taken) []) a.cell a.budget c.in-Err.stop c.find_reasons-outcome.new.place.tally c.take_away.new.book c.in_ok-spending.spending c.refused_by.result c.refused_by.ensures (IfErr-at_err (StopSays c.find_reasons-outcome.new.place.tally) c.in-Err.is c.find_reasons-outcome.ensures.stop) is_new
     (λ reached. subst (λ b. IsLawful b (Some a.cell) a.budget c.in_ok-spending.spending) is_new
     (lawful s.book c.take_away.new.book s.theory a.cell (takes a.taken) [] is_new c.requires.state.known c.part_of-part.result p.0 p.1 p.2 c.find_reasons-outcome.new.place c.in_ok-spending.spending a.budget c.in_ok-spending.ensures.spends c.find_reasons-outcome.ensures.spends
     c.in_ok-spending.ensures.tally (c.find_reasons-outcome.ensures.limit ∙ c.blank_place-place.ensures.limit) reached))

@@ -1,12 +1,10 @@
-use Rattle.std.proofs.Common.{sym, subst, ◌∙◌}
+use Rattle.std.proofs.Common.{sym}
 use Rattle.pc_syntax.specs.Tree.{asks_rule, formula_of}
 use Rattle.pc_sheet.specs.Views.{rule_of}
 use Rattle.pc_formula.specs.Nesting as written
-use Rattle.pc_session.specs.Rules.{IsAddCause}
-use Rattle.pc_session.specs.RuleNames.{IsNewName}
 use Rattle.pc_spreadsheet.specs.Commands.{state_of}
 use Rattle.pc_spreadsheet.proofs.Telling.{refused_in}
-use Rattle.pc_spreadsheet.proofs.Editing.{added_so, adding_told, adding_lawful, adding_spent_by, of_spent}
+use Rattle.pc_spreadsheet.proofs.Editing.{added_so, adding_told, adding_lawful}
 use Rattle.pc_spreadsheet.proofs.Rules.{found_rule}
 use Rattle.pc_spreadsheet.proofs.edits.add_rule.Goals as goal
 
@@ -31,29 +29,11 @@ returns-in-Ok-add_rule c =
     let is = found_rule c.args.session.now.sheet c.book.result.now c.args.tree.now.name f (rule_of c.in-Ok.rule) (written.nesting_of (formula_of c.args.tree.now.formula)) c.book.ensures c.in-Ok.ensures.named c.as_str.ensures.name c.in-Ok.ensures.nested c.requires.nested c.in-Ok.ensures.told c.in-Ok.ensures.fault in
     added_so c.args.session.now c.add_rule.new.self c.args.notes.now c.args.tree.now.name f (rule_of c.in-Ok.rule) c.add_rule.result is c.add_rule.ensures.duplicate c.in-Ok-add_rule.is c.in-Ok-add_rule.ensures.light c.in-Ok-add_rule.ensures.consistent c.in-Ok-add_rule.ensures.sheet c.add_rule.ensures.budget
 
-pub returns-in-Err-parted : goal.returns-in-Err-parted
-returns-in-Err-parted c =
+pub tell_refused-requires : goal.tell_refused-requires
+tell_refused-requires c = adding_lawful c.args.session.now c.add_rule.new.self c.args.notes.now (rule_of c.in-Ok.rule) c.in-Err-add_rule.refused c.in-Err-add_rule.ensures.refused
+
+pub returns-in-Err-add_rule : goal.returns-in-Err-add_rule
+returns-in-Err-add_rule c =
     let f = formula_of c.args.tree.now.formula in
     let is = found_rule c.args.session.now.sheet c.book.result.now c.args.tree.now.name f (rule_of c.in-Ok.rule) (written.nesting_of (formula_of c.args.tree.now.formula)) c.book.ensures c.in-Ok.ensures.named c.as_str.ensures.name c.in-Ok.ensures.nested c.requires.nested c.in-Ok.ensures.told c.in-Ok.ensures.fault in
-    adding_told c.args.session.now c.add_rule.new.self c.args.notes.now c.args.tree.now.name f (rule_of c.in-Ok.rule) c.in-Err-add_rule.refused c.in-Err-parted.told (sym c.parted.ensures ∙ c.in-Err-parted.is) is c.in-Err-add_rule.ensures.refused c.in-Err-add_rule.ensures.unchanged.0
-
-pub note_adding-requires-clause-lawful : goal.note_adding-requires-clause-lawful
-note_adding-requires-clause-lawful c =
-    let s = c.args.session.now in
-    let f = formula_of c.args.tree.now.formula in
-    let r = rule_of c.in-Ok.rule in
-    let is = found_rule s.sheet c.book.result.now c.args.tree.now.name f r (written.nesting_of (formula_of c.args.tree.now.formula)) c.book.ensures c.in-Ok.ensures.named c.as_str.ensures.name c.in-Ok.ensures.nested c.requires.nested c.in-Ok.ensures.told c.in-Ok.ensures.fault in
-    let spent = of_spent c.in-Err-add_rule.refused c.in-Ok-parted.spending (sym c.parted.ensures ∙ c.in-Ok-parted.is) in
-    let cause = subst (IsAddCause s.sheet r s.budget) spent c.in-Err-add_rule.ensures.refused in
-    adding_lawful s c.add_rule.new.self c.args.notes.now c.args.tree.now.name f r c.in-Ok-parted.spending c.book-in-Ok-parted.result.now (is, subst (IsNewName s.sheet.rules) is.name cause.0) cause.2 c.in-Err-add_rule.ensures.unchanged.0 c.book-in-Ok-parted.ensures
-
-pub returns-in-Ok-parted : goal.returns-in-Ok-parted
-returns-in-Ok-parted c =
-    let s = c.args.session.now in
-    let f = formula_of c.args.tree.now.formula in
-    let r = rule_of c.in-Ok.rule in
-    let is = found_rule s.sheet c.book.result.now c.args.tree.now.name f r (written.nesting_of (formula_of c.args.tree.now.formula)) c.book.ensures c.in-Ok.ensures.named c.as_str.ensures.name c.in-Ok.ensures.nested c.requires.nested c.in-Ok.ensures.told c.in-Ok.ensures.fault in
-    let spent = of_spent c.in-Err-add_rule.refused c.in-Ok-parted.spending (sym c.parted.ensures ∙ c.in-Ok-parted.is) in
-    let cause = subst (IsAddCause s.sheet r s.budget) spent c.in-Err-add_rule.ensures.refused in
-    adding_spent_by s c.add_rule.new.self c.args.notes.now c.args.tree.now.name f r c.in-Ok-parted.spending c.book-in-Ok-parted.result.now c.note_adding.new.notes c.note_adding.result
-    (is, subst (IsNewName s.sheet.rules) is.name cause.0) cause.1 cause.2 c.in-Err-add_rule.ensures.unchanged.0 c.book-in-Ok-parted.ensures c.note_adding.ensures
+    adding_told c.args.session.now c.add_rule.new.self c.args.notes.now c.args.tree.now.name f (rule_of c.in-Ok.rule) c.in-Err-add_rule.refused c.tell_refused.new.notes c.tell_refused.result c.tell_refused.ensures is c.in-Err-add_rule.ensures.refused c.in-Err-add_rule.ensures.unchanged.0

@@ -1,12 +1,10 @@
-use Rattle.std.proofs.Common.{sym, subst, ◌∙◌}
+use Rattle.std.proofs.Common.{sym}
 use Rattle.pc_syntax.specs.Tree.{asks_enter, cell_of, value_of}
-use Rattle.pc_sheet.specs.Sheet.{Sheet}
 use Rattle.pc_logic.specs.Edits.{entered}
-use Rattle.pc_session.specs.Causes.{IsEntryCause}
 use Rattle.pc_spreadsheet.specs.Commands.{state_of}
 use Rattle.pc_spreadsheet.proofs.Ample.{entry_ample}
 use Rattle.pc_spreadsheet.proofs.Telling.{refused_for}
-use Rattle.pc_spreadsheet.proofs.Editing.{entered_so, entering_needs, entry_told, spent_so, of_spent}
+use Rattle.pc_spreadsheet.proofs.Editing.{entered_so, entering_needs, entry_told, entry_lawful}
 use Rattle.pc_spreadsheet.proofs.edits.enter.Goals as goal
 
 pub returns-in-Err : goal.returns-in-Err
@@ -20,25 +18,15 @@ returns-in-Ok-enter c =
     let named = (rw c.book.ensures at c.in-Ok.ensures).0 in
     entered_so c.args.session.now c.enter.new.self c.args.notes.now c.in-Ok.entry (cell_of c.args.cell.now) (value_of c.args.value.now) named c.in-Ok-enter.ensures.sheet c.enter.ensures.budget
 
-pub returns-in-Err-parted : goal.returns-in-Err-parted
-returns-in-Err-parted c =
-    let s = c.args.session.now in
-    let e = c.in-Ok.entry in
-    let cell = cell_of c.args.cell.now in
-    let value = value_of c.args.value.now in
-    let named = (rw c.book.ensures at c.in-Ok.ensures).0 in
-    let needs = entering_needs s c.enter.new.self c.args.notes.now e cell value c.enter.result c.in-Err-enter.refused _ named c.in-Err-enter.is c.enter.ensures.standing in
-    entry_told s c.enter.new.self c.args.notes.now (asks_enter cell value) (entered s.sheet e) e.cell c.in-Err-enter.refused c.in-Err-parted.told (sym c.parted.ensures ∙ c.in-Err-parted.is) needs c.in-Err-enter.ensures.refused c.in-Err-enter.ensures.unchanged.0
+pub tell_refused-requires : goal.tell_refused-requires
+tell_refused-requires c = entry_lawful c.args.session.now c.enter.new.self c.args.notes.now (entered c.args.session.now.sheet c.in-Ok.entry) c.in-Ok.entry.cell c.in-Err-enter.refused c.in-Err-enter.ensures.refused
 
-pub returns-in-Ok-parted : goal.returns-in-Ok-parted
-returns-in-Ok-parted c =
+pub returns-in-Err-enter : goal.returns-in-Err-enter
+returns-in-Err-enter c =
     let s = c.args.session.now in
     let e = c.in-Ok.entry in
     let cell = cell_of c.args.cell.now in
     let value = value_of c.args.value.now in
     let named = (rw c.book.ensures at c.in-Ok.ensures).0 in
-    let spent = of_spent c.in-Err-enter.refused c.in-Ok-parted.spending (sym c.parted.ensures ∙ c.in-Ok-parted.is) in
-    let lawful = subst (IsEntryCause (entered s.sheet e) e.cell s.budget) spent c.in-Err-enter.ensures.refused in
     let needs = entering_needs s c.enter.new.self c.args.notes.now e cell value c.enter.result c.in-Err-enter.refused _ named c.in-Err-enter.is c.enter.ensures.standing in
-    spent_so s c.enter.new.self c.args.notes.now (asks_enter cell value) _ (λ (b : Sheet). entered b e) c.in-Ok-parted.spending c.book-in-Ok-parted.result.now c.note_entering.new.notes c.note_entering.result
-    needs lawful c.in-Err-enter.ensures.unchanged.0 c.book-in-Ok-parted.ensures c.note_entering.ensures
+    entry_told s c.enter.new.self c.args.notes.now (asks_enter cell value) (entered s.sheet e) e.cell c.in-Err-enter.refused c.tell_refused.new.notes c.tell_refused.result c.tell_refused.ensures needs c.in-Err-enter.ensures.refused c.in-Err-enter.ensures.unchanged.0

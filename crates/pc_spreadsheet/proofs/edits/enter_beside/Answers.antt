@@ -1,13 +1,11 @@
-use Rattle.std.proofs.Common.{sym, subst, ◌∙◌}
+use Rattle.std.proofs.Common.{sym}
 use Rattle.pc_syntax.specs.Tree.{asks_also, cell_of, value_of}
-use Rattle.pc_sheet.specs.Sheet.{Sheet}
-use Rattle.pc_logic.specs.Edits.{also_entered, HasRoomFor}
-use Rattle.pc_session.specs.Causes.{IsEntryCause}
+use Rattle.pc_logic.specs.Edits.{also_entered}
 use Rattle.pc_spreadsheet.specs.Allowed.{to_enter_beside}
 use Rattle.pc_spreadsheet.specs.Commands.{state_of}
 use Rattle.pc_spreadsheet.proofs.Ample.{further_ample}
 use Rattle.pc_spreadsheet.proofs.Telling.{refused_for}
-use Rattle.pc_spreadsheet.proofs.Editing.{entered_beside_so, room_beside, entry_told, spent_so, same_sheet, of_spent}
+use Rattle.pc_spreadsheet.proofs.Editing.{entered_beside_so, room_beside, entry_told, entry_lawful}
 use Rattle.pc_spreadsheet.proofs.edits.enter_beside.Goals as goal
 
 pub returns-in-Err : goal.returns-in-Err
@@ -21,29 +19,13 @@ returns-in-Ok-also c =
     let found = rw c.book.ensures at c.in-Ok.ensures in
     entered_beside_so c.args.session.now c.also.new.self c.args.notes.now c.in-Ok.entry (cell_of c.args.cell.now) (value_of c.args.value.now) found.0 found.2 c.in-Ok-also.ensures.sheet c.also.ensures.budget
 
-pub returns-in-Err-parted : goal.returns-in-Err-parted
-returns-in-Err-parted c =
-    let s = c.args.session.now in
-    let e = c.in-Ok.entry in
-    let found = rw c.book.ensures at c.in-Ok.ensures in
-    let room = room_beside s c.also.new.self c.args.notes.now e c.also.result c.in-Err-also.refused _ found.1 found.2 c.in-Err-also.is c.also.ensures.standing in
-    entry_told s c.also.new.self c.args.notes.now (asks_also (cell_of c.args.cell.now) (value_of c.args.value.now)) (also_entered s.sheet e) e.cell c.in-Err-also.refused c.in-Err-parted.told (sym c.parted.ensures ∙ c.in-Err-parted.is) (to_enter_beside e found.0 room) c.in-Err-also.ensures.refused c.in-Err-also.ensures.unchanged.0
+pub tell_refused-requires : goal.tell_refused-requires
+tell_refused-requires c = entry_lawful c.args.session.now c.also.new.self c.args.notes.now (also_entered c.args.session.now.sheet c.in-Ok.entry) c.in-Ok.entry.cell c.in-Err-also.refused c.in-Err-also.ensures.refused
 
-pub note_entering_beside-requires-clause-room : goal.note_entering_beside-requires-clause-room
-note_entering_beside-requires-clause-room c =
+pub returns-in-Err-also : goal.returns-in-Err-also
+returns-in-Err-also c =
     let s = c.args.session.now in
     let e = c.in-Ok.entry in
     let found = rw c.book.ensures at c.in-Ok.ensures in
     let room = room_beside s c.also.new.self c.args.notes.now e c.also.result c.in-Err-also.refused _ found.1 found.2 c.in-Err-also.is c.also.ensures.standing in
-    subst (λ (b : Sheet). HasRoomFor b e) (sym (c.book-in-Ok-parted.ensures ∙ same_sheet s c.also.new.self c.in-Err-also.ensures.unchanged.0)) room
-
-pub returns-in-Ok-parted : goal.returns-in-Ok-parted
-returns-in-Ok-parted c =
-    let s = c.args.session.now in
-    let e = c.in-Ok.entry in
-    let found = rw c.book.ensures at c.in-Ok.ensures in
-    let spent = of_spent c.in-Err-also.refused c.in-Ok-parted.spending (sym c.parted.ensures ∙ c.in-Ok-parted.is) in
-    let lawful = subst (IsEntryCause (also_entered s.sheet e) e.cell s.budget) spent c.in-Err-also.ensures.refused in
-    let room = room_beside s c.also.new.self c.args.notes.now e c.also.result c.in-Err-also.refused _ found.1 found.2 c.in-Err-also.is c.also.ensures.standing in
-    spent_so s c.also.new.self c.args.notes.now (asks_also (cell_of c.args.cell.now) (value_of c.args.value.now)) _ (λ (b : Sheet). also_entered b e) c.in-Ok-parted.spending c.book-in-Ok-parted.result.now c.note_entering_beside.new.notes c.note_entering_beside.result
-    (to_enter_beside e found.0 room) lawful c.in-Err-also.ensures.unchanged.0 c.book-in-Ok-parted.ensures c.note_entering_beside.ensures
+    entry_told s c.also.new.self c.args.notes.now (asks_also (cell_of c.args.cell.now) (value_of c.args.value.now)) (also_entered s.sheet e) e.cell c.in-Err-also.refused c.tell_refused.new.notes c.tell_refused.result c.tell_refused.ensures (to_enter_beside e found.0 room) c.in-Err-also.ensures.refused c.in-Err-also.ensures.unchanged.0
