@@ -41,7 +41,7 @@ use Rattle.pc_spreadsheet.specs.Tasks.{State, Task, clears, shows, PageKind, IsT
 use Rattle.pc_spreadsheet.specs.Allowed.{Notes, Allows}
 use Rattle.pc_demo.specs.Demonstration.{told_of}
 use Rattle.pc_demo.specs.Summing.{clear_line, clear_lines}
-use Rattle.pc_theorem.proofs.ClearLines.{own_text, is_something}
+use Rattle.pc_demo.proofs.ClearLines.{own_text, is_something}
 use Rattle.pc_afresh_laws.specs.Afresh.{IsOpen, TranscriptsKeepOpen}
 use Rattle.pc_theorem.specs.Theorem.{third_entries, without_firsts, IsToldOf, of_ok, of_other}
 use Rattle.pc_theorem.proofs.Answered.{CommandsHaveOneReading, NeverWants, course_of, asked_same, refused_not_ok}

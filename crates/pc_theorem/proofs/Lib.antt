@@ -4,7 +4,6 @@ mod Worth
 mod Answered
 mod Happenings
 mod Ends
-mod ClearLines
 mod Clearing
 mod Consistent
 mod Refused
