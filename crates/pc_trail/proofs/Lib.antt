@@ -1,0 +1,16 @@
+pub mod TrailLemmas
+pub mod SlotLemmas
+pub mod OverLemmas
+pub mod BackLemmas
+pub mod TurnLemmas
+pub mod ListLemmas
+pub mod LinkLemmas
+pub mod CountLemmas
+pub mod MoveLemmas
+pub mod PlaceLemmas
+pub mod GuardLemmas
+pub mod KeptLemmas
+pub mod FitLemmas
+pub mod WalkLemmas
+pub mod WatchLemmas
+pub mod QuietLemmas

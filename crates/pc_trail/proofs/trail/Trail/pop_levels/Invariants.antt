@@ -1,0 +1,21 @@
+use Rattle.std.proofs.Common.{◌≡◌, length, vec_len, vec_capacity}
+use Rattle.pc_trail.specs.inside.IsTrail.{IsTrail}
+use Rattle.pc_trail.specs.inside.Slots.{AreSlots}
+use Rattle.pc_trail.proofs.BackLemmas.{IsLeftOf}
+use Rattle.pc_trail.proofs.trail.Trail.pop_levels.Given as goal
+
+abbrev pub invariant-loop-self : goal.invariant-loop-self
+invariant-loop-self l =
+    record {
+      trail : IsTrail l.self-inside.values l.self-inside.entries.items l.self-inside.level (vec_capacity l.self-inside.entries);
+      slots : AreSlots l.self-inside.slots.items l.self-inside.entries.items (length l.self-inside.values);
+      left : IsLeftOf l.level l.initial.self-inside.entries.items l.self-inside.entries.items;
+      size : length l.self-inside.values ≡ length l.initial.self-inside.values;
+      attached : l.self-inside.attached.items ≡ l.initial.self-inside.attached.items;
+      watched : l.self-inside.watched ≡ l.initial.self-inside.watched;
+      waiting : l.self-inside.waiting ≡ l.initial.self-inside.waiting;
+      head : l.self-inside.head ≡ l.initial.self-inside.head;
+    }
+
+abbrev pub decreases-loop-self : goal.decreases-loop-self
+decreases-loop-self l = vec_len l.self-inside.entries
