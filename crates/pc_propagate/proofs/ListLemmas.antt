@@ -1,7 +1,7 @@
 -- Linked lists, one place more or less.
 use Rattle.std.proofs.Common.{◌+◌, ◌⊎◌, zero, suc, replicate, ◌≡◌, ◌≢◌, ℕ, ◌<◌, List, [], ◌∷◌, ◌++◌, ◌≤◌, ◌-◌, false, length-append, inl, inr, Option, Some, None, length, get_or, set, refl, sym, ap, ◌∙◌, subst, arith, ⊎_elim, cond, eqb}
 use Rattle.std.proofs.lemmas.Bool.{cases_Bool, cases_eq, cases_lt, eqb-true, eq-eqb, false≢true}
-use Rattle.std.proofs.lemmas.List.{set_past, get_or-replicate, length-replicate, length-set, get_or-set_same, get_or-set_other, get_or_append_left, get_or-append_right}
+use Rattle.std.proofs.lemmas.List.{set_past, get_or-replicate, length-replicate, length-set, get_or-set_same, get_or-set_other, get_or_append_left, get_or-append_right, get_or_past}
 use Rattle.std.proofs.lemmas.Option.{slice_get-get_or, get_or_from_slice_get}
 use Rattle.pc_propagate.specs.inside.Links.{emptied}
 use Rattle.pc_propagate.specs.inside.Lists.{IsAmong, IsChain, last_from, EndsAt, AreLists}
@@ -26,6 +26,27 @@ chain_more nexts more first (p ∷ ps) within h = (
       (chain_more nexts more (get_or nexts p None) ps (λ q among. within q (inr among)) h.2),
 )
 
+-- nor do they the other way round
+chain_less : (nexts more : List (Option ℕ)) (first : Option ℕ) (places : List ℕ) → ((q : ℕ) → IsAmong q places → q < length nexts) → IsChain (nexts ++ more) first places → IsChain nexts first places
+chain_less nexts more first [] within h = h
+chain_less nexts more first (p ∷ ps) within h = (
+  h.0,
+  h.1,
+  subst (λ (f : Option ℕ). IsChain nexts f ps) (get_or_append_left nexts more None p (within p (inl refl)))
+      (chain_less nexts more (get_or (nexts ++ more) p None) ps (λ q among. within q (inr among)) h.2),
+)
+
+-- past all lists comes none
+past_last : (xs : List (Option ℕ)) (p : ℕ) → length xs ≤ p → get_or (xs ++ None ∷ []) p None ≡ None
+past_last xs p past = get_or-append_right xs (None ∷ []) (length xs) p None refl past ∙ nothing (p - length xs)
+  where
+    nothing : (i : ℕ) → get_or {A = Option ℕ} (None ∷ []) i None ≡ None
+    nothing zero = refl
+    nothing (suc i) = refl
+
+not_in : (more list_of : List (Option ℕ)) (p l : ℕ) → get_or (list_of ++ more) p None ≡ None → get_or (list_of ++ more) p None ≡ Some l → ⊥
+not_in more list_of p l none some = cc
+
 -- lists without places
 pub lists_none : (firsts : List (Option ℕ)) (lasts : List ℕ) (nexts list_of : List (Option ℕ)) (count : ℕ) → firsts ≡ replicate count None → nexts ≡ [] → list_of ≡ [] → AreLists firsts lasts nexts list_of
 lists_none firsts lasts nexts list_of count firsts_are nexts_are list_of_is = record {
@@ -34,6 +55,7 @@ lists_none firsts lasts nexts list_of count firsts_are nexts_are list_of_is = re
   linked = λ l below. rw firsts_are (get_or-replicate count l None None (omega (arith, below, ap length firsts_are, length-replicate {A = Option ℕ} count None)));
   ended = λ l below. tt;
   complete = λ l p is. absurd (nothing p l (subst (λ (xs : List (Option ℕ)). get_or xs p None ≡ Some l) list_of_is is));
+  below = λ l p is. absurd (nothing p l (subst (λ (xs : List (Option ℕ)). get_or xs p None ≡ Some l) list_of_is is));
   sound = λ l p among. absurd among;
 }
   where
@@ -103,6 +125,10 @@ lists_taken firsts lasts nexts list_of list place next h within is next_is =
           rw yes (⊎_elim (λ at. absurd (there at)) (λ among. among) (subst (IsAmong p) (ap h.chain same ∙ opened.1) (h.complete l p was))))
           (λ no. rw no (h.complete l p was))
           (cases_Bool (eqb l list)))
+          (cases_eq p place);
+      below = λ l p has. ⊎_elim
+          (λ here. absurd (taken p (get_or-set_same list_of place None None found.0) l (subst (λ (n : ℕ). get_or (set list_of place None) n None ≡ Some l) here has)))
+          (λ there. omega (arith, length-set firsts list next, h.below l p (sym (get_or-set_other list_of place p None None there) ∙ has)))
           (cases_eq p place);
       sound = λ l p. ⊎_elim
           (λ yes. rw yes (λ among.
@@ -174,9 +200,9 @@ chain_pushed nexts first p (q ∷ qs) place h out room within =
 
 -- a list with a place more, which was in none
 lists_put : (firsts firsts2 : List (Option ℕ)) (lasts : List ℕ) (nexts nexts2 list_of : List (Option ℕ)) (list place : ℕ) (h : AreLists firsts lasts nexts list_of) → place < length list_of → get_or list_of place None ≡ None
-    → list < length lasts → length firsts2 ≡ length firsts → length nexts2 ≡ length nexts → IsChain nexts2 (get_or firsts2 list None) (h.chain list ++ place ∷ [])
+    → list < length firsts → list < length lasts → length firsts2 ≡ length firsts → length nexts2 ≡ length nexts → IsChain nexts2 (get_or firsts2 list None) (h.chain list ++ place ∷ [])
     → ((l : ℕ) → l ≢ list → l < length firsts → IsChain nexts2 (get_or firsts2 l None) (h.chain l)) → AreLists firsts2 (set lasts list place) nexts2 (set list_of place (Some list))
-lists_put firsts firsts2 lasts nexts nexts2 list_of list place h room free within firsts_size nexts_size linked others = record {
+lists_put firsts firsts2 lasts nexts nexts2 list_of list place h room free inside within firsts_size nexts_size linked others = record {
   size = omega (arith, h.size, length-set list_of place (Some list), nexts_size);
   chain = λ l. cond (eqb l list) (h.chain list ++ place ∷ []) (h.chain l);
   linked = λ l below. ⊎_elim (λ yes. let same : l ≡ list = eqb-true l list yes in rw (yes, same) linked) (λ no. rw no (others l (λ same. differ l no same) (omega (arith, below, firsts_size)))) (cases_Bool (eqb l list));
@@ -198,6 +224,12 @@ lists_put firsts firsts2 lasts nexts nexts2 list_of list place h room free withi
       (λ yes. let same : l ≡ list = eqb-true l list yes in rw yes (among_left (h.chain list) p place (subst (λ (n : ℕ). IsAmong p (h.chain n)) same (h.complete l p was))))
       (λ no. rw no (h.complete l p was))
       (cases_Bool (eqb l list)))
+      (cases_eq p place);
+  below = λ l p has. ⊎_elim
+      (λ here.
+      let same : l ≡ list = cc (has, ap (λ (n : ℕ). get_or (set list_of place (Some list)) n None) here, get_or-set_same list_of place (Some list) None room) in
+      omega (arith, same, inside, firsts_size))
+      (λ there. omega (arith, firsts_size, h.below l p (sym (get_or-set_other list_of place p (Some list) None there) ∙ has)))
       (cases_eq p place);
   sound = λ l p. ⊎_elim
       (λ yes. rw yes (λ among.
@@ -233,7 +265,7 @@ outside firsts lasts nexts list_of place h free l among = let was = h.sound l pl
 pub lists_put_first : (firsts : List (Option ℕ)) (lasts : List ℕ) (nexts list_of : List (Option ℕ)) (list place : ℕ) → AreLists firsts lasts nexts list_of → list < length firsts → list < length lasts → place < length list_of
     → get_or list_of place None ≡ None → get_or firsts list None ≡ None → AreLists (set firsts list (Some place)) (set lasts list place) (set nexts place None) (set list_of place (Some list))
 lists_put_first firsts lasts nexts list_of list place h within also room free empty =
-    lists_put firsts (set firsts list (Some place)) lasts nexts (set nexts place None) list_of list place h room free also (length-set firsts list (Some place)) (length-set nexts place None)
+    lists_put firsts (set firsts list (Some place)) lasts nexts (set nexts place None) list_of list place h room free within also (length-set firsts list (Some place)) (length-set nexts place None)
     (alone (h.chain list) (h.linked list within))
     (λ l other below. subst (λ (f : Option ℕ). IsChain (set nexts place None) f (h.chain l)) (sym (get_or-set_other firsts list l (Some place) None other))
     (chain_frame nexts (get_or firsts l None) (h.chain l) place None (h.linked l below) (outside firsts lasts nexts list_of place h free l)))
@@ -258,7 +290,7 @@ pub lists_put_last : (firsts : List (Option ℕ)) (lasts : List ℕ) (nexts list
     → get_or list_of place None ≡ None → get_or firsts list None ≡ Some first → last ≡ get_or lasts list 0
     → AreLists firsts (set lasts list place) (set (set nexts place None) last (Some place)) (set list_of place (Some list))
 lists_put_last firsts lasts nexts list_of list place last first h within also room free some last_is =
-    lists_put firsts firsts lasts nexts (set (set nexts place None) last (Some place)) list_of list place h room free also refl
+    lists_put firsts firsts lasts nexts (set (set nexts place None) last (Some place)) list_of list place h room free within also refl
     (length-set (set nexts place None) last (Some place) ∙ length-set nexts place None)
     (grown (h.chain list) (h.linked list within) (h.ended list within) (λ q among. h.sound list q among) (outside firsts lasts nexts list_of place h free list))
     (λ l other below. chain_frame (set nexts place None) (get_or firsts l None) (h.chain l) last (Some place)
@@ -276,32 +308,55 @@ lists_put_last firsts lasts nexts list_of list place last first h within also ro
         subst (λ (n : ℕ). IsChain (set (set nexts place None) n (Some place)) (get_or firsts list None) (p ∷ ps ++ place ∷ [])) (sym (last_is ∙ ended))
         (chain_pushed nexts (get_or firsts list None) p ps place linked out (omega (arith, room, h.size)) (omega (arith, last_found.0, h.size)))
 
--- two places more, in no list
-pub lists_added : (firsts : List (Option ℕ)) (lasts : List ℕ) (nexts list_of : List (Option ℕ)) → AreLists firsts lasts nexts list_of → AreLists firsts lasts (nexts ++ None ∷ None ∷ []) (list_of ++ None ∷ None ∷ [])
+-- a place more, in no list
+pub lists_added : (firsts : List (Option ℕ)) (lasts : List ℕ) (nexts list_of : List (Option ℕ)) → AreLists firsts lasts nexts list_of → AreLists firsts lasts (nexts ++ None ∷ []) (list_of ++ None ∷ [])
 lists_added firsts lasts nexts list_of h = record {
-  size = omega (arith, h.size, length-append nexts (None ∷ None ∷ []), length-append list_of (None ∷ None ∷ []));
+  size = omega (arith, h.size, length-append nexts (None ∷ []), length-append list_of (None ∷ []));
   chain = h.chain;
-  linked = λ l below. chain_more nexts (None ∷ None ∷ []) (get_or firsts l None) (h.chain l) (λ q among. omega (arith, h.size, (h.sound l q among).0)) (h.linked l below);
+  linked = λ l below. chain_more nexts (None ∷ []) (get_or firsts l None) (h.chain l) (λ q among. omega (arith, h.size, (h.sound l q among).0)) (h.linked l below);
   ended = h.ended;
   complete = λ l p has. ⊎_elim
-      (λ old. h.complete l p (sym (get_or_append_left list_of (None ∷ None ∷ []) None p old) ∙ has))
-      (λ past. absurd (blank p past l has))
+      (λ old. h.complete l p (sym (get_or_append_left list_of (None ∷ []) None p old) ∙ has))
+      (λ past. absurd (not_in (None ∷ []) list_of p l (past_last list_of p past) has))
+      (cases_lt p (length list_of));
+  below = λ l p has. ⊎_elim
+      (λ old. h.below l p (sym (get_or_append_left list_of (None ∷ []) None p old) ∙ has))
+      (λ past. absurd (not_in (None ∷ []) list_of p l (past_last list_of p past) has))
       (cases_lt p (length list_of));
   sound = λ l p among.
       let was = h.sound l p among in
-      (omega (arith, was.0, length-append list_of (None ∷ None ∷ [])), get_or_append_left list_of (None ∷ None ∷ []) None p was.0 ∙ was.1);
+      (omega (arith, was.0, length-append list_of (None ∷ [])), get_or_append_left list_of (None ∷ []) None p was.0 ∙ was.1);
+}
+
+-- the last place less, which is in no list
+pub lists_dropped : (firsts : List (Option ℕ)) (lasts : List ℕ) (nexts : List (Option ℕ)) (next : Option ℕ) (list_of : List (Option ℕ)) → AreLists firsts lasts (nexts ++ next ∷ []) (list_of ++ None ∷ []) → AreLists firsts lasts nexts list_of
+lists_dropped firsts lasts nexts next list_of h = record {
+  size = same_size;
+  chain = h.chain;
+  linked = λ l below. chain_less nexts (next ∷ []) (get_or firsts l None) (h.chain l) (λ q among. omega (arith, same_size, within l q among)) (h.linked l below);
+  ended = h.ended;
+  complete = λ l p has. ⊎_elim
+      (λ old. h.complete l p (get_or_append_left list_of (None ∷ []) None p old ∙ has))
+      (λ past. absurd (one_of (get_or_past list_of p None past) has))
+      (cases_lt p (length list_of));
+  below = λ l p has. ⊎_elim
+      (λ old. h.below l p (get_or_append_left list_of (None ∷ []) None p old ∙ has))
+      (λ past. absurd (one_of (get_or_past list_of p None past) has))
+      (cases_lt p (length list_of));
+  sound = λ l p among. (within l p among, sym (get_or_append_left list_of (None ∷ []) None p (within l p among)) ∙ (h.sound l p among).1);
 }
   where
-    nothing : (i : ℕ) → get_or {A = Option ℕ} (None ∷ None ∷ []) i None ≡ None
-    nothing zero = refl
-    nothing (suc zero) = refl
-    nothing (suc (suc i)) = refl
+    same_size : length nexts ≡ length list_of
+    same_size = omega (arith, h.size, length-append nexts (next ∷ []), length-append list_of (None ∷ []))
 
-    past_both : (xs : List (Option ℕ)) (p : ℕ) → length xs ≤ p → get_or (xs ++ None ∷ None ∷ []) p None ≡ None
-    past_both xs p past = get_or-append_right xs (None ∷ None ∷ []) (length xs) p None refl past ∙ nothing (p - length xs)
+    one_of : {o : Option ℕ} {l : ℕ} → o ≡ None → o ≡ Some l → ⊥
+    one_of a b = cc (a, b)
 
-    blank : (p : ℕ) → length list_of ≤ p → (l : ℕ) → get_or (list_of ++ None ∷ None ∷ []) p None ≡ Some l → ⊥
-    blank p past l has = let e : get_or (list_of ++ None ∷ None ∷ []) p None ≡ None = past_both list_of p past in cc
+    within : (l p : ℕ) → IsAmong p (h.chain l) → p < length list_of
+    within l p among = ⊎_elim
+        (λ old. old)
+        (λ past. absurd (one_of (past_last list_of p past) (h.sound l p among).1))
+        (cases_lt p (length list_of))
 
 -- an element, read under another default
 pub read_option : (xs : List (Option ℕ)) (i : ℕ) (x : Option ℕ) → i < length xs → x ≡ get_or xs i x → get_or xs i None ≡ x
@@ -388,6 +443,7 @@ lists_cleared firsts lasts nexts list_of old place h past nexts_are list_of_is =
   linked = λ l below. ⊎_elim (λ empty. empty) (λ some. absurd (omega (arith, past, some.1, some.2))) (h l below);
   ended = λ l below. tt;
   complete = λ l p is. absurd (nothing p l (subst (λ (xs : List (Option ℕ)). get_or xs p None ≡ Some l) list_of_is is));
+  below = λ l p is. absurd (nothing p l (subst (λ (xs : List (Option ℕ)). get_or xs p None ≡ Some l) list_of_is is));
   sound = λ l p among. absurd among;
 }
   where

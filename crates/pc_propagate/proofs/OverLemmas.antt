@@ -1,11 +1,12 @@
 -- Trails over clauses, one step further.
-use Rattle.std.proofs.Common.{All, append_assoc, ◌≢◌, ◌+◌, ◌-◌, ◌/◌, ◌≤◌, ap, ◌∙◌, inl, inr, set, length-append, ◌≡◌, ℕ, ◌<◌, List, [], ◌∷◌, ◌++◌, Some, None, length, get_or, take, refl, sym, subst, arith, Contains, ⊎_elim, IfSome, Option}
-use Rattle.std.proofs.lemmas.Bool.{cases_lt, cases_eq}
-use Rattle.std.proofs.lemmas.List.{length-set, get_or-set_same, get_or-set_other, get_or-append_right, take-append-le, take_at, get_or_append_left, get_or_push, length_push, take-take, get_or-take, length-take}
+use Rattle.std.proofs.Common.{All, ◌+◌, ◌≤◌, ap, ◌∙◌, inl, inr, set, length-append, ◌≡◌, ℕ, ◌<◌, List, [], ◌∷◌, ◌++◌, Some, None, length, get_or, take, refl, sym, subst, arith, Contains, ⊎_elim, IfSome, Option}
+use Rattle.std.proofs.lemmas.Bool.{cases_lt}
+use Rattle.std.proofs.lemmas.List.{length-set, get_or-set_same, get_or-set_other, take-append-le, take_at, get_or_append_left, get_or_push, length_push, take-take, get_or-take, length-take}
 use Rattle.std.proofs.lemmas.List.Elements.{All-contains, All-push, Contains-append_left}
 use Rattle.pc_lits.specs.declared.literal.Lit.{Lit}
 use Rattle.pc_lits.specs.Literals.{negated}
 use Rattle.pc_lits.specs.Steps.{IsLastOpen}
+use Rattle.pc_watches.specs.Watched.{IsAdded}
 use Rattle.pc_propagate.specs.declared.trail.TrailEntry.{TrailEntry}
 use Rattle.pc_propagate.specs.declared.trail.Placed.{Placed}
 use Rattle.pc_propagate.specs.declared.trail.Placed.TheVariants.{Done, Spent}
@@ -18,12 +19,10 @@ use Rattle.pc_propagate.specs.TrailView.{TrailView}
 use Rattle.pc_propagate.specs.Counts.{PlacesEntry}
 use Rattle.pc_propagate.specs.Levels.{IsBackTo}
 use Rattle.pc_propagate.specs.Over.{AreInRange, IsForcedByReason, AreJustified, IsBased, IsOver}
-use Rattle.pc_propagate.specs.inside.Lists.{ListsView}
 use Rattle.pc_propagate.specs.Attached.{IsAttached, IsBlank}
-use Rattle.pc_propagate.specs.Watching.{Watching, pending, partner, no_literal, literal_at, list_at}
-use Rattle.pc_propagate.specs.Watched.{GuardEachOther, IsGuarded, AreWatched, clause_of_place}
-use Rattle.pc_propagate.proofs.GuardLemmas.{pair-back}
-use Rattle.pc_propagate.proofs.WatchLemmas.{place_map, kept_map, clause_of-same, but_grown, partner_within}
+use Rattle.pc_propagate.specs.Watching.{Watching, body_at, wait_at}
+use Rattle.pc_propagate.specs.Watched.{IsSure, IsPending, IsKept, AreKeptBut, AreKept, attached_clause}
+use Rattle.pc_propagate.proofs.KeptLemmas.{sure_append, sure_back}
 use Rattle.pc_propagate.specs.Laws.{ClausesMayBeAdded}
 
 AreJustified-push : (axioms more : List (List Lit)) (attached : List ClauseRef) (entries : List TrailEntry) (e : TrailEntry) → AreJustified axioms more attached entries → IsForcedByReason axioms more attached entries e
@@ -45,8 +44,33 @@ AreJustified-take axioms more attached entries n h i d below =
 pub based : (axioms more : List (List Lit)) (trail : TrailView) → IsOver axioms more trail → IsBased axioms more trail
 based axioms more trail h = record { stand = h.stand; in_range = h.in_range; justified = h.justified }
 
-pub over_from : (axioms more : List (List Lit)) (trail : TrailView) → IsBased axioms more trail → AreWatched axioms more trail → IsOver axioms more trail
-over_from axioms more trail h watched = record { stand = h.stand; in_range = h.in_range; justified = h.justified; watched = watched }
+pub over_from : (axioms more : List (List Lit)) (trail : TrailView) → IsBased axioms more trail → AreKept axioms more trail → IsOver axioms more trail
+over_from axioms more trail h kept = record { stand = h.stand; in_range = h.in_range; justified = h.justified; kept = kept }
+
+-- what is known of a clause by its number
+pub kept_by : (old new : TrailView) (head less n : ℕ) → (IsPending old n → IsPending new n) → (IsSure old.entries head (body_at old.watching n) → IsSure new.entries less (body_at new.watching n)) → IsKept old head n → IsKept new less n
+kept_by old new head less n stay sure h = ⊎_elim (λ waits. inl (stay waits)) (λ known. inr (sure known)) h
+
+pub pending_by : (old new : TrailView) (n : ℕ) → wait_at new.watching n ≡ wait_at old.watching n → IsPending old n → IsPending new n
+pending_by old new n same waits = ⊎_elim (λ next. inl (same ∙ next)) (λ present. inr (same ∙ present)) waits
+
+-- more entries, and nothing else
+pub kept_grown : (old new : TrailView) (added : List TrailEntry) (head n : ℕ) → new.entries ≡ old.entries ++ added → new.watching ≡ old.watching → head ≤ length old.entries → IsKept old head n → IsKept new head n
+kept_grown old new added head n entries watching within h = kept_by old new head head n
+    (pending_by old new n (ap (λ (w : Watching). wait_at w n) watching))
+    (λ sure. rw (entries, watching) (sure_append old.entries added head (body_at old.watching n) within sure)) h
+
+pub but_grown : (but : ℕ → Type 0) (axioms more : List (List Lit)) (old new : TrailView) (added : List TrailEntry) → new.entries ≡ old.entries ++ added → new.attached ≡ old.attached → new.watching ≡ old.watching
+    → AreKeptBut but axioms more old → AreKeptBut but axioms more new
+but_grown but axioms more old new added entries attached watching h = record {
+  bodies = rw (watching, attached) h.bodies;
+  waiting = rw (watching, attached) h.waiting;
+  propagated = omega (arith, ap (λ (w : Watching). w.head) watching, ap length entries, length-append old.entries added, h.propagated);
+  same = λ n below. rw (watching, attached) (h.same n (omega (arith, below, ap length attached)));
+  kept = λ n below. ⊎_elim (λ out. inl out)
+      (λ kept. inr (subst (λ (k : ℕ). IsKept new k n) (sym (ap (λ (w : Watching). w.head) watching)) (kept_grown old new added old.watching.head n entries watching h.propagated kept)))
+      (h.kept n (omega (arith, below, ap length attached)));
+}
 
 -- an entry more
 pub based_push : (axioms more : List (List Lit)) (old new : TrailView) (e : TrailEntry) → new ≡ record old { entries = old.entries ++ e ∷ [] } → IsBased axioms more old → IsForcedByReason axioms more old.attached old.entries e
@@ -58,7 +82,7 @@ pub over_push : (axioms more : List (List Lit)) (old new : TrailView) (e : Trail
     → IsOver axioms more new
 over_push axioms more old new e is h here =
     over_from axioms more new (based_push axioms more old new e is (based axioms more old h) here)
-    (but_grown (λ p. ⊥) axioms more old new (e ∷ []) (ap (λ (t : TrailView). t.entries) is) (ap (λ (t : TrailView). t.variables) is) (ap (λ (t : TrailView). t.attached) is) (ap (λ (t : TrailView). t.watching) is) h.watched)
+    (but_grown (λ n. ⊥) axioms more old new (e ∷ []) (ap (λ (t : TrailView). t.entries) is) (ap (λ (t : TrailView). t.attached) is) (ap (λ (t : TrailView). t.watching) is) h.kept)
 
 pub based_placed : (axioms more : List (List Lit)) (old new : TrailView) (before after : Tally) (e : TrailEntry) (placed : Placed) → PlacesEntry e old new before after placed → IsBased axioms more old
     → IsForcedByReason axioms more old.attached old.entries e → IsBased axioms more new
@@ -70,67 +94,56 @@ pub over_placed : (axioms more : List (List Lit)) (old new : TrailView) (before 
 over_placed axioms more old new before after e Done is h here = over_push axioms more old new e is.0 h here
 over_placed axioms more old new before after e Spent is h here = subst (IsOver axioms more) (sym is.0) h
 
--- a clause more, at which each propagation looks for now
-watched_attached : (axioms more : List (List Lit)) (old new : TrailView) (reference : ClauseRef) (l : Lit) → IsAttached reference old new → new.watching.head ≡ old.watching.head
-    → new.watching.literals ≡ old.watching.literals ++ l ∷ l ∷ []
-    → new.watching.lists ≡ set (old.watching.lists ++ None ∷ None ∷ []) (length old.watching.lists) (Some (pending old.variables))
-    → AreWatched axioms more old → AreWatched axioms more new
-watched_attached axioms more old new reference l is head literals lists h = record {
-  literals = omega (arith, ap length literals, length-append old.watching.literals (l ∷ l ∷ []), ap length is.attached, length_push old.attached reference, h.literals);
-  lists = omega (arith, size, ap length is.attached, length_push old.attached reference, h.lists);
+-- a clause more, which waits
+kept_attached : (axioms more : List (List Lit)) (old new : TrailView) (reference : ClauseRef) (lits : List Lit) → IsAttached reference old new → new.watching.head ≡ old.watching.head
+    → IsAdded lits old.watching.watched new.watching.watched → new.watching.waiting ≡ set (old.watching.waiting ++ None ∷ []) (length old.watching.waiting) (Some 0)
+    → clause_at axioms more reference ≡ lits → AreKept axioms more old → AreKept axioms more new
+kept_attached axioms more old new reference lits is head added waiting named h = record {
+  bodies = omega (arith, ap length added.bodies, length_push old.watching.watched.bodies added.body, size, h.bodies);
+  waiting = omega (arith, waiting_size, size, h.waiting);
   propagated = omega (arith, head, ap length is.entries, h.propagated);
-  places = λ p below. ⊎_elim
-      (λ before. place_map axioms more axioms more old new p (list p before) (literal p before) is.variables (clause p before) (h.places p before))
-      (λ after. ⊎_elim
-      (λ here. inr (inl (inl (first p here))))
-      (λ there. inl (second p there after below))
-      (cases_eq p (length old.watching.lists)))
-      (cases_lt p (length old.watching.lists));
-  kept = λ p below. inr (⊎_elim
-      (λ before.
-      let other : partner p < length old.watching.lists = omega (arith, partner_within p (length old.attached) (omega (arith, before, h.lists)), h.lists) in
-      subst (λ (n : ℕ). IsGuarded new n p) (sym head)
-      (kept_map old new old.watching.head old.watching.head p (list p before) (list (partner p) other) (literal p before) (literal (partner p) other) is.variables
-      (λ a b pair. subst (λ (es : List TrailEntry). GuardEachOther es old.watching.head a b) (sym is.entries) pair) (⊎_elim (λ b. absurd b) (λ kept. kept) (h.kept p before))))
-      (λ after. ⊎_elim
-      (λ here. inl (inl (first p here)))
-      (λ there. inr (inl (inl (first (partner p) (other_of p there after below)))))
-      (cases_eq p (length old.watching.lists)))
-      (cases_lt p (length old.watching.lists)));
+  same = λ n below. ⊎_elim
+      (λ before. rw (clause n before, body n before) (h.same n before))
+      (λ after. let here : n ≡ length old.attached = omega (arith, below, size, after) in rw (last_clause n here, last_body n here) (record { from = added.from; all = added.all }))
+      (cases_lt n (length old.attached));
+  kept = λ n below. inr (⊎_elim
+      (λ before. subst (λ (k : ℕ). IsKept new k n) (sym head)
+      (kept_by old new old.watching.head old.watching.head n (pending_by old new n (wait n before)) (λ sure. rw (is.entries, body n before) sure)
+      (⊎_elim (λ out. absurd out) (λ kept. kept) (h.kept n before))))
+      (λ after. inl (inl (last_wait n (omega (arith, below, size, after)))))
+      (cases_lt n (length old.attached)));
 }
   where
-    two : List (Option ℕ)
-    two = None ∷ None ∷ []
+    size : length new.attached ≡ length old.attached + 1
+    size = ap length is.attached ∙ length_push old.attached reference
 
-    size : length new.watching.lists ≡ length old.watching.lists + 2
-    size = ap length lists ∙ length-set (old.watching.lists ++ None ∷ None ∷ []) (length old.watching.lists) (Some (pending old.variables)) ∙ length-append old.watching.lists (None ∷ None ∷ [])
+    waiting_size : length new.watching.waiting ≡ length old.watching.waiting + 1
+    waiting_size = ap length waiting ∙ length-set (old.watching.waiting ++ None ∷ []) (length old.watching.waiting) (Some 0) ∙ length_push old.watching.waiting None
 
-    list : (p : ℕ) → p < length old.watching.lists → list_at new.watching p ≡ list_at old.watching p
-    list p before = ap (λ (xs : List (Option ℕ)). get_or xs p None) lists
-        ∙ get_or-set_other (old.watching.lists ++ None ∷ None ∷ []) (length old.watching.lists) p (Some (pending old.variables)) None (omega arith)
-        ∙ get_or_append_left old.watching.lists (None ∷ None ∷ []) None p before
+    clause : (n : ℕ) → n < length old.attached → attached_clause axioms more new n ≡ attached_clause axioms more old n
+    clause n before = ap (clause_at axioms more) (ap (λ (rs : List ClauseRef). get_or rs n (Axiom 0)) is.attached ∙ get_or_append_left old.attached (reference ∷ []) (Axiom 0) n before)
 
-    literal : (p : ℕ) → p < length old.watching.lists → literal_at new.watching p ≡ literal_at old.watching p
-    literal p before = ap (λ (xs : List Lit). get_or xs p no_literal) literals ∙ get_or_append_left old.watching.literals (l ∷ l ∷ []) no_literal p (omega (arith, before, h.lists, h.literals))
+    last_clause : (n : ℕ) → n ≡ length old.attached → attached_clause axioms more new n ≡ lits
+    last_clause n here = ap (clause_at axioms more) (ap (λ (rs : List ClauseRef). get_or rs n (Axiom 0)) is.attached ∙ get_or_push old.attached reference (Axiom 0) n (sym here)) ∙ named
 
-    clause : (p : ℕ) → p < length old.watching.lists → clause_of_place axioms more new p ≡ clause_of_place axioms more old p
-    clause p before = ap (clause_at axioms more) (ap (λ (rs : List ClauseRef). get_or rs (p / 2) (Axiom 0)) is.attached ∙ get_or_append_left old.attached (reference ∷ []) (Axiom 0) (p / 2) (omega (arith, before, h.lists)))
+    body : (n : ℕ) → n < length old.attached → body_at new.watching n ≡ body_at old.watching n
+    body n before = ap (λ (bs : List (List Lit)). get_or bs n []) added.bodies ∙ get_or_append_left old.watching.watched.bodies (added.body ∷ []) [] n (omega (arith, before, h.bodies))
 
-    first : (p : ℕ) → p ≡ length old.watching.lists → list_at new.watching p ≡ Some (pending new.variables)
-    first p here = rw (is.variables, lists, here) (get_or-set_same (old.watching.lists ++ None ∷ None ∷ []) (length old.watching.lists) (Some (pending old.variables)) None (omega (arith, length-append old.watching.lists (None ∷ None ∷ []))))
+    last_body : (n : ℕ) → n ≡ length old.attached → body_at new.watching n ≡ added.body
+    last_body n here = ap (λ (bs : List (List Lit)). get_or bs n []) added.bodies ∙ get_or_push old.watching.watched.bodies added.body [] n (omega (arith, here, h.bodies))
 
-    second : (p : ℕ) → p ≢ length old.watching.lists → length old.watching.lists ≤ p → p < length new.watching.lists → list_at new.watching p ≡ None
-    second p there after below = ap (λ (xs : List (Option ℕ)). get_or xs p None) lists
-        ∙ get_or-set_other (old.watching.lists ++ None ∷ None ∷ []) (length old.watching.lists) p (Some (pending old.variables)) None there
-        ∙ get_or-append_right old.watching.lists (None ∷ None ∷ []) (length old.watching.lists) p None refl after ∙ ap (λ (n : ℕ). get_or {A = Option ℕ} (None ∷ None ∷ []) n None) one
+    wait : (n : ℕ) → n < length old.attached → wait_at new.watching n ≡ wait_at old.watching n
+    wait n before = ap (λ (xs : List (Option ℕ)). get_or xs n None) waiting
+        ∙ get_or-set_other (old.watching.waiting ++ None ∷ []) (length old.watching.waiting) n (Some 0) None (λ same. omega (arith, same, before, h.waiting))
+        ∙ get_or_append_left old.watching.waiting (None ∷ []) None n (omega (arith, before, h.waiting))
+
+    last_wait : (n : ℕ) → n ≡ length old.attached → wait_at new.watching n ≡ Some 0
+    last_wait n here = ap (λ (xs : List (Option ℕ)). get_or xs n None) waiting
+        ∙ ap (get_or_at (set (old.watching.waiting ++ None ∷ []) (length old.watching.waiting) (Some 0))) (let e : n ≡ length old.watching.waiting = omega (arith, here, h.waiting) in e)
+        ∙ get_or-set_same (old.watching.waiting ++ None ∷ []) (length old.watching.waiting) (Some 0) None (omega (arith, length_push old.watching.waiting (let o : Option ℕ = None in o)))
       where
-        one : p - length old.watching.lists ≡ 1
-        one = omega (arith, below, size, after, there)
-
-    other_of : (p : ℕ) → p ≢ length old.watching.lists → length old.watching.lists ≤ p → p < length new.watching.lists → partner p ≡ length old.watching.lists
-    other_of p there after below =
-        let is_last : p ≡ length old.watching.lists + 1 = omega (arith, below, size, after, there) in
-        omega (arith, is_last, h.lists)
+        get_or_at : List (Option ℕ) → ℕ → Option ℕ
+        get_or_at xs k = get_or xs k None
 
 -- a reason stays attached
 justified_attached : (axioms more : List (List Lit)) (attached : List ClauseRef) (clause : ClauseRef) (earlier : List TrailEntry) (l : Lit) (reason : Option ClauseRef)
@@ -139,42 +152,36 @@ justified_attached : (axioms more : List (List Lit)) (attached : List ClauseRef)
 justified_attached axioms more attached clause earlier l None h = tt
 justified_attached axioms more attached clause earlier l (Some r) h = (Contains-append_left attached (clause ∷ []) r h.0, h.1)
 
-pub over_attached : (axioms more : List (List Lit)) (old new : TrailView) (reference : ClauseRef) (lits : List Lit) (l : Lit) → IsAttached reference old new → new.watching.head ≡ old.watching.head
-    → new.watching.literals ≡ old.watching.literals ++ l ∷ l ∷ []
-    → new.watching.lists ≡ set (old.watching.lists ++ None ∷ None ∷ []) (length old.watching.lists) (Some (pending old.variables))
+pub over_attached : (axioms more : List (List Lit)) (old new : TrailView) (reference : ClauseRef) (lits : List Lit) → IsAttached reference old new → new.watching.head ≡ old.watching.head
+    → IsAdded lits old.watching.watched new.watching.watched → new.watching.waiting ≡ set (old.watching.waiting ++ None ∷ []) (length old.watching.waiting) (Some 0)
     → AreInRange old.variables lits → IsOver axioms more old → IsRef axioms more reference → clause_at axioms more reference ≡ lits → IsOver axioms more new
-over_attached axioms more old new reference lits l is head literals lists within h named same = record {
+over_attached axioms more old new reference lits is head added waiting within h named same = record {
   stand = rw is.attached (All-push (IsRef axioms more) old.attached reference h.stand named);
   in_range = rw (is.attached, is.variables) (All-push (λ (r : ClauseRef). AreInRange old.variables (clause_at axioms more r)) old.attached reference h.in_range (rw same within));
   justified = rw (is.entries, is.attached)
       (λ i d below. justified_attached axioms more old.attached reference (take i old.entries) (get_or old.entries i d).literal (get_or old.entries i d).reason (h.justified i d below));
-  watched = watched_attached axioms more old new reference l is head literals lists h.watched;
+  kept = kept_attached axioms more old new reference lits is head added waiting same h.kept;
 }
 
 -- levels fewer
-pub over_back : (axioms more : List (List Lit)) (level : ℕ) (old new : TrailView) → IsBackTo level old new → new.watching.literals ≡ old.watching.literals → new.watching.lists ≡ old.watching.lists
+pub over_back : (axioms more : List (List Lit)) (level : ℕ) (old new : TrailView) → IsBackTo level old new → new.watching.watched ≡ old.watching.watched → new.watching.waiting ≡ old.watching.waiting
     → new.watching.head ≤ old.watching.head → new.watching.head ≤ length new.entries → IsOver axioms more old → IsOver axioms more new
-over_back axioms more level old new back literals lists fewer within h = record {
+over_back axioms more level old new back watched waiting fewer within h = record {
   stand = rw back.attached h.stand;
   in_range = rw (back.attached, back.variables) h.in_range;
   justified = rw (back.kept, back.attached) (AreJustified-take axioms more old.attached old.entries back.count h.justified);
-  watched = record {
-    literals = omega (arith, ap length literals, ap length back.attached, h.watched.literals);
-    lists = omega (arith, ap length lists, ap length back.attached, h.watched.lists);
+  kept = record {
+    bodies = rw (watched, back.attached) h.kept.bodies;
+    waiting = rw (waiting, back.attached) h.kept.waiting;
     propagated = within;
-    places = λ p below. place_map axioms more axioms more old new p (list p) (literal p) back.variables (clause_of-same axioms more old new p back.attached) (h.watched.places p (omega (arith, below, ap length lists)));
-    kept = λ p below. ⊎_elim (λ b. absurd b)
-        (λ kept. inr (kept_map old new old.watching.head new.watching.head p (list p) (list (partner p)) (literal p) (literal (partner p)) back.variables
-        (λ l m pair. pair-back old new level old.watching.head new.watching.head l m back fewer within pair) kept))
-        (h.watched.kept p (omega (arith, below, ap length lists)));
+    same = λ n below. rw (watched, back.attached) (h.kept.same n (omega (arith, below, ap length back.attached)));
+    kept = λ n below. ⊎_elim (λ out. inl out)
+        (λ kept. inr (kept_by old new old.watching.head new.watching.head n
+        (pending_by old new n (ap (λ (xs : List (Option ℕ)). get_or xs n None) waiting))
+        (λ sure. rw watched (sure_back old new level old.watching.head new.watching.head (body_at old.watching n) back fewer within sure)) kept))
+        (h.kept.kept n (omega (arith, below, ap length back.attached)));
   };
 }
-  where
-    list : (p : ℕ) → list_at new.watching p ≡ list_at old.watching p
-    list p = ap (λ (xs : List (Option ℕ)). get_or xs p None) lists
-
-    literal : (p : ℕ) → literal_at new.watching p ≡ literal_at old.watching p
-    literal p = ap (λ (xs : List Lit). get_or xs p no_literal) literals
 
 -- how far propagation has come is noted beside
 pub back_same : (level head : ℕ) (old mid : TrailView) → IsBackTo level old mid → IsBackTo level old (record mid { watching = record mid.watching { head = head } })
@@ -186,32 +193,20 @@ pub back_over : (axioms more : List (List Lit)) (level head : ℕ) (old mid : Tr
 back_over axioms more level head old mid back same fewer within h =
     over_back axioms more level old (record mid { watching = record mid.watching { head = head } })
     (back_same level head old mid back)
-    (ap (λ (w : Watching). w.literals) same) (ap (λ (w : Watching). w.lists) same) (omega (arith, fewer, ap (λ (w : Watching). w.head) same)) within h
-
--- the lists of the trail with two places more
-pub attached_lists : (old mid new : ListsView) (place list variables : ℕ) (l : Lit) → mid ≡ record old { list_of = old.list_of ++ None ∷ None ∷ []; literals = old.literals ++ l ∷ l ∷ [] } → new ≡ record mid { list_of = set mid.list_of place (Some list) }
-    → place ≡ length old.list_of → list ≡ pending variables → new.list_of ≡ set (old.list_of ++ None ∷ None ∷ []) (length old.list_of) (Some (pending variables))
-attached_lists old mid new place list variables l mid_is new_is place_is list_is = rw (new_is, mid_is, place_is, list_is) refl
-
-pub attached_literals : (old mid new : ListsView) (place list : ℕ) (l : Lit) → mid ≡ record old { list_of = old.list_of ++ None ∷ None ∷ []; literals = old.literals ++ l ∷ l ∷ [] } → new ≡ record mid { list_of = set mid.list_of place (Some list) }
-    → new.literals ≡ old.literals ++ l ∷ l ∷ []
-attached_literals old mid new place list l mid_is new_is = rw (new_is, mid_is) refl
-
-pub two_pushed : {X : Type 0} (a b c d : List X) (x : X) → b ≡ a → c ≡ b ++ x ∷ [] → d ≡ c ++ x ∷ [] → d ≡ a ++ x ∷ x ∷ []
-two_pushed a b c d x first second third = rw (third, second, first) (append_assoc a (x ∷ []) (x ∷ []))
+    (ap (λ (w : Watching). w.watched) same) (ap (λ (w : Watching). w.waiting) same) (omega (arith, fewer, ap (λ (w : Watching). w.head) same)) within h
 
 -- no clauses
-pub over_blank : (axioms more : List (List Lit)) (trail : TrailView) → IsBlank trail → trail.watching.literals ≡ [] → trail.watching.lists ≡ [] → trail.watching.head ≡ 0 → IsOver axioms more trail
-over_blank axioms more trail blank literals lists head = record {
+pub over_blank : (axioms more : List (List Lit)) (trail : TrailView) → IsBlank trail → trail.watching.watched.bodies ≡ [] → trail.watching.waiting ≡ [] → trail.watching.head ≡ 0 → IsOver axioms more trail
+over_blank axioms more trail blank bodies waiting head = record {
   stand = λ k d below. absurd (omega (arith, below, ap length blank.attached));
   in_range = λ k d below. absurd (omega (arith, below, ap length blank.attached));
   justified = λ k d below. absurd (omega (arith, below, ap length blank.entries));
-  watched = record {
-    literals = omega (arith, ap length literals, ap length blank.attached);
-    lists = omega (arith, ap length lists, ap length blank.attached);
+  kept = record {
+    bodies = omega (arith, ap length bodies, ap length blank.attached);
+    waiting = omega (arith, ap length waiting, ap length blank.attached);
     propagated = omega (arith, head);
-    places = λ p below. absurd (omega (arith, below, ap length lists));
-    kept = λ p below. absurd (omega (arith, below, ap length lists));
+    same = λ n below. absurd (omega (arith, below, ap length blank.attached));
+    kept = λ n below. absurd (omega (arith, below, ap length blank.attached));
   };
 }
 
@@ -256,12 +251,11 @@ over_more axioms more clause trail h = record {
   stand = λ k d below. ref_more axioms more clause (get_or trail.attached k d) (h.stand k d below);
   in_range = λ k d below. rw (clause_more axioms more clause (get_or trail.attached k d) (h.stand k d below)) (h.in_range k d below);
   justified = λ i d below. justified_more axioms more trail.attached clause (take i trail.entries) (get_or trail.entries i d).literal (get_or trail.entries i d).reason h.stand (h.justified i d below);
-  watched = record {
-    literals = h.watched.literals;
-    lists = h.watched.lists;
-    propagated = h.watched.propagated;
-    places = λ p below. place_map axioms more axioms (more ++ clause ∷ []) trail trail p refl refl refl
-        (clause_more axioms more clause (get_or trail.attached (p / 2) (Axiom 0)) (h.stand (p / 2) (Axiom 0) (omega (arith, below, h.watched.lists)))) (h.watched.places p below);
-    kept = h.watched.kept;
+  kept = record {
+    bodies = h.kept.bodies;
+    waiting = h.kept.waiting;
+    propagated = h.kept.propagated;
+    same = λ n below. rw (clause_more axioms more clause (get_or trail.attached n (Axiom 0)) (h.stand n (Axiom 0) below)) (h.kept.same n below);
+    kept = h.kept.kept;
   };
 }

@@ -4,5 +4,4 @@ pub mod LeftOn
 pub mod Turns
 pub mod Links
 pub mod Lists
-pub mod Pairs
 pub mod Steady

@@ -3,20 +3,16 @@
 ghost use Rattle.std.specs.Prelude.{◌≡◌, ◌<◌, ◌+◌, ◌^◌, Some};
 ghost use Rattle.pc_propagate.specs.inside.Links.{linked};
 
-use pc_lits::Lit;
-
 /// The link that leads nowhere.
 pub(crate) const NOWHERE: u32 = 0;
 
-/// A place in a list, and the literal that stands with it. A place takes 16 bytes, so that the two of a clause lie side by
-/// side and are fetched together.
+/// A place in a list.
 #[derive(Clone, Copy)]
 pub(crate) struct Place {
     /// The link to the place after it, in its list.
     pub(crate) next: u32,
     /// The link to its list.
     pub(crate) list: u32,
-    pub(crate) literal: Lit,
 }
 
 /// Where a list begins and ends.

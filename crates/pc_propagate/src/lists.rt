@@ -1,15 +1,13 @@
-//! Numbered places in numbered linked lists. Each place is in one list, or in none, and has a literal.
+//! Numbered places in numbered linked lists. Each place is in one list, or in none.
 //!
 //! The lists are linked by the numbers of the places, so that moving a place from one list to another takes no memory. A place
 //! comes in at the end and goes out at the beginning.
 
-ghost use Rattle.std.specs.Prelude.{◌≡◌, ◌≢◌, ◌<◌, ℕ, [], ◌∷◌, ◌++◌, length, IfOk, OnOk, OnErr, IfSome, IfNone, Some, None, slice_index_or, slice_set};
-ghost use Rattle.pc_propagate.specs.Watching.{no_literal};
+ghost use Rattle.std.specs.Prelude.{◌≡◌, ◌≢◌, ◌<◌, ℕ, List, Option, [], ◌∷◌, ◌++◌, length, IfOk, OnOk, OnErr, IfSome, IfNone, Some, None, slice_index_or, slice_set};
 ghost use Rattle.pc_propagate.specs.inside.Links.{emptied, firsts_of, linked};
-ghost use Rattle.pc_propagate.specs.inside.Lists.{ListsView};
+ghost use Rattle.pc_propagate.specs.inside.Lists.{ListsView, HaveMoved};
 
 use crate::links::{Ends, NOWHERE, Place, link_to, linked};
-use pc_lits::Lit;
 use std::alloc::{AllocError, Global};
 use std::marker::Model;
 
@@ -25,12 +23,12 @@ pub(crate) struct Lists {
 
 impl Model for Lists {
     ghost use Rattle.std.specs.Prelude.{length};
-    ghost use Rattle.pc_propagate.specs.inside.Links.{lists_of, literals_of};
+    ghost use Rattle.pc_propagate.specs.inside.Links.{lists_of};
     ghost use Rattle.pc_propagate.specs.inside.Lists.{ListsView, AreLinked};
 
     ghost Value = { ListsView };
 
-    ghost view = { λ l. record { count = length l.ends.items; list_of = lists_of l.places.items; literals = literals_of l.places.items } };
+    ghost view = { λ l. record { count = length l.ends.items; list_of = lists_of l.places.items } };
 
     ghost invariant = { λ l. AreLinked l.ends.items l.places.items };
 }
@@ -38,7 +36,7 @@ impl Model for Lists {
 impl Lists {
     /// So many lists, and no places. There are none where their numbers don't fit into links.
     pub(crate) fn new(alloc: Global, count: usize) -> Result<Lists, AllocError>
-        ensures { IfOk result (λ l. l ≡ record { count = count; list_of = []; literals = [] }) }
+        ensures { IfOk result (λ l. l ≡ record { count = count; list_of = [] }) }
     {
         if count >= MOST {
             return Err(AllocError);
@@ -59,52 +57,37 @@ impl Lists {
         self.places.len()
     }
 
-    /// Two further places with the literal, which are in no list. Without memory there are none.
-    pub(crate) fn add_two(&mut self, literal: Lit) -> Result<(), AllocError>
-        ensures ok { OnOk result (self.new ≡ record self.old { list_of = self.old.list_of ++ None ∷ None ∷ []; literals = self.old.literals ++ literal ∷ literal ∷ [] }) }
+    /// One more place, which is in no list. Without memory there is none.
+    pub(crate) fn add(&mut self) -> Result<(), AllocError>
+        ensures ok { OnOk result (self.new ≡ record self.old { list_of = self.old.list_of ++ None ∷ [] }) }
         ensures err { OnErr result (self.new ≡ self.old) }
     {
-        if self.places.len() >= MOST - 2 {
+        if self.places.len() >= MOST - 1 {
             return Err(AllocError);
         }
-        self.places.reserve(2)?;
         let place = Place {
             next: NOWHERE,
             list: NOWHERE,
-            literal,
         };
         self.places.push(place)?;
-        self.places.push(place)?;
         Ok(())
+    }
+
+    /// Forgets the last place, which is in no list.
+    pub(crate) fn drop_last(&mut self)
+        requires { (front : List (Option ℕ)) × (self.old.list_of ≡ front ++ None ∷ []) }
+        ensures { (front : List (Option ℕ)) → self.old.list_of ≡ front ++ None ∷ [] → self.new ≡ record self.old { list_of = front } }
+    {
+        let _ = self.places.pop();
     }
 
     /// The list of the place.
     pub(crate) fn list_of(&self, place: usize) -> Option<usize>
         requires { place < length self.now.list_of }
-        ensures { result ≡ slice_index_or self.now.list_of place None }
+        ensures is { result ≡ slice_index_or self.now.list_of place None }
+        ensures below { IfSome result (λ list. list < self.now.count) }
     {
         linked(self.places[place].list)
-    }
-
-    /// The literal of the place.
-    pub(crate) fn literal_of(&self, place: usize) -> Lit
-        requires { place < length self.now.list_of }
-        ensures { result ≡ slice_index_or self.now.literals place no_literal }
-    {
-        self.places[place].literal
-    }
-
-    /// Gives the place another literal.
-    pub(crate) fn set_literal(&mut self, place: usize, literal: Lit)
-        requires { place < length self.old.list_of }
-        ensures { self.new ≡ record self.old { literals = slice_set self.old.literals place literal } }
-    {
-        let at = self.places[place];
-        self.places[place] = Place {
-            next: at.next,
-            list: at.list,
-            literal,
-        };
     }
 
     /// Takes the first place out of the list, if there is one.
@@ -126,7 +109,6 @@ impl Lists {
         self.places[place] = Place {
             next: at.next,
             list: NOWHERE,
-            literal: at.literal,
         };
         Some(place)
     }
@@ -139,11 +121,9 @@ impl Lists {
         ensures { self.new ≡ record self.old { list_of = slice_set self.old.list_of place (Some list) } }
     {
         let ends = self.ends[list];
-        let literal = self.places[place].literal;
         self.places[place] = Place {
             next: NOWHERE,
             list: link_to(list),
-            literal,
         };
         if ends.first == NOWHERE {
             self.ends[list] = Ends {
@@ -156,7 +136,6 @@ impl Lists {
             self.places[last] = Place {
                 next: link_to(place),
                 list: at.list,
-                literal: at.literal,
             };
             self.ends[list] = Ends {
                 first: ends.first,
@@ -165,9 +144,21 @@ impl Lists {
         }
     }
 
+    /// Moves all places of a list to another one.
+    pub(crate) fn move_all(&mut self, list: usize, other: usize)
+        requires list { list < self.old.count }
+        requires other { other < self.old.count }
+        requires apart { list ≢ other }
+        ensures { HaveMoved list other self.old self.new }
+    {
+        while let Some(place) = self.take_first(list) {
+            self.put(place, other);
+        }
+    }
+
     /// Forgets all places. It takes time by their number, and not by that of the lists.
     pub(crate) fn clear(&mut self)
-        ensures { self.new ≡ record self.old { list_of = []; literals = [] } }
+        ensures { self.new ≡ record self.old { list_of = [] } }
     {
         for place in 0..self.places.len() {
             empty(&mut self.ends, self.places[place].list);

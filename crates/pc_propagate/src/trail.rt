@@ -3,11 +3,12 @@
 //! The trail of Marques-Silva and Sakallah's GRASP, as in MiniSat: each decision starts a level, each other literal
 //! is there by a clause whose other literals were false before it.
 
-ghost use Rattle.std.specs.Prelude.{◌≡◌, ◌≢◌, ◌^◌, ◌+◌, ◌*◌, ◌/◌, ◌%◌, ◌<◌, ◌≤◌, ℕ, List, [], ◌∷◌, ◌++◌, slice_set, slice_index_or, IfOk, OnOk, OnErr, IfSome, IfNone, IsTrue, ◌↔◌, Some, None, All, length, map, count_by, slice_get, if◌then◌else◌, Contains, not};
+ghost use Rattle.std.specs.Prelude.{◌≡◌, ◌≢◌, ◌+◌, ◌*◌, ◌/◌, ◌<◌, ◌≤◌, ℕ, List, [], ◌∷◌, ◌++◌, slice_set, slice_index_or, IfOk, OnOk, OnErr, IfSome, IfNone, IsTrue, ◌↔◌, Some, None, All, length, map, count_by, slice_get, if◌then◌else◌, Contains, not};
 ghost use Rattle.std.specs.Bool.{OnTrue};
 ghost use Rattle.pc_lits.specs.declared.literal.Lit.{Lit};
 ghost use Rattle.pc_lits.specs.Literals.{negated};
 ghost use Rattle.pc_lits.specs.Steps.{IsLastOpen};
+ghost use Rattle.pc_watches.specs.Watched.{no_literal, code_of, literal_of, watchers, AreListedIn, IsAdded, IsKnown, IsShifted};
 ghost use Rattle.pc_propagate.specs.Entries.{literals, falses, HasValue, starts_level, AreEntries};
 ghost use Rattle.pc_propagate.specs.Levels.{IsEntryOfVariable, IsLevelOf, IsReasonOf, IsBackTo};
 ghost use Rattle.pc_propagate.specs.Refs.{clause_at, IsRef};
@@ -17,13 +18,14 @@ ghost use Rattle.pc_propagate.specs.inside.LeftOn.{IsLeftOn};
 ghost use Rattle.pc_propagate.specs.Counts.{PlacesEntry};
 ghost use Rattle.pc_propagate.specs.inside.Slots.{IsSlotOf};
 ghost use Rattle.pc_propagate.specs.Attached.{IsAttached, IsBlank};
-ghost use Rattle.pc_propagate.specs.Watching.{resting, pending, no_literal, literal_at, list_at};
-ghost use Rattle.pc_propagate.specs.Watched.{IsFalseAt};
-ghost use Rattle.pc_propagate.specs.inside.Steady.{IsWoken};
+ghost use Rattle.pc_propagate.specs.Watching.{body_at, wait_at};
+ghost use Rattle.pc_propagate.specs.Watched.{IsFalseAt, IsOfLastLevel};
+ghost use Rattle.pc_propagate.specs.inside.Steady.{AreAllListed, IsBlocked, HasComeToWait, IsWoken};
 
 use crate::clauses::ClauseRef;
-use crate::pairs::Pairs;
+use crate::lists::Lists;
 use pc_lits::{Left, Lit, Tally, Values, Var, left_of};
+use pc_watches::{Watch, Watched};
 use std::alloc::{AllocError, Global};
 use std::marker::Model;
 
@@ -62,11 +64,11 @@ impl Slot {
     const BLANK: Slot = Slot { place: 0, level: 0 };
 }
 
-// What stands for the literal of a place that watches none.
-const NO_LITERAL: Lit = Lit {
-    variable: Var(0),
-    sign: false,
-};
+// The lists of the clauses that wait: of those at which the next propagation looks, and of those at which the present one goes
+// on to look.
+const NEXT: usize = 0;
+
+const PRESENT: usize = 1;
 
 /// The literals that are true, oldest first, and the clauses that propagation looks at.
 #[derive(Drop)]
@@ -76,25 +78,25 @@ pub struct Trail {
     level: u32,
     slots: Vec<Slot>,
     attached: Vec<ClauseRef>,
-    // The literal that each place watches, and the lists of the places: a pair for each literal, and one for the clauses that
-    // each propagation looks at.
-    pairs: Pairs,
+    // The attached clauses, and which literals they watch.
+    watched: Watched,
+    // In which list each attached clause waits, if it waits.
+    waiting: Lists,
     // How many entries are propagated.
     head: usize,
 }
 
 impl Model for Trail {
-    ghost use Rattle.std.specs.Prelude.{◌≡◌, ◌+◌, ◌≤◌, length, vec_capacity};
-    ghost use Rattle.pc_propagate.specs.Watching.{pending};
+    ghost use Rattle.std.specs.Prelude.{◌≡◌, ◌*◌, length, vec_capacity};
     ghost use Rattle.pc_propagate.specs.TrailView.{TrailView};
     ghost use Rattle.pc_propagate.specs.inside.IsTrail.{IsTrail};
     ghost use Rattle.pc_propagate.specs.inside.Slots.{AreSlots};
 
     ghost Value = { TrailView };
 
-    ghost view = { λ t. record { variables = length t.values; entries = t.entries.items; attached = t.attached.items; watching = record { literals = t.pairs.literals; lists = t.pairs.list_of; head = t.head } } };
+    ghost view = { λ t. record { variables = length t.values; entries = t.entries.items; attached = t.attached.items; watching = record { watched = t.watched; waiting = t.waiting.list_of; head = t.head } } };
 
-    ghost invariant = { λ t. IsTrail t.values t.entries.items t.level (vec_capacity t.entries) × AreSlots t.slots.items t.entries.items (length t.values) × (t.pairs.count ≡ pending (length t.values) + 2) × (length t.pairs.literals ≡ length t.pairs.list_of) };
+    ghost invariant = { λ t. IsTrail t.values t.entries.items t.level (vec_capacity t.entries) × AreSlots t.slots.items t.entries.items (length t.values) × (t.waiting.count ≡ 2) × (length t.watched.lists ≡ 2 * length t.values) };
 }
 
 impl Trail {
@@ -109,7 +111,8 @@ impl Trail {
         let level = 0;
         let slots = vec![in alloc; Slot::BLANK; variables as usize]?;
         let attached = Vec::new(alloc);
-        let pairs = Pairs::new(alloc, 2 * variables as usize + 1)?;
+        let watched = Watched::new(alloc, variables)?;
+        let waiting = Lists::new(alloc, 2)?;
         let head = 0;
         Ok(Trail {
             values,
@@ -117,7 +120,8 @@ impl Trail {
             level,
             slots,
             attached,
-            pairs,
+            watched,
+            waiting,
             head,
         })
     }
@@ -130,11 +134,10 @@ impl Trail {
         ensures over { (axioms more : List (List Lit)) → IsOver axioms more self.old → IsRef axioms more clause → clause_at axioms more clause ≡ lits.now
             → IsOver axioms more self.new }
     {
+        let first = self.best(lits);
+        let second = self.best_after(lits, first);
         self.attached.reserve(1)?;
-        let place = self.pairs.count();
-        self.pairs.add_two(NO_LITERAL)?;
-        let list = 4 * self.values.len();
-        self.pairs.put(place, list);
+        add_waiting(&mut self.watched, &mut self.waiting, lits, first, second)?;
         self.attached.push(clause)?;
         Ok(())
     }
@@ -343,7 +346,8 @@ impl Trail {
     {
         self.pop_all();
         self.attached.clear();
-        self.pairs.clear();
+        self.watched.clear();
+        self.waiting.clear();
         self.head = 0;
     }
 
@@ -385,90 +389,145 @@ impl Trail {
         self.head += 1;
     }
 
-    // The list of the clauses that each propagation looks at.
-    pub(crate) fn pending_list(&self) -> usize
-        ensures is { result ≡ pending self.now.variables }
-        ensures even { result % 2 ≡ 0 }
-        ensures small { result < 2 ^ 34 }
+    // Whether the first entry that isn't propagated, which made the literal false, is of the last level.
+    pub(crate) fn is_of_last_level(&self, lit: Lit) -> bool
+        requires { IsFalseAt self.now.entries self.now.watching.head lit }
+        ensures { OnTrue result (IsOfLastLevel self.now.entries self.now.watching.head) }
     {
-        4 * self.values.len()
+        if self.level_of(lit.variable) < self.level() {
+            return false;
+        }
+        true
     }
 
-    // The list of the place.
-    pub(crate) fn list_at(&self, place: usize) -> Option<usize>
-        requires { place < length self.now.watching.lists }
-        ensures { result ≡ list_at self.now.watching place }
+    // How many places watch the literal.
+    pub(crate) fn watch_count(&self, lit: Lit) -> usize
+        requires { lit.variable.0 < self.now.variables }
+        ensures { result ≡ length (watchers self.now.watching.watched lit) }
     {
-        self.pairs.list_of(place)
+        self.watched.count(lit)
     }
 
-    // Whether the place is in a list of a literal.
-    pub(crate) fn is_listed(&self, place: usize) -> bool
-        requires { place < length self.now.watching.lists }
-        ensures { OnTrue result ((list : ℕ) × (list_at self.now.watching place ≡ Some list) × (list < pending self.now.variables)) }
+    // One of the places that watch the literal, with its blocker.
+    pub(crate) fn watch_at(&self, lit: Lit, index: usize) -> Watch
+        requires in_range { lit.variable.0 < self.now.variables }
+        requires index { index < length (watchers self.now.watching.watched lit) }
+        ensures is { slice_get (watchers self.now.watching.watched lit) index ≡ Some result }
+        ensures known { IsKnown self.now.watching.watched.bodies (code_of lit) result }
+        ensures blocker { result.blocker.variable.0 < self.now.variables }
     {
-        self.pairs.is_before(place, self.pending_list())
+        self.watched.recall();
+        self.watched.at(lit, index)
     }
 
-    // The literal that the place watches.
-    pub(crate) fn literal_at(&self, place: usize) -> Lit
-        requires { place < length self.now.watching.lists }
-        ensures { result ≡ literal_at self.now.watching place }
+    // Recalls that each of the first two literals of a clause of two or more has the clause among its watches.
+    pub(crate) fn recall_watches(&self)
+        ensures { AreAllListed self.now.watching.watched }
     {
-        self.pairs.literal_of(place)
+        self.watched.recall();
     }
 
-    // Lets all places of the list wait.
-    pub(crate) fn wake(&mut self, list: usize)
-        requires list { list < pending self.old.variables + 1 }
-        requires even { list % 2 ≡ 0 }
-        requires small { list < 2 ^ 34 }
-        ensures woken { IsWoken list self.old self.new }
-        ensures none { (place : ℕ) → list_at self.new.watching place ≢ Some list }
+    // The literals of the attached clause, as they stand.
+    pub(crate) fn body(&self, number: usize) -> &[Lit]
+        requires { number < length self.now.watching.watched.bodies }
+        ensures is { result.now ≡ body_at self.now.watching number }
+        ensures in_range { AreInRange self.now.variables result.now }
     {
-        self.pairs.wake(list);
+        self.watched.recall();
+        self.watched.get(number)
     }
 
-    // Takes the first place out of the list, if there is one.
-    pub(crate) fn take_first(&mut self, list: usize) -> Option<usize>
-        requires { list < pending self.old.variables + 2 }
-        ensures within { IfSome result (λ place. place < length self.old.watching.lists) }
-        ensures was { IfSome result (λ place. list_at self.old.watching place ≡ Some list) }
-        ensures taken { IfSome result (λ place. self.new ≡ record self.old { watching = record self.old.watching { lists = slice_set self.old.watching.lists place None } }) }
+    // Gives the watch another blocker.
+    pub(crate) fn block(&mut self, lit: Lit, index: usize, watch: Watch, blocker: Lit)
+        requires in_range { lit.variable.0 < self.old.variables }
+        requires is { slice_get (watchers self.old.watching.watched lit) index ≡ Some watch }
+        requires blocker { Contains (body_at self.old.watching (watch.place / 2)) blocker }
+        ensures { IsBlocked lit index watch blocker self.old self.new }
+    {
+        self.watched.block(lit, index, watch, blocker);
+    }
+
+    // Lets the place of the watch take up another literal of its clause.
+    pub(crate) fn shift(&mut self, lit: Lit, index: usize, watch: Watch, other: usize, blocker: Lit)
+        requires in_range { lit.variable.0 < self.old.variables }
+        requires is { slice_get (watchers self.old.watching.watched lit) index ≡ Some watch }
+        requires own { literal_of self.old.watching.watched.bodies watch.place ≡ lit }
+        requires unwatched { 2 ≤ other }
+        requires within { other < length (body_at self.old.watching (watch.place / 2)) }
+        requires blocker { Contains (body_at self.old.watching (watch.place / 2)) blocker }
+        ensures shifted { IsShifted (code_of lit) index other watch blocker self.old.watching.watched self.new.watching.watched }
+        ensures same { self.new ≡ record self.old { watching = record self.old.watching { watched = self.new.watching.watched } } }
+    {
+        self.watched.shift(lit, index, watch, other, blocker);
+    }
+
+    // Lets the next propagation look at the attached clause.
+    pub(crate) fn let_wait(&mut self, number: usize)
+        requires { number < length self.old.watching.waiting }
+        ensures { HasComeToWait number self.old self.new }
+    {
+        if self.waiting.list_of(number).is_none() {
+            self.waiting.put(number, NEXT);
+        }
+    }
+
+    // Puts an attached clause that doesn't wait among those at which the next propagation looks.
+    pub(crate) fn wait_again(&mut self, number: usize)
+        requires within { number < length self.old.watching.waiting }
+        requires free { wait_at self.old.watching number ≡ None }
+        ensures { self.new ≡ record self.old { watching = record self.old.watching { waiting = slice_set self.old.watching.waiting number (Some 0) } } }
+    {
+        self.waiting.put(number, NEXT);
+    }
+
+    // Lets the present propagation look at all clauses at which the next one was to look.
+    pub(crate) fn wake(&mut self)
+        ensures woken { IsWoken self.old self.new }
+        ensures none { (n : ℕ) → wait_at self.new.watching n ≢ Some 0 }
+    {
+        self.waiting.move_all(NEXT, PRESENT);
+    }
+
+    // Takes out the first clause at which the present propagation is still to look, if there is one.
+    pub(crate) fn take_waiting(&mut self) -> Option<usize>
+        ensures within { IfSome result (λ n. n < length self.old.watching.waiting) }
+        ensures was { IfSome result (λ n. wait_at self.old.watching n ≡ Some 1) }
+        ensures taken { IfSome result (λ n. self.new ≡ record self.old { watching = record self.old.watching { waiting = slice_set self.old.watching.waiting n None } }) }
         ensures same { IfNone result (self.new ≡ self.old) }
-        ensures none { IfNone result ((place : ℕ) → list_at self.old.watching place ≢ Some list) }
+        ensures none { IfNone result ((n : ℕ) → wait_at self.old.watching n ≢ Some 1) }
     {
-        self.pairs.take_first(list)
-    }
-
-    // Puts a place that is in no list into this one.
-    pub(crate) fn put(&mut self, place: usize, list: usize)
-        requires list { list < pending self.old.variables + 2 }
-        requires within { place < length self.old.watching.lists }
-        requires free { list_at self.old.watching place ≡ None }
-        ensures { self.new ≡ record self.old { watching = record self.old.watching { lists = slice_set self.old.watching.lists place (Some list) } } }
-    {
-        self.pairs.put(place, list);
-    }
-
-    // Lets a place that is in no list watch the literal.
-    pub(crate) fn watch(&mut self, place: usize, literal: Lit)
-        requires in_range { literal.variable.0 < self.old.variables }
-        requires within { place < length self.old.watching.lists }
-        requires free { list_at self.old.watching place ≡ None }
-        ensures { self.new ≡ record self.old { watching = record self.old.watching { literals = slice_set self.old.watching.literals place literal; lists = slice_set self.old.watching.lists place (Some (resting literal)) } } }
-    {
-        self.pairs.set_literal(place, literal);
-        self.pairs.put(place, resting_list(literal));
+        self.waiting.take_first(PRESENT)
     }
 }
 
-// The list of the places that watch the literal.
-pub(crate) fn resting_list(literal: Lit) -> usize
-    ensures is { result ≡ resting literal }
-    ensures even { result % 2 ≡ 0 }
-    ensures small { result < 2 ^ 34 }
+// Adds the literals of a clause, of which the ones at these places come to stand first, and which waits. Without memory there is
+// nothing new.
+fn add_waiting(
+    watched: &mut Watched,
+    waiting: &mut Lists,
+    lits: &[Lit],
+    first: usize,
+    second: usize,
+) -> Result<(), AllocError>
+    requires in_range { AreListedIn (length watched.old.lists) lits.now }
+    requires first { 2 ≤ length lits.now → first < length lits.now }
+    requires second { 2 ≤ length lits.now → second < length lits.now }
+    requires lists { waiting.old.count ≡ 2 }
+    ensures added { OnOk result (IsAdded lits.now watched.old watched.new) }
+    ensures waits { OnOk result (waiting.new ≡ record waiting.old { list_of = slice_set (waiting.old.list_of ++ None ∷ []) (length waiting.old.list_of) (Some 0) }) }
+    ensures no_clause { OnErr result (watched.new ≡ watched.old) }
+    ensures no_place { OnErr result (waiting.new ≡ waiting.old) }
 {
-    let sign = if literal.sign { 2 } else { 0 };
-    4 * literal.variable.0 as usize + sign
+    let number = waiting.count();
+    waiting.add()?;
+    match watched.add(lits, first, second) {
+        Ok(()) => {
+            waiting.put(number, NEXT);
+            Ok(())
+        }
+        Err(error) => {
+            waiting.drop_last();
+            Err(error)
+        }
+    }
 }

@@ -2,26 +2,19 @@
 //!
 //! A clause needs no look while two of its literals aren't false, or one is true that stays true as long as the others stay
 //! false. So each clause watches two literals, and is looked at only when one of them becomes false. Going back needs no
-//! look at all. Where a literal is true for good, both places come to watch it, and the clause is never looked at again. These are the watched literals of Moskewicz and others' Chaff, with lists as in MiniSat. Where no two
-//! literals of a clause are fit to be watched, as while a clause of one literal isn't true for good, each propagation looks
-//! at the clause.
+//! look at all. These are the watched literals of Moskewicz and others' Chaff, with lists and blockers as in MiniSat: where
+//! some other literal of the clause is known to be true, the clause itself isn't read. A clause whose first two literals
+//! can't be watched, as one of a single literal that isn't true for good, waits: each propagation looks at it.
 
-ghost use Rattle.std.specs.Prelude.{◌≡◌, ◌<◌, ◌*◌, ◌⊎◌, ℕ, None, Some, IfSome, IfNone, Contains, length};
+ghost use Rattle.std.specs.Prelude.{◌≡◌, ◌<◌, ◌≤◌, ℕ, None, length};
 ghost use Rattle.std.specs.Bool.{OnTrue};
-ghost use Rattle.pc_propagate.specs.Over.{AreInRange, IsBased};
-ghost use Rattle.pc_propagate.specs.Watching.{partner, list_at, literal_at};
-ghost use Rattle.pc_propagate.specs.Watched.{AreWatchedBut, GuardsAt, IsInItsList, IsOf, GuardEachOther, IsTrueFromStart, clause_of_place};
-ghost use Rattle.pc_propagate.specs.inside.Steady.{IsRewatched};
+ghost use Rattle.pc_propagate.specs.Over.{AreInRange};
+ghost use Rattle.pc_propagate.specs.Watching.{body_at, wait_at};
+ghost use Rattle.pc_propagate.specs.Watched.{GuardsAt, GuardEachOther, IsSure, IsTrueFromStart};
+ghost use Rattle.pc_propagate.specs.inside.Steady.{IsReconsidered};
 
 use crate::trail::Trail;
-use pc_lits::{ClauseStore, Lit};
-
-/// The other place of the clause.
-pub(crate) fn partner_of(place: usize) -> usize
-    ensures { result ≡ partner place }
-{
-    if place % 2 == 0 { place + 1 } else { place - 1 }
-}
+use pc_lits::Lit;
 
 impl Trail {
     // Whether, where the literal is false, the other one is true, and at no higher level.
@@ -57,16 +50,13 @@ impl Trail {
     }
 
     // Whether the two literals may be watched together.
-    pub(crate) fn fits(&self, lit: Lit, other: Lit) -> bool
+    fn fits(&self, lit: Lit, other: Lit) -> bool
         requires lit { lit.variable.0 < self.now.variables }
         requires other { other.variable.0 < self.now.variables }
-        ensures { OnTrue result ((head : ℕ) → GuardEachOther self.now.entries head lit other) }
+        ensures { OnTrue result (GuardEachOther self.now.entries lit other) }
     {
         if lit == other {
-            if !self.is_true_from_start(lit) {
-                return false;
-            }
-            return true;
+            return false;
         }
         if !self.is_guarded(lit, other) {
             return false;
@@ -77,21 +67,37 @@ impl Trail {
         true
     }
 
-    // What a place that watches the first literal may watch beside the second one: the second where that is true for good, so
-    // that no propagation looks at the clause again, else the first where it fits.
-    pub(crate) fn kept_beside(&self, lit: Lit, other: Lit) -> Option<Lit>
-        requires lit { lit.variable.0 < self.now.variables }
-        requires other { other.variable.0 < self.now.variables }
-        ensures which { IfSome result (λ l. (l ≡ lit) ⊎ (l ≡ other)) }
-        ensures pair { IfSome result (λ l. (head : ℕ) → GuardEachOther self.now.entries head l other) }
+    // Whether the clause needs no look unless one of its first two literals becomes false.
+    fn is_kept(&self, number: usize) -> bool
+        requires { number < length self.now.watching.watched.bodies }
+        ensures { OnTrue result ((head : ℕ) → IsSure self.now.entries head (body_at self.now.watching number)) }
     {
-        if self.is_true_from_start(other) {
-            return Some(other);
+        let body = self.body(number);
+        if body.is_empty() {
+            return false;
         }
-        if self.fits(lit, other) {
-            return Some(lit);
+        if self.is_true_from_start(body[0]) {
+            return true;
         }
-        None
+        if body.len() < 2 {
+            return false;
+        }
+        if !self.fits(body[0], body[1]) {
+            return false;
+        }
+        true
+    }
+
+    // Lets a clause that doesn't wait wait for the next propagation, unless it needs no look.
+    pub(crate) fn reconsider(&mut self, number: usize)
+        requires waiting { number < length self.old.watching.waiting }
+        requires within { number < length self.old.watching.watched.bodies }
+        requires free { wait_at self.old.watching number ≡ None }
+        ensures { IsReconsidered number self.old self.new }
+    {
+        if !self.is_kept(number) {
+            self.wait_again(number);
+        }
     }
 
     // How late the literal became false, and the highest number where it isn't false.
@@ -105,115 +111,37 @@ impl Trail {
         }
     }
 
-    // The literal of highest rank beside this one, or this one where it is alone or true for good.
-    fn best_beside(&self, lit: Lit, clause: &[Lit]) -> Lit
-        requires in_range { AreInRange self.now.variables clause.now }
-        requires stands { Contains clause.now lit }
-        ensures { Contains clause.now result }
+    // The place of the literal of highest rank.
+    pub(crate) fn best(&self, lits: &[Lit]) -> usize
+        requires { AreInRange self.now.variables lits.now }
+        ensures { 2 ≤ length lits.now → result < length lits.now }
     {
-        if self.is_true_from_start(lit) {
-            return lit;
-        }
-        let mut best = lit;
+        let mut best = 0;
         let mut highest = 0;
-        for next in clause {
-            let rank = self.rank(*next);
-            if *next != lit && (best == lit || highest < rank) {
-                best = *next;
+        for place in 0..lits.len() {
+            let rank = self.rank(lits[place]);
+            if highest < rank {
+                best = place;
                 highest = rank;
-            }
-            if highest == u32::MAX {
-                return best;
             }
         }
         best
     }
 
-    // The literal of highest rank, if there is one.
-    fn best(&self, clause: &[Lit]) -> Option<Lit>
-        requires { AreInRange self.now.variables clause.now }
-        ensures { IfSome result (λ l. Contains clause.now l) }
+    // The place of the literal of highest rank behind the first one, once the literal of this place has come to stand first.
+    pub(crate) fn best_after(&self, lits: &[Lit], first: usize) -> usize
+        requires in_range { AreInRange self.now.variables lits.now }
+        ensures { 2 ≤ length lits.now → result < length lits.now }
     {
-        if clause.is_empty() {
-            return None;
-        }
-        let first = clause[0];
-        let other = self.best_beside(first, clause);
-        if self.rank(first) < self.rank(other) {
-            Some(other)
-        } else {
-            Some(first)
-        }
-    }
-
-    // The clause of the place.
-    fn clause_of<'a>(
-        &self,
-        place: usize,
-        axioms: &'a ClauseStore,
-        more: &'a ClauseStore,
-    ) -> &'a [Lit]
-        requires based { IsBased axioms.now more.now self.now }
-        requires within { place < 2 * length self.now.attached }
-        ensures is { result.now ≡ clause_of_place axioms.now more.now self.now place }
-        ensures in_range { AreInRange self.now.variables result.now }
-    {
-        self.attached_at(place / 2).clause(axioms, more)
-    }
-
-    // Chooses what the clause of the place watches. The place is in no list.
-    pub(crate) fn rewatch(&mut self, place: usize, axioms: &ClauseStore, more: &ClauseStore)
-        requires based { IsBased axioms.now more.now self.old }
-        requires others { AreWatchedBut (IsOf place) axioms.now more.now self.old }
-        requires within { place < length self.old.watching.lists }
-        requires free { list_at self.old.watching place ≡ None }
-        ensures { IsRewatched axioms.now more.now place self.old self.new }
-    {
-        let other = partner_of(place);
-        match self.list_at(other) {
-            None => self.watch_both(place, axioms, more),
-            Some(list) => {
-                if list < self.pending_list() {
-                    self.watch_one(place, axioms, more);
-                }
+        let mut best = 1;
+        let mut highest = 0;
+        for place in 1..lits.len() {
+            let rank = self.rank(if place == first { lits[0] } else { lits[place] });
+            if highest < rank {
+                best = place;
+                highest = rank;
             }
         }
-    }
-
-    // The same, where the other place watches a literal.
-    fn watch_one(&mut self, place: usize, axioms: &ClauseStore, more: &ClauseStore)
-        requires based { IsBased axioms.now more.now self.old }
-        requires others { AreWatchedBut (IsOf place) axioms.now more.now self.old }
-        requires within { place < length self.old.watching.lists }
-        requires free { list_at self.old.watching place ≡ None }
-        requires listed { IsInItsList self.old (partner place) }
-        requires stands { Contains (clause_of_place axioms.now more.now self.old place) (literal_at self.old.watching (partner place)) }
-        ensures { IsRewatched axioms.now more.now place self.old self.new }
-    {
-        let other = self.literal_at(partner_of(place));
-        let lit = self.best_beside(other, self.clause_of(place, axioms, more));
-        if self.fits(lit, other) {
-            self.watch(place, lit);
-        } else {
-            self.put(place, self.pending_list());
-        }
-    }
-
-    // The same, where the other place is in no list either.
-    fn watch_both(&mut self, place: usize, axioms: &ClauseStore, more: &ClauseStore)
-        requires based { IsBased axioms.now more.now self.old }
-        requires others { AreWatchedBut (IsOf place) axioms.now more.now self.old }
-        requires within { place < length self.old.watching.lists }
-        requires free { list_at self.old.watching place ≡ None }
-        requires other_free { list_at self.old.watching (partner place) ≡ None }
-        ensures { IsRewatched axioms.now more.now place self.old self.new }
-    {
-        match self.best(self.clause_of(place, axioms, more)) {
-            None => self.put(place, self.pending_list()),
-            Some(lit) => {
-                self.watch(partner_of(place), lit);
-                self.watch_one(place, axioms, more);
-            }
-        }
+        best
     }
 }

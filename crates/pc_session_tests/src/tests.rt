@@ -138,7 +138,7 @@ begin
 * budget 50 => searched 0123456
 * rule apart : forall x:pigeon . forall y:pigeon . x = y | nest(x) != nest(y) => spent 50 0 1 0123456
 * budget 5000 => searched 0123456
-* rule apart : forall x:pigeon . forall y:pigeon . x = y | nest(x) != nest(y) => spent 5000 372 1 0123456
+* rule apart : forall x:pigeon . forall y:pigeon . x = y | nest(x) != nest(y) => spent 5000 373 1 0123456
 * budget 1000000000 => searched 0123456
 * rule apart : forall x:pigeon . forall y:pigeon . x = y | nest(x) != nest(y) => inconsistent 0123456
 ";
@@ -298,7 +298,7 @@ sort hole = 1 .. 6
 cell nest(pigeon) : hole
 rule apart : forall x:pigeon . forall y:pigeon . x = y | nest(x) != nest(y)
 begin
---- spent 5000 372 1
+--- spent 5000 373 1
 ===
 1000000000
 sheet 1

@@ -1,6 +1,5 @@
 -- Links between numbered places.
 use Rattle.std.specs.Prelude.{ℕ, List, Option, Some, None, map, slice_set, zero, suc}
-use Rattle.pc_lits.specs.declared.literal.Lit.{Lit}
 use Rattle.pc_propagate.specs.declared.links.Place.{Place}
 use Rattle.pc_propagate.specs.declared.links.Ends.{Ends}
 
@@ -24,10 +23,6 @@ nexts_of places = map (λ p. linked p.next) places
 -- the list of each place
 abbrev pub lists_of : List Place → List (Option ℕ)
 lists_of places = map (λ p. linked p.list) places
-
--- the literal that stands with each place
-abbrev pub literals_of : List Place → List Lit
-literals_of places = map (λ p. p.literal) places
 
 -- the first places, where this list is emptied
 abbrev pub emptied : Option ℕ → List (Option ℕ) → List (Option ℕ)

@@ -1,4 +1,5 @@
 use Rattle.std.proofs.Common.{◌≡◌, [], ap, sym, subst, refl, ◌∙◌}
+use Rattle.std.proofs.lemmas.Result.{err_from_is_err_and}
 use Rattle.pc_lits.specs.declared.tally.Tally.{Tally}
 use Rattle.pc_solver.specs.Solver.{SolverView, HasLog}
 use Rattle.pc_theory.proofs.Started.{first_asked, first_given, first_empty, first_called}
@@ -32,3 +33,8 @@ returns-in-Spent-clause-called c =
     (first_given c.kept_parts_are_searched.ensures c.args.task.book.now c.args.task.ground.now c.args.task.components.now c.requires.ready c.args.number _ _ _ c.part-part.ensures.cells c.part-part.ensures.axioms c.part-part.ensures.variables c.store.result.now c.prefer_first.new.self.problem c.store.ensures (ap (λ (s : SolverView). s.problem) c.prefer_first.ensures ∙ c.in_ok-solver.ensures.problem))
     c.solve.ensures.problem (ap (λ (s : SolverView). s.blocks) c.prefer_first.ensures ∙ c.in_ok-solver.ensures.blocks) c.solve.ensures.blocks c.solve.ensures.log c.new-log.ensures c.solve.ensures.spends refl refl refl refl
     (subst (λ (t : Tally). t.placed ≡ t.limit) (sym c.in_ok-called-in-Spent.ensures.tally) c.in-Spent.ensures.answer)
+
+pub returns-in_err-derivation-in-Unsat-clause-refused : goal.returns-in_err-derivation-in-Unsat-clause-refused
+returns-in_err-derivation-in-Unsat-clause-refused c =
+    let p = err_from_is_err_and c.from_residual-in_err-derivation-in-Unsat.result c.from_residual-in_err-derivation-in-Unsat.ensures.1 in
+    rw (p.1, p.2) tt

@@ -1,4 +1,4 @@
-use Rattle.std.proofs.Common.{ℕ, ◌≡◌, None, Some, get_or, sym, ◌∙◌, refl, arith}
+use Rattle.std.proofs.Common.{ℕ, ◌≡◌, None, Some, get_or, sym, ◌∙◌, arith}
 use Rattle.std.proofs.lemmas.List.{length-set, length-map}
 use Rattle.pc_propagate.specs.declared.links.Place.{Place}
 use Rattle.pc_propagate.specs.inside.Links.{linked, lists_of}
@@ -41,6 +41,5 @@ returns-clause-was c =
 pub returns-clause-taken : goal.returns-clause-taken
 returns-clause-taken c =
     let list = rw (← c.self.view_is) at c.requires in
-    let found = first_found _ c.self.inside.places.items c.args.list c.in_ok-place.place _ c.self.invariant list c.index-ends.ensures (sym c.linked.ensures ∙ c.in_ok-place.was) in
-    let seen = seen_written c.self.inside.places.items c.in_ok-place.place c.index-at.result.now (record { next = c.index-at.result.now.next; list = 0; literal = c.index-at.result.now.literal }) found.0 c.index-at.ensures refl in
-    rw (← c.self.view_is) (same_view _ _ _ _ _ _ (length-set c.self.inside.ends.items _ _) seen.0 seen.1)
+    rw (← c.self.view_is)
+    (same_view _ _ _ _ (length-set c.self.inside.ends.items _ _) (seen_written c.self.inside.places.items c.in_ok-place.place (record { next = c.index-at.result.now.next; list = 0 })))

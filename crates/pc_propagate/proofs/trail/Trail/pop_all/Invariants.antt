@@ -9,7 +9,8 @@ invariant-loop-entry l = record {
   slots : AreSlots l.self-inside.slots.items l.self-inside.entries.items (length l.self-inside.values);
   size : length l.self-inside.values ≡ length l.initial.self-inside.values;
   attached : l.self-inside.attached.items ≡ l.initial.self-inside.attached.items;
-  pairs : l.self-inside.pairs ≡ l.initial.self-inside.pairs;
+  watched : l.self-inside.watched ≡ l.initial.self-inside.watched;
+  waiting : l.self-inside.waiting ≡ l.initial.self-inside.waiting;
   head : l.self-inside.head ≡ l.initial.self-inside.head;
 }
 

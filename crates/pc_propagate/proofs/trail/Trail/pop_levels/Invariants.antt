@@ -12,7 +12,8 @@ invariant-loop-self l =
       left : IsLeftOf l.level l.initial.self-inside.entries.items l.self-inside.entries.items;
       size : length l.self-inside.values ≡ length l.initial.self-inside.values;
       attached : l.self-inside.attached.items ≡ l.initial.self-inside.attached.items;
-      pairs : l.self-inside.pairs ≡ l.initial.self-inside.pairs;
+      watched : l.self-inside.watched ≡ l.initial.self-inside.watched;
+      waiting : l.self-inside.waiting ≡ l.initial.self-inside.waiting;
       head : l.self-inside.head ≡ l.initial.self-inside.head;
     }
 

@@ -1,5 +1,0 @@
-use Rattle.std.proofs.Common.{◌<◌, ◌≤◌, length}
-use Rattle.pc_trail.proofs.trail.Trail.best_after.Given as goal
-
-abbrev pub invariant-loop-place : goal.invariant-loop-place
-invariant-loop-place l = 2 ≤ length l.lits → l.best < length l.lits
