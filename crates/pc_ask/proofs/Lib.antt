@@ -9,6 +9,7 @@ pub mod Overlaid
 pub mod Places
 pub mod Proved
 pub mod Reading
+pub mod Room
 pub mod Searched
 pub mod Spent
 pub mod Tied

@@ -93,7 +93,7 @@ fn certify(alloc: Global, book: Book, answer: Answer, log: &Log) -> Told
     }
 }
 
-// Answers by the asked book. It is searched as a whole.
+// Answers by the asked book.
 fn answer_by(alloc: Global, session: &Session, book: Book, notes: &mut Spendings) -> Told
     requires { (f : Statement) × (book ≡ asked session.now.sheet f) }
     ensures { (f : Statement) → book ≡ asked session.now.sheet f → Answers session.now.budget session.now.sheet f notes.old notes.new result }
@@ -110,6 +110,7 @@ fn answer_by(alloc: Global, session: &Session, book: Book, notes: &mut Spendings
         Ok(None) => Reply::Shown(Page::Unanswered(book)),
         Err(AskStop::TooLarge) => Reply::Refused(Refusal::TooLarge, None),
         Err(AskStop::Spent) => note_whole(&book, &[log], tally, notes),
+        Err(AskStop::TooMany) => Reply::Memory,
         Err(AskStop::Memory) => Reply::Memory,
     }
 }
