@@ -108,6 +108,7 @@ impl Watched {
         requires first { 2 ≤ length clause.now → first < length clause.now }
         requires second { 2 ≤ length clause.now → second < length clause.now }
         ensures ok { OnOk result (IsAdded clause.now self.old self.new) }
+        ensures front { OnOk result (2 ≤ length clause.now → body_in self.new.bodies (length self.old.bodies) ≡ swap (swap clause.now 0 first) 1 second) }
         ensures err { OnErr result (self.new ≡ self.old) }
     {
         let number = self.bodies.len();
