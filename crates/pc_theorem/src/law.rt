@@ -92,7 +92,7 @@ pub fn saved_sheets_show_the_same()
     ensures { SavedSheetsShowTheSame }
 {}
 
-/// What `check` accepts for the sheet of a session, it accepts for what the session printed then for `dump`.
+/// What `check` accepts for the sheet of a session, it doesn't refuse for what the session printed then for `dump`.
 pub fn saved_sheets_take_certificates()
     ensures { SavedSheetsTakeCertificates }
 {}
