@@ -290,6 +290,24 @@ pub axiom_line_stands : (axioms : List (List Lit)) (number : ℕ) (id : StepId) 
 axiom_line_stands axioms number id log new at new_is =
     subst (λ (ls : List LogLine). StandsInLog axioms ls id (get_or axioms number [])) (sym new_is) (StandsInLog-last axioms log (AxiomLine number) id at)
 
+-- the line is noted at the axiom's place
+pub axiom_noted_there : (v c : ClausesView) (blocks : ℕ) → AreClauses v blocks → (number place : ℕ) (read : Option StepId) (id : StepId) → v ≡ c → slice_get v.used place ≡ Some number
+    → read ≡ get_or v.axiom_lines place read → read ≡ Some id → (p : ℕ) × (slice_get c.used p ≡ Some number) × (get_or c.axiom_lines p None ≡ Some id)
+axiom_noted_there v c blocks are number place read id same there at is =
+    let under : place < length v.axiom_lines = omega (arith, slice_get_within v.used place number there, are.axiom_each) in (
+      place,
+      ap (λ (w : ClausesView). slice_get w.used place) (sym same) ∙ there,
+      ap (λ (w : ClausesView). get_or w.axiom_lines place None) (sym same) ∙ default v.axiom_lines place None read under ∙ sym at ∙ is,
+    )
+
+pub axiom_noted : (v c : ClausesView) (blocks : ℕ) → AreClauses v blocks → (number place : ℕ) (id : StepId) → v ≡ c → slice_get v.used place ≡ Some number
+    → (p : ℕ) × (slice_get c.used p ≡ Some number) × (get_or (set v.axiom_lines place (Some id)) p None ≡ Some id)
+axiom_noted v c blocks are number place id same there = (
+  place,
+  ap (λ (w : ClausesView). slice_get w.used place) (sym same) ∙ there,
+  get_or-set_same v.axiom_lines place (Some id) None (omega (arith, slice_get_within v.used place number there, are.axiom_each)),
+)
+
 -- ---- a line that was there
 
 pub axiom_stands : (v c : ClausesView) (blocks : ℕ) → AreClauses v blocks → (number place : ℕ) (read : Option StepId) (id : StepId) (log : List LogLine) → v ≡ c → IsLogOf c log → slice_get v.used place ≡ Some number
