@@ -87,7 +87,7 @@ fn post_text<M: Machine, I: Source, O: Sink>(
 /// Answers the posts of the journal that the input has, each as a command line, and then a line `show`, on the sheet in the
 /// shelf's file of that name.
 ///
-/// The file's bytes come first and their number, then the sheet, whose load and each edit may do as many propagations as the
+/// The file's bytes come first and their number, then the sheet, each search of which may do as many propagations as the
 /// budget says; then the input's bytes, up to its end, and their number, and the journal's text. What is printed, how much of the
 /// input was taken, and what was noted, the clause `ran` says.
 pub fn post_file<M: Machine, I: Source, H: Shelf, O: Sink>(

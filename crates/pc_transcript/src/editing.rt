@@ -17,7 +17,7 @@ use pc_refusals::{Status, tell_no_memory_for_sheet, tell_too_long};
 
 /// Runs the commands on the input, on the sheet in the shelf's file of that name.
 ///
-/// The file's bytes come first and their number, then the sheet, whose load and each edit may do as many propagations as the
+/// The file's bytes come first and their number, then the sheet, each search of which may do as many propagations as the
 /// budget says; then each command line is answered before the input is read on. Up to the commands the input is left as it
 /// was. What is printed, how much of the input was taken, and what was noted, the clause `ran` says.
 pub fn edit<M: Machine, I: Source, H: Shelf, O: Sink>(

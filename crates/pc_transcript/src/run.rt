@@ -66,7 +66,7 @@ fn replay_from<M: Machine, I: Source, O: Sink>(
 
 /// Runs a sheet and its commands, both on the input.
 ///
-/// It takes the sheet, up to its `begin` line, whose load and each edit may do as many propagations as the budget says, and
+/// It takes the sheet, up to its `begin` line, each search of which may do as many propagations as the budget says, and
 /// then answers each command line before it reads on. What is printed, how much of the input was taken, and what was noted,
 /// the clause `ran` says.
 pub fn replay<M: Machine, I: Source, O: Sink>(

@@ -44,7 +44,7 @@ TakesBudget mode = Unit {0}
 
 -- ---- the option
 
--- the propagations of an edit or a load where the words don't say
+-- the propagations of a search where the words don't say
 abbrev pub usual_budget : ℕ
 usual_budget = 100000000
 
@@ -58,7 +58,7 @@ AreBudget words budget = (number : List ℕ) × AreOption words number × IsNumb
 
 -- ---- all words
 
--- what is asked for: the mode, and the budget of each load and edit
+-- what is asked for: the mode, and the budget of each search
 pub record Request : Type 0 where
   pub mode : Mode
   pub budget : ℕ

@@ -22,7 +22,8 @@ pub enum Mode<'a> {
 pub struct Request<'a> {
     /// What is to be done.
     pub mode: Mode<'a>,
-    /// The most propagations of each load and edit, from 1 to 1,000,000,000,000.
+    /// The most propagations of each search: of the load, and of each edit, certificate of sets and asked formula; from 1 to
+    /// 1,000,000,000,000.
     pub budget: u64,
 }
 
