@@ -22,3 +22,4 @@ pub mod ListingsHold
 pub mod ShownHolds
 pub mod BudgetsHold
 pub mod SearchesHold
+pub mod MergesHold

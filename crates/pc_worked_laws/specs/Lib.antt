@@ -18,3 +18,4 @@ pub mod Listings
 pub mod Shown
 pub mod Budgets
 pub mod Searches
+pub mod Merges

@@ -17,6 +17,7 @@ ghost use Rattle.pc_worked_laws.specs.WholeSpendings.{WorkedWholeSpendings};
 ghost use Rattle.pc_worked_laws.specs.Budgets.{WorkedPartBudgets};
 ghost use Rattle.pc_worked_laws.specs.Spare.{EnteringMayChange, AddingMayChange, RemovingMayChange, ClearingMayChange, WorkedPlaces, WorkedSpare, WorkedReasons, WorkedSessions};
 ghost use Rattle.pc_worked_laws.specs.Searches.{SearchesChange, ClearingSpareIsNoSearch, RemovingSpareIsNoSearch, EnteringNeedsOne, WorkedSearches};
+ghost use Rattle.pc_worked_laws.specs.Merges.{WorkedJournals, WorkedMerges, WorkedDifferences};
 ghost use Rattle.pc_worked_laws.specs.Listings.{WorkedListings};
 ghost use Rattle.pc_worked_laws.specs.Shown.{WorkedNewerViews};
 
@@ -144,4 +145,11 @@ pub fn searches_are_worked()
     ensures removing { RemovingSpareIsNoSearch }
     ensures entering { EnteringNeedsOne }
     ensures worked { WorkedSearches }
+{}
+
+/// Which lists of posts are journals, what the merges of two are, and where two differ first.
+pub fn merges_are_worked()
+    ensures journals { WorkedJournals }
+    ensures merges { WorkedMerges }
+    ensures differences { WorkedDifferences }
 {}
