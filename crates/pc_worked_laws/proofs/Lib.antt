@@ -13,6 +13,7 @@ pub mod TranscriptsHold
 pub mod RowsHold
 pub mod Deciding
 pub mod TrailsHold
+pub mod WatchesHold
 pub mod LogsHold
 pub mod SpendingsHold
 pub mod LogSpendings

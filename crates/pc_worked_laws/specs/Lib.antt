@@ -10,6 +10,7 @@ pub mod Worlds
 pub mod Transcripts
 pub mod Rows
 pub mod Trails
+pub mod Watches
 pub mod Logs
 pub mod Spendings
 pub mod WholeSpendings

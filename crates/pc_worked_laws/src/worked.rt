@@ -11,6 +11,7 @@ ghost use Rattle.pc_worked_laws.specs.Transcripts.{WorkedTranscripts, WorkedAnsw
 ghost use Rattle.pc_worked_laws.specs.Rows.{WorkedRows};
 ghost use Rattle.pc_worked_laws.specs.Several.{WorkedViews, WorkedEdits, WorkedLimit};
 ghost use Rattle.pc_worked_laws.specs.Trails.{WorkedSettled, WorkedFirstPoint};
+ghost use Rattle.pc_worked_laws.specs.Watches.{WorkedKnownWatches, WorkedLists, WorkedAdditions, WorkedShifts};
 ghost use Rattle.pc_worked_laws.specs.Logs.{WorkedNewClauses, WorkedLawfulLogs, WorkedListingLogs};
 ghost use Rattle.pc_worked_laws.specs.Spendings.{WorkedSpendings, WorkedLogSpendings};
 ghost use Rattle.pc_worked_laws.specs.WholeSpendings.{WorkedWholeSpendings};
@@ -90,6 +91,14 @@ pub fn rows_are_worked()
 pub fn trails_are_worked()
     ensures settled { WorkedSettled }
     ensures first_point { WorkedFirstPoint }
+{}
+
+/// Which lists of watches a clause of three literals has, and what adding it and shifting a watch make of them.
+pub fn watches_are_worked()
+    ensures known { WorkedKnownWatches }
+    ensures listed { WorkedLists }
+    ensures added { WorkedAdditions }
+    ensures shifted { WorkedShifts }
 {}
 
 /// Which logs of a small sheet are lawful, and which of these list its maximal sets.
