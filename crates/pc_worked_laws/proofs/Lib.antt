@@ -14,6 +14,7 @@ pub mod RowsHold
 pub mod Deciding
 pub mod TrailsHold
 pub mod WatchesHold
+pub mod GuardsHold
 pub mod LogsHold
 pub mod SpendingsHold
 pub mod LogSpendings

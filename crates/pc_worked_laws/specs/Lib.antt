@@ -11,6 +11,7 @@ pub mod Transcripts
 pub mod Rows
 pub mod Trails
 pub mod Watches
+pub mod Guards
 pub mod Logs
 pub mod Spendings
 pub mod WholeSpendings

@@ -12,6 +12,7 @@ ghost use Rattle.pc_worked_laws.specs.Rows.{WorkedRows};
 ghost use Rattle.pc_worked_laws.specs.Several.{WorkedViews, WorkedEdits, WorkedLimit};
 ghost use Rattle.pc_worked_laws.specs.Trails.{WorkedSettled, WorkedFirstPoint};
 ghost use Rattle.pc_worked_laws.specs.Watches.{WorkedKnownWatches, WorkedLists, WorkedAdditions, WorkedShifts};
+ghost use Rattle.pc_worked_laws.specs.Guards.{WorkedGuards, WorkedWatches, WorkedSure, WorkedKept};
 ghost use Rattle.pc_worked_laws.specs.Logs.{WorkedNewClauses, WorkedLawfulLogs, WorkedListingLogs};
 ghost use Rattle.pc_worked_laws.specs.Spendings.{WorkedSpendings, WorkedLogSpendings};
 ghost use Rattle.pc_worked_laws.specs.WholeSpendings.{WorkedWholeSpendings};
@@ -99,6 +100,14 @@ pub fn watches_are_worked()
     ensures listed { WorkedLists }
     ensures added { WorkedAdditions }
     ensures shifted { WorkedShifts }
+{}
+
+/// Which literals of a clause may be watched on small trails, and which clauses no propagation overlooks.
+pub fn watched_trails_are_worked()
+    ensures guards { WorkedGuards }
+    ensures watches { WorkedWatches }
+    ensures sure { WorkedSure }
+    ensures kept { WorkedKept }
 {}
 
 /// Which logs of a small sheet are lawful, and which of these list its maximal sets.
