@@ -1,6 +1,7 @@
 pub mod Computing
 pub mod AxiomsHold
 pub mod ConnectivesHold
+pub mod CountingHolds
 pub mod AskedHolds
 pub mod CertificatesHold
 pub mod NewestHolds

@@ -1,5 +1,6 @@
 pub mod Axioms
 pub mod Connectives
+pub mod Counting
 pub mod Asked
 pub mod Certificates
 pub mod Newest

@@ -1,6 +1,7 @@
 //! The examples, as contracts: the definitions say of small sheets what a reader expects.
 ghost use Rattle.pc_worked_laws.specs.Axioms.{WorkedKinds, WorkedAxioms};
 ghost use Rattle.pc_worked_laws.specs.Connectives.{WorkedConnectives, WorkedCounterTruths, WorkedPieces};
+ghost use Rattle.pc_worked_laws.specs.Counting.{WorkedCounts, WorkedBounds, WorkedCountWeights};
 ghost use Rattle.pc_worked_laws.specs.Asked.{WorkedFormulas, WorkedClashes};
 ghost use Rattle.pc_worked_laws.specs.Certificates.{WorkedAgainst, WorkedFewSets};
 ghost use Rattle.pc_worked_laws.specs.Newest.{NewestDecides};
@@ -28,6 +29,13 @@ pub fn connectives_are_worked()
     ensures connectives { WorkedConnectives }
     ensures counters { WorkedCounterTruths }
     ensures pieces { WorkedPieces }
+{}
+
+/// When at least so many values are such, what a quantifier may count, and how many literals its clauses have.
+pub fn counting_is_worked()
+    ensures counts { WorkedCounts }
+    ensures bounds { WorkedBounds }
+    ensures weights { WorkedCountWeights }
 {}
 
 /// Which numbers the clauses of nodes have, and what is an axiom and what is none.
