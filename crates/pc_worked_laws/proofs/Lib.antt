@@ -1,4 +1,5 @@
 pub mod Computing
+pub mod Numbers
 pub mod AxiomsHold
 pub mod ConnectivesHold
 pub mod CountingHolds
@@ -8,6 +9,7 @@ pub mod NewestHolds
 pub mod LargestSetsHold
 pub mod SeveralHolds
 pub mod PartSheetsHold
+pub mod ReadSizesHold
 pub mod WorldsHold
 pub mod WithoutHolds
 pub mod TranscriptsHold

@@ -7,6 +7,7 @@ pub mod Newest
 pub mod LargestSets
 pub mod Several
 pub mod PartSheets
+pub mod ReadSizes
 pub mod Worlds
 pub mod Transcripts
 pub mod Rows
