@@ -54,14 +54,14 @@ has_decides (x ∷ xs) l =
 
 -- ---- literals of a list with a property
 
-abbrev any_lit : (Lit → Bool) → List Lit → Bool
+abbrev pub any_lit : (Lit → Bool) → List Lit → Bool
 any_lit p [] = false
 any_lit p (l ∷ ls) = p l || any_lit p ls
 
-abbrev HasSome : (Lit → Type 0) → List Lit → Type 0
+abbrev pub HasSome : (Lit → Type 0) → List Lit → Type 0
 HasSome P ls = (l : Lit) × Contains ls l × P l
 
-any_decides : (p : Lit → Bool) (P : Lit → Type 0) → ((l : Lit) → Decides (p l) (P l)) → (ls : List Lit) → Decides (any_lit p ls) (HasSome P ls)
+pub any_decides : (p : Lit → Bool) (P : Lit → Type 0) → ((l : Lit) → Decides (p l) (P l)) → (ls : List Lit) → Decides (any_lit p ls) (HasSome P ls)
 any_decides p P each [] = (λ e. absurd (false≢true e), λ h. absurd (contains_none h.0 h.1))
 any_decides p P each (l ∷ ls) =
     Decides-like (any_lit p (l ∷ ls))

@@ -15,6 +15,7 @@ pub mod WithoutHolds
 pub mod TranscriptsHold
 pub mod RowsHold
 pub mod Deciding
+pub mod LeftOutHolds
 pub mod TrailsHold
 pub mod WatchesHold
 pub mod GuardsHold

@@ -12,6 +12,7 @@ pub mod Worlds
 pub mod Transcripts
 pub mod Rows
 pub mod Trails
+pub mod LeftOut
 pub mod Watches
 pub mod Guards
 pub mod Logs

@@ -16,6 +16,7 @@ ghost use Rattle.pc_worked_laws.specs.Trails.{WorkedSettled, WorkedFirstPoint};
 ghost use Rattle.pc_worked_laws.specs.Watches.{WorkedKnownWatches, WorkedLists, WorkedAdditions, WorkedShifts};
 ghost use Rattle.pc_worked_laws.specs.Guards.{WorkedGuards, WorkedWatches, WorkedSure, WorkedKept};
 ghost use Rattle.pc_worked_laws.specs.Logs.{WorkedNewClauses, WorkedLawfulLogs, WorkedListingLogs};
+ghost use Rattle.pc_worked_laws.specs.LeftOut.{WorkedTwice, WorkedConstants};
 ghost use Rattle.pc_worked_laws.specs.Spendings.{WorkedSpendings, WorkedLogSpendings};
 ghost use Rattle.pc_worked_laws.specs.WholeSpendings.{WorkedWholeSpendings};
 ghost use Rattle.pc_worked_laws.specs.Budgets.{WorkedPartBudgets};
@@ -130,6 +131,12 @@ pub fn logs_are_worked()
     ensures new { WorkedNewClauses }
     ensures lawful { WorkedLawfulLogs }
     ensures listing { WorkedListingLogs }
+{}
+
+/// Which axioms of small sheets a search may leave out, and which it has to take.
+pub fn left_out_axioms_are_worked()
+    ensures kept { WorkedTwice }
+    ensures constants { WorkedConstants }
 {}
 
 /// What a search of small sheets may say that it has spent, and what it may not.
