@@ -132,5 +132,6 @@ fn longest_journals(rt: HostRuntime) -> Result<(), Fail> {
     assert!(rt; is_too_long(alloc, "merge k.sheet", &more, b"")?);
     assert!(rt; is_too_long(alloc, "merge k.sheet", b"", &more)?);
     assert!(rt; is_too_long(alloc, "posts k.sheet", sheet, &more)?);
+    assert!(rt; is_too_long(alloc, "posts k.sheet", &more, b"")?);
     Ok(())
 }
