@@ -29,3 +29,4 @@ pub mod ShownHolds
 pub mod BudgetsHold
 pub mod SearchesHold
 pub mod MergesHold
+pub mod JournalTextsHold

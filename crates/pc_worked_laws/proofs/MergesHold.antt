@@ -38,14 +38,14 @@ all_in_order x y z first second third =
 one_line : (b : ℕ) → b ≢ 10 → b ≢ 13 → IsOneLine (b ∷ [])
 one_line b feed return = All-cons (λ c. (c ≢ 10) × (c ≢ 13)) b [] (feed, return) (All-nil (λ c. (c ≢ 10) × (c ≢ 13)))
 
-empty_line : IsOneLine []
+pub empty_line : IsOneLine []
 empty_line = All-nil (λ c. (c ≢ 10) × (c ≢ 13))
 
 numbers_differ : (m n : ℕ) → m < n → m ≢ n
 numbers_differ m n less is = omega (arith, less, is)
 
 -- a post of low numbers and a text of one byte, or of none
-short_post : (p : Post) → 1 ≤ p.author → p.author ≤ 2 → 1 ≤ p.number → p.number ≤ 2 → 1 ≤ p.stamp → p.stamp ≤ 3 → length p.text ≤ 1 → IsOneLine p.text → IsPost p
+pub short_post : (p : Post) → 1 ≤ p.author → p.author ≤ 2 → 1 ≤ p.number → p.number ≤ 3 → 1 ≤ p.stamp → p.stamp ≤ 3 → length p.text ≤ 1 → IsOneLine p.text → IsPost p
 short_post p a b c d e f g h = record {
   author = (a, omega (arith, b));
   number = (c, omega (arith, d));
@@ -54,7 +54,7 @@ short_post p a b c d e f g h = record {
   one_line = h;
 }
 
-letter_past : (b : ℕ) → 13 < b → IsOneLine (b ∷ [])
+pub letter_past : (b : ℕ) → 13 < b → IsOneLine (b ∷ [])
 letter_past b more = one_line b (λ is. omega (arith, more, is)) (λ is. omega (arith, more, is))
 
 shared_post : IsPost shared
@@ -67,12 +67,15 @@ went_on_post : IsPost went_on
 went_on_post = short_post went_on (omega arith) (omega arith) (omega arith) (omega arith) (omega arith) (omega arith) (omega arith) (letter_past 99 (omega arith))
 
 blank_post : (author number stamp : ℕ) → 1 ≤ author → author ≤ 2 → 1 ≤ number → number ≤ 2 → 1 ≤ stamp → stamp ≤ 3 → IsPost (post author number stamp [])
-blank_post author number stamp a b c d e f = short_post (post author number stamp []) a b c d e f (omega arith) empty_line
+blank_post author number stamp a b c d e f = short_post (post author number stamp []) a b c (omega (arith, d)) e f (omega arith) empty_line
 
 numbered_none : AreNumberedByAuthor []
 numbered_none author = refl
 
-one_post : (p : Post) → IsPost p → p.number ≡ 1 → IsJournal (p ∷ [])
+pub no_posts : IsJournal []
+no_posts = record { each = All-nil IsPost; rise = no_pairs; numbered = numbered_none }
+
+pub one_post : (p : Post) → IsPost p → p.number ≡ 1 → IsJournal (p ∷ [])
 one_post p is first = record {
   each = All-cons IsPost p [] is (All-nil IsPost);
   rise = alone p;
@@ -95,7 +98,7 @@ is_ours = one_more shared went_on shared_alone went_on_post (inl (omega arith)) 
 is_theirs : IsJournal theirs
 is_theirs = one_more shared begun shared_alone begun_post (inl (omega arith)) refl
 
-is_together : IsJournal together
+pub is_together : IsJournal together
 is_together = record {
   each = All-cons IsPost shared (begun ∷ went_on ∷ []) shared_post (All-cons IsPost begun (went_on ∷ []) begun_post (All-cons IsPost went_on [] went_on_post (All-nil IsPost)));
   rise = all_in_order shared begun went_on (inl (omega arith)) (inl (omega arith)) (inl (omega arith));
@@ -103,15 +106,15 @@ is_together = record {
 }
 
 -- where the first of an author's posts hasn't the number 1
-abbrev head_or : List ℕ → ℕ
+abbrev pub head_or : List ℕ → ℕ
 head_or ns = get_or ns 0 0
 
-not_in_order : (x y : Post) (rest : List Post) → ¬ IsPostBefore x y → ¬ PostsRise (x ∷ y ∷ rest)
+pub not_in_order : (x y : Post) (rest : List Post) → ¬ IsPostBefore x y → ¬ PostsRise (x ∷ y ∷ rest)
 not_in_order x y rest fails rise = fails (first_of_pairs IsPostBefore x (y ∷ rest) rise y (contains_first y rest))
 
 pub worked_journals : WorkedJournals
 worked_journals = record {
-  none = record { each = All-nil IsPost; rise = no_pairs; numbered = numbered_none };
+  none = no_posts;
   first = is_ours;
   second = is_theirs;
   both = is_together;

@@ -24,3 +24,4 @@ pub mod Shown
 pub mod Budgets
 pub mod Searches
 pub mod Merges
+pub mod JournalTexts

@@ -23,6 +23,7 @@ ghost use Rattle.pc_worked_laws.specs.Budgets.{WorkedPartBudgets};
 ghost use Rattle.pc_worked_laws.specs.Spare.{EnteringMayChange, AddingMayChange, RemovingMayChange, ClearingMayChange, WorkedPlaces, WorkedSpare, WorkedReasons, WorkedSessions};
 ghost use Rattle.pc_worked_laws.specs.Searches.{SearchesChange, ClearingSpareIsNoSearch, RemovingSpareIsNoSearch, EnteringNeedsOne, WorkedSearches};
 ghost use Rattle.pc_worked_laws.specs.Merges.{WorkedJournals, WorkedMerges, WorkedDifferences};
+ghost use Rattle.pc_worked_laws.specs.JournalTexts.{WorkedTexts, WorkedFaults};
 ghost use Rattle.pc_worked_laws.specs.Listings.{WorkedListings};
 ghost use Rattle.pc_worked_laws.specs.Shown.{WorkedNewerViews};
 
@@ -192,4 +193,10 @@ pub fn merges_are_worked()
     ensures journals { WorkedJournals }
     ensures merges { WorkedMerges }
     ensures differences { WorkedDifferences }
+{}
+
+/// What the texts of small journals are, and which line of other texts is at fault first.
+pub fn journal_texts_are_worked()
+    ensures texts { WorkedTexts }
+    ensures faults { WorkedFaults }
 {}
