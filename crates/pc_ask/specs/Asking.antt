@@ -43,8 +43,8 @@ ReadsPart sheet f part = (c : ℕ) × Contains part.cells c × Reads sheet.unive
 abbrev pub IsOnRead : Sheet → Statement → Entry → Type 0
 IsOnRead sheet f e = (part : Part) × Contains (chosen_parts sheet) part × ReadsPart sheet f part × Contains part.cells e.cell.0
 
--- So many entries are on the cells of the parts that the statement reads, and the product of these parts' numbers of maximal sets.
--- A part without entries has one maximal set.
+-- So many entries are on the cells of the parts that the statement reads, and so many sets are the product of these parts' numbers
+-- of maximal sets. A part without entries has one maximal set.
 pub record AreReadSizes (sheet : Sheet) (f : Statement) (entries sets : ℕ) : Type 0 where
   pub parts : List Part
   pub read : IsFiltered (ReadsPart sheet f) (chosen_parts sheet) parts
@@ -89,8 +89,8 @@ pub record IsOfAskedPart (sheet : Sheet) (v : Var) : Type 0 where
   pub axioms_are : AreAxiomsOf sheet part axioms
   pub used : IsUsed (clauses sheet) axioms v.0
 
--- Only that part was searched: each step is over some of its variables, and at most so many literals were placed for each learned
--- clause and each call.
+-- Only that part was searched, by at most so many calls: each step is over some of its variables, and at most so many literals as
+-- there are of these were placed for each learned clause and each call.
 pub record IsPartSearch (sheet : Sheet) (most : ℕ) (before after : Tally) (log : List LogLine) : Type 0 where
   pub own : List Var
   pub of_part : All (IsOfAskedPart sheet) own

@@ -14,7 +14,7 @@ module _ (pairs : ℕ) (store : List (List Lit)) (names : List Axiom) where
   abbrev pub IsTrueStored : List ℕ → List Lit → Type 0
   IsTrueStored kept clause = (l : Lit) × Contains clause l × IsForced (IsAmong store kept) l
 
-  -- the variables from that number on are nodes
+  -- no kept axiom has a variable of a node that this clause has; the variables from that number on are nodes
   abbrev pub IsUnneededStored : List ℕ → List Lit → Type 0
   IsUnneededStored kept clause = (l : Lit) → Contains clause l → pairs ≤ l.variable.0 → ¬ IsUsed store kept l.variable.0
 

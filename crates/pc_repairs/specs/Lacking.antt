@@ -5,8 +5,7 @@ use Rattle.pc_sheet.specs.Entailment.{Shows, HasTarget, Entails, IsImplied}
 use Rattle.pc_sheet.specs.declared.ids.Target.{Target}
 use Rattle.pc_world_list.specs.Worlds.{WorldView, set_of}
 
--- The same sets in their order, each with an assignment that fits, has it and lacks the target. So the target isn't implied, where
--- the sets are the sheet's maximal sets.
+-- The same sets in their order, each with an assignment that fits, has it and lacks the target, which isn't implied.
 pub record AreLacking (sheet : Sheet) (sets : List WorldView) (t : Target) (worlds : List WorldView) : Type 0 where
   pub same : map set_of worlds ≡ map set_of sets
   pub shown : All (λ w. Shows sheet w.entries w.shown) worlds

@@ -23,7 +23,7 @@ pub record IsRefutedAt (sheet : Sheet) (log : List LogLine) (last : StepId) : Ty
   pub empty : clause_on (clauses sheet) log last ≡ []
 
 -- The log is lawful, with these clauses as its blocks, and with it at most so many calls were spent: whatever was spent on the
--- whole sheet before, with this log it is that and what was spent now.
+-- whole sheet before, with at most two logs, with this one it is that and what was spent now.
 pub record IsWholeSearch (sheet : Sheet) (blocks : List (List Lit)) (most : ℕ) (before after : Tally) (log : List LogLine) : Type 0 where
   pub lawful : IsLawfulLog (whole_problem sheet) blocks log
   pub spends : SpendsIn (variable_count sheet) most before after [] log

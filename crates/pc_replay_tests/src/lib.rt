@@ -1,4 +1,5 @@
-//! Runs from their bytes to the printed text, with ample memory: tests of the crates from the run to the program's words.
+//! Runs that no text can say, with ample memory: over devices that fail or watch, with bytes that are no text, cut anywhere, and at
+//! the limits.
 #![tactic(auto)]
 
 #[cfg(test)]

@@ -39,7 +39,7 @@ unwatched c body = occurrences c (drop 2 body)
 abbrev pub AreListedIn : ℕ → List Lit → Type 0
 AreListedIn count clause = (l : Lit) → Contains clause l → code_of l < count
 
--- and in all clauses
+-- how often the literal of this list stands in all clauses without being watched
 abbrev pub spare : List (List Lit) → ℕ → ℕ
 spare bodies c = sum_by (unwatched c) bodies
 
@@ -82,7 +82,7 @@ pub record IsAdded (clause : List Lit) (old new : WatchedView) : Type 0 where
   pub all : (l : Lit) → Contains clause l → Contains body l
   pub lists : length new.lists ≡ length old.lists
 
--- The lists of the clause's literals are empty, and each other list is as it was.
+-- Each list is as it was or empty, and those of the clause's literals are empty.
 pub record HaveGone (clause : List Lit) (old new : WatchListsView) : Type 0 where
   pub size : length new.lists ≡ length old.lists
   pub room : length new.room ≡ length old.room

@@ -23,7 +23,7 @@ is_read reads p = are_read reads p.cells.now
 abbrev pub is_cell_of : CellId → PartSets → Bool
 is_cell_of c p = list_any (λ d. d.0 == c.0) p.cells.now
 
--- a cell of one of the parts
+-- the entry is on a cell of one of the parts
 abbrev pub is_on_some : List PartSets → Entry → Bool
 is_on_some parts e = list_any (is_cell_of e.cell) parts
 
