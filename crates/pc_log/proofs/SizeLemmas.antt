@@ -6,8 +6,8 @@ use Rattle.std.proofs.lemmas.List.Sums.{sum_by-cons, sum_by-append}
 use Rattle.std.proofs.lemmas.Slice.{between_is}
 use Rattle.pc_lits.specs.declared.literal.Lit.{Lit}
 use Rattle.pc_log.specs.declared.log.StepId.{StepId}
-use Rattle.pc_log.specs.declared.log.Kind.{Kind}
-use Rattle.pc_log.specs.declared.log.Kind.TheVariants.{Axiom, Block, Step}
+use Rattle.pc_log.specs.declared.further.Kind.{Kind}
+use Rattle.pc_log.specs.declared.further.Kind.TheVariants.{Block, Step}
 use Rattle.pc_log.specs.declared.trimming.Span.{Span}
 use Rattle.pc_log.specs.Lines.{LogLine, AxiomLine, BlockLine, StepLine}
 use Rattle.pc_log.specs.inside.Parts.{lines_of, line_with, IsFitted, AreFitted, HasWholeLines}
@@ -17,7 +17,6 @@ use Rattle.pc_log.specs.Trimmed.{moved}
 use Rattle.pc_log.proofs.LineLemmas.{lines_of-take, HasWholeLines-take, lengths}
 
 bytes_of_line : (kind : Kind) (clause : List Lit) (hints : List StepId) → IsFitted kind clause hints → line_bytes (line_with kind clause hints) ≡ 16 + 4 * length clause + 8 * length hints
-bytes_of_line (Axiom number) clause hints fits = omega (arith, ap (λ (c : List Lit). length c) fits.0, ap (λ (h : List StepId). length h) fits.1)
 bytes_of_line (Block number) clause hints fits = omega (arith, ap (λ (h : List StepId). length h) fits)
 bytes_of_line (Step learned) clause hints fits = refl
 

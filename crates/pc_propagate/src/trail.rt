@@ -3,14 +3,14 @@
 //! The trail of Marques-Silva and Sakallah's GRASP, as in MiniSat: each decision starts a level, each other literal
 //! is there by a clause whose other literals were false before it.
 
-ghost use Rattle.std.specs.Prelude.{◌≡◌, ◌≢◌, ◌+◌, ◌*◌, ◌/◌, ◌<◌, ◌≤◌, ℕ, List, [], ◌∷◌, ◌++◌, slice_set, slice_index_or, IfOk, OnOk, OnErr, IfSome, IfNone, IsTrue, ◌↔◌, Some, None, All, length, map, count_by, slice_get, if◌then◌else◌, Contains, not};
+ghost use Rattle.std.specs.Prelude.{◌≡◌, ◌≢◌, ◌+◌, ◌*◌, ◌/◌, ◌<◌, ◌≤◌, ℕ, List, [], ◌∷◌, ◌++◌, slice_set, slice_index_or, take, IfOk, OnOk, OnErr, IfSome, IfNone, IsTrue, ◌↔◌, Some, None, All, length, map, count_by, slice_get, if◌then◌else◌, Contains, not};
 ghost use Rattle.std.specs.Bool.{OnTrue};
 ghost use Rattle.pc_lits.specs.declared.literal.Lit.{Lit};
 ghost use Rattle.pc_lits.specs.Literals.{negated};
 ghost use Rattle.pc_lits.specs.Steps.{IsLastOpen};
 ghost use Rattle.pc_watches.specs.Watched.{no_literal, code_of, literal_of, watchers, AreListedIn, IsAdded, IsKnown, IsShifted};
 ghost use Rattle.pc_propagate.specs.Entries.{literals, falses, HasValue, starts_level, AreEntries};
-ghost use Rattle.pc_propagate.specs.Levels.{IsEntryOfVariable, IsLevelOf, IsReasonOf, IsBackTo};
+ghost use Rattle.pc_propagate.specs.Levels.{IsEntryOfVariable, IsLevelOf, IsReasonOf, IsBackTo, IsJustified};
 ghost use Rattle.pc_propagate.specs.Refs.{clause_at, IsRef};
 ghost use Rattle.pc_propagate.specs.Over.{IsOver, AreInRange};
 ghost use Rattle.pc_propagate.specs.TrailView.{TrailView};
@@ -283,6 +283,21 @@ impl Trail {
             reason: Some(reason),
         };
         self.place_entry(entry, tally)
+    }
+
+    /// Gives the variable's literal, which is there by a clause, another one as its reason. It takes no memory.
+    pub fn justify(&mut self, variable: Var, reason: ClauseRef)
+        requires { (before : ClauseRef) × IsReasonOf self.old.entries variable (Some before) }
+        ensures justified { IsJustified variable reason self.old self.new }
+        ensures over { (axioms more : List (List Lit)) (place : ℕ) (is : IsEntryOfVariable self.old.entries variable place) → IsOver axioms more self.old
+            → Contains self.old.attached reason → IsLastOpen negated (falses (take place self.old.entries)) (clause_at axioms more reason) is.entry.literal → IsOver axioms more self.new }
+    {
+        let place = self.slot_of(variable).place;
+        let literal = self.entries[place].literal;
+        self.entries[place] = TrailEntry {
+            literal,
+            reason: Some(reason),
+        };
     }
 
     // Adds an entry as the last one, unless the limit is reached.

@@ -1,8 +1,9 @@
 -- Clauses that get lines, and clauses that are added.
-use Rattle.std.proofs.Common.{suc, zero, ◌≡◌, ℕ, ◌+◌, ◌<◌, ◌≤◌, Bool, true, false, List, [], ◌∷◌, ◌++◌, length, get_or, set, refl, sym, ap, ◌∙◌, subst, arith, ⊎_elim, Option, Some, None, slice_get, slice_set, cond, is_some, IsSome, Contains, All, ◌↔◌, inl, inr, ◌⊎◌}
+use Rattle.std.proofs.Common.{suc, zero, ◌≡◌, ℕ, ◌+◌, ◌<◌, ◌≤◌, Bool, true, false, List, [], ◌∷◌, ◌++◌, length, get_or, set, refl, sym, ap, ◌∙◌, subst, arith, ⊎_elim, Option, Some, None, Result, Ok, Err, IfOk, IsErr, slice_get, slice_set, cond, is_some, IsSome, Contains, All, ◌↔◌, inl, inr, ◌⊎◌}
 use Rattle.std.proofs.lemmas.Bool.{cases_lt, cases_eq}
 use Rattle.std.proofs.lemmas.Option.{get_or_from_slice_get, slice_get_within, slice_get-get_or}
 use Rattle.std.proofs.lemmas.List.{length_push, length-append, length-set, get_or_append_left, get_or_push, get_or-set_same, get_or-set_other, append-nil}
+use Rattle.std.specs.declared.alloc.AllocError.{AllocError}
 use Rattle.pc_lits.specs.declared.literal.Lit.{Lit}
 use Rattle.pc_log.specs.declared.log.StepId.{StepId}
 use Rattle.pc_log.specs.Lines.{LogLine, AxiomLine, BlockLine, StepLine}
@@ -27,7 +28,7 @@ use Rattle.pc_solver.specs.declared.clauses.KeptClause.{KeptClause}
 use Rattle.pc_solver.specs.declared.clauses.KeptClause.TheVariants.{Block, Learned, Dropped}
 use Rattle.pc_solver.specs.Clauses.{ClausesView, AreClauses, KeepsClauses, KeepsProblem, blank, number_of, line_of, IsStanding, IsKnown, IsOverOwn, used_clauses, blocks_among, blocks_of}
 use Rattle.pc_solver.specs.InLog.{StandsInLog, IsLogOf, IsKeptAs, ContainsNoKnown}
-use Rattle.pc_solver.specs.inside.Search.{IsSearch, KnowsAll}
+use Rattle.pc_solver.specs.inside.Search.{IsSearch, KnowsAll, IsNoted}
 use Rattle.pc_solver.proofs.LogLemmas.{StandsInLog-last, StandsInLog-more, IsLogOf-line, IsDerivation-line}
 
 some_same : {A : Type 0} (x y : A) → ◌≡◌ {A = Option A} (Some x) (Some y) → x ≡ y
@@ -291,22 +292,46 @@ axiom_line_stands axioms number id log new at new_is =
     subst (λ (ls : List LogLine). StandsInLog axioms ls id (get_or axioms number [])) (sym new_is) (StandsInLog-last axioms log (AxiomLine number) id at)
 
 -- the line is noted at the axiom's place
-pub axiom_noted_there : (v c : ClausesView) (blocks : ℕ) → AreClauses v blocks → (number place : ℕ) (read : Option StepId) (id : StepId) → v ≡ c → slice_get v.used place ≡ Some number
-    → read ≡ get_or v.axiom_lines place read → read ≡ Some id → (p : ℕ) × (slice_get c.used p ≡ Some number) × (get_or c.axiom_lines p None ≡ Some id)
-axiom_noted_there v c blocks are number place read id same there at is =
-    let under : place < length v.axiom_lines = omega (arith, slice_get_within v.used place number there, are.axiom_each) in (
-      place,
-      ap (λ (w : ClausesView). slice_get w.used place) (sym same) ∙ there,
-      ap (λ (w : ClausesView). get_or w.axiom_lines place None) (sym same) ∙ default v.axiom_lines place None read under ∙ sym at ∙ is,
-    )
+no_line : (y : StepId) → ◌≡◌ {A = Option StepId} None (Some y) → ⊥
+no_line y h = cc
 
-pub axiom_noted : (v c : ClausesView) (blocks : ℕ) → AreClauses v blocks → (number place : ℕ) (id : StepId) → v ≡ c → slice_get v.used place ≡ Some number
-    → (p : ℕ) × (slice_get c.used p ≡ Some number) × (get_or (set v.axiom_lines place (Some id)) p None ≡ Some id)
-axiom_noted v c blocks are number place id same there = (
-  place,
-  ap (λ (w : ClausesView). slice_get w.used place) (sym same) ∙ there,
-  get_or-set_same v.axiom_lines place (Some id) None (omega (arith, slice_get_within v.used place number there, are.axiom_each)),
-)
+none_ok : (P : StepId → Type 0) (answer : Result StepId AllocError) → IsErr answer → IfOk answer P
+none_ok P (Ok id) fails = absurd (cc)
+none_ok P (Err e) fails = tt
+
+module _ (v c : ClausesView) (blocks : ℕ) (are : AreClauses v blocks) (number place : ℕ) (read : Option StepId) (log : List LogLine) (same : v ≡ c) (there : slice_get v.used place ≡ Some number) (at : read ≡ get_or v.axiom_lines place read) where
+  under_lines : place < length v.axiom_lines
+  under_lines = omega (arith, slice_get_within v.used place number there, are.axiom_each)
+
+  of_place : slice_get c.used place ≡ Some number
+  of_place = ap (λ (w : ClausesView). slice_get w.used place) (sym same) ∙ there
+
+  line_read : get_or c.axiom_lines place None ≡ read
+  line_read = ap (λ (w : ClausesView). get_or w.axiom_lines place None) (sym same) ∙ default v.axiom_lines place None read under_lines ∙ sym at
+
+  pub noted_before : (id : StepId) → read ≡ Some id → IsNoted number c c log log (Ok id)
+  noted_before id is = record {
+    place = place;
+    of_number = of_place;
+    noted = line_read ∙ is;
+    stays = λ other found. (ap Ok (some_same id other (sym is ∙ sym line_read ∙ found)), refl);
+  }
+
+  pub noted_anew : (id : StepId) (grown : List LogLine) → read ≡ None → IsNoted number c (record v { axiom_lines = set v.axiom_lines place (Some id) }) log grown (Ok id)
+  noted_anew id grown is = record {
+    place = place;
+    of_number = of_place;
+    noted = get_or-set_same v.axiom_lines place (Some id) None under_lines;
+    stays = λ other found. absurd (no_line other (sym is ∙ sym line_read ∙ found));
+  }
+
+  pub noted_nowhere : (n : ClausesView) (grown : List LogLine) (answer : Result StepId AllocError) → IsErr answer → read ≡ None → IsNoted number c n log grown answer
+  noted_nowhere n grown answer fails is = record {
+    place = place;
+    of_number = of_place;
+    noted = none_ok (λ id. get_or n.axiom_lines place None ≡ Some id) answer fails;
+    stays = λ other found. absurd (no_line other (sym is ∙ sym line_read ∙ found));
+  }
 
 -- ---- a line that was there
 
@@ -362,6 +387,13 @@ with_dropped_logged v c blocks h same clause log logged =
   where
     none : (id : StepId) → ◌≡◌ {A = Option StepId} None (Some id) → ⊥
     none id e = cc
+
+-- a clause that stands in the log
+pub derived_logged : (v c : ClausesView) (blocks : ℕ) → AreClauses v blocks → v ≡ c → (clause : List Lit) (id : StepId) (log : List LogLine) → StandsInLog c.axioms log id clause → IsLogOf c log
+    → IsLogOf (record v { more = v.more ++ clause ∷ []; kept = v.kept ++ Learned id ∷ [] }) log
+derived_logged v c blocks h same clause id log stands logged =
+    added_logged v blocks h clause (Learned id) [] log (blocks-push v.more v.kept clause (Learned id) h.kept_each) (subst (λ (w : ClausesView). IsLogOf w log) (sym same) logged)
+    (λ other has. subst (λ (o : StepId). StandsInLog v.axioms log o clause) (some_same id other has) (subst (λ (w : ClausesView). StandsInLog w.axioms log id clause) (sym same) stands))
 
 -- ---- the trail
 

@@ -1,11 +1,12 @@
 //! Before a search: the levels that it may keep of the one before, and the clauses of which the trail isn't told yet.
 
-ghost use Rattle.std.specs.Prelude.{◌≡◌, ◌<◌, ◌≤◌, ℕ, List, Contains, OnOk, length};
+ghost use Rattle.std.specs.Prelude.{◌≡◌, ◌<◌, ℕ, List, OnOk};
+ghost use Rattle.std.specs.Bool.{OnTrue};
 ghost use Rattle.pc_lits.specs.declared.literal.Lit.{Lit};
 ghost use Rattle.pc_propagate.specs.Levels.{IsBackTo};
-ghost use Rattle.pc_propagate.specs.Over.{IsOver};
-ghost use Rattle.pc_solver.specs.Clauses.{KeepsProblem};
-ghost use Rattle.pc_solver.specs.inside.Search.{IsSearch, KnowsAll, AssumesFirst, AreAssumed, HasNoDecision, KeepsLogs};
+ghost use Rattle.pc_propagate.specs.Over.{IsOver, AreInRange};
+ghost use Rattle.pc_solver.specs.Clauses.{IsOverOwn, KeepsProblem};
+ghost use Rattle.pc_solver.specs.inside.Search.{IsSearch, KnowsAll, AssumesFirst, AreAssumed, IsStartOf, HasNoDecision, KeepsLogs};
 
 use crate::clauses::Clauses;
 use crate::decisions::put_back;
@@ -16,34 +17,36 @@ use pc_propagate::Trail;
 use pc_propagate::laws::quiet_is_kept;
 use std::alloc::AllocError;
 
-// The place of the literal among these from `start` on, or their number.
-fn find(assumed: &[Lit], start: usize, lit: Lit) -> usize
-    requires { start ≤ length assumed.now }
-    ensures within { result ≤ length assumed.now }
-    ensures found { result < length assumed.now → Contains assumed.now lit }
+// Whether the literal is the decision that starts this level.
+fn starts(trail: &Trail, lit: Lit, level: u32) -> bool
+    requires { lit.variable.0 < trail.now.variables }
+    ensures { OnTrue result (IsStartOf trail.now.entries level lit) }
 {
-    for place in start..assumed.len() {
-        if assumed[place] == lit {
-            return place;
-        }
+    let Some(sign) = trail.value(lit.variable) else {
+        return false;
+    };
+    if sign != lit.sign {
+        return false;
     }
-    assumed.len()
+    if trail.reason_of(lit.variable).is_some() {
+        return false;
+    }
+    if trail.level_of(lit.variable) != level {
+        return false;
+    }
+    true
 }
 
 // The highest level up to which each decision is one of the assumptions, in their order.
 fn assumed_levels(trail: &Trail, assumed: &[Lit]) -> u32
+    requires { AreInRange trail.now.variables assumed.now }
     ensures { AreAssumed trail.now.entries assumed.now result }
 {
+    let top = trail.level();
     let mut level = 0;
-    let mut next = 0;
-    for place in 0..trail.len() {
-        let lit = trail.at(place);
-        if trail.reason_of(lit.variable).is_none() {
-            next = find(assumed, next, lit);
-            if next == assumed.len() {
-                return level;
-            }
-            level = trail.level_of(lit.variable);
+    for lit in assumed {
+        if level < top && starts(trail, *lit, level + 1) {
+            level += 1;
         }
     }
     level
@@ -51,6 +54,7 @@ fn assumed_levels(trail: &Trail, assumed: &[Lit]) -> u32
 
 // Keeps the levels whose decisions are assumptions.
 fn keep_levels(trail: &mut Trail, own: &[Var], preferences: &mut Preferences, assumed: &[Lit])
+    requires { AreInRange trail.old.variables assumed.now }
     ensures first { AssumesFirst assumed.now trail.new.entries }
     ensures back { (level : ℕ) × IsBackTo level trail.old trail.new }
     ensures over { (axioms more : List (List Lit)) → IsOver axioms more trail.old → IsOver axioms more trail.new }
@@ -81,6 +85,7 @@ impl<'g> Search<'g> {
     /// Makes the trail ready for a search under these assumptions. Where the trail was told of each clause, the levels of
     /// the search before stay whose decisions are assumptions still.
     pub(crate) fn prepare(&mut self, assumed: &[Lit]) -> Result<(), AllocError>
+        requires { IsOverOwn self.old.clauses.own assumed.now }
         ensures problem { KeepsProblem self.old.clauses self.new.clauses }
         ensures logs { KeepsLogs self.old.clauses self.new.clauses }
         ensures all { OnOk result (KnowsAll self.new.clauses) }

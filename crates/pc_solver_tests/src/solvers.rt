@@ -3,7 +3,7 @@ ghost use Rattle.pc_solver.specs.Clauses.{IsOverOwn};
 ghost use Rattle.pc_solver.specs.Solver.{IsProblem, AreOwn};
 
 use pc_lits::{ClauseStore, Lit, Tally, Var};
-use pc_log::Log;
+use pc_log::{Line, Log};
 use pc_propagate::Trail;
 use pc_solver::{Outcome, Solver};
 use std::alloc::{AllocError, Global};
@@ -370,6 +370,53 @@ fn three_cells_are_found(alloc: Global) -> Result<bool, AllocError> {
 #[test]
 fn placed_assumptions_are_kept(rt: HostRuntime) -> Result<(), Fail> {
     assert!(rt; three_cells_are_found(rt.alloc())?);
+    Ok(())
+}
+
+// Each of so many variables but the first is true where the one before it is.
+fn chain(alloc: Global, count: u32) -> Result<ClauseStore, AllocError> {
+    let mut store = ClauseStore::new(alloc);
+    for number in 1..count {
+        let before = Lit::positive(Var(number - 1));
+        store.push(&[before.negated(), Lit::positive(Var(number))])?;
+    }
+    Ok(store)
+}
+
+// From how many clauses it is derived that this one is true if the first one is.
+fn hint_count(trial: &mut Trial<'_>, number: u32) -> Option<usize> {
+    let assumed = [Lit::positive(Var(0)), Lit::positive(Var(number)).negated()];
+    let (Outcome::Unsat(id), _) = trial.ask(&assumed)? else {
+        return None;
+    };
+    if id.0 >= trial.log.len() {
+        return None;
+    }
+    match trial.log.line(id) {
+        Line::Step { hints, .. } => Some(hints.len()),
+        _ => None,
+    }
+}
+
+// A long derivation goes on from what the one before it has shown, and a short one isn't kept.
+fn goes_on_from_what_it_derived(alloc: Global) -> Result<bool, AllocError> {
+    let store = chain(alloc, 400)?;
+    let places = numbers(alloc, 399)?;
+    let own = variables(alloc, 400)?;
+    let Some(mut trial) = Trial::new(alloc, &store, &places, &own, 400)? else {
+        return Ok(false);
+    };
+    Ok(
+        hint_count(&mut trial, 99) == Some(99)
+            && hint_count(&mut trial, 199) == Some(199)
+            && hint_count(&mut trial, 299) == Some(101)
+            && hint_count(&mut trial, 399) == Some(201),
+    )
+}
+
+#[test]
+fn long_derivations_go_on(rt: HostRuntime) -> Result<(), Fail> {
+    assert!(rt; goes_on_from_what_it_derived(rt.alloc())?);
     Ok(())
 }
 

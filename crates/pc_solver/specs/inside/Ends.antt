@@ -1,5 +1,5 @@
 -- What parts of a search come to.
-use Rattle.std.specs.Prelude.{◌≡◌, ℕ, ◌<◌, ◌⊎◌, Option, Some, None, List, Contains}
+use Rattle.std.specs.Prelude.{◌≡◌, ℕ, ◌<◌, ◌⊎◌, Option, Some, None, IsNone, List, Contains}
 use Rattle.pc_lits.specs.declared.literal.Var.{Var}
 use Rattle.pc_lits.specs.declared.literal.Lit.{Lit}
 use Rattle.pc_lits.specs.declared.tally.Tally.{Tally}
@@ -61,10 +61,10 @@ abbrev pub turn_unmarked : Option Outcome → ℕ
 turn_unmarked None = 0
 turn_unmarked (Some outcome) = unmarked outcome
 
--- What a turn leaves that isn't out of memory.
+-- What a turn leaves that isn't out of memory. Where it didn't end the search, that goes on.
 pub record Turns (old new : SearchView) (assumed : List Lit) (before after : Tally) (log grown : List LogLine) (ended : Option Outcome) : Type 0 where
   pub advances : Advances old new before after log grown (turn_extra ended) (turn_unmarked ended)
-  pub under_way : IsUnderWay new assumed grown
+  pub under_way : IsNone ended → IsUnderWay new assumed grown
   pub says : TurnSays new assumed grown before after ended
 
 -- what is to be decided next

@@ -5,7 +5,7 @@ use Rattle.pc_propagate.specs.Quiet.{IsQuiet}
 use Rattle.pc_solver.specs.declared.outcome.Outcome.TheVariants.{Sat}
 use Rattle.pc_solver.specs.inside.Search.{SearchView, IsUnderWay, Advances}
 use Rattle.pc_solver.specs.inside.Ends.{Turns}
-use Rattle.pc_solver.proofs.TurnLemmas.{placed_turn, placed_learned, refuted_turn, refuted_err, none_turn}
+use Rattle.pc_solver.proofs.TurnLemmas.{placed_turn, placed_learned, derived_turn, refuted_err, none_turn}
 use Rattle.pc_solver.proofs.SearchLemmas.{first_places}
 use Rattle.pc_solver.proofs.EndLemmas.{all_met}
 use Rattle.pc_solver.proofs.search.Search.decide.Goals as goal
@@ -34,9 +34,8 @@ pub returns-in-Failed-clause-ok : goal.returns-in-Failed-clause-ok
 returns-in-Failed-clause-ok c =
     let s = c.next_decision-next.new.self in
     let same = c.next_decision-next.ensures.same in
-    let under_way : IsUnderWay s c.args.assumed.now c.args.log.now = rw same c.requires.under_way in
     subst (λ (x : SearchView). IfOk c.refute_assumption.result (Turns x c.refute_assumption.new.self c.args.assumed.now c.args.tally.now c.args.tally.now c.args.log.now c.refute_assumption.new.log)) same
-    (refuted_turn s c.refute_assumption.new.self c.args.assumed.now c.args.tally.now c.args.log.now c.refute_assumption.new.log c.refute_assumption.result under_way c.refute_assumption.ensures.ok c.refute_assumption.ensures.refutes)
+    (derived_turn s c.refute_assumption.new.self c.args.assumed.now c.args.tally.now c.args.log.now c.refute_assumption.new.log c.refute_assumption.result c.refute_assumption.ensures.ok c.refute_assumption.ensures.refutes)
 
 pub returns-in-Failed-clause-err : goal.returns-in-Failed-clause-err
 returns-in-Failed-clause-err c =

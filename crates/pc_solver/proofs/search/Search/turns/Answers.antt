@@ -1,4 +1,4 @@
-use Rattle.std.proofs.Common.{subst, arith, Option}
+use Rattle.std.proofs.Common.{subst, sym, refl, arith, Option, IsNone}
 use Rattle.pc_solver.specs.declared.outcome.Outcome.{Outcome}
 use Rattle.pc_solver.specs.inside.Search.{Advances}
 use Rattle.pc_solver.specs.inside.Ends.{turn_extra, turn_unmarked}
@@ -25,5 +25,5 @@ pub turns-preserved : goal.turns-preserved
 turns-preserved c = record {
   advances = Advances-trans _ _ _ _ _ _ _ _ _ 0 0 c.turns.invariant.advances
       (subst (λ (e : Option Outcome). Advances c.turns.self c.turn.new.self c.turns.tally c.turn.new.tally c.turns.log c.turn.new.log (turn_extra e) (turn_unmarked e)) c.in-None.is c.in_ok-outcome.ensures.ok.advances);
-  under_way = c.in_ok-outcome.ensures.ok.under_way;
+  under_way = c.in_ok-outcome.ensures.ok.under_way (subst (λ (e : Option Outcome). IsNone e) (sym c.in-None.is) refl);
 }

@@ -1,0 +1,8 @@
+use Rattle.pc_log.proofs.MarkLemmas.{before_found, before_missing}
+use Rattle.pc_log.proofs.log.count_before.Goals as goal
+
+pub returns-in-Ok : goal.returns-in-Ok
+returns-in-Ok c = before_found _ _ _ _ c.requires c.binary_search.ensures.position c.in-Ok.is
+
+pub returns-in-Err : goal.returns-in-Err
+returns-in-Err c = before_missing _ _ _ _ c.requires c.binary_search.ensures.position c.in-Err.is
