@@ -15,7 +15,7 @@ ghost use Rattle.pc_cache.specs.Lent.{IsLentFor};
 ghost use Rattle.pc_cache.specs.inside.Kept.{kept_or_none, IsRowIn};
 
 use crate::listing::{add_slots, all_targets, is_used, targets_resting_on, targets_without_row};
-use crate::moving::move_rows;
+use crate::moving::take_rows;
 use crate::patch::Patch;
 use crate::row::{Row, Slot};
 use crate::slots::{find, put_slots};
@@ -128,7 +128,7 @@ impl Cache {
         let from = patch.log;
         let mut changes = patch.slots;
         let before = self.log.len();
-        if let Err(error) = move_rows(alloc, &from, &mut changes, &mut self.log) {
+        if let Err(error) = take_rows(alloc, from, &mut changes, &mut self.log) {
             self.log.truncate(before);
             return Err(error);
         }

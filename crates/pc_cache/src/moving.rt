@@ -31,6 +31,28 @@ pub(crate) fn move_rows(
     Ok(())
 }
 
+/// As `move_rows`, from a log that holds the rows' lines alone. Where the other one has no line yet, the log takes its place, and
+/// nothing is copied.
+pub(crate) fn take_rows(
+    alloc: Global,
+    from: Log,
+    slots: &mut [Slot],
+    into: &mut Log,
+) -> Result<(), AllocError>
+    requires are { AreRowsIn from slots.old }
+    requires alone { bytes_of from ≡ bytes_of_rows (rows_in from slots.old) }
+    ensures extends { Extends into.old into.new }
+    ensures are { OnOk result (AreRowsIn into.new slots.new) }
+    ensures same { OnOk result (rows_in into.new slots.new ≡ rows_in from slots.old) }
+    ensures bytes { OnOk result (bytes_of into.new ≡ bytes_of into.old + bytes_of_rows (rows_in from slots.old)) }
+{
+    if into.len() > 0 {
+        return move_rows(alloc, &from, slots, into);
+    }
+    *into = from;
+    Ok(())
+}
+
 // Appends the derivation of a row, if there is one.
 fn move_row(
     alloc: Global,

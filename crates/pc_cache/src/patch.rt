@@ -1,7 +1,8 @@
 //! Changes of rows that are not made yet.
 //!
 //! A row keeps of a log only the lines that its last line rests on. They are copied once, here, and a second time into the
-//! cache's log. Rows that are put one after another often show the same assignment: they share one copy of it.
+//! cache's log, unless that has no line yet. Rows that are put one after another often show the same assignment: they share one
+//! copy of it.
 
 ghost use Rattle.std.specs.Prelude.{◌≡◌, ◌<◌, ◌++◌, ◌∷◌, [], List, None, Some, IfOk, IsTrue, OnErr, OnOk, length};
 ghost use Rattle.pc_log.specs.Lines.{LogLine};
@@ -32,11 +33,12 @@ impl Model for Patch {
 
     ghost Value = { List TargetRow };
 
-    ghost use Rattle.pc_cache.specs.inside.Kept.{rows_in, AreRowsIn};
+    ghost use Rattle.pc_cache.specs.inside.Kept.{rows_in};
+    ghost use Rattle.pc_cache.specs.inside.Patched.{IsOfRows};
 
     ghost view = { λ p. rows_in p.log p.slots.items };
 
-    ghost invariant = { λ p. AreRowsIn p.log p.slots.items };
+    ghost invariant = { λ p. IsOfRows p.log p.slots.items };
 }
 
 impl Patch {

@@ -42,30 +42,12 @@ pub fn merges_are_worth_it()
     journals_read_back();
 }
 
-/// With `replay`, `edit FILE` and `posts FILE` each line is answered by the sheet after the edits that were accepted before it.
-pub fn sessions_are_worth_it()
-    ensures { SessionsAreWorthIt }
-{
-    events_add_up();
-    lines_have_one_verdict();
-    one_reading();
-    states_stay_open();
-    transcripts_stay_open();
-    dumps_start_again();
-    sheet_has_one_display();
-    parts_are_found();
-    parts_are_a_division();
-    parts_are_determined();
-    maximal_sets_are_unions();
-    texts_read_back();
-    certificates_have_one_reading();
-    what_is_read_is_for_the_sheet();
-}
-
-/// With `demo N` the generated sheet is summed up, the first cells of its blocks are cleared as lines of a session, and it is
-/// summed up again; or its load spent the budget.
-pub fn demonstrations_are_worth_it()
-    ensures { DemonstrationsAreWorthIt }
+/// With `replay`, `edit FILE` and `posts FILE` each line is answered by the sheet after the edits that were accepted before it. With
+/// `demo N` the generated sheet is summed up, the first cells of its blocks are cleared as lines of a session, and it is summed up
+/// again; or its load spent the budget.
+pub fn lines_are_worth_it()
+    ensures sessions { SessionsAreWorthIt }
+    ensures demonstrations { DemonstrationsAreWorthIt }
 {
     events_add_up();
     lines_have_one_verdict();
@@ -104,8 +86,7 @@ pub fn runs_keep_their_word()
     words_fit_one_request();
     checks_are_worth_it();
     merges_are_worth_it();
-    sessions_are_worth_it();
-    demonstrations_are_worth_it();
+    lines_are_worth_it();
 }
 
 /// A run that keeps its word.

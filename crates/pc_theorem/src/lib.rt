@@ -8,9 +8,8 @@ mod law;
 mod top;
 
 pub use law::{
-    broken_words, checks_are_worth_it, demonstrations_are_worth_it, merges_are_worth_it,
-    runs_keep_their_word, saved_sheets_show_the_same, saved_sheets_take_certificates,
-    sessions_are_worth_it, worked_words,
+    broken_words, checks_are_worth_it, lines_are_worth_it, merges_are_worth_it,
+    runs_keep_their_word, saved_sheets_show_the_same, saved_sheets_take_certificates, worked_words,
 };
 pub use pc_replay::{Spendings, Status};
 pub use top::run;
