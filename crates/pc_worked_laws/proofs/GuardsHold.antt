@@ -1,18 +1,23 @@
 -- Small trails and what is watched on them.
-use Rattle.std.proofs.Common.{◌≡◌, ◌≢◌, ℕ, zero, suc, ◌<◌, ◌≤◌, ◌⊎◌, inl, inr, true, false, List, [], ◌∷◌, Option, None, Some, Contains, arith, ap, refl, sym, ◌∙◌, subst}
+use Rattle.std.proofs.Common.{◌≡◌, ◌≢◌, ℕ, zero, suc, ◌<◌, ◌≤◌, ◌⊎◌, inl, inr, true, false, List, [], ◌∷◌, Option, None, Some, Contains, arith, ap, refl, sym, ◌∙◌, subst, Bool, slice_get, slice_set, get_or, is_some}
+use Rattle.std.proofs.lemmas.Bool.{false≢true}
 use Rattle.std.proofs.lemmas.Option.{slice_get_within, get_or_from_slice_get}
 use Rattle.pc_lits.specs.declared.literal.Lit.{Lit}
+use Rattle.pc_lits.specs.declared.literal.Var.{Var}
 use Rattle.pc_lits.specs.Literals.{negated}
 use Rattle.pc_watches.specs.Watched.{code_of}
 use Rattle.pc_propagate.specs.declared.trail.TrailEntry.{TrailEntry}
 use Rattle.pc_propagate.specs.Entries.{falses}
-use Rattle.pc_propagate.specs.Levels.{level_at}
+use Rattle.pc_propagate.specs.declared.clauses.ClauseRef.{ClauseRef}
+use Rattle.pc_propagate.specs.declared.clauses.ClauseRef.TheVariants.{Axiom, More}
+use Rattle.pc_propagate.specs.Levels.{level_at, IsJustified}
+use Rattle.pc_propagate.specs.TrailView.{TrailView}
 use Rattle.pc_propagate.specs.Watched.{IsFalseAt, IsTrueFromStart, GuardsAt, IsWatchedBy, IsSure, IsKept, HasLiteralsOf, attached_clause}
 use Rattle.pc_propagate.specs.Watching.{body_at}
 use Rattle.pc_lemmas.proofs.Elements.{contains_cases, contains_none}
-use Rattle.pc_worked_laws.specs.Trails.{plus, minus, decided}
+use Rattle.pc_worked_laws.specs.Trails.{plus, minus, decided, implied}
 use Rattle.pc_worked_laws.specs.Watches.{some_of_three, turned}
-use Rattle.pc_worked_laws.specs.Guards.{first_false, then_implied, then_decided, trail, WorkedGuards, WorkedWatches, WorkedSure, WorkedKept}
+use Rattle.pc_worked_laws.specs.Guards.{first_false, then_implied, then_decided, trail, with_entries, variable, WorkedGuards, WorkedWatches, WorkedSure, WorkedKept, WorkedJustified}
 use Rattle.pc_worked_laws.proofs.Deciding.{has_lit}
 use Rattle.pc_worked_laws.proofs.WatchesHold.{there, not_there, three}
 
@@ -242,4 +247,47 @@ worked_kept = record {
   lacks_one = λ h. not_there (plus 2 ∷ plus 1 ∷ []) (plus 0) refl ((h.same 0 (omega arith)).all (plus 0) (there some_of_three (plus 0) refl));
   another_clause = λ h. not_there (plus 2 ∷ plus 1 ∷ []) (plus 0) refl ((h.same 0 (omega arith)).from (plus 0) (there turned (plus 0) refl));
   too_far = λ h. let far : 2 ≤ 1 = h.propagated in absurd (omega (arith, far));
+}
+
+-- ---- another reason
+
+some_entry : (x y : TrailEntry) → ◌≡◌ {A = Option TrailEntry} (Some x) (Some y) → x ≡ y
+some_entry x y is = cc
+
+no_entry : (y : TrailEntry) → ◌≡◌ {A = Option TrailEntry} None (Some y) → ⊥
+no_entry y is = cc
+
+abbrev has_reason : TrailEntry → Bool
+has_reason e = is_some e.reason
+
+-- only the literal of 1 is there by a clause
+is_second : (v : Var) (reason : ClauseRef) (after : TrailView) → (h : IsJustified v reason (with_entries then_implied) after) → (h.place ≡ 1) × (v.0 ≡ 1)
+is_second v reason after h = at h.place h.at
+  where
+    at : (place : ℕ) → slice_get then_implied place ≡ Some h.entry → (place ≡ 1) × (v.0 ≡ 1)
+    at zero is = absurd (false≢true (ap has_reason (some_entry (decided (minus 0)) h.entry is) ∙ h.implied))
+    at (suc zero) is = (refl, sym h.is_of ∙ sym (ap (λ (e : TrailEntry). e.literal.variable.0) (some_entry (implied (plus 1) 0) h.entry is)))
+    at (suc (suc k)) is = absurd (no_entry h.entry is)
+
+-- the reason's number and the literal's sign at that place
+abbrev axiom_of : Option ClauseRef → ℕ
+axiom_of (Some (Axiom number)) = number
+axiom_of (Some (More number)) = 99
+axiom_of None = 99
+
+justified_entry : (reason : ClauseRef) (es : List TrailEntry) → IsJustified (variable 1) reason (with_entries then_implied) (with_entries es) → get_or es 1 (decided (plus 5)) ≡ record { literal = plus 1; reason = Some reason }
+justified_entry reason es h =
+    let entry : implied (plus 1) 0 ≡ h.entry = some_entry (implied (plus 1) 0) h.entry (subst (λ k. slice_get then_implied k ≡ Some h.entry) (is_second (variable 1) reason (with_entries es) h).0 h.at) in
+    ap (λ (t : TrailView). get_or t.entries 1 (decided (plus 5))) h.is
+    ∙ ap (λ k. get_or (slice_set then_implied k (record { literal = h.entry.literal; reason = Some reason })) 1 (decided (plus 5))) (is_second (variable 1) reason (with_entries es) h).0
+    ∙ ap (λ (e : TrailEntry). record { literal = e.literal; reason = Some reason }) (sym entry)
+
+pub worked_justified : WorkedJustified
+worked_justified = record {
+  other_axiom = record { place = 1; entry = implied (plus 1) 0; at = refl; is_of = refl; implied = refl; is = refl };
+  same_axiom = record { place = 1; entry = implied (plus 1) 0; at = refl; is_of = refl; implied = refl; is = refl };
+  decision = λ after h. let is : 0 ≡ 1 = (is_second (variable 0) (Axiom 1) after h).1 in omega (arith, is);
+  elsewhere = λ after h. let is : 2 ≡ 1 = (is_second (variable 2) (Axiom 1) after h).1 in omega (arith, is);
+  no_change = λ h. let is : 0 ≡ 1 = ap (λ (e : TrailEntry). axiom_of e.reason) (justified_entry (Axiom 1) then_implied h) in omega (arith, is);
+  its_negation = λ h. false≢true (ap (λ (e : TrailEntry). e.literal.sign) (justified_entry (Axiom 1) (decided (minus 0) ∷ implied (minus 1) 1 ∷ []) h));
 }

@@ -1,8 +1,10 @@
--- Small trails: which false literals are guarded, which of a clause's literals may be watched, and which clauses no propagation overlooks.
+-- Small trails: which false literals are guarded, which of a clause's literals may be watched, which clauses no propagation overlooks, and what another reason changes.
 use Rattle.std.specs.Prelude.{◌≡◌, ℕ, List, [], ◌∷◌, Option, None, Some}
 use Rattle.pc_lits.specs.declared.literal.Lit.{Lit}
+use Rattle.pc_lits.specs.declared.literal.Var.{Var}
 use Rattle.pc_propagate.specs.declared.clauses.ClauseRef.TheVariants.{Axiom}
 use Rattle.pc_propagate.specs.declared.trail.TrailEntry.{TrailEntry}
+use Rattle.pc_propagate.specs.Levels.{IsJustified}
 use Rattle.pc_propagate.specs.TrailView.{TrailView}
 use Rattle.pc_propagate.specs.Watched.{GuardsAt, GuardEachOther, IsGuardedAt, IsWatchedBy, IsOfLastLevel, IsSure, IsKept, AreKept, AreKeptBut}
 use Rattle.pc_worked_laws.specs.Trails.{plus, minus, decided, implied}
@@ -91,3 +93,21 @@ pub record WorkedKept : Type 0 where
   pub another_clause : ¬ AreKept ((plus 2 ∷ plus 1 ∷ []) ∷ []) [] (trail 1 turned None)
   -- of one entry two can't be propagated
   pub too_far : ¬ AreKept (some_of_three ∷ []) [] (trail 2 some_of_three (Some 0))
+
+-- the same trail with these entries
+abbrev pub with_entries : List TrailEntry → TrailView
+with_entries es = record (trail 0 some_of_three None) { entries = es }
+
+abbrev pub variable : ℕ → Var
+variable n = record { 0 = n }
+
+pub record WorkedJustified : Type 0 where
+  -- 1 was true by the first axiom, and is true by the second one
+  pub other_axiom : IsJustified (variable 1) (Axiom 1) (with_entries then_implied) (with_entries (decided (minus 0) ∷ implied (plus 1) 1 ∷ []))
+  pub same_axiom : IsJustified (variable 1) (Axiom 0) (with_entries then_implied) (with_entries then_implied)
+  -- a decision gets no reason, and what isn't on the trail neither
+  pub decision : (after : TrailView) → ¬ IsJustified (variable 0) (Axiom 1) (with_entries then_implied) after
+  pub elsewhere : (after : TrailView) → ¬ IsJustified (variable 2) (Axiom 1) (with_entries then_implied) after
+  -- it has that reason, and is the literal that it was
+  pub no_change : ¬ IsJustified (variable 1) (Axiom 1) (with_entries then_implied) (with_entries then_implied)
+  pub its_negation : ¬ IsJustified (variable 1) (Axiom 1) (with_entries then_implied) (with_entries (decided (minus 0) ∷ implied (minus 1) 1 ∷ []))

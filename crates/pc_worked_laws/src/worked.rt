@@ -14,7 +14,7 @@ ghost use Rattle.pc_worked_laws.specs.Rows.{WorkedRows};
 ghost use Rattle.pc_worked_laws.specs.Several.{WorkedViews, WorkedEdits, WorkedLimit};
 ghost use Rattle.pc_worked_laws.specs.Trails.{WorkedSettled, WorkedFirstPoint};
 ghost use Rattle.pc_worked_laws.specs.Watches.{WorkedKnownWatches, WorkedLists, WorkedAdditions, WorkedShifts};
-ghost use Rattle.pc_worked_laws.specs.Guards.{WorkedGuards, WorkedWatches, WorkedSure, WorkedKept};
+ghost use Rattle.pc_worked_laws.specs.Guards.{WorkedGuards, WorkedWatches, WorkedSure, WorkedKept, WorkedJustified};
 ghost use Rattle.pc_worked_laws.specs.Logs.{WorkedNewClauses, WorkedLawfulLogs, WorkedListingLogs};
 ghost use Rattle.pc_worked_laws.specs.LeftOut.{WorkedTwice, WorkedConstants};
 ghost use Rattle.pc_worked_laws.specs.Spendings.{WorkedSpendings, WorkedLogSpendings};
@@ -119,12 +119,13 @@ pub fn watches_are_worked()
     ensures shifted { WorkedShifts }
 {}
 
-/// Which literals of a clause may be watched on small trails, and which clauses no propagation overlooks.
+/// Which literals of a clause may be watched on small trails, which clauses no propagation overlooks, and what another reason changes.
 pub fn watched_trails_are_worked()
     ensures guards { WorkedGuards }
     ensures watches { WorkedWatches }
     ensures sure { WorkedSure }
     ensures kept { WorkedKept }
+    ensures justified { WorkedJustified }
 {}
 
 /// Which logs of a small sheet are lawful, and which of these list its maximal sets.
