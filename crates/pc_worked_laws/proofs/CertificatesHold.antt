@@ -23,7 +23,7 @@ use Rattle.pc_accept.proofs.Soundness.{has_same}
 use Rattle.pc_accept.proofs.WorkedHold.{worked_refutation}
 use Rattle.pc_accept.proofs.Worth.{worth}
 use Rattle.pc_asked_laws.specs.Asked.{asked}
-use Rattle.pc_worked_laws.specs.Certificates.{of_rule, ends, ends_denied, first_equal, last_equal, answering, WorkedAgainst, WorkedFewSets}
+use Rattle.pc_worked_laws.specs.Certificates.{of_rule, ends, ends_denied, first_equal, last_equal, answering, WorkedAgainst, WorkedFewSets, WorkedWithin}
 use Rattle.pc_worked_laws.proofs.AxiomsHold.{red_not_green, value_at, cells_differ, one_differs, two_differ, entries_of, other_reads}
 use Rattle.pc_worked_laws.proofs.Computing.{has, lacks, is_consistent}
 
@@ -366,3 +366,9 @@ worked_few_sets = record {
     the_line : (i : ℕ) (d : Line) → i < 1 → IsLineClauseBeside alone (blocks_of alone (red_set ∷ [])) ([] ∷ []) i (get_or (blocked 0 ∷ []) i d) (get_or ([] ∷ []) i [])
     the_line zero d l = refl
     the_line (suc i) d l = absurd (omega (arith, l))
+
+pub worked_within : WorkedWithin
+worked_within = record {
+  behind = λ lines h. (h.apart 0 2 red_set (omega arith) (omega arith)).1 (λ e has. absurd (omega (arith, has.1)));
+  before = λ lines h. (h.apart 0 1 red_set (omega arith) (omega arith)).0 (λ e has. absurd (omega (arith, has.1)));
+}

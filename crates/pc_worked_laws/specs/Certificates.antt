@@ -4,7 +4,8 @@ use Rattle.pc_sheet.specs.declared.ids.Entry.{Entry}
 use Rattle.pc_laws.specs.Examples.{red, green, entry, target, equal_cells, is_color, chain}
 use Rattle.pc_accept.specs.Axioms.{axiom_some, axiom_rule, axiom_node, axiom_atom, negated_entry}
 use Rattle.pc_accept.specs.Accepts.{repairs, unimplied, against, Line, taken, derived, blocked, Certificate, Accepts}
-use Rattle.pc_accept.specs.SetExamples.{two_ends, red_set, of_sets}
+use Rattle.pc_accept.specs.SetExamples.{two_ends, red_set, green_set, of_sets}
+use Rattle.pc_accept.specs.Sets.{GivenSet}
 use Rattle.pc_accept.specs.Worked.{never, refuting}
 use Rattle.pc_asked_laws.specs.Asked.{asked}
 
@@ -72,3 +73,12 @@ pub record WorkedFewSets : Type 0 where
   pub nothing_implied : Accepts never (of_sets (unimplied (target 0 red)) [] refuting)
   -- the rules are consistent, so some set is maximal
   pub none_left_out : (lines : List Line) → ¬ Accepts two_ends (of_sets repairs [] lines)
+
+-- a = red without a use
+abbrev pub no_uses : GivenSet
+no_uses = record { uses = []; values = red_set.values }
+
+pub record WorkedWithin : Type 0 where
+  -- what lies within another set isn't maximal, whichever of the two is given first
+  pub behind : (lines : List Line) → ¬ Accepts two_ends (of_sets repairs (red_set ∷ green_set ∷ no_uses ∷ []) lines)
+  pub before : (lines : List Line) → ¬ Accepts two_ends (of_sets repairs (no_uses ∷ red_set ∷ green_set ∷ []) lines)
