@@ -23,7 +23,7 @@ use Rattle.pc_accept.proofs.Soundness.{has_same}
 use Rattle.pc_accept.proofs.WorkedHold.{worked_refutation}
 use Rattle.pc_accept.proofs.Worth.{worth}
 use Rattle.pc_asked_laws.specs.Asked.{asked}
-use Rattle.pc_worked_laws.specs.Certificates.{of_rule, ends, ends_denied, first_equal, last_equal, answering, WorkedAgainst, WorkedFewSets, WorkedWithin}
+use Rattle.pc_worked_laws.specs.Certificates.{of_rule, ends, ends_denied, first_equal, last_equal, answering, WorkedAgainst, WorkedOpposed, WorkedFewSets, WorkedWithin}
 use Rattle.pc_worked_laws.proofs.AxiomsHold.{red_not_green, value_at, cells_differ, one_differs, two_differ, entries_of, other_reads}
 use Rattle.pc_worked_laws.proofs.Computing.{has, lacks, is_consistent}
 
@@ -318,6 +318,22 @@ worked_against = record {
   answered = answered;
   by_other = by_other;
   by_none = by_none;
+}
+
+pub worked_opposed : WorkedOpposed
+worked_opposed = record {
+  both_ends =
+      let w = worth two_ends (of_rule 1 ends first_equal ends_denied) (against 1) worked_against.of_second in
+      let one = w.2.some_one in
+      record {
+        some_one = (one.0, record { assigns = one.1.assigns; fits = one.1.fits; has = has_same one.0 ends w.0 (λ e. (w.1.same e).1) one.1.has });
+        each_one = λ a shows is. w.2.each_one a (record { assigns = shows.assigns; fits = shows.fits; has = has_same a w.0 ends (λ e. (w.1.same e).0) shows.has }) is;
+      };
+  one_end = λ h. h.each_one (red ∷ red ∷ red ∷ []) (record { assigns = (omega arith, (omega arith, (omega arith, tt))); fits = all_red; has = has_first }) (refl, refl);
+  of_none = λ h.
+      let has = h.some_one.1.has in
+      let both : Some red ≡ Some green = sym (has 0 (entry 0 red) (omega arith)) ∙ has 1 (entry 0 red) (omega arith) in
+      red_not_green (value_at (Some red) green both);
 }
 
 -- ---- one set, and none

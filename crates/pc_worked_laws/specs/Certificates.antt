@@ -6,6 +6,7 @@ use Rattle.pc_accept.specs.Axioms.{axiom_some, axiom_rule, axiom_node, axiom_ato
 use Rattle.pc_accept.specs.Accepts.{repairs, unimplied, against, Line, taken, derived, blocked, Certificate, Accepts}
 use Rattle.pc_accept.specs.SetExamples.{two_ends, red_set, green_set, of_sets}
 use Rattle.pc_accept.specs.Sets.{GivenSet}
+use Rattle.pc_accept.specs.Laws.{AreAgainst}
 use Rattle.pc_accept.specs.Worked.{never, refuting}
 use Rattle.pc_asked_laws.specs.Asked.{asked}
 
@@ -61,6 +62,13 @@ pub record WorkedAgainst : Type 0 where
   -- no derivation makes the other entry its reason, nor none
   pub by_other : (lines : List Line) → ¬ Accepts (asked equal_cells (is_color 1 red)) (of_rule 1 (entry 1 green ∷ []) (entry 0 green ∷ entry 1 green ∷ []) lines)
   pub by_none : (lines : List Line) → ¬ Accepts (asked equal_cells (is_color 1 red)) (of_rule 1 [] (entry 0 red ∷ entry 1 red ∷ []) lines)
+
+pub record WorkedOpposed : Type 0 where
+  pub both_ends : AreAgainst two_ends 1 ends
+  -- b and c may be red too
+  pub one_end : ¬ AreAgainst two_ends 1 (entry 0 red ∷ [])
+  -- no assignment has two values of one cell, so that none makes the rule false either
+  pub of_none : ¬ AreAgainst two_ends 1 (entry 0 red ∷ entry 0 green ∷ [])
 
 -- ---- sets: where all entries are consistent they are the one, and where the rules aren't there is none
 

@@ -3,7 +3,7 @@ ghost use Rattle.pc_worked_laws.specs.Axioms.{WorkedKinds, WorkedAxioms};
 ghost use Rattle.pc_worked_laws.specs.Connectives.{WorkedConnectives, WorkedCounterTruths, WorkedPieces};
 ghost use Rattle.pc_worked_laws.specs.Counting.{WorkedCounts, WorkedBounds, WorkedCountWeights};
 ghost use Rattle.pc_worked_laws.specs.Asked.{WorkedFormulas, WorkedClashes};
-ghost use Rattle.pc_worked_laws.specs.Certificates.{WorkedAgainst, WorkedFewSets, WorkedWithin};
+ghost use Rattle.pc_worked_laws.specs.Certificates.{WorkedAgainst, WorkedOpposed, WorkedFewSets, WorkedWithin};
 ghost use Rattle.pc_worked_laws.specs.Newest.{NewestDecides};
 ghost use Rattle.pc_worked_laws.specs.LargestSets.{NothingIsKept, PairsHaveFourSets};
 ghost use Rattle.pc_worked_laws.specs.PartSheets.{WorkedPartSheets};
@@ -50,6 +50,7 @@ pub fn axioms_are_worked()
 /// Which certificates against a rule, and of one set or none, are accepted.
 pub fn certificates_are_worked()
     ensures against { WorkedAgainst }
+    ensures opposed { WorkedOpposed }
     ensures few_sets { WorkedFewSets }
     ensures within { WorkedWithin }
 {}
