@@ -313,3 +313,8 @@ pub before_missing : (at : List ℕ) (place : ℕ) (r : Result ℕ ℕ) (n : ℕ
 before_missing at place r n rise position is =
     let here = searched at place (Err n) (subst (IsBinarySearchResult (λ y. nat_cmp y place) at) is position) (never_fall at rise) in
     (here.0, here.1, λ k high within. omega (arith, here.2 k high within))
+
+-- of the place right before it the number is known
+pub before_numbered : (at : List ℕ) (place n : ℕ) → AllPairs (λ x y. x < y) at → n < length at → 0 < place → get_or at n 0 ≡ place - 1 → IsCountBefore place at (n + 1)
+before_numbered at place n rise within some here =
+    (omega (arith, within), λ k low. omega (arith, never_fall at rise k n (omega (arith, low)) within, here, some), λ k high inside. omega (arith, rise n k 0 (omega (arith, high)) inside, here, some))
