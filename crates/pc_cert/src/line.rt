@@ -17,6 +17,7 @@ use std::alloc::Global;
 fn heading_line(rest: &[&[u8]]) -> Result<LineTree, Refusal>
     ensures told { IfOk result (λ t. (l : List ℕ) → IsCertificateForm l (codes "certificate" ∷ seen rest.now) (line_of t)) }
     ensures none { result ≡ Err Refusal.Syntax → (l : List ℕ) (f : WrittenLine) → IsCertificateForm l (codes "certificate" ∷ seen rest.now) f → ⊥ }
+    ensures no_memory { result ≡ Err Refusal.Memory → ⊥ }
 {
     let [version] = rest else {
         return Err(Refusal::Syntax);
@@ -31,6 +32,7 @@ fn heading_line(rest: &[&[u8]]) -> Result<LineTree, Refusal>
 fn end_line(rest: &[&[u8]]) -> Result<LineTree, Refusal>
     ensures told { IfOk result (λ t. (l : List ℕ) → IsCertificateForm l (codes "end" ∷ seen rest.now) (line_of t)) }
     ensures none { result ≡ Err Refusal.Syntax → (l : List ℕ) (f : WrittenLine) → IsCertificateForm l (codes "end" ∷ seen rest.now) f → ⊥ }
+    ensures no_memory { result ≡ Err Refusal.Memory → ⊥ }
 {
     if rest.is_empty() {
         Ok(LineTree::Ends)
@@ -52,6 +54,7 @@ fn claim_line(alloc: Global, line: &[u8], rest: &[&[u8]]) -> Result<LineTree, Re
 fn set_line(rest: &[&[u8]]) -> Result<LineTree, Refusal>
     ensures told { IfOk result (λ t. (l : List ℕ) → IsCertificateForm l (codes "set" ∷ seen rest.now) (line_of t)) }
     ensures none { result ≡ Err Refusal.Syntax → (l : List ℕ) (f : WrittenLine) → IsCertificateForm l (codes "set" ∷ seen rest.now) f → ⊥ }
+    ensures no_memory { result ≡ Err Refusal.Memory → ⊥ }
 {
     if rest.is_empty() {
         Ok(LineTree::Begins)

@@ -118,6 +118,7 @@ fn step_part(alloc: Global, texts: &[&[u8]]) -> Result<PartTree, Refusal>
 fn block_part(texts: &[&[u8]]) -> Result<PartTree, Refusal>
     ensures told { IfOk result (λ p. IsPartStarting (codes "block") (seen texts.now) (part_of p)) }
     ensures none { result ≡ Err Refusal.Syntax → (p : WrittenPart) → IsPartStarting (codes "block") (seen texts.now) p → ⊥ }
+    ensures no_memory { result ≡ Err Refusal.Memory → ⊥ }
 {
     let [number] = texts else {
         return Err(Refusal::Syntax);

@@ -12,10 +12,11 @@ use crate::words::Words;
 use pc_token::Kind;
 use std::alloc::Global;
 
-/// Reads the end of the words.
+/// Reads the end of the words, and takes no memory.
 pub fn read_end(words: &mut Words<'_>) -> Result<(), Refusal>
     ensures told { OnOk result (words.old ≡ []) }
     ensures none { result ≡ Err Refusal.Syntax → words.old ≡ [] → ⊥ }
+    ensures no_memory { result ≡ Err Refusal.Memory → ⊥ }
 {
     if words.is_empty() {
         Ok(())

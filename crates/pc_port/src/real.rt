@@ -127,6 +127,9 @@ fn take_start<S: Source>(source: &mut S, into: &mut Vec<u8>) -> Result<(), Shelf
     requires { into.old.items ≡ [] }
     ensures short { length into.new.items ≤ READ_LIMIT }
     ensures bytes { OnOk result (IfSome (S.left source.old) (λ left. into.new.items ≡ readable left)) }
+
+    // A fault is told exactly where the source was at fault.
+    ensures cause { HasShelfCause (S.faults source.old) (S.faults source.new) result }
 {
     let mut chunk = [0u8; CHUNK];
     while into.len() < READ_LIMIT {

@@ -23,6 +23,7 @@ pub fn is_word(text: &str, word: &str) -> bool
 pub fn number(words: &mut Words<'_>) -> Result<u64, Refusal>
     ensures told { IfOk result (λ n. DerivesNumber words.old n []) }
     ensures none { result ≡ Err Refusal.Syntax → (n : ℕ) → DerivesNumber words.old n [] → ⊥ }
+    ensures no_memory { result ≡ Err Refusal.Memory → ⊥ }
 {
     let Some(value) = read_number(words) else {
         return Err(Refusal::Syntax);

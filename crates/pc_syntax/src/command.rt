@@ -169,6 +169,7 @@ fn clearing(alloc: Global, words: &mut Words<'_>) -> Result<Command, Refusal>
 fn proving(words: &mut Words<'_>) -> Result<Command, Refusal>
     ensures told { IfOk result (λ c. Asks (codes "prove") (asked_of c) words.old) }
     ensures none { result ≡ Err Refusal.Syntax → (a : Asked) → Asks (codes "prove") a words.old → ⊥ }
+    ensures no_memory { result ≡ Err Refusal.Memory → ⊥ }
 {
     let Some(word) = words.take_name() else {
         return Err(Refusal::Syntax);

@@ -88,6 +88,7 @@ fn names(alloc: Global, words: &mut Words<'_>) -> Result<Vec<Name>, Refusal>
 fn bounds(words: &mut Words<'_>) -> Result<(i64, i64), Refusal>
     ensures told { IfOk result (λ p. AreBounds words.old p.0 p.1) }
     ensures none { result ≡ Err Refusal.Syntax → (low high : ℤ) → AreBounds words.old low high → ⊥ }
+    ensures no_memory { result ≡ Err Refusal.Memory → ⊥ }
 {
     let Some(low) = read_integer(words) else {
         return Err(Refusal::Syntax);
