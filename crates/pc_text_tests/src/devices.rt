@@ -7,6 +7,7 @@ use pc_port::{
 };
 use std::alloc::{AllocError, Global};
 use std::fs::{File, OpenOptions};
+use std::io::{ErrorKind, Read, Write};
 use std::str::SplitWhitespace;
 use std::test::Fail;
 use std::{fs, io};
@@ -158,6 +159,60 @@ fn real_pipe(rt: HostRuntime) -> Result<(), Fail> {
     assert!(rt; sink.write(b"through ").is_ok() && sink.write(b"a pipe").is_ok());
     drop(sink);
     let mut source = RealSource::new(reader);
+    let all = drain(rt.alloc(), &mut source, 5)?;
+    assert!(rt; all.as_slice() == b"through a pipe".as_slice());
+    Ok(())
+}
+
+// A reader or a writer of which each second call is interrupted, from the first on; the others take at most two bytes.
+#[derive(Drop)]
+struct Interrupting<T> {
+    inner: T,
+    is_even: bool,
+}
+
+impl<T> Interrupting<T> {
+    fn new(inner: T) -> Self {
+        let is_even = true;
+        Interrupting { inner, is_even }
+    }
+
+    // How many of the bytes this call takes.
+    fn turn(&mut self, count: usize) -> io::Result<usize> {
+        self.is_even = !self.is_even;
+        if self.is_even {
+            return Ok(count.min(2));
+        }
+        Err(io::Error::from(ErrorKind::Interrupted))
+    }
+}
+
+impl<T: Read> Read for Interrupting<T> {
+    fn read(&mut self, into: &mut [u8]) -> io::Result<usize> {
+        let count = self.turn(into.len())?.min(into.len());
+        self.inner.read(&mut into[..count])
+    }
+}
+
+impl<T: Write> Write for Interrupting<T> {
+    fn write(&mut self, bytes: &[u8]) -> io::Result<usize> {
+        let count = self.turn(bytes.len())?.min(bytes.len());
+        self.inner.write(&bytes[..count])
+    }
+
+    fn flush(&mut self) -> io::Result<()> {
+        Ok(())
+    }
+}
+
+// Interrupted calls are tried again, and told as no fault.
+#[test]
+fn interrupted_calls(rt: HostRuntime) -> Result<(), Fail> {
+    let (reader, writer) = io::pipe(&rt)?;
+    let mut sink = RealSink::new(Interrupting::new(writer));
+    assert!(rt; sink.write(b"through ").is_ok() && sink.write(b"a pipe").is_ok());
+    drop(sink);
+    let mut source = RealSource::new(Interrupting::new(reader));
     let all = drain(rt.alloc(), &mut source, 5)?;
     assert!(rt; all.as_slice() == b"through a pipe".as_slice());
     Ok(())
