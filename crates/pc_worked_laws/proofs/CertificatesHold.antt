@@ -1,9 +1,11 @@
 -- Certificates against a rule, and of few sets.
-use Rattle.std.proofs.Common.{◌≡◌, ℕ, zero, suc, ◌<◌, ◌-◌, inr, true, false, not, List, [], ◌∷◌, length, map, get_or, Some, slice_get, All, Contains, arith, ap, refl, sym, ◌∙◌, subst}
+use Rattle.std.proofs.Common.{◌≡◌, ◌≢◌, ℕ, zero, suc, ◌<◌, ◌-◌, inr, true, false, not, List, [], ◌∷◌, length, map, get_or, Some, slice_get, All, Contains, arith, ap, refl, sym, ◌∙◌, subst}
 use Rattle.std.proofs.lemmas.Bool.{false≢true}
 use Rattle.std.proofs.lemmas.List.Elements.{All-nil, All-cons, All-contains}
 use Rattle.pc_sheet.specs.Sheet.{Sheet}
 use Rattle.pc_sheet.specs.Entailment.{RuleHolds, Fits, HasAll}
+use Rattle.pc_sheet.specs.Reads.{looked_up_in_atom, GiveTruth}
+use Rattle.pc_sheet.specs.Truth.{value_or_first, Holds}
 use Rattle.pc_sheet.specs.WellFormed.{IsEntryOf}
 use Rattle.pc_sheet.specs.declared.ids.ValueId.{ValueId}
 use Rattle.pc_sheet.specs.declared.ids.Entry.{Entry}
@@ -68,6 +70,17 @@ ends_shown r v below fits = record { entered = ends_entered; in_order = record {
 abbrev clause_at : ℕ → ℕ → ℕ → List Literal
 clause_at r c d = negated_entry (entry c red) ∷ negated_entry (entry d green) ∷ negative (node r []) ∷ []
 
+-- a cell that is red isn't equal to one that is green
+ends_differ : (c d : ℕ) → c ≢ d → ((a : List ValueId) → looked_up_in_atom two_ends.universe a [] (equals c d) ≡ c ∷ d ∷ [])
+    → ((a : List ValueId) → Holds two_ends.universe a [] (equals c d) → value_or_first (slice_get a c) ≡ value_or_first (slice_get a d))
+    → GiveTruth two_ends.universe [] (equals c d) (entry c red ∷ entry d green ∷ []) false
+ends_differ c d other looked same = record {
+  atom = tt;
+  distinct = two_differ (entry c red) (entry d green) (cells_differ c d (entry c red) (entry d green) refl refl other);
+  enough = λ a h f has. subst (λ cells. Contains cells f) (looked a) has;
+  truth = λ a h. (λ z. absurd (cc), λ h'. absurd (red_not_green (sym (value_at (slice_get a c) red (h 0 (entry c red) (omega arith))) ∙ same a h' ∙ value_at (slice_get a d) green (h 1 (entry c red) (omega arith)))));
+}
+
 first_atom : IsAtomClause two_ends 0 [] (entry 0 red ∷ entry 1 green ∷ []) (clause_at 0 0 1)
 first_atom = record {
   scope = [];
@@ -75,12 +88,7 @@ first_atom = record {
   at = refl;
   each = entries_of two_ends.universe (entry 0 red) (entry 1 green) (omega arith) (omega arith);
   truth = false;
-  given = record {
-    atom = tt;
-    distinct = two_differ (entry 0 red) (entry 1 green) (cells_differ 0 1 (entry 0 red) (entry 1 green) refl refl (λ is. absurd (omega (arith, is))));
-    enough = λ a h c has. has;
-    truth = λ a h. (λ z. absurd (cc), λ h'. absurd (red_not_green (sym (value_at (slice_get a 0) red (h 0 (entry 0 red) (omega arith))) ∙ h'.1 ∙ value_at (slice_get a 1) green (h 1 (entry 0 red) (omega arith)))));
-  };
+  given = ends_differ 0 1 (λ is. absurd (omega (arith, is))) (λ a. refl) (λ a h. h.1);
   is = refl;
 }
 
@@ -91,12 +99,7 @@ last_atom = record {
   at = refl;
   each = entries_of two_ends.universe (entry 1 red) (entry 2 green) (omega arith) (omega arith);
   truth = false;
-  given = record {
-    atom = tt;
-    distinct = two_differ (entry 1 red) (entry 2 green) (cells_differ 1 2 (entry 1 red) (entry 2 green) refl refl (λ is. absurd (omega (arith, is))));
-    enough = λ a h c has. has;
-    truth = λ a h. (λ z. absurd (cc), λ h'. absurd (red_not_green (sym (value_at (slice_get a 1) red (h 0 (entry 0 red) (omega arith))) ∙ h'.1 ∙ value_at (slice_get a 2) green (h 1 (entry 0 red) (omega arith)))));
-  };
+  given = ends_differ 1 2 (λ is. absurd (omega (arith, is))) (λ a. refl) (λ a h. h.1);
   is = refl;
 }
 
