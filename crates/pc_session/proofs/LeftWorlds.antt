@@ -18,6 +18,7 @@ worlds_new sheet new theory worlds rows session formed gone is_new i below ws le
     let at_old : IsPartNumbered (rules_alone sheet) i q = subst (λ x. IsPartNumbered (rules_alone x) i q) is_new at in
     gives q (subst (AreWorldsOf sheet q) (sym is) (world_at sheet theory worlds rows session formed i q ws below at_old))
 
--- worlds that are taken over into copies of a book and of its worlds
-pub worlds_taken : (sheet copy new : Sheet) (ws copied left : List WorldView) → copy ≡ sheet → copied ≡ ws → ((q : Part) → AreWorldsOf copy q copied → AreWorldsOf new q left) → (q : Part) → AreWorldsOf sheet q ws → AreWorldsOf new q left
-worlds_taken sheet copy new ws copied left is_copy are_copied gives q h = gives q (subst (λ b. AreWorldsOf b q copied) (sym is_copy) (subst (AreWorldsOf sheet q) (sym are_copied) h))
+-- a copy of a part's worlds
+pub worlds_copied : (sheet : Sheet) (theory : TheoryView) (worlds : List (List WorldView)) (rows : List TargetRow) (session : IsSession sheet theory worlds rows) (formed : IsWellFormed sheet)
+    → (i : ℕ) → i < length worlds → (ws copied : List WorldView) → ws ≡ get_or worlds i ws → copied ≡ ws → (q : Part) → IsPartNumbered (rules_alone sheet) i q → AreWorldsOf sheet q copied
+worlds_copied sheet theory worlds rows session formed i below ws copied is are q at = subst (AreWorldsOf sheet q) (sym are) (subst (AreWorldsOf sheet q) (sym is) (world_at sheet theory worlds rows session formed i q ws below at))

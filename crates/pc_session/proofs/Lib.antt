@@ -15,3 +15,4 @@ pub mod LeftWorlds
 pub mod UsedTargets
 pub mod Lending
 pub mod Choosing
+pub mod Changed

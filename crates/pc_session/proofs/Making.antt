@@ -1,18 +1,19 @@
 -- What the search of the part of a cell makes of an edit of the cell's entries.
-use Rattle.std.proofs.Common.{◌≡◌, ℕ, ◌+◌, Bool, List, [], ◌++◌, map, Contains, Option, Some, ap, sym, ◌∙◌, subst}
+use Rattle.std.proofs.Common.{◌≡◌, ℕ, ◌+◌, inl, inr, Bool, false, List, [], ◌++◌, map, Contains, Option, None, Some, ap, refl, sym, ◌∙◌, subst}
 use Rattle.std.specs.List.{AllZip}
 use Rattle.pc_lits.specs.declared.tally.Tally.{Tally}
 use Rattle.pc_sheet.specs.Sheet.{Sheet}
+use Rattle.pc_sheet.specs.Entailment.{cell_sizes}
 use Rattle.pc_sheet.specs.declared.ids.CellId.{CellId}
 use Rattle.pc_sheet.specs.declared.ids.Entry.{Entry}
 use Rattle.pc_sheet.specs.declared.ids.Target.{Target}
 use Rattle.pc_parts.specs.Parts.{Part}
 use Rattle.pc_components.specs.View.{Kept, number_of, AreComponentsOf}
-use Rattle.pc_edit_laws.specs.Edits.{edited}
 use Rattle.pc_cache.specs.Rows.{TargetRow}
 use Rattle.pc_world_list.specs.Worlds.{WorldView}
 use Rattle.pc_search.specs.Found.{Finds, IsFound}
 use Rattle.pc_search.specs.Parts.{AreWorldsOf}
+use Rattle.pc_theory.specs.Targets.{AreAsked}
 use Rattle.pc_theory.specs.Theories.{rules_alone, TheoryView, IsTheory, IsPartNumbered}
 use Rattle.pc_theory.specs.Spendings.{IsLawful, IsSpendingOf, IsSpentOn, LearnsWithin}
 use Rattle.pc_theory.specs.Edits.{IsSpentAlone}
@@ -20,70 +21,110 @@ use Rattle.pc_solver.specs.Spending.{StopSays}
 use Rattle.pc_solver.specs.declared.stop.Stop.{Stop}
 use Rattle.pc_solver.specs.declared.stop.Stop.TheVariants as stop
 use Rattle.pc_session.specs.Causes.{IsEntryCause, IsRemovalCause}
+use Rattle.pc_session.specs.inside.Changes.{adds_one, made_of, more, IsAskedFor, IsFoundOf}
+use Rattle.pc_session.specs.inside.Edits.{AreChanges, IsMade}
 use Rattle.pc_session.specs.inside.Refusals.{IsStopTold}
+use Rattle.pc_session.specs.inside.States.{IsState}
+use Rattle.pc_session.specs.inside.Taken.{takes}
+use Rattle.pc_session.specs.declared.change.Change.{Change}
+use Rattle.pc_session.specs.declared.edit.Edit.{Edit}
 use Rattle.pc_session.specs.declared.refused.EditRefused.{EditRefused}
 use Rattle.pc_session.specs.declared.refused.EditRefused.TheVariants as edit
+use Rattle.pc_session.specs.declared.searching.Asked.{Asked}
+use Rattle.pc_session.specs.declared.state.State.{State}
 use Rattle.pc_theory.specs.declared.spending.PartSpending.{PartSpending}
 use Rattle.pc_theory.specs.declared.spending.Spending.{Spending}
-use Rattle.pc_session.specs.inside.Edits.{AreChanges, IsMade}
-use Rattle.pc_session.specs.inside.Staleness.{IsStale}
-use Rattle.pc_session.proofs.Apart.{AreApart}
+use Rattle.pc_session.proofs.Asking.{asked, stale, apart}
 use Rattle.pc_session.proofs.Changing.{are_changes}
 
--- what holds of the rules of the sheet holds of those of the edited one
-pub known_new : (sheet new : Sheet) (theory : TheoryView) (gone : Entry → Bool) (added : List Entry) → new ≡ edited sheet gone added → IsTheory (rules_alone sheet) theory → IsTheory (rules_alone new) theory
-known_new sheet new theory gone added is known = subst (λ s. IsTheory (rules_alone s) theory) (sym is) known
+-- ---- what a search of the edited book finds
 
-module _ (sheet new : Sheet) (theory : TheoryView) (c : CellId) (gone : Entry → Bool) (added : List Entry) (is_new : new ≡ edited sheet gone added) (known : IsTheory (rules_alone sheet) theory)
-    (i : ℕ) (p : Part) (numbered : IsPartNumbered (rules_alone sheet) i p) (has : Contains p.cells c.0) (place : PartSpending) (s : Spending) (limit : ℕ)
-    (gives : (other : Sheet) (touched : Option CellId) (kept : Kept) → AreComponentsOf (rules_alone other) kept → IsSpentOn other touched kept place → IsSpendingOf other touched s)
-    (alone : IsSpentAlone new theory.components i place) (is_tally : s.tally ≡ place.tally) (limited : place.tally.limit ≡ limit) where
-  numbered_new : IsPartNumbered (rules_alone new) i p
-  numbered_new = subst (λ x. IsPartNumbered (rules_alone x) i p) (sym is_new) numbered
-
-  spends : IsSpendingOf new (Some c) s
-  spends = gives new (Some c) theory.components (known_new sheet new theory gone added is_new known).components (alone (Some c) p numbered_new has).0
+module _ (sheet : Sheet) (theory : TheoryView) (c : CellId) (known : IsTheory (rules_alone sheet) theory) (i : ℕ) (p : Part) (numbered : IsPartNumbered (rules_alone sheet) i p) (has : Contains p.cells c.0)
+    (place : PartSpending) (s : Spending) (limit : ℕ) (gives : (other : Sheet) (touched : Option CellId) (kept : Kept) → AreComponentsOf (rules_alone other) kept → IsSpentOn other touched kept place → IsSpendingOf other touched s)
+    (alone : IsSpentAlone sheet theory.components i place) (is_tally : s.tally ≡ place.tally) (limited : place.tally.limit ≡ limit) where
+  spends : IsSpendingOf sheet (Some c) s
+  spends = gives sheet (Some c) theory.components known.components (alone (Some c) p numbered has).0
 
   limit_is : s.tally.limit ≡ limit
   limit_is = let of : Tally → ℕ = λ t. t.limit in ap of is_tally ∙ limited
 
-  pub lawful : place.tally.placed ≡ place.tally.limit → IsLawful new (Some c) limit s
+  pub lawful : place.tally.placed ≡ place.tally.limit → IsLawful sheet (Some c) limit s
   lawful reached = record {
     of_sheet = spends;
     limited = limit_is;
     all_placed = let of : Tally → ℕ = λ t. t.placed in ap of is_tally ∙ (reached ∙ limited);
   }
 
-  module _ (rows : List TargetRow) (cells : List CellId) (are : p.cells ≡ map number_of cells) (ts : List Target) (stale : IsStale sheet rows gone added (map number_of cells) ts) (apart : AreApart ts) (ws : List WorldView) (worlds : (q : Part) → IsPartNumbered (rules_alone new) i q → AreWorldsOf new q ws)
-      (before changes : List TargetRow) (blank : before ≡ []) (found : Finds new (place.tally.learned + place.tally.calls) ts before changes) where
-    each_found : AllZip (IsFound (edited sheet gone added) (s.tally.learned + s.tally.calls)) ts changes
-    each_found =
+  pub found_of : (ws : List WorldView) → ((q : Part) → IsPartNumbered (rules_alone sheet) i q → AreWorldsOf sheet q ws) → (lent targets : List Target) → lent ≡ targets → (before changes : List TargetRow) → before ≡ [] → Finds sheet (place.tally.learned + place.tally.calls) lent before changes
+      → IsFoundOf sheet c i targets limit (record { part = i; worlds = ws; patch = changes; spending = s })
+  found_of ws worlds lent targets are before changes blank found = record {
+    part = refl;
+    worlds = worlds;
+    each =
         let same : changes ≡ found.rows = found.added ∙ ap (λ xs. xs ++ found.rows) blank in
         let most : place.tally.learned + place.tally.calls ≡ s.tally.learned + s.tally.calls = (let of : Tally → ℕ = λ t. t.learned + t.calls in ap of (sym is_tally)) in
-        subst (λ n. AllZip (IsFound (edited sheet gone added) n) ts changes) most
-        (subst (λ x. AllZip (IsFound x (place.tally.learned + place.tally.calls)) ts changes) is_new (subst (AllZip (IsFound new (place.tally.learned + place.tally.calls)) ts) (sym same) found.each))
+        subst (λ n. AllZip (IsFound sheet n) targets changes) most
+        (subst (λ xs. AllZip (IsFound sheet (place.tally.learned + place.tally.calls)) xs changes) are (subst (AllZip (IsFound sheet (place.tally.learned + place.tally.calls)) lent) (sym same) found.each));
+    spends = spends;
+    spare = subst LearnsWithin (sym is_tally) (alone (Some c) p numbered has).1;
+    limited = limit_is;
+  }
 
-    pub made : IsMade sheet rows c gone added limit (record { part = i; book = new; worlds = ws; patch = changes; spending = s })
-    made = record {
-      book = is_new;
-      part = p;
-      numbered = numbered;
-      has = has;
-      worlds_of = subst (λ x. AreWorldsOf x p ws) is_new (worlds p numbered_new);
-      changes_are =
-          subst (λ ns. AreChanges sheet rows gone added ns changes (s.tally.learned + s.tally.calls)) (sym are)
-          (are_changes sheet rows gone added (map number_of cells) ts changes (s.tally.learned + s.tally.calls) stale apart each_found);
-      spends = subst (λ x. IsSpendingOf x (Some c) s) is_new spends;
-      spare = subst LearnsWithin (sym is_tally) (alone (Some c) p numbered_new has).1;
-      limited = limit_is;
-    }
+-- ---- what that is for the sheet before the edit
+
+none_more : (o : Option Entry) → adds_one o ≡ false → more o ≡ []
+none_more None none = refl
+none_more (Some e) none = absurd (cc)
+
+module _ (old : State) (change : Change) (a : Asked) (is : IsAskedFor old change a) (state : IsState old) (new : Sheet) (is_new : new ≡ made_of old.book change) where
+  -- what holds of the rules of the sheet holds of those of the edited one
+  pub known_new : IsTheory (rules_alone new) old.theory
+  known_new = subst (λ s. IsTheory (rules_alone s) old.theory) (sym is_new) state.known
+
+  pub numbered_new : (p : Part) → IsPartNumbered (rules_alone old.book) a.part p → IsPartNumbered (rules_alone new) a.part p
+  numbered_new p at = subst (λ x. IsPartNumbered (rules_alone x) a.part p) (sym is_new) at
+
+  pub numbered_old : (p : Part) → IsPartNumbered (rules_alone new) a.part p → IsPartNumbered (rules_alone old.book) a.part p
+  numbered_old p at = subst (λ x. IsPartNumbered (rules_alone x) a.part p) is_new at
+
+  pub asked_new : AreAsked (cell_sizes new.universe) old.theory.components a.part a.targets.items
+  asked_new = asked old.book old.theory old.cache.rows state.known (takes change.taken) (adds_one change.added) (more change.added) (none_more change.added) a.part is.cells is.at a.targets.items is.targets new is_new
+
+  pub made : (limit : ℕ) (found : Edit) → IsFoundOf new change.cell a.part a.targets.items limit found → IsMade old.book old.cache.rows change.cell (takes change.taken) (more change.added) limit found
+  made limit found h = record {
+    part = is.part;
+    numbered = subst (λ i. IsPartNumbered (rules_alone old.book) i is.part) (sym h.part) is.numbered;
+    has = is.has;
+    worlds_of = subst (λ x. AreWorldsOf x is.part found.worlds) is_new (h.worlds is.part (numbered_new is.part is.numbered));
+    changes_are =
+        subst (λ ns. AreChanges old.book old.cache.rows gone added ns found.patch most) (sym is.are)
+        (are_changes old.book old.cache.rows gone added (map number_of is.cells) a.targets.items found.patch most
+        (stale old.book old.theory old.cache.rows state.known gone (adds_one change.added) added (none_more change.added) a.part is.cells is.at a.targets.items is.targets)
+        (apart old.book old.theory old.cache.rows state.known gone (adds_one change.added) added (none_more change.added) a.part is.cells is.at a.targets.items is.targets)
+        (subst (λ x. AllZip (IsFound x most) a.targets.items found.patch) is_new h.each));
+    spends = subst (λ x. IsSpendingOf x (Some change.cell) found.spending) is_new h.spends;
+    spare = h.spare;
+    limited = h.limited;
+  }
+    where
+      gone : Entry → Bool
+      gone = takes change.taken
+
+      added : List Entry
+      added = more change.added
+
+      most : ℕ
+      most = found.spending.tally.learned + found.spending.tally.calls
 
 -- ---- causes of refusals
 
-pub entry_refused : (sheet : Sheet) (c : CellId) (limit : ℕ) (ended : Stop) (tally : Tally) (book : Sheet) (s : Spending) (refused : EditRefused) → IsStopTold ended book s refused → StopSays tally ended → book ≡ sheet
+pub entry_refused : (sheet : Sheet) (c : CellId) (limit : ℕ) (ended : Stop) (tally : Tally) (s : Spending) (refused : EditRefused) → IsStopTold ended sheet s refused → StopSays tally ended
     → (tally.placed ≡ tally.limit → IsLawful sheet (Some c) limit s) → IsEntryCause sheet c limit refused
-entry_refused sheet c limit stop.Spent tally book s refused told says is law = subst (IsEntryCause sheet c limit) (sym told) (is, law says)
-entry_refused sheet c limit stop.Memory tally book s refused told says is law = subst (IsEntryCause sheet c limit) (sym told) tt
+entry_refused sheet c limit stop.Spent tally s refused told says law = elim told [
+  | inl spent ↦ subst (IsEntryCause sheet c limit) (sym spent) (refl, law says)
+  | inr memory ↦ subst (IsEntryCause sheet c limit) (sym memory) tt
+]
+entry_refused sheet c limit stop.Memory tally s refused told says law = subst (IsEntryCause sheet c limit) (sym told) tt
 
 -- a refusal of the edit that takes entries away is one of taking them away
 pub removal_refused : (gone : Entry → Bool) (es : List Entry) (sheet : Sheet) (c : CellId) (limit : ℕ) (refused : EditRefused) → IsEntryCause sheet c limit refused → IsRemovalCause gone es sheet c limit refused

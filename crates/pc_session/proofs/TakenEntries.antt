@@ -3,14 +3,15 @@ use Rattle.std.proofs.Common.{◌≡◌, ◌≢◌, ℕ, ◌<◌, inl, inr, Bool
 use Rattle.std.specs.List.{list_any}
 use Rattle.std.proofs.lemmas.Bool.{cases_Bool, eqb-true, false≢true}
 use Rattle.std.proofs.lemmas.List.{append-nil}
+use Rattle.std.proofs.lemmas.List.Elements.{Contains-push}
 use Rattle.std.proofs.lemmas.List.Folds.{list_any_at, list_any_none}
 use Rattle.std.proofs.lemmas.List.Kept.{AllPairs-filter}
 use Rattle.pc_sheet.specs.Sheet.{Sheet, with_newest}
 use Rattle.pc_sheet.specs.WellFormed.{AreDifferent, AreWellFormedEntries, IsWellFormed, is_of_cell, entries_of}
 use Rattle.pc_sheet.specs.declared.ids.CellId.{CellId}
 use Rattle.pc_sheet.specs.declared.ids.Entry.{Entry}
-use Rattle.pc_logic.specs.Edits.{is_same_entry, is_rival, without_entry, without_one}
-use Rattle.pc_logic.proofs.EntryLemmas.{entries_kept, is_same, same_is}
+use Rattle.pc_logic.specs.Edits.{also_entered, is_same_entry, is_rival, without_entry, without_one}
+use Rattle.pc_logic.proofs.EntryLemmas.{entries_kept, is_same, pairs_head, pairs_tail, same_is}
 use Rattle.pc_parts.specs.Parts.{Part}
 use Rattle.pc_parts.specs.PartSheets.{is_on, sheet_of}
 use Rattle.pc_edit_laws.specs.Edits.{HasNone, edited, takes_none}
@@ -83,13 +84,28 @@ beside sheet e =
     let with_entries : List Entry → Sheet = λ es. record sheet { entries = es ++ e ∷ [] } in
     ap with_entries (sym (kept_all (λ f. not (takes_none f)) sheet.entries (λ f has. refl)))
 
--- an entry of the cell is taken away with the cell's
-pub of_that_cell : (c : CellId) (e : Entry) → e.cell ≡ c → is_of_cell c e ≡ true
-of_that_cell c e of_cell = eq-eqb e.cell.0 c.0 (let number : CellId → ℕ = λ d. d.0 in ap number of_cell)
-
 -- one that doesn't stand isn't
 pub none_standing : (e : Entry) (es : List Entry) → ¬ Contains es e → HasNone (is_same_entry e) es
 none_standing e es lacks = all_from (λ f. is_same_entry e f ≡ false) es (λ f has. elim (cases_Bool (is_same_entry e f)) [ inl same ↦ absurd (lacks (subst (Contains es) (same_is e f same) has)) | inr other ↦ other ])
+
+-- one that is added to what is left is the newest, where the entries are different then
+lacks_last : (es : List Entry) (e : Entry) → AreDifferent (es ++ e ∷ []) → ¬ Contains es e
+lacks_last [] e different has = contains_none e has
+lacks_last (f ∷ fs) e different has = elim (contains_cases f fs e has) [
+  | inl is ↦ all_in (λ x. f ≢ x) (fs ++ e ∷ []) e (pairs_head (λ x y. x ≢ y) f (fs ++ e ∷ []) different) (Contains-push fs e) is
+  | inr later ↦ lacks_last fs e (pairs_tail (λ x y. x ≢ y) f (fs ++ e ∷ []) different) later
+]
+
+pub added_last : (sheet : Sheet) (gone : Entry → Bool) (e : Entry) → AreDifferent (edited sheet gone (e ∷ [])).entries → also_entered (edited sheet gone []) e ≡ edited sheet gone (e ∷ [])
+added_last sheet gone e different =
+    let rest : List Entry = filter (λ f. not (gone f)) sheet.entries in
+    let none : list_any (is_same_entry e) (rest ++ []) ≡ false = ap (list_any (is_same_entry e)) (append-nil rest) ∙ list_any_none (is_same_entry e) rest (none_standing e rest (lacks_last rest e different)) in
+    let with_entries : List Entry → Sheet = λ es. record sheet { entries = es } in
+    ap with_entries (ap (λ b. cond b (rest ++ []) ((rest ++ []) ++ e ∷ [])) none ∙ ap (λ es. es ++ e ∷ []) (append-nil rest))
+
+-- an entry of the cell is taken away with the cell's
+pub of_that_cell : (c : CellId) (e : Entry) → e.cell ≡ c → is_of_cell c e ≡ true
+of_that_cell c e of_cell = eq-eqb e.cell.0 c.0 (let number : CellId → ℕ = λ d. d.0 in ap number of_cell)
 
 -- there are fewer without one that stands
 pub fewer : (e : Entry) (es : List Entry) → Contains es e → length (without_one e es) < length es

@@ -2,6 +2,7 @@ pub mod Chosen
 pub mod Sessions
 pub mod States
 pub mod Edits
+pub mod Changes
 pub mod Stale
 pub mod Staleness
 pub mod Taken

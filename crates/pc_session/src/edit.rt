@@ -1,58 +1,51 @@
-//! An edit of a cell's entries, made aside, and how it is put in place.
+//! What the search of an edit has found, and how it is put in place.
 ghost use Rattle.std.specs.Prelude.{◌≡◌, ◌+◌, ◌≤◌, ℕ, Bool, List, OnErr, OnOk};
 ghost use Rattle.pc_cache.specs.Rows.{bytes_of_rows};
-ghost use Rattle.pc_edit_laws.specs.Edits.{IsEditOf};
-ghost use Rattle.pc_sheet.specs.WellFormed.{IsWellFormed};
+ghost use Rattle.pc_sheet.specs.Sheet.{Sheet};
 ghost use Rattle.pc_sheet.specs.declared.ids.CellId.{CellId};
 ghost use Rattle.pc_sheet.specs.declared.ids.Entry.{Entry};
 ghost use Rattle.pc_session.specs.inside.Chosen.{AreChosen};
 ghost use Rattle.pc_session.specs.inside.Edits.{IsMade};
-ghost use Rattle.pc_session.specs.inside.States.{IsEdited, IsState};
+ghost use Rattle.pc_session.specs.inside.States.{HasEdit, IsEdited};
 
 use crate::chosen::choose;
 use crate::state::State;
 use pc_cache::Patch;
 use pc_edit_laws::edited_reasons_are_right;
-use pc_logic::{Book, well_formed};
+use pc_logic::well_formed;
 use pc_theory::Spending;
 use pc_world_list::Worlds;
 use std::alloc::AllocError;
 
-/// An edit of a cell's entries: the number of the part that has the cell, the new book, the worlds of the part, what changes
-/// among the reasons, and what was spent.
+/// What was found of an edit of a cell's entries: the number of the part that has the cell, the worlds of the part, what
+/// changes among the reasons, and what was spent.
 #[derive(Drop)]
 pub(crate) struct Edit {
     pub(crate) part: usize,
-    pub(crate) book: Book,
     pub(crate) worlds: Worlds,
     pub(crate) patch: Patch,
     pub(crate) spending: Spending,
 }
 
-/// Puts the edit in place. Without memory all stays as it is.
+/// Puts in place what was found, where the book has the edit. Without memory all stays as it is.
 pub(crate) fn put_in_place(state: &mut State, edit: Edit) -> Result<(), AllocError>
-    requires state { IsState state.old }
-    requires formed { IsWellFormed state.old.book }
-    requires chosen { AreChosen state.old.book state.old.chosen }
-    requires made { (c : CellId) × (gone : Entry → Bool) × (added : List Entry) × (limit : ℕ) × IsEditOf c gone added × IsMade state.old.book state.old.cache.rows c gone added limit edit }
-    ensures done { OnOk result ((c : CellId) (gone : Entry → Bool) (added : List Entry) (limit : ℕ) → IsEditOf c gone added → IsMade state.old.book state.old.cache.rows c gone added limit edit → IsEdited state.old c gone added limit state.new) }
+    requires { (sheet : Sheet) × (c : CellId) × (gone : Entry → Bool) × (added : List Entry) × (limit : ℕ) × HasEdit sheet c gone added state.old × IsMade sheet state.old.cache.rows c gone added limit edit }
+    ensures done { OnOk result ((sheet : Sheet) (c : CellId) (gone : Entry → Bool) (added : List Entry) (limit : ℕ) → HasEdit sheet c gone added state.old → IsMade sheet state.old.cache.rows c gone added limit edit → IsEdited (record state.old { book = sheet }) c gone added limit state.new) }
     ensures theory { state.new.theory ≡ state.old.theory }
     ensures chosen { OnOk result (AreChosen state.new.book state.new.chosen) }
     ensures bytes { OnOk result (state.new.cache.bytes ≤ state.old.cache.bytes + bytes_of_rows state.new.cache.rows) }
     ensures kept { OnErr result (state.new ≡ state.old) }
 {
     edited_reasons_are_right();
-    well_formed(&edit.book);
+    well_formed(&state.book);
     let Edit {
         part,
-        book,
         worlds,
         patch,
         spending,
     } = edit;
     state.cache.apply(patch)?;
     state.worlds[part] = worlds;
-    state.book = book;
     choose(&mut state.chosen, &state.theory, &state.book, part);
     state.tally = spending.tally;
     Ok(())

@@ -1,5 +1,5 @@
 //! Entering a value, in the place of the cell's others or beside them.
-ghost use Rattle.std.specs.Prelude.{◌≡◌, Contains, IfErr, IfOk, Ok, OnErr, OnOk, Some};
+ghost use Rattle.std.specs.Prelude.{◌≡◌, Contains, IfErr, Ok, OnErr, OnOk, Some};
 ghost use Rattle.pc_edit_laws.specs.Edits.{takes_none};
 ghost use Rattle.pc_logic.specs.Edits.{also_entered, entered, is_rival};
 ghost use Rattle.pc_sheet.specs.WellFormed.{IsEntryOf};
@@ -9,26 +9,15 @@ ghost use Rattle.pc_session.specs.Views.{counts_of, IsTallyOf};
 ghost use Rattle.pc_session.specs.inside.Chosen.{AreChosen};
 ghost use Rattle.pc_session.specs.inside.States.{IsLeftBy, IsSame, IsSameBut, IsState};
 
-use crate::adding::add;
+use crate::change::Change;
+use crate::edits::edit;
 use crate::refused::EditRefused;
-use crate::removing::remove_searched;
 use crate::state::State;
 use crate::taken::{Taken, stands, takes_some};
 use crate::tallies::blank_tally;
 use pc_edit_laws::{adding_edits, entering_edits};
-use pc_logic::Book;
 use pc_sheet::Entry;
-use std::alloc::{AllocError, Global};
-
-// The book with the entry in the place of its cell's others.
-fn entered_book(alloc: Global, book: &Book, entry: Entry) -> Result<Book, AllocError>
-    requires { IsEntryOf book.now.universe entry }
-    ensures { IfOk result (λ b. b ≡ entered book.now entry) }
-{
-    let mut made = book.copy(alloc)?;
-    made.set_entry(entry)?;
-    Ok(made)
-}
+use std::alloc::Global;
 
 /// Enters a value: the cell's others go. Where it stands nothing is added, and where it stands alone nothing changes.
 pub(crate) fn enter(
@@ -50,13 +39,15 @@ pub(crate) fn enter(
     ensures spends { OnOk result (¬ StandsAlone state.old.book.entries entry → IsTallyOf state.new.book (Some entry.cell) budget (counts_of state.new.tally)) }
 {
     entering_edits();
-    let rivals = Taken::Rivals(entry);
+    let cell = entry.cell;
+    let taken = Taken::Rivals(entry);
     if !stands(state.book.entries(), entry) {
-        let made = entered_book(alloc, &state.book, entry)?;
-        return add(alloc, state, budget, entry, rivals, made);
+        let added = Some(entry);
+        return edit(alloc, state, budget, Change { cell, taken, added });
     }
-    if takes_some(rivals, state.book.entries()) {
-        return remove_searched(alloc, state, budget, entry.cell, rivals);
+    if takes_some(taken, state.book.entries()) {
+        let added = None;
+        return edit(alloc, state, budget, Change { cell, taken, added });
     }
     state.tally = blank_tally(budget);
     Ok(())
@@ -87,6 +78,10 @@ pub(crate) fn also(
         state.tally = blank_tally(budget);
         return Ok(());
     }
-    let made = state.book.with_entry(alloc, entry)?;
-    add(alloc, state, budget, entry, Taken::Nothing, made)
+    let change = Change {
+        cell: entry.cell,
+        taken: Taken::Nothing,
+        added: Some(entry),
+    };
+    edit(alloc, state, budget, change)
 }

@@ -1,19 +1,21 @@
 //! Sessions: a book under edits, with a reason for each implied target.
 //!
-//! Each edit of a cell's entries is made aside: the new book, the worlds of the part that has the cell, and the changes of
-//! the kept reasons. It is then put in place, where nothing but the room for the changes can be wanting. What depends on
-//! the rules alone stays. An edit of a rule makes everything anew, as a load does.
+//! Each edit of a cell's entries is made in the standing book, and the part that has the cell is searched again: its worlds,
+//! and the reasons that the edit can change. What is found is then put in place; where the search ends early the old entries
+//! are put back. What depends on the rules alone stays. An edit of a rule makes everything anew, as a load does.
 #![tactic(auto)]
 
-mod adding;
+mod change;
 mod chosen;
 mod compaction;
 mod edit;
+mod edits;
 mod entering;
 mod loading;
 pub mod refused;
 mod removing;
 mod rules;
+mod searching;
 mod session;
 mod spendings;
 mod stale;

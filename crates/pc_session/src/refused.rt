@@ -6,7 +6,7 @@ use pc_logic::Book;
 use pc_reason::Refutation;
 use pc_solver::Stop;
 use pc_theory::Spending;
-use std::alloc::AllocError;
+use std::alloc::{AllocError, Global};
 
 /// Why a book isn't loaded.
 #[derive(Drop)]
@@ -72,12 +72,16 @@ pub(crate) fn refused_edit(refused: LoadRefused) -> EditRefused
     }
 }
 
-/// The refusal of an edit that would have made the book, and whose search ended early.
-pub(crate) fn refused_by(stop: Stop, made: Book, spending: Spending) -> EditRefused
-    ensures { IsStopTold stop made spending result }
+/// The refusal of an edit that would have made the book, and whose search ended early. The book is copied for the note of a
+/// spending.
+pub(crate) fn refused_by(alloc: Global, stop: Stop, made: &Book, spending: Spending) -> EditRefused
+    ensures { IsStopTold stop made.now spending result }
 {
     match stop {
-        Stop::Spent => EditRefused::Spent(made, spending),
+        Stop::Spent => match made.copy(alloc) {
+            Ok(book) => EditRefused::Spent(book, spending),
+            Err(_) => EditRefused::Memory,
+        },
         Stop::Memory => EditRefused::Memory,
     }
 }

@@ -1,31 +1,26 @@
 //! Taking entries of a cell away.
-ghost use Rattle.std.specs.Prelude.{◌≡◌, ◌↔◌, [], ◌+◌, ◌<◌, ◌≤◌, Err, IfErr, IfOk, IsTrue, Ok, OnErr, OnOk, Some, length};
-ghost use Rattle.pc_cache.specs.Rows.{bytes_of_rows};
+ghost use Rattle.std.specs.Prelude.{◌≡◌, ◌↔◌, [], ◌<◌, Err, IfErr, IsTrue, Ok, OnErr, OnOk, Some, length};
 ghost use Rattle.pc_edit_laws.specs.Edits.{edited, HasNone, IsTakenOf};
 ghost use Rattle.pc_sheet.specs.Entailment.{cell_sizes};
 ghost use Rattle.pc_sheet.specs.WellFormed.{IsWellFormed};
 ghost use Rattle.pc_session.specs.Answers.{AreUnused};
-ghost use Rattle.pc_session.specs.Arena.{compacted};
-ghost use Rattle.pc_session.specs.Causes.{IsEntryCause, IsRemovalCause};
+ghost use Rattle.pc_session.specs.Causes.{IsRemovalCause};
 ghost use Rattle.pc_session.specs.Views.{counts_of, IsTallyOf};
 ghost use Rattle.pc_session.specs.declared.refused.EditRefused.TheVariants.{NoEntry};
 ghost use Rattle.pc_session.specs.inside.Chosen.{AreChosen};
-ghost use Rattle.pc_session.specs.inside.Edits.{IsMade};
-ghost use Rattle.pc_session.specs.inside.States.{IsEdited, IsLeftBy, IsSame, IsSameBut, IsState};
+ghost use Rattle.pc_session.specs.inside.States.{IsLeftBy, IsSame, IsSameBut, IsState};
 ghost use Rattle.pc_session.specs.inside.Taken.{takes};
 
+use crate::change::Change;
 use crate::chosen::choose;
-use crate::compaction::compact_if_due;
-use crate::edit::{Edit, put_in_place};
-use crate::refused::{EditRefused, refused_by};
-use crate::stale::{is_used, stale_targets};
+use crate::edits::edit;
+use crate::refused::EditRefused;
+use crate::stale::is_used;
 use crate::state::State;
 use crate::taken::{Taken, take_away, takes_some};
-use crate::tallies::{blank_place, blank_tally};
-use pc_cache::Patch;
+use crate::tallies::blank_tally;
 use pc_edit_laws::{edited_reasons_are_right, other_parts_stay};
 use pc_sheet::CellId;
-use pc_theory::{PartTargets, alone};
 use std::alloc::Global;
 
 // Whether some reason rests on an entry that is taken away. It takes no memory: only the targets of the part that has the cell
@@ -43,79 +38,6 @@ fn rests_on(state: &State, cell: CellId, taken: Taken) -> bool
     let part = theory.part_of(book, cell);
     let cells = theory.cells(book, part);
     is_used(state, cells, taken)
-}
-
-// Makes the edit: the part's worlds follow without a search, and the targets whose support has an entry that goes are searched
-// again, each once.
-fn make_edit(
-    alloc: Global,
-    state: &State,
-    budget: u64,
-    cell: CellId,
-    taken: Taken,
-) -> Result<Edit, EditRefused>
-    requires state { IsState state.now }
-    requires formed { IsWellFormed state.now.book }
-    requires cell { cell.0 < length (cell_sizes state.now.book.universe) }
-    requires taken { IsTakenOf cell (takes taken) }
-    ensures edit { IfOk result (IsMade state.now.book state.now.cache.rows cell (takes taken) [] budget) }
-    ensures refused { IfErr result (IsEntryCause (edited state.now.book (takes taken) []) cell budget) }
-{
-    let book = &state.book;
-    let theory = &state.theory;
-    let part = theory.part_of(book, cell);
-    let cells = theory.cells(book, part);
-    let targets = stale_targets(alloc, state, cells, taken, false)?;
-    let mut made = book.copy(alloc)?;
-    let mut left = state.worlds[part].copy()?;
-    take_away(taken, &mut made, &mut left);
-    let mut place = blank_place(alloc, part, budget);
-    let mut patch = Patch::new(alloc);
-    let asked = PartTargets {
-        alloc,
-        book: &made,
-        theory,
-        part,
-        targets: &targets,
-    };
-    let outcome = asked.find_reasons(&left, &mut place, &mut patch);
-    let spending = alone(alloc, place)?;
-    match outcome {
-        Ok(()) => Ok(Edit {
-            part,
-            book: made,
-            worlds: left,
-            patch,
-            spending,
-        }),
-        Err(stop) => Err(refused_by(stop, made, spending)),
-    }
-}
-
-/// Takes entries of the cell away: the reasons that rest on one of them are searched again.
-pub(crate) fn remove_searched(
-    alloc: Global,
-    state: &mut State,
-    budget: u64,
-    cell: CellId,
-    taken: Taken,
-) -> Result<(), EditRefused>
-    requires state { IsState state.old }
-    requires formed { IsWellFormed state.old.book }
-    requires chosen { AreChosen state.old.book state.old.chosen }
-    requires cell { cell.0 < length (cell_sizes state.old.book.universe) }
-    requires taken { IsTakenOf cell (takes taken) }
-    ensures done { OnOk result (IsEdited state.old cell (takes taken) [] budget state.new) }
-    ensures theory { state.new.theory ≡ state.old.theory }
-    ensures chosen { OnOk result (AreChosen state.new.book state.new.chosen) }
-    ensures bytes { OnOk result (state.new.cache.bytes ≤ compacted state.old.cache.rows state.old.cache.bytes + bytes_of_rows state.new.cache.rows) }
-    ensures refused { IfErr result (IsEntryCause (edited state.old.book (takes taken) []) cell budget) }
-    ensures kept { OnErr result (IsSame state.old state.new) }
-{
-    compact_if_due(&mut state.cache)?;
-    let edit = make_edit(alloc, state, budget, cell, taken)?;
-    put_in_place(state, edit)?;
-    Ok(())
 }
 
 // Takes entries of the cell away on which no reason rests, in place. All reasons stay. It takes no memory.
@@ -164,7 +86,8 @@ pub(crate) fn remove(
         return Err(EditRefused::NoEntry);
     }
     if rests_on(state, cell, taken) {
-        return remove_searched(alloc, state, budget, cell, taken);
+        let added = None;
+        return edit(alloc, state, budget, Change { cell, taken, added });
     }
     remove_in_place(state, cell, taken);
     state.tally = blank_tally(budget);

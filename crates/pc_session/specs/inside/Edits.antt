@@ -1,4 +1,4 @@
--- What an edit of a cell's entries is made of, before it is put in place.
+-- What was found of an edit of a cell's entries, before it is put in place.
 use Rattle.std.specs.Prelude.{◌≡◌, ◌⊎◌, ℕ, ◌+◌, ◌≤◌, Bool, List, Option, Some, Contains}
 use Rattle.pc_sheet.specs.Sheet.{Sheet}
 use Rattle.pc_sheet.specs.declared.ids.CellId.{CellId}
@@ -35,10 +35,9 @@ pub record AreChanges (sheet : Sheet) (rows : List TargetRow) (gone : Entry → 
   -- and the new reasons count for no more bytes than all
   pub bytes : (all : List TargetRow) → ((t : Target) → row_of all t ≡ after rows changes t) → bytes_of_rows changes ≤ bytes_of_rows all
 
--- The new book is that of the edit, the part of that number has the cell, and has these worlds after the edit; the changes are so, and so
--- much was spent within the limit on that part.
+-- The part of that number has the cell, and has these worlds after the edit; the changes are so, and so much was spent within the limit on
+-- that part.
 pub record IsMade (sheet : Sheet) (rows : List TargetRow) (c : CellId) (gone : Entry → Bool) (added : List Entry) (limit : ℕ) (edit : Edit) : Type 0 where
-  pub book : edit.book ≡ edited sheet gone added
   pub part : Part
   pub numbered : IsPartNumbered (rules_alone sheet) edit.part part
   pub has : Contains part.cells c.0

@@ -3,7 +3,9 @@ use Rattle.std.specs.Prelude.{◌≡◌, ℕ, Bool, List, Some}
 use Rattle.pc_sheet.specs.Sheet.{Sheet}
 use Rattle.pc_sheet.specs.declared.ids.CellId.{CellId}
 use Rattle.pc_sheet.specs.declared.ids.Entry.{Entry}
-use Rattle.pc_edit_laws.specs.Edits.{edited}
+use Rattle.pc_sheet.specs.WellFormed.{IsWellFormed}
+use Rattle.pc_edit_laws.specs.Edits.{edited, IsEditOf}
+use Rattle.pc_theory.specs.Theories.{rules_alone}
 use Rattle.pc_session.specs.Answers.{OthersStay, Stay, Steps}
 use Rattle.pc_session.specs.Arena.{IsBounded, IsLeft}
 use Rattle.pc_session.specs.inside.Chosen.{AreChosen}
@@ -29,6 +31,19 @@ pub record IsEdited (old : State) (c : CellId) (gone : Entry → Bool) (added : 
   pub stays : Stay gone old.cache.rows new.cache.rows
   pub others : OthersStay c old.theory.components old.cache.rows new.cache.rows
   pub steps : Steps old.cache.rows new.cache.rows (counts_of new.tally)
+
+-- All that is kept is right for the sheet before an edit of the cell's entries, and the book has the edit.
+pub record HasEdit (sheet : Sheet) (c : CellId) (gone : Entry → Bool) (added : List Entry) (s : State) : Type 0 where
+  pub formed : IsWellFormed sheet
+  pub session : IsSession sheet s.theory s.worlds.items s.cache.rows
+  pub chosen : AreChosen sheet s.chosen
+  pub is_edit : IsEditOf c gone added
+  pub book : s.book ≡ edited sheet gone added
+
+-- all but the entries is as it was
+pub record IsSameBeside (old new : State) : Type 0 where
+  pub rules : rules_alone new.book ≡ rules_alone old.book
+  pub rest : record new { book = old.book } ≡ old
 
 -- what an accepted edit of the cell's entries leaves, where some are gone
 pub record IsLeftBy (c : CellId) (gone : Entry → Bool) (old new : State) : Type 0 where

@@ -1,19 +1,20 @@
-use Rattle.std.proofs.Common.{◌≡◌, [], ◌∷◌, List, Contains, Some, IfErr, true, false, refl, sym, ◌∙◌, subst}
+use Rattle.std.proofs.Common.{◌≡◌, List, Contains, true, false, sym, ◌∙◌, subst}
 use Rattle.std.specs.List.{list_any}
 use Rattle.std.proofs.lemmas.Bool.{false≢true}
-use Rattle.std.proofs.lemmas.Result.{on_ok_weaker}
 use Rattle.pc_sheet.specs.declared.ids.Entry.{Entry}
 use Rattle.pc_logic.specs.Edits.{is_rival}
-use Rattle.pc_session.specs.Causes.{IsEntryCause}
+use Rattle.pc_session.specs.declared.taken.Taken.TheVariants as taken
+use Rattle.pc_session.proofs.Changed.{entering_new, taking_some}
 use Rattle.pc_session.proofs.Resting.{cell_of}
 use Rattle.pc_session.proofs.TakenEntries.{alone_none, none_alone}
-use Rattle.pc_session.proofs.Viewing.{left_ok, left_same}
 use Rattle.pc_session.proofs.entering.enter.Goals as goal
 
 -- ---- a new value
 
-pub add-requires-clause-taken : goal.add-requires-clause-taken
-add-requires-clause-taken c = (c.entering_edits.ensures c.args.state.now.book c.args.entry).takes
+pub edit-requires-clause-change : goal.edit-requires-clause-change
+edit-requires-clause-change c =
+    entering_new c.entering_edits.ensures c.args.state.now.book c.args.entry c.entries.ensures.well_formed c.requires.entry
+    (λ has. false≢true (sym c.if-not-stands.true ∙ c.stands.ensures.1 (subst (λ (es : List Entry). Contains es c.args.entry) (sym c.entries.ensures.items) has)))
 
 pub returns-then-not-stands-clause-standing : goal.returns-then-not-stands-clause-standing
 returns-then-not-stands-clause-standing c alone =
@@ -21,8 +22,10 @@ returns-then-not-stands-clause-standing c alone =
 
 -- ---- a value that stands
 
-pub remove_searched-requires-clause-cell : goal.remove_searched-requires-clause-cell
-remove_searched-requires-clause-cell c = cell_of c.args.state.now.book.universe c.args.entry c.requires.entry
+pub edit-requires-then-takes_some-clause-change : goal.edit-requires-then-takes_some-clause-change
+edit-requires-then-takes_some-clause-change c =
+    let e = c.args.entry in
+    taking_some c.args.state.now.book e.cell (taken.Rivals e) c.entries.ensures.well_formed (cell_of c.args.state.now.book.universe e c.requires.entry) (c.entering_edits.ensures c.args.state.now.book e).takes
 
 pub returns-then-takes_some-clause-standing : goal.returns-then-takes_some-clause-standing
 returns-then-takes_some-clause-standing c alone =

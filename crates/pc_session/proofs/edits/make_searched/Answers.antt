@@ -1,0 +1,55 @@
+use Rattle.std.proofs.Common.{refl, sym, subst}
+use Rattle.pc_session.specs.inside.Changes.{more}
+use Rattle.pc_session.specs.inside.States.{IsSameBeside}
+use Rattle.pc_session.specs.inside.Taken.{takes}
+use Rattle.pc_session.proofs.Making.{asked_new, known_new, made, numbered_new, numbered_old}
+use Rattle.pc_session.proofs.Viewing.{on_err}
+use Rattle.pc_session.proofs.edits.make_searched.Goals as goal
+
+pub find-requires-clause-theory : goal.find-requires-clause-theory
+find-requires-clause-theory c = let a = c.args in known_new a.state.now a.change a.asked c.requires.asked c.requires.state c.make.new.book c.in_ok-make.ensures.book
+
+pub find-requires-clause-asked : goal.find-requires-clause-asked
+find-requires-clause-asked c = let a = c.args in asked_new a.state.now a.change a.asked c.requires.asked c.requires.state c.make.new.book c.in_ok-make.ensures.book
+
+pub find-requires-clause-part : goal.find-requires-clause-part
+find-requires-clause-part c =
+    let a = c.args in
+    let is = c.requires.asked in
+    (is.part, numbered_new a.state.now a.change a.asked is c.requires.state c.make.new.book c.in_ok-make.ensures.book is.part is.numbered, is.has)
+
+pub find-requires-clause-left : goal.find-requires-clause-left
+find-requires-clause-left c none p at =
+    let a = c.args in
+    let is = c.requires.asked in
+    c.make.ensures.worlds none p (is.worlds p (numbered_old a.state.now a.change a.asked is c.requires.state c.make.new.book c.in_ok-make.ensures.book p at))
+
+pub put_in_place-requires : goal.put_in_place-requires
+put_in_place-requires c =
+    let a = c.args in
+    let s = a.state.now in (
+      s.book,
+      a.change.cell,
+      takes a.change.taken,
+      more a.change.added,
+      a.budget,
+      record { formed = c.requires.formed; session = c.requires.state; chosen = c.requires.chosen; is_edit = c.requires.change.is_edit; book = c.in_ok-make.ensures.book },
+      made s a.change a.asked c.requires.asked c.requires.state c.make.new.book c.in_ok-make.ensures.book a.budget c.in_ok-edit.edit c.in_ok-edit.ensures.edit,
+    )
+
+pub returns-clause-done : goal.returns-clause-done
+returns-clause-done c =
+    let a = c.args in
+    let s = a.state.now in
+    c.in_ok-put_in_place.ensures.done s.book a.change.cell (takes a.change.taken) (more a.change.added) a.budget
+    (record { formed = c.requires.formed; session = c.requires.state; chosen = c.requires.chosen; is_edit = c.requires.change.is_edit; book = c.in_ok-make.ensures.book })
+    (made s a.change a.asked c.requires.asked c.requires.state c.make.new.book c.in_ok-make.ensures.book a.budget c.in_ok-edit.edit c.in_ok-edit.ensures.edit)
+
+pub returns-in_err-make-clause-kept : goal.returns-in_err-make-clause-kept
+returns-in_err-make-clause-kept c = on_err c.from_residual.result (record { rules = c.make.ensures.rules; rest = refl })
+
+pub returns-in_err-edit-clause-kept : goal.returns-in_err-edit-clause-kept
+returns-in_err-edit-clause-kept c = on_err c.from_residual-in_err-edit.result (record { rules = c.make.ensures.rules; rest = refl })
+
+pub returns-in_err-put_in_place-clause-kept : goal.returns-in_err-put_in_place-clause-kept
+returns-in_err-put_in_place-clause-kept c = on_err c.from_residual-in_err-put_in_place.result (subst (IsSameBeside c.args.state.now) (sym c.in_err-put_in_place.ensures.kept) (record { rules = c.make.ensures.rules; rest = refl }))

@@ -1,0 +1,125 @@
+//! What an edit of a cell's entries can change, and its search.
+ghost use Rattle.std.specs.Prelude.{◌≡◌, ◌+◌, ◌≤◌, Contains, IfErr, IfOk, None, OnOk};
+ghost use Rattle.pc_parts.specs.Parts.{Part};
+ghost use Rattle.pc_search.specs.Found.{Finds};
+ghost use Rattle.pc_search.specs.Parts.{AreWorldsOf};
+ghost use Rattle.pc_sheet.specs.Entailment.{cell_sizes};
+ghost use Rattle.pc_sheet.specs.Limits.{most_cells};
+ghost use Rattle.pc_sheet.specs.WellFormed.{IsWellFormed};
+ghost use Rattle.pc_session.specs.Causes.{IsEntryCause};
+ghost use Rattle.pc_session.specs.inside.Changes.{IsAskedFor, IsChangeOf, IsFoundOf};
+ghost use Rattle.pc_session.specs.inside.States.{IsState};
+ghost use Rattle.pc_solver.specs.Spending.{StopSays};
+ghost use Rattle.pc_theory.specs.Edits.{IsBlankOn, IsSpentAlone};
+ghost use Rattle.pc_theory.specs.Targets.{AreAsked};
+ghost use Rattle.pc_theory.specs.Theories.{rules_alone, IsPartNumbered, IsTheory};
+
+use crate::change::Change;
+use crate::edit::Edit;
+use crate::refused::{EditRefused, refused_by};
+use crate::stale::stale_targets;
+use crate::state::State;
+use crate::tallies::blank_place;
+use pc_cache::Patch;
+use pc_sheet::{Entry, Target};
+use pc_solver::Stop;
+use pc_theory::{PartSpending, PartTargets, alone};
+use pc_world_list::Worlds;
+use std::alloc::{AllocError, Global};
+
+/// What an edit asks: the number of the part that has the cell, a copy of its worlds, and the targets that are searched.
+#[derive(Drop)]
+pub(crate) struct Asked {
+    pub(crate) part: usize,
+    pub(crate) worlds: Worlds,
+    pub(crate) targets: Vec<Target>,
+}
+
+/// What the edit asks, before it is made. Each target that it can change is asked for once.
+pub(crate) fn ask(alloc: Global, state: &State, change: Change) -> Result<Asked, AllocError>
+    requires state { IsState state.now }
+    requires formed { IsWellFormed state.now.book }
+    requires change { IsChangeOf state.now.book change }
+    ensures { IfOk result (IsAskedFor state.now change) }
+{
+    let part = state.theory.part_of(&state.book, change.cell);
+    let cells = state.theory.cells(&state.book, part);
+    let targets = stale_targets(alloc, state, cells, change.taken, change.adds())?;
+    let worlds = state.worlds[part].copy()?;
+    Ok(Asked {
+        part,
+        worlds,
+        targets,
+    })
+}
+
+// Finds the reasons of the targets. The worlds of the part are those that are left, or where an entry is added those that a
+// search lists.
+fn search(
+    asked: PartTargets<'_>,
+    added: Option<Entry>,
+    left: Worlds,
+    place: &mut PartSpending,
+    patch: &mut Patch,
+) -> Result<Worlds, Stop>
+    requires theory { IsTheory (rules_alone asked.book.now) asked.theory.now }
+    requires asked { AreAsked (cell_sizes asked.book.now.universe) asked.theory.now.components asked.part asked.targets.now }
+    requires blank { IsBlankOn asked.part place.old }
+    requires left { added ≡ None → (p : Part) → IsPartNumbered (rules_alone asked.book.now) asked.part p → AreWorldsOf asked.book.now p left }
+    ensures worlds { (p : Part) → IsPartNumbered (rules_alone asked.entry.book.now) asked.entry.part p → IfOk result (AreWorldsOf asked.entry.book.now p) }
+    ensures found { OnOk result (Finds asked.entry.book.now (place.new.tally.learned + place.new.tally.calls) asked.entry.targets.now patch.old patch.new) }
+    ensures spends { IsSpentAlone asked.entry.book.now asked.entry.theory.now.components asked.entry.part place.new }
+    ensures limit { place.new.tally.limit ≡ place.old.tally.limit }
+    ensures stop { IfErr result (StopSays place.new.tally) }
+{
+    match added {
+        Some(_) => asked.search_part(place, patch),
+        None => match asked.find_reasons(&left, place, patch) {
+            Ok(()) => Ok(left),
+            Err(stop) => Err(stop),
+        },
+    }
+}
+
+/// Searches what the edit has asked. The book has the edit, and the worlds that were asked for have it.
+pub(crate) fn find(
+    alloc: Global,
+    state: &State,
+    budget: u64,
+    change: Change,
+    asked: Asked,
+) -> Result<Edit, EditRefused>
+    requires theory { IsTheory (rules_alone state.now.book) state.now.theory }
+    requires asked { AreAsked (cell_sizes state.now.book.universe) state.now.theory.components asked.part asked.targets.items }
+    requires few { asked.part ≤ most_cells }
+    requires part { (p : Part) × IsPartNumbered (rules_alone state.now.book) asked.part p × Contains p.cells change.cell.0 }
+    requires left { change.added ≡ None → (p : Part) → IsPartNumbered (rules_alone state.now.book) asked.part p → AreWorldsOf state.now.book p asked.worlds }
+    ensures edit { IfOk result (IsFoundOf state.now.book change.cell asked.part asked.targets.items budget) }
+    ensures refused { IfErr result (IsEntryCause state.now.book change.cell budget) }
+{
+    let Asked {
+        part,
+        worlds: left,
+        targets,
+    } = asked;
+    let mut place = blank_place(alloc, part, budget);
+    let mut patch = Patch::new(alloc);
+    let task = PartTargets {
+        alloc,
+        book: &state.book,
+        theory: &state.theory,
+        part,
+        targets: &targets,
+    };
+    let outcome = search(task, change.added, left, &mut place, &mut patch);
+    let spending = alone(alloc, place)?;
+    match outcome {
+        Ok(worlds) => Ok(Edit {
+            part,
+            worlds,
+            patch,
+            spending,
+        }),
+        Err(stop) => Err(refused_by(alloc, stop, &state.book, spending)),
+    }
+}
