@@ -23,7 +23,7 @@ pub struct Answer {
 }
 
 /// Why there is no answer.
-#[derive(Clone, Copy, Debug, PartialEq, Eq)]
+#[derive(Clone, Copy, PartialEq, Eq)]
 pub enum AskStop {
     /// The asked book's axioms have more than 4,000,000 literals.
     TooLarge,

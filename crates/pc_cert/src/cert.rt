@@ -7,7 +7,7 @@ use std::alloc::AllocError;
 use thiserror::Error;
 
 /// What a certificate claims.
-#[derive(Clone, Copy, Debug, PartialEq, Eq)]
+#[derive(Clone, Copy, PartialEq, Eq)]
 pub enum Claim {
     /// The target is implied.
     Implied(Target),
@@ -22,14 +22,14 @@ pub enum Claim {
 }
 
 /// An entry, with the number of the line that says it, from 1.
-#[derive(Clone, Copy, Debug, PartialEq, Eq)]
+#[derive(Clone, Copy, PartialEq, Eq)]
 pub struct Said {
     pub line: u32,
     pub entry: Entry,
 }
 
 /// A set of entries and an assignment, with the number of its first line, and one more than that of its last.
-#[derive(Debug, Drop, PartialEq, Eq)]
+#[derive(Drop, PartialEq, Eq)]
 pub struct SaidSet {
     pub line: u32,
     pub uses: Vec<Said>,
@@ -38,7 +38,7 @@ pub struct SaidSet {
 }
 
 /// What a literal is about: that a cell has a value, or a node's truth.
-#[derive(Debug, Drop, PartialEq, Eq)]
+#[derive(Drop, PartialEq, Eq)]
 pub enum Symbol {
     Pair(CellId, ValueId),
     Node(NodePath),
@@ -47,7 +47,7 @@ pub enum Symbol {
 /// A part of a derivation: an axiom, a clause with its hints, or the clause of the entries that aren't in a set, by the set's
 /// place. A literal's variable is a place in the certificate's
 /// symbols. Hints are as written: numbers of lines of the derivation, from 1. They may name lines that there aren't.
-#[derive(Debug, Drop, PartialEq, Eq)]
+#[derive(Drop, PartialEq, Eq)]
 pub enum CertPart {
     Axiom(AxiomName),
     Step { clause: Vec<Lit>, hints: Vec<u64> },
@@ -55,14 +55,14 @@ pub enum CertPart {
 }
 
 /// A part of a derivation, with the number of its line in the text, from 1.
-#[derive(Debug, Drop, PartialEq, Eq)]
+#[derive(Drop, PartialEq, Eq)]
 pub struct CertLine {
     pub line: u32,
     pub part: CertPart,
 }
 
 /// A certificate that was read for a book.
-#[derive(Debug, Drop, PartialEq, Eq)]
+#[derive(Drop, PartialEq, Eq)]
 pub struct Cert {
     pub claim: Claim,
     /// The sets, where the claim is on sets. Then there are no used entries and values beside theirs.

@@ -8,7 +8,7 @@ use crate::tree::{ClaimTree, LineTree};
 
 /// Which kinds of lines stood so far, whether a value stood since the last set began, and the number of the last line of the
 /// derivation, 0 before the first.
-#[derive(Clone, Copy, Debug)]
+#[derive(Clone, Copy)]
 pub struct Order {
     pub some: bool,
     pub heading: bool,

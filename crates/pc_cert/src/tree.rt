@@ -2,33 +2,33 @@
 use pc_formula::{CellTree, Name, ValueTree};
 
 /// A cell and a value.
-#[derive(Debug, Drop)]
+#[derive(Drop)]
 pub struct PairTree {
     pub cell: CellTree,
     pub value: ValueTree,
 }
 
 /// A rule's name, and the child numbers on the way from its root.
-#[derive(Debug, Drop)]
+#[derive(Drop)]
 pub struct PathTree {
     pub rule: Name,
     pub steps: Vec<u64>,
 }
 
-#[derive(Debug, Drop)]
+#[derive(Drop)]
 pub enum SymbolTree {
     Pair(PairTree),
     Node(PathTree),
 }
 
-#[derive(Debug, Drop)]
+#[derive(Drop)]
 pub struct LiteralTree {
     pub what: SymbolTree,
     pub sign: bool,
 }
 
 /// What stands behind `claim`.
-#[derive(Debug, Drop)]
+#[derive(Drop)]
 pub enum ClaimTree {
     Implied(PairTree, bool),
     Inconsistent,
@@ -38,7 +38,7 @@ pub enum ClaimTree {
 }
 
 /// What stands behind the number of a line of the derivation.
-#[derive(Debug, Drop)]
+#[derive(Drop)]
 pub enum PartTree {
     Any(CellTree),
     One(CellTree, ValueTree, ValueTree),
@@ -53,7 +53,7 @@ pub enum PartTree {
 }
 
 /// A line by its form.
-#[derive(Debug, Drop)]
+#[derive(Drop)]
 pub enum LineTree {
     Nothing,
     Heading,

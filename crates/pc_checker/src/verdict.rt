@@ -1,7 +1,7 @@
 //! Verdicts.
 
 /// What a check of a certificate says, in the order of its tests. A line is one of the certificate's text.
-#[derive(Clone, Copy, Debug, PartialEq, Eq)]
+#[derive(Clone, Copy, PartialEq, Eq)]
 pub enum Verdict {
     /// The used entry isn't entered.
     UseNotEntered { line: u32 },

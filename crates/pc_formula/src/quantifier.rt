@@ -10,7 +10,7 @@ use crate::values::read_number;
 use crate::words::Words;
 
 /// How many values are to make a body true: all, one or more, or at most or else at least so many.
-#[derive(Clone, Copy, Debug)]
+#[derive(Clone, Copy)]
 pub enum Quantifier {
     ForAll,
     Exists,

@@ -4,7 +4,7 @@ ghost use Rattle.std.specs.Prelude.{◌≡◌};
 use std::alloc::{AllocError, AllocFailed};
 
 /// Why no form was read.
-#[derive(Debug, Drop)]
+#[derive(Drop)]
 pub enum Refusal {
     Syntax,
     Memory,

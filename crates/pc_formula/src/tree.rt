@@ -2,7 +2,7 @@
 use pc_name::{Name, Op, Sign};
 
 /// A formula as it is written. An `And` or `Or` has two or more parts, and parentheses leave no node.
-#[derive(Debug, Drop)]
+#[derive(Drop)]
 pub enum FormulaTree {
     ForAll {
         name: Name,
@@ -39,28 +39,28 @@ pub enum FormulaTree {
 }
 
 /// A side of a comparison: its first item, and each further one with the sign before it.
-#[derive(Debug, Drop)]
+#[derive(Drop)]
 pub struct SideTree {
     pub first: ItemTree,
     pub rest: Vec<(Sign, ItemTree)>,
 }
 
 /// An integer, or a name with its arguments; a bare name has none.
-#[derive(Debug, Drop)]
+#[derive(Drop)]
 pub enum ItemTree {
     Number(i64),
     Named { name: Name, args: Vec<ItemTree> },
 }
 
 /// A cell as it is written: a family and its arguments.
-#[derive(Debug, Drop)]
+#[derive(Drop)]
 pub struct CellTree {
     pub name: Name,
     pub args: Vec<ValueTree>,
 }
 
 /// A value as it is written.
-#[derive(Debug, Drop)]
+#[derive(Drop)]
 pub enum ValueTree {
     Name(Name),
     Number(i64),

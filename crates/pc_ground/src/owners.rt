@@ -16,7 +16,7 @@ use pc_sheet::Formula;
 use std::alloc::AllocError;
 
 /// So many groups, from the one of that number on.
-#[derive(Clone, Copy, Debug, PartialEq, Eq)]
+#[derive(Clone, Copy, PartialEq, Eq)]
 pub struct Span {
     pub first: u32,
     pub count: u32,

@@ -11,7 +11,7 @@ use pc_refusals::{InputStop, Status, take_all, tell_no_memory, tell_too_long};
 use std::alloc::Global;
 
 /// Why the input gives no journal.
-#[derive(Clone, Copy, Debug, PartialEq, Eq)]
+#[derive(Clone, Copy, PartialEq, Eq)]
 pub(crate) enum JournalStop {
     /// It wasn't read to its end.
     Input(InputStop),

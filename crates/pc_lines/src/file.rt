@@ -8,7 +8,7 @@ use pc_port::{Shelf, ShelfFault};
 use std::alloc::{AllocError, Global};
 
 /// Why a sheet's text was not taken.
-#[derive(Clone, Copy, Debug, PartialEq, Eq)]
+#[derive(Clone, Copy, PartialEq, Eq)]
 pub enum SheetStop {
     /// The input, or the shelf, answered a fault.
     Failed,

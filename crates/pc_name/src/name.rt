@@ -10,7 +10,7 @@ use unicode_ident::{is_xid_continue, is_xid_start};
 /// What a sort, a value, a table, a family or a rule is called. It is seen as its bytes in UTF-8.
 ///
 /// Names are compared byte by byte: two spellings of one letter are two names.
-#[derive(Debug, Drop)]
+#[derive(Drop)]
 pub struct Name {
     text: String,
 }

@@ -1,5 +1,5 @@
 /// How the two sides of a comparison are to stand to one another.
-#[derive(Clone, Copy, Debug, PartialEq, Eq)]
+#[derive(Clone, Copy, PartialEq, Eq)]
 pub enum Op {
     /// `=`
     Eq,
@@ -16,7 +16,7 @@ pub enum Op {
 }
 
 /// Whether an item of a sum is added or taken away.
-#[derive(Clone, Copy, Debug, PartialEq, Eq)]
+#[derive(Clone, Copy, PartialEq, Eq)]
 pub enum Sign {
     Plus,
     Minus,

@@ -9,7 +9,7 @@ use std::alloc::{AllocError, Global};
 pub const READ_LIMIT: usize = 4_194_305;
 
 /// Why a read of a shelf gave nothing.
-#[derive(Clone, Copy, Debug, PartialEq, Eq)]
+#[derive(Clone, Copy, PartialEq, Eq)]
 pub enum ShelfFault {
     /// The device was at fault, or has no such file.
     Failed,

@@ -47,7 +47,7 @@ impl TrailEntry {
 }
 
 /// Whether the limit allowed one more literal.
-#[derive(Clone, Copy, Debug, PartialEq, Eq)]
+#[derive(Clone, Copy, PartialEq, Eq)]
 pub enum Placed {
     Done,
     Spent,

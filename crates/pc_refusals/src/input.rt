@@ -7,7 +7,7 @@ use pc_port::{CHUNK, Failed, Source};
 use std::alloc::{AllocError, Global};
 
 /// Why an input was not read to its end.
-#[derive(Clone, Copy, Debug, PartialEq, Eq)]
+#[derive(Clone, Copy, PartialEq, Eq)]
 pub enum InputStop {
     /// The input answered a fault.
     Failed,

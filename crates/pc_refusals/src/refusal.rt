@@ -15,7 +15,7 @@ pub const COMMAND_REFUSED: &[u8] = b"refused ";
 pub const SHEET_REFUSED: &[u8] = b"sheet refused ";
 
 /// What a search has spent.
-#[derive(Clone, Copy, Debug, PartialEq, Eq)]
+#[derive(Clone, Copy, PartialEq, Eq)]
 pub struct Counts {
     /// How many literals were placed.
     pub placed: u64,
@@ -26,7 +26,7 @@ pub struct Counts {
 }
 
 /// Why a sheet or a command is refused.
-#[derive(Clone, Copy, Debug, PartialEq, Eq)]
+#[derive(Clone, Copy, PartialEq, Eq)]
 pub enum Refusal {
     /// The line isn't UTF-8.
     NotUtf8,
@@ -69,14 +69,14 @@ pub enum Refusal {
 }
 
 /// Why a sheet is refused, and at which of its lines, the first having the number 1, where it is for a line.
-#[derive(Clone, Copy, Debug, PartialEq, Eq)]
+#[derive(Clone, Copy, PartialEq, Eq)]
 pub struct SheetRefusal {
     pub refusal: Refusal,
     pub line: Option<u32>,
 }
 
 /// Why a text gives no sheet.
-#[derive(Clone, Copy, Debug, PartialEq, Eq)]
+#[derive(Clone, Copy, PartialEq, Eq)]
 pub enum LoadFault {
     /// The text is refused.
     Refused(SheetRefusal),

@@ -13,7 +13,7 @@ use pc_session::Session;
 use pc_sheet::{CellId, Entry, Target, ValueId};
 
 /// The numbers that sum a spreadsheet up.
-#[derive(Clone, Copy, Debug, PartialEq, Eq)]
+#[derive(Clone, Copy, PartialEq, Eq)]
 pub struct Summary {
     /// How many cells there are.
     pub cells: usize,

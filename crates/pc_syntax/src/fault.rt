@@ -3,7 +3,7 @@ use crate::tree::CommandFault;
 use pc_formula::Refusal;
 
 /// Why a line was not read.
-#[derive(Debug, Drop)]
+#[derive(Drop)]
 pub enum LineFault {
     NotUtf8,
     TooDeep,

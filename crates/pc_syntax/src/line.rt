@@ -10,7 +10,7 @@ use pc_formula::{Refusal, Words};
 use std::alloc::Global;
 
 /// What a line of a sheet is. A heading has its version.
-#[derive(Debug, Drop)]
+#[derive(Drop)]
 pub enum LineTree {
     Nothing,
     Heading(u64),

@@ -17,14 +17,14 @@ use pc_lines::next_line;
 use std::alloc::{AllocError, Global};
 
 /// The version of a sheet: `sheet 1`, or `sheet 2` with its `also` lines and counting quantifiers.
-#[derive(Clone, Copy, Debug, PartialEq, Eq)]
+#[derive(Clone, Copy, PartialEq, Eq)]
 pub enum Version {
     First,
     Second,
 }
 
 /// Where in a sheet a line stands: before its heading, before its first rule, behind it, or behind `begin`.
-#[derive(Clone, Copy, Debug, PartialEq, Eq)]
+#[derive(Clone, Copy, PartialEq, Eq)]
 pub enum Part {
     Heading,
     Universe(Version),

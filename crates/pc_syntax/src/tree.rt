@@ -9,13 +9,13 @@ use thiserror::Error;
 /// A sheet's declarations, each with the number of its line, from 1.
 ///
 /// The lines `sheet` and `begin`, blank lines and comments leave none.
-#[derive(Debug, Drop)]
+#[derive(Drop)]
 pub struct SheetTree {
     pub declarations: Vec<(u32, Declaration)>,
 }
 
 /// What a line of a sheet declares.
-#[derive(Debug, Drop)]
+#[derive(Drop)]
 pub enum Declaration {
     ListSort {
         name: Name,
@@ -45,7 +45,7 @@ pub enum Declaration {
 }
 
 /// What a command asks for.
-#[derive(Debug, Drop)]
+#[derive(Drop)]
 pub enum Command {
     Enter(CellTree, ValueTree),
     Also(CellTree, ValueTree),
@@ -70,7 +70,7 @@ pub enum Command {
 }
 
 /// A rule as it is written.
-#[derive(Debug, Drop)]
+#[derive(Drop)]
 pub struct RuleTree {
     pub name: Name,
     pub formula: FormulaTree,

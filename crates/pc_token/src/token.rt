@@ -11,7 +11,7 @@ use std::alloc::{AllocFailed, Global};
 use thiserror::Error;
 
 /// What a token is. The signs stand in the order in which the format lists them.
-#[derive(Clone, Copy, Debug, PartialEq, Eq)]
+#[derive(Clone, Copy, PartialEq, Eq)]
 pub enum Kind {
     Name,
     Number,
@@ -37,7 +37,7 @@ pub enum Kind {
 }
 
 /// A token of a line: the bytes from `start` up to `end`.
-#[derive(Clone, Copy, Debug, PartialEq, Eq)]
+#[derive(Clone, Copy, PartialEq, Eq)]
 pub struct Token {
     pub kind: Kind,
     pub start: usize,

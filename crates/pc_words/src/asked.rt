@@ -1,7 +1,7 @@
 // What words ask for.
 
 /// What is to be done.
-#[derive(Clone, Copy, Debug, PartialEq, Eq)]
+#[derive(Clone, Copy, PartialEq, Eq)]
 pub enum Mode<'a> {
     /// To run a sheet and its commands, both from the input.
     Replay,
@@ -18,7 +18,7 @@ pub enum Mode<'a> {
 }
 
 /// What the words ask for.
-#[derive(Clone, Copy, Debug, PartialEq, Eq)]
+#[derive(Clone, Copy, PartialEq, Eq)]
 pub struct Request<'a> {
     /// What is to be done.
     pub mode: Mode<'a>,
@@ -28,7 +28,7 @@ pub struct Request<'a> {
 }
 
 /// Why words give no request.
-#[derive(Clone, Copy, Debug, PartialEq, Eq)]
+#[derive(Clone, Copy, PartialEq, Eq)]
 pub enum WordsFault {
     /// The words don't fit.
     Usage,
