@@ -4,5 +4,6 @@
 mod order;
 mod places;
 pub mod preferences;
+mod signs;
 
 pub use preferences::Preferences;

@@ -8,6 +8,7 @@
 
 use crate::order::{Order, SCALE};
 use crate::places::Places;
+use crate::signs::Signs;
 use pc_lits::{Lit, Var};
 use std::alloc::{AllocError, Global};
 
@@ -17,11 +18,15 @@ const LARGEST_STEP: u64 = 281_474_976_710_656;
 // How many conflicts the shortest run has.
 const SHORTEST_RUN: u64 = 512;
 
+// The same where signs are kept.
+const KEPT_RUN: u64 = 32;
+
 /// The activities of the own variables, and the length of runs.
 #[derive(Drop)]
 pub struct Preferences {
     order: Order,
     places: Places,
+    signs: Signs,
     // how many of the own variables go by activity; the others come after them
     active: usize,
     // those of the others that stand before this place have values
@@ -38,9 +43,11 @@ impl Preferences {
     pub fn new(alloc: Global, own: &[Var]) -> Result<Preferences, AllocError> {
         let order = Order::new(alloc, own.len())?;
         let places = Places::new(alloc, own)?;
+        let signs = Signs::new(alloc, own.len())?;
         Ok(Preferences {
             order,
             places,
+            signs,
             active: own.len(),
             next: own.len(),
             step: SCALE,
@@ -55,6 +62,7 @@ impl Preferences {
         self.active = count;
         self.next = count;
         self.order.keep_below(count);
+        self.signs.prefer_first(count);
     }
 
     /// The place from which on to look for a variable that may be decided, where none goes by activity.
@@ -93,9 +101,50 @@ impl Preferences {
         self.order.drop_top();
     }
 
-    /// The variable loses its value, and may be decided again.
-    pub fn put_back(&mut self, own: &[Var], variable: Var) {
+    /// The sign with which the variable is decided.
+    pub fn sign(&self, own: &[Var], variable: Var) -> bool {
+        match self.places.of(own, variable) {
+            Some(place) => self.signs.of(place),
+            None => false,
+        }
+    }
+
+    /// A call begins.
+    pub fn begin(&mut self) {
+        self.signs.begin();
+    }
+
+    /// The place of the next variable that is to be shown true.
+    pub fn wanted(&self) -> Option<usize> {
+        self.signs.wanted()
+    }
+
+    /// The variable that is to be shown true next has a value, or is to be false.
+    pub fn drop_wanted(&mut self) {
+        self.signs.drop_wanted();
+    }
+
+    /// An answer comes, of whose true variables each is told by `see`.
+    pub fn forget_last(&mut self) {
+        self.signs.forget_last();
+    }
+
+    /// The answer makes this variable true.
+    pub fn see(&mut self, own: &[Var], variable: Var) {
         if let Some(place) = self.places.of(own, variable) {
+            self.signs.see(place);
+        }
+    }
+
+    /// Variables have lost their values.
+    pub fn settle(&mut self) {
+        self.signs.settle();
+    }
+
+    /// The literal isn't true any more: its variable may be decided again.
+    pub fn put_back(&mut self, own: &[Var], lit: Lit) {
+        if let Some(place) = self.places.of(own, lit.variable) {
+            self.signs.set(place, lit.sign);
             if place < self.active {
                 self.order.put_back(place);
             } else if place < self.next {
@@ -115,6 +164,9 @@ impl Preferences {
         self.step = self.step.saturating_add(self.step / 12);
         if self.step > LARGEST_STEP {
             self.make_smaller();
+        }
+        if self.signs.note_conflict() {
+            return true;
         }
         self.left = self.left.saturating_sub(1);
         if self.left > 0 {
@@ -138,6 +190,11 @@ impl Preferences {
         } else {
             self.length = self.length.saturating_mul(2);
         }
-        self.left = self.length.saturating_mul(SHORTEST_RUN);
+        let unit = if self.signs.are_kept() {
+            KEPT_RUN
+        } else {
+            SHORTEST_RUN
+        };
+        self.left = self.length.saturating_mul(unit);
     }
 }

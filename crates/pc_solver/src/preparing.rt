@@ -9,7 +9,7 @@ ghost use Rattle.pc_solver.specs.Clauses.{IsOverOwn, KeepsProblem};
 ghost use Rattle.pc_solver.specs.inside.Search.{IsSearch, KnowsAll, AssumesFirst, AreAssumed, IsStartOf, HasNoDecision, KeepsLogs};
 
 use crate::clauses::Clauses;
-use crate::decisions::put_back;
+use crate::decisions::{note_answer, put_back};
 use crate::search::Search;
 use pc_lits::{Lit, Var};
 use pc_preferences::Preferences;
@@ -61,6 +61,7 @@ fn keep_levels(trail: &mut Trail, own: &[Var], preferences: &mut Preferences, as
 {
     let level = assumed_levels(trail, assumed);
     put_back(trail, own, preferences, level);
+    preferences.begin();
     trail.back_to(level);
 }
 
@@ -93,6 +94,7 @@ impl<'g> Search<'g> {
         ensures variables { self.new.trail.variables ≡ self.old.trail.variables }
     {
         quiet_is_kept();
+        note_answer(&self.trail, self.clauses.own(), &mut self.preferences);
         if self.clauses.known() == self.clauses.more().len() {
             keep_levels(
                 &mut self.trail,
@@ -103,6 +105,7 @@ impl<'g> Search<'g> {
             return Ok(());
         }
         put_back(&self.trail, self.clauses.own(), &mut self.preferences, 0);
+        self.preferences.begin();
         self.trail.back_to(0);
         attach_rest(&mut self.clauses, &mut self.trail)
     }

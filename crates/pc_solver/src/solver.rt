@@ -12,6 +12,7 @@ ghost use Rattle.pc_solver.specs.New.{ContainNone};
 ghost use Rattle.pc_solver.specs.Solver.{SolverView, IsProblem, AreOwn, HasLog, SuspendedHasLog, AnswerSays, Spends};
 
 use crate::clauses::Clauses;
+use crate::decisions::note_answer;
 use crate::outcome::Outcome;
 use crate::search::Search;
 use pc_lits::{ClauseStore, Lit, Tally, Var};
@@ -111,7 +112,7 @@ impl<'g> Solver<'g> {
     }
 
     /// Searches for values that meet every used axiom, block and assumption. Assumptions are decided first, in their order,
-    /// and then the most active variable without a value is made false. Where the assumptions begin as those of the call
+    /// and then the most active variables without a value. Where the assumptions begin as those of the call
     /// before, and no block was added since, what was placed for these stays. The log gets the lines that a learned clause
     /// rests on, the learned clauses, which are marked, and at an `Unsat` one step more, whose clause lies within the
     /// negated assumptions. No clause is learned that contains a used axiom, a block or a clause learned before, nor one with
@@ -161,8 +162,9 @@ impl<'g> Solver<'g> {
             alloc,
             clauses,
             trail,
-            preferences,
+            mut preferences,
         } = search;
+        note_answer(&trail, clauses.own(), &mut preferences);
         let suspended = Suspended {
             alloc,
             clauses,

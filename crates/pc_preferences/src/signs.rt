@@ -1,0 +1,210 @@
+//! Which sign each own variable is decided with, and which are to be true next.
+//!
+//! Signs are those that the variables had last (Pipatsrisawat and Darwiche), false at first. Of the preferred variables a few
+//! that no answer has made true yet are decided true before others, so that few answers show many of them: `share` at first,
+//! twice as many after a call without trouble, half as many after one with more than a few conflicts. Where a call has met
+//! some conflicts, the signs are again those of the last answer. No contract rests on it.
+
+use std::alloc::{AllocError, Global};
+
+// How many variables are to be shown true at first.
+const FIRST_SHARE: usize = 4;
+
+// A call with no more conflicts than this has shown without trouble what was to be shown.
+const FEW: u64 = 1;
+
+// A call with more conflicts than this was to show too much.
+const MANY: u64 = 4;
+
+// How many calls go by before something is to be shown again, once one variable alone was too much.
+const REST: u64 = 6;
+
+// After so many conflicts of a call the last answer's signs are taken up again.
+const PATIENCE: u64 = 20;
+
+// A call with more conflicts than this is long.
+const LONG: u64 = 4_096;
+
+/// The signs of the own variables, by their places.
+#[derive(Drop)]
+pub struct Signs {
+    signs: Vec<bool>,
+    // the signs in the last answer, and whether some answer made the variable true
+    last: Vec<bool>,
+    seen: Vec<bool>,
+    // the places that are to be shown true: the first `wanted` of these, from `next` on
+    shown: Vec<usize>,
+    wanted: usize,
+    next: usize,
+    // of how many of the first places that is tried, and of how many at once
+    preferred: usize,
+    share: usize,
+    // how many calls go by before something is tried again, and how many calls there were
+    rest: u64,
+    turn: usize,
+    // the conflicts of this call, and how many are left before the last answer's signs come back
+    met: u64,
+    patience: u64,
+    is_due: bool,
+    // whether variables keep the signs that they had
+    keeps: bool,
+}
+
+impl Signs {
+    /// All variables false at first. It takes all the memory that it will need.
+    pub fn new(alloc: Global, count: usize) -> Result<Signs, AllocError> {
+        Ok(Signs {
+            signs: vec![in alloc; false; count]?,
+            last: vec![in alloc; false; count]?,
+            seen: vec![in alloc; false; count]?,
+            shown: vec![in alloc; 0; count]?,
+            wanted: 0,
+            next: 0,
+            preferred: 0,
+            share: FIRST_SHARE,
+            rest: 0,
+            turn: 0,
+            met: 0,
+            patience: 0,
+            is_due: false,
+            keeps: false,
+        })
+    }
+
+    /// Of the first `count` variables some are to be shown true.
+    pub fn prefer_first(&mut self, count: usize) {
+        self.preferred = count;
+    }
+
+    /// The sign with which the variable at this place is decided.
+    pub fn of(&self, place: usize) -> bool {
+        place < self.signs.len() && self.signs[place]
+    }
+
+    /// The variable at this place is decided with this sign from now on.
+    pub fn set(&mut self, place: usize, sign: bool) {
+        if self.keeps && place < self.signs.len() {
+            self.signs[place] = sign;
+        }
+    }
+
+    /// Whether variables keep the signs that they had: once an answer has come, or a call is long.
+    pub fn are_kept(&self) -> bool {
+        self.keeps
+    }
+
+    /// A call begins: some variables that no answer has made true are to be so.
+    pub fn begin(&mut self) {
+        self.fit_share();
+        self.met = 0;
+        self.patience = PATIENCE;
+        self.wanted = 0;
+        self.next = 0;
+        if self.share > 0 {
+            self.want();
+        }
+    }
+
+    // As many at once as the last call has shown to be right.
+    fn fit_share(&mut self) {
+        if self.share == 0 {
+            if self.rest > 0 {
+                self.rest -= 1;
+            } else {
+                self.share = 1;
+            }
+        } else if self.met > MANY {
+            self.share = if self.share == 1 { 0 } else { self.share / 2 };
+            self.rest = REST;
+        } else if self.met <= FEW {
+            self.share = self.share.saturating_mul(2).min(self.preferred.max(1));
+        }
+    }
+
+    // Takes up so many of those that no answer has made true, spread over all of them.
+    fn want(&mut self) {
+        let mut unseen: usize = 0;
+        for place in 0..self.seen.len() {
+            if place < self.preferred && !self.seen[place] {
+                unseen = unseen.saturating_add(1);
+            }
+        }
+        let step = (unseen / self.share.max(1)).saturating_add(1).max(1);
+        self.turn = self.turn.wrapping_add(1);
+        let mut number = self.turn;
+        for place in 0..self.seen.len() {
+            if place < self.preferred && !self.seen[place] {
+                if number % step == 0
+                    && self.wanted < self.shown.len()
+                    && place < self.signs.len()
+                {
+                    self.signs[place] = true;
+                    self.shown[self.wanted] = place;
+                    self.wanted += 1;
+                }
+                number = number.wrapping_add(1);
+            }
+        }
+    }
+
+    /// The next place that is to be shown true; whoever has no use for it drops it.
+    pub fn wanted(&self) -> Option<usize> {
+        if self.next < self.wanted && self.next < self.shown.len() {
+            Some(self.shown[self.next])
+        } else {
+            None
+        }
+    }
+
+    /// What is to be shown next has a value, or is false.
+    pub fn drop_wanted(&mut self) {
+        self.next = self.next.saturating_add(1);
+    }
+
+    /// Variables have lost their values: what is to be shown is looked at anew, or the last answer's signs come back.
+    pub fn settle(&mut self) {
+        self.next = 0;
+        if !self.is_due {
+            return;
+        }
+        self.is_due = false;
+        self.wanted = 0;
+        for place in 0..self.signs.len() {
+            if place < self.preferred && place < self.last.len() {
+                self.signs[place] = self.last[place];
+            }
+        }
+    }
+
+    /// An answer comes: no variable is known to be true in it yet.
+    pub fn forget_last(&mut self) {
+        self.keeps = true;
+        for place in 0..self.last.len() {
+            self.last[place] = false;
+        }
+    }
+
+    /// The answer makes the variable at this place true.
+    pub fn see(&mut self, place: usize) {
+        if place < self.seen.len() {
+            self.seen[place] = true;
+        }
+        if place < self.last.len() {
+            self.last[place] = true;
+        }
+    }
+
+    /// Counts a conflict, and answers whether the search is to begin anew, with the last answer's signs.
+    pub fn note_conflict(&mut self) -> bool {
+        self.met = self.met.saturating_add(1);
+        if self.met > LONG {
+            self.keeps = true;
+        }
+        if self.patience == 0 {
+            return false;
+        }
+        self.patience -= 1;
+        self.is_due = self.patience == 0;
+        self.is_due
+    }
+}
