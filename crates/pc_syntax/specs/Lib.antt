@@ -1,6 +1,7 @@
 pub mod Clause
 pub mod Command
 pub mod Fault
+pub mod Keyword
 pub mod Line
 pub mod Part
 pub mod Sheet

@@ -4,6 +4,7 @@ ghost use Rattle.pc_name.specs.Names.{most_name_bytes};
 ghost use Rattle.pc_token.specs.Line.{IsOneName};
 ghost use Rattle.pc_syntax.specs.Tree.{Asked, asked_of};
 ghost use Rattle.pc_syntax.specs.Command.{command_keyword, FollowsCommand, IsCommand, IsDeepAsk, Asks, IsAlone, CommandReading, IsCommandReading, TakesNoMemory};
+ghost use Rattle.pc_syntax.specs.Keyword.{text_of};
 ghost use Rattle.pc_syntax.specs.Told.{reading_of, IsCommandTold, TellsCommand, IsAskedTold, IsLone};
 ghost use Rattle.pc_syntax.specs.Sized.{IsSizedReading, IsNestedReading};
 
@@ -103,6 +104,57 @@ fn command(alloc: Global, words: &mut Words<'_>) -> Result<Command, Refusal>
     command_of(alloc, start, words)
 }
 
+// A word that starts a command of several words.
+enum Keyword {
+    Enter,
+    Also,
+    Clear,
+    Rule,
+    Remove,
+    Budget,
+    Why,
+    Prove,
+    WhyNot,
+    Ask,
+}
+
+// The word that the text is, where that starts a command of several words.
+fn keyword_of(start: &str) -> Option<Keyword>
+    ensures { MatchOption result ((a : Asked) → command_keyword a ≡ start.now → IsAlone a) (λ k. text_of k ≡ start.now) }
+{
+    if is_word(start, "enter") {
+        return Some(Keyword::Enter);
+    }
+    if is_word(start, "also") {
+        return Some(Keyword::Also);
+    }
+    if is_word(start, "clear") {
+        return Some(Keyword::Clear);
+    }
+    if is_word(start, "rule") {
+        return Some(Keyword::Rule);
+    }
+    if is_word(start, "drop") {
+        return Some(Keyword::Remove);
+    }
+    if is_word(start, "budget") {
+        return Some(Keyword::Budget);
+    }
+    if is_word(start, "why") {
+        return Some(Keyword::Why);
+    }
+    if is_word(start, "prove") {
+        return Some(Keyword::Prove);
+    }
+    if is_word(start, "whynot") {
+        return Some(Keyword::WhyNot);
+    }
+    if is_word(start, "ask") {
+        return Some(Keyword::Ask);
+    }
+    None
+}
+
 // The command that starts with this word.
 fn command_of(alloc: Global, start: &str, words: &mut Words<'_>) -> Result<Command, Refusal>
     ensures told { IfOk result (λ c. Asks start.now (asked_of c) words.old) }
@@ -112,41 +164,51 @@ fn command_of(alloc: Global, start: &str, words: &mut Words<'_>) -> Result<Comma
         read_end(words)?;
         return Ok(command);
     }
-    if is_word(start, "enter") {
-        let (cell, value) = read_equation(alloc, words)?;
-        return Ok(Command::Enter(cell, value));
+    match keyword_of(start) {
+        None => Err(Refusal::Syntax),
+        Some(keyword) => command_behind(alloc, keyword, words),
     }
-    if is_word(start, "also") {
-        let (cell, value) = read_equation(alloc, words)?;
-        return Ok(Command::Also(cell, value));
+}
+
+// The command that starts with this word, from what stands behind it.
+fn command_behind(
+    alloc: Global,
+    keyword: Keyword,
+    words: &mut Words<'_>,
+) -> Result<Command, Refusal>
+    ensures told { IfOk result (λ c. Asks (text_of keyword) (asked_of c) words.old) }
+    ensures none { result ≡ Err Refusal.Syntax → (a : Asked) → Asks (text_of keyword) a words.old → ⊥ }
+{
+    match keyword {
+        Keyword::Enter => entering(alloc, words),
+        Keyword::Also => entering_also(alloc, words),
+        Keyword::Clear => clearing(alloc, words),
+        Keyword::Rule => adding_rule(alloc, words),
+        Keyword::Remove => dropping_rule(alloc, words),
+        Keyword::Budget => setting_budget(words),
+        Keyword::Why => asking_why(alloc, words),
+        Keyword::Prove => proving(words),
+        Keyword::WhyNot => asking_why_not(alloc, words),
+        Keyword::Ask => asking(alloc, words),
     }
-    if is_word(start, "clear") {
-        return clearing(alloc, words);
-    }
-    if is_word(start, "rule") {
-        return Ok(Command::AddRule(rule(alloc, words)?));
-    }
-    if is_word(start, "drop") {
-        return Ok(Command::DropRule(last_name(alloc, words)?));
-    }
-    if is_word(start, "budget") {
-        return Ok(Command::Budget(number(words)?));
-    }
-    if is_word(start, "why") {
-        let (cell, value, holds) = read_question(alloc, words)?;
-        return Ok(Command::Why { cell, value, holds });
-    }
-    if is_word(start, "prove") {
-        return proving(words);
-    }
-    if is_word(start, "whynot") {
-        let (cell, value) = read_equation(alloc, words)?;
-        return Ok(Command::WhyNot(cell, value));
-    }
-    if is_word(start, "ask") {
-        return Ok(Command::Ask(last_formula(alloc, words)?));
-    }
-    Err(Refusal::Syntax)
+}
+
+// Reads CELL = VALUE, and the end.
+fn entering(alloc: Global, words: &mut Words<'_>) -> Result<Command, Refusal>
+    ensures told { IfOk result (λ c. Asks (codes "enter") (asked_of c) words.old) }
+    ensures none { result ≡ Err Refusal.Syntax → (a : Asked) → Asks (codes "enter") a words.old → ⊥ }
+{
+    let (cell, value) = read_equation(alloc, words)?;
+    Ok(Command::Enter(cell, value))
+}
+
+// The same of a further entry.
+fn entering_also(alloc: Global, words: &mut Words<'_>) -> Result<Command, Refusal>
+    ensures told { IfOk result (λ c. Asks (codes "also") (asked_of c) words.old) }
+    ensures none { result ≡ Err Refusal.Syntax → (a : Asked) → Asks (codes "also") a words.old → ⊥ }
+{
+    let (cell, value) = read_equation(alloc, words)?;
+    Ok(Command::Also(cell, value))
 }
 
 // Reads CELL or CELL = VALUE, and the end.
@@ -165,6 +227,42 @@ fn clearing(alloc: Global, words: &mut Words<'_>) -> Result<Command, Refusal>
     Ok(Command::ClearOne(cell, value))
 }
 
+// Reads NAME : FORMULA, and the end.
+fn adding_rule(alloc: Global, words: &mut Words<'_>) -> Result<Command, Refusal>
+    ensures told { IfOk result (λ c. Asks (codes "rule") (asked_of c) words.old) }
+    ensures none { result ≡ Err Refusal.Syntax → (a : Asked) → Asks (codes "rule") a words.old → ⊥ }
+{
+    let rule = rule(alloc, words)?;
+    Ok(Command::AddRule(rule))
+}
+
+// Reads NAME, and the end.
+fn dropping_rule(alloc: Global, words: &mut Words<'_>) -> Result<Command, Refusal>
+    ensures told { IfOk result (λ c. Asks (codes "drop") (asked_of c) words.old) }
+    ensures none { result ≡ Err Refusal.Syntax → (a : Asked) → Asks (codes "drop") a words.old → ⊥ }
+{
+    let name = last_name(alloc, words)?;
+    Ok(Command::DropRule(name))
+}
+
+// Reads NUMBER, and the end.
+fn setting_budget(words: &mut Words<'_>) -> Result<Command, Refusal>
+    ensures told { IfOk result (λ c. Asks (codes "budget") (asked_of c) words.old) }
+    ensures none { result ≡ Err Refusal.Syntax → (a : Asked) → Asks (codes "budget") a words.old → ⊥ }
+{
+    let budget = number(words)?;
+    Ok(Command::Budget(budget))
+}
+
+// Reads CELL = VALUE or CELL != VALUE, and the end.
+fn asking_why(alloc: Global, words: &mut Words<'_>) -> Result<Command, Refusal>
+    ensures told { IfOk result (λ c. Asks (codes "why") (asked_of c) words.old) }
+    ensures none { result ≡ Err Refusal.Syntax → (a : Asked) → Asks (codes "why") a words.old → ⊥ }
+{
+    let (cell, value, holds) = read_question(alloc, words)?;
+    Ok(Command::Why { cell, value, holds })
+}
+
 // Reads the word `repairs`, and the end.
 fn proving(words: &mut Words<'_>) -> Result<Command, Refusal>
     ensures told { IfOk result (λ c. Asks (codes "prove") (asked_of c) words.old) }
@@ -179,6 +277,24 @@ fn proving(words: &mut Words<'_>) -> Result<Command, Refusal>
     }
     read_end(words)?;
     Ok(Command::ProveRepairs)
+}
+
+// Reads CELL = VALUE, and the end.
+fn asking_why_not(alloc: Global, words: &mut Words<'_>) -> Result<Command, Refusal>
+    ensures told { IfOk result (λ c. Asks (codes "whynot") (asked_of c) words.old) }
+    ensures none { result ≡ Err Refusal.Syntax → (a : Asked) → Asks (codes "whynot") a words.old → ⊥ }
+{
+    let (cell, value) = read_equation(alloc, words)?;
+    Ok(Command::WhyNot(cell, value))
+}
+
+// Reads FORMULA, and the end.
+fn asking(alloc: Global, words: &mut Words<'_>) -> Result<Command, Refusal>
+    ensures told { IfOk result (λ c. Asks (codes "ask") (asked_of c) words.old) }
+    ensures none { result ≡ Err Refusal.Syntax → (a : Asked) → Asks (codes "ask") a words.old → ⊥ }
+{
+    let formula = last_formula(alloc, words)?;
+    Ok(Command::Ask(formula))
 }
 
 // The command that is this one word.

@@ -162,9 +162,7 @@ fn add(
     ensures { IfOk result (λ _. declared declarations.new.items ≡ declared declarations.old.items ++ declared_from number (form_of line ∷ [])) }
 {
     if let LineTree::Declares(declared) = line {
-        declarations
-            .push((number, declared))
-            .map_err(|_| AllocError)?;
+        declarations.push((number, declared))?;
     }
     Ok(())
 }
