@@ -18,9 +18,9 @@ class Lacks(Exception):
 def command():
     """Returns the path of the toolchain's own `rt`. What is on the path may be a small script that calls it."""
     found = os.environ.get("RT") or shutil.which("rt")
-    if not found:
+    path = os.path.realpath(found or "")
+    if not found or not os.path.isfile(path):
         raise Lacks("the toolchain's command rt isn't on the path")
-    path = os.path.realpath(found)
     if os.path.getsize(path) < 4096:
         with open(path, errors="replace") as text:
             named = [it for it in re.findall(r"/\S+/bin/rt\b", text.read()) if os.path.isfile(it)]
