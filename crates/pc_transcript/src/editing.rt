@@ -1,5 +1,5 @@
 // The sheet of a file and commands on it, from the file's name to the status.
-ghost use Rattle.std.specs.Prelude.{◌≡◌, ◌≢◌};
+ghost use Rattle.std.specs.Prelude.{◌≡◌, ◌≢◌, ◌≤◌, []};
 ghost use Rattle.pc_port.specs.Port.{Rose};
 ghost use Rattle.pc_lines.specs.Files.{AsksOnce, FailsToRead};
 ghost use Rattle.pc_port.specs.declared.TheConstants.{CHUNK};
@@ -41,8 +41,31 @@ pub fn edit<M: Machine, I: Source, H: Shelf, O: Sink>(
     let Ok(mut reader) = LineReader::new(resources.alloc, LINE_LIMIT) else {
         return tell_no_memory_for_sheet(out);
     };
+    edit_from::<M, I, H, O>(resources, file, &mut reader, input, shelf, out, notes)
+}
+
+// Takes the shelf's file, and goes on from there. The reader is lent, so that no way out has to let it go.
+fn edit_from<M: Machine, I: Source, H: Shelf, O: Sink>(
+    resources: Resources,
+    file: &str,
+    reader: &mut LineReader,
+    input: &mut I,
+    shelf: &mut H,
+    out: &mut O,
+    notes: &mut M::Notes,
+) -> Status
+    requires held { reader.old.held ≡ [] }
+    requires longest { LINE_LIMIT ≤ reader.old.longest }
+    ensures ran { Ran (Edit (M.IsSheet resources.budget) (M.RefusesText resources.budget) M.Allows file.now notes.old) CHUNK result notes.new (outside (H.kept shelf.old) (H.asked shelf.old) (H.faults shelf.old) (streams (I.left input.old) (I.faults input.old) (O.given out.old) (O.faults out.old))) (outside (H.kept shelf.new) (H.asked shelf.new) (H.faults shelf.new) (streams (I.left input.new) (I.faults input.new) (O.given out.new) (O.faults out.new))) }
+    ensures asked { AsksOnce file.now (H.asked shelf.old) (H.asked shelf.new) }
+    ensures kept { H.kept shelf.new ≡ H.kept shelf.old }
+    ensures read_fault { result ≡ Status.ReadFault → FailsToRead I.faults input.old input.new (H.faults shelf.old) (H.faults shelf.new) }
+    ensures no_read_fault { result ≢ Status.ReadFault → (I.faults input.new ≡ I.faults input.old) × (H.faults shelf.new ≡ H.faults shelf.old) }
+    ensures write_fault { result ≡ Status.WriteFault → Rose (O.faults out.old) (O.faults out.new) }
+    ensures no_write_fault { result ≢ Status.WriteFault → O.faults out.new ≡ O.faults out.old }
+{
     match take_file(resources.alloc, file, shelf) {
-        Ok(sheet) => open::<M, I, O>(resources, &sheet, &mut reader, notes, input, out),
+        Ok(sheet) => open::<M, I, O>(resources, &sheet, reader, notes, input, out),
         Err(SheetStop::Failed) => Status::ReadFault,
         Err(SheetStop::TooLong) => tell_too_long(out),
         Err(SheetStop::Memory) => tell_no_memory_for_sheet(out),
