@@ -8,7 +8,7 @@ ghost use Rattle.pc_checker.specs.Drafts.{AreWritten};
 ghost use Rattle.pc_checker.specs.Entered.{HasEachPair};
 ghost use Rattle.pc_checker.specs.Made.{IsMadeFor, blocks_said, set_values, value_said};
 ghost use Rattle.pc_cert.specs.ReadFor.{IsPartOver, IsReadFor, IsSetSaidOf};
-ghost use Rattle.pc_checker.specs.inside.Prepared.{ArePrepared, IsLinePrepared, IsRepeated};
+ghost use Rattle.pc_checker.specs.inside.Prepared.{ArePrepared, AreValuesPrepared, IsDerivationPrepared, IsLinePrepared, IsRepeated};
 ghost use Rattle.pc_checker.specs.Verdicts.{allowed_in};
 ghost use Rattle.pc_checker.specs.inside.Written.{IsBlockWritten};
 
@@ -20,7 +20,7 @@ use crate::sets::write_outside;
 use crate::shared::Shared;
 use crate::taken::write_axiom;
 use pc_cert::{Cert, CertLine, CertPart, Claim, Numbering, Said, SaidSet, Symbol};
-use pc_lits::Values;
+use pc_lits::{Lit, Values};
 use pc_logic::{Assignment, Book, well_formed};
 use pc_sheet::MOST_VALUES;
 use std::alloc::{AllocError, Global};
@@ -40,6 +40,30 @@ pub fn room_for(alloc: Global, book: &Book, cert: &Cert) -> Result<Scratch, Allo
     requires { IsReadFor book.now cert.now }
     ensures { IfOk result (IsMadeFor book.now cert.now) }
 {
+    let (clauses, axioms, allowed, values) = room_for_derivation(alloc, book, cert)?;
+    let (entered, assignment, sets, pairs) = room_for_values(alloc, book, cert)?;
+    Ok(Scratch {
+        entered,
+        assignment,
+        sets,
+        pairs,
+        clauses,
+        axioms,
+        allowed,
+        values,
+    })
+}
+
+// The clause of each line, which lines may be taken as axioms, the literals that the last clause may have, and room for the truth
+// values of all symbols.
+fn room_for_derivation(
+    alloc: Global,
+    book: &Book,
+    cert: &Cert,
+) -> Result<(LineClauses, Vec<bool>, Vec<Lit>, Values), AllocError>
+    requires { IsReadFor book.now cert.now }
+    ensures { IfOk result (λ r. IsDerivationPrepared book.now cert.now r.0 r.1.items r.2.items (length r.3)) }
+{
     let names = number_symbols(alloc, &cert.symbols)?;
     let mut draft = ClauseDraft::new(alloc, names);
     let mut clauses = LineClauses::new(alloc);
@@ -57,20 +81,22 @@ pub fn room_for(alloc: Global, book: &Book, cert: &Cert) -> Result<Scratch, Allo
     write_allowed(alloc, cert, &mut draft)?;
     let allowed = Vec::from_slice(alloc, draft.literals())?;
     let values = Values::new(alloc, draft.symbols())?;
+    Ok((clauses, axioms, allowed, values))
+}
+
+// Which pairs are entered, the values of the certificate and of its sets, and room for a mark of each pair.
+fn room_for_values(
+    alloc: Global,
+    book: &Book,
+    cert: &Cert,
+) -> Result<(Vec<bool>, Assignment, Vec<Assignment>, Values), AllocError>
+    ensures { IfOk result (λ r. AreValuesPrepared book.now cert.now r.0.items r.1 r.2.items r.3) }
+{
     let entered = entered_pairs(alloc, book)?;
     let assignment = assignment_of(alloc, &cert.values)?;
     let sets = assignments_of(alloc, &cert.sets)?;
     let pairs = room_for_pairs(alloc, book)?;
-    Ok(Scratch {
-        entered,
-        assignment,
-        sets,
-        pairs,
-        clauses,
-        axioms,
-        allowed,
-        values,
-    })
+    Ok((entered, assignment, sets, pairs))
 }
 
 // Room for a mark of each pair of a cell and a value.

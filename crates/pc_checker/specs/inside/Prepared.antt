@@ -1,5 +1,5 @@
 -- What is prepared of a certificate: its lines, one after the other, and what its claim is tested by.
-use Rattle.std.specs.Prelude.{◌≡◌, ℕ, ◌<◌, Bool, false, List, [], ◌∷◌, ◌++◌, map, length, slice_index_or, All}
+use Rattle.std.specs.Prelude.{◌≡◌, ℕ, ◌<◌, Bool, Option, false, List, [], ◌∷◌, ◌++◌, map, length, slice_index_or, All}
 use Rattle.pc_sheet.specs.Sheet.{Sheet}
 use Rattle.pc_sheet.specs.declared.ids.ValueId.{ValueId}
 use Rattle.pc_lits.specs.declared.literal.Lit.{Lit}
@@ -10,11 +10,11 @@ use Rattle.pc_cert.specs.declared.cert.CertLine.{CertLine}
 use Rattle.pc_cert.specs.ReadFor.{IsNamedIn, IsSaidOf, IsSetSaidOf, IsReadFor}
 use Rattle.pc_cert.specs.declared.cert.SaidSet.{SaidSet}
 use Rattle.pc_cert.specs.declared.cert.Said.{Said}
-use Rattle.pc_cert.specs.Views.{said_of, reading_of}
-use Rattle.pc_checker.specs.Made.{IsPrepared, set_values}
+use Rattle.pc_cert.specs.Views.{said_of, symbols_of, literal_of, reading_of, AreSymbolsDistinct}
+use Rattle.pc_checker.specs.Made.{IsPrepared, own_blocks, set_values}
 use Rattle.pc_cert.specs.Numbered.{StartsWith}
-use Rattle.pc_checker.specs.Entered.{AreEnteredPairs}
-use Rattle.pc_checker.specs.Verdicts.{values_in}
+use Rattle.pc_checker.specs.Entered.{AreEnteredPairs, HasEachPair}
+use Rattle.pc_checker.specs.Verdicts.{values_in, allowed_in}
 
 -- one clause more is stored, which is prepared for the part
 pub record IsLinePrepared (sheet : Sheet) (blocks : List (List Literal)) (part : CertPart) (old new : List Symbol) (before after : List (List Lit)) (good : Bool) : Type 0 where
@@ -37,6 +37,23 @@ pub record ArePrepared (sheet : Sheet) (blocks : List (List Literal)) (lines : L
   pub marks : length axioms ≡ n
   pub within : All (All (IsNamedIn names)) clauses
   pub each : (i : ℕ) (d : CertLine) → i < n → IsPrepared sheet blocks names (slice_index_or clauses i []) (slice_index_or axioms i false) (slice_index_or lines i d).part
+
+-- What the test of a derivation needs: the clause of each line by numbers of symbols, the certificate's first, which of them are taken
+-- as axioms, the literals that the last clause may have, and so much room for truth values.
+pub record IsDerivationPrepared (sheet : Sheet) (c : Cert) (clauses : List (List Lit)) (axioms : List Bool) (allowed : List Lit) (room : ℕ) : Type 0 where
+  pub names : List Symbol
+  pub distinct : AreSymbolsDistinct names
+  pub lines : ArePrepared sheet (own_blocks sheet c) c.lines.items (length c.lines.items) (symbols_of c) names clauses axioms
+  pub room_is : room ≡ length names
+  pub literals : map (literal_of names) allowed ≡ allowed_in (reading_of c)
+  pub within : All (IsNamedIn names) allowed
+
+-- what the test of the claim needs beside it, and room for a mark of each pair
+pub record AreValuesPrepared (sheet : Sheet) (c : Cert) (by_pair : List Bool) (assigned : List ValueId) (in_sets : List (List ValueId)) (pairs : List (Option Bool)) : Type 0 where
+  pub entered : AreEnteredPairs sheet by_pair
+  pub values : assigned ≡ values_in (reading_of c).values
+  pub sets : in_sets ≡ map set_values c.sets.items
+  pub room : HasEachPair sheet pairs
 
 -- what the tests of a claim need: a certificate that was read for the sheet, the sheet's entries by cell and value, and
 -- the assignments that the certificate and its sets give
