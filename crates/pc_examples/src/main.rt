@@ -25,6 +25,8 @@ replay; trip.sheet trip.commands; trip.display
 replay; tutorial_configurator.sheet tutorial_configurator.commands; tutorial_configurator.display
 replay; tutorial_roster.sheet tutorial_roster.commands; tutorial_roster.display
 replay; tutorial_timetable.sheet tutorial_timetable.commands; tutorial_timetable.display
+replay; van.sheet van.commands; van.display
+replay; ward.sheet ward.commands; ward.display
 check weekend.sheet; weekend.certificate; weekend.display
 ";
 
