@@ -75,20 +75,28 @@ def name_end(text, at):
 NUMBER_OR_SIGN = re.compile(r'(?P<number>[0-9]+)|<->|<=|>=|!=|->|\.\.|[=<>!&|(),:.+-]')
 
 
-def tokens(text):
-    """The tokens as pairs of a kind (`name`, `number`, `sign`) and a text; at each place the longest is taken."""
-    found, at = [], 0
+def placed_tokens(text):
+    """The tokens as a kind (`name`, `number`, `sign`), a text and the place where it begins; at each place the longest
+    is taken. The kind is None where nothing can be taken, and that is the last one."""
+    at = 0
     while at < len(text):
         if text[at] in ' \t':
             at += 1
             continue
         match = NUMBER_OR_SIGN.match(text, at)
         end = match.end() if match else name_end(text, at)
-        need(end > at, SYNTAX)
         kind = 'name' if not match else 'number' if match['number'] else 'sign'
-        need(kind != 'name' or len(text[at:end].encode()) <= LONGEST_NAME, SYNTAX)
-        found.append((kind, text[at:end]))
+        if end == at or kind == 'name' and len(text[at:end].encode()) > LONGEST_NAME:
+            yield None, text[at:], at
+            return
+        yield kind, text[at:end], at
         at = end
+
+
+def tokens(text):
+    """The tokens as pairs of a kind and a text."""
+    found = [(kind, token) for kind, token, _ in placed_tokens(text)]
+    need(all(kind for kind, _ in found[-1:]), SYNTAX)
     return found
 
 
@@ -1005,19 +1013,30 @@ def allowed(certificate):
     return used | {certificate.target} if certificate.claim == 'is' else used
 
 
-def verdict(sheet, data):
-    """The line that tells what the certificate is."""
+def certificate_of(sheet, data):
+    """The certificate that a text is, for a sheet."""
     certificate = Certificate(sheet)
     try:
         certificate.read(data)
     except Fault as fault:
         what = 'syntax' if fault.args[0] == SYNTAX else 'unknown-name'
         raise Refused(f'refused {what} line {certificate.number}') from None
+    return certificate
+
+
+def test_all_given(sheet, certificate):
+    """All tests but those of the derivation."""
     for given in certificate.given:
         end = last_line(given) if certificate.claim in ON_SETS else certificate.last
         test_given(sheet, certificate, given, end)
     if certificate.claim in ON_SETS:
         test_sets(certificate.given)
+
+
+def verdict(sheet, data):
+    """The line that tells what the certificate is."""
+    certificate = certificate_of(sheet, data)
+    test_all_given(sheet, certificate)
     last = derived(sheet, certificate)
     test(last is not None and last <= allowed(certificate), 'wrong-end')
     return 'accepted'
@@ -1027,6 +1046,8 @@ def verdict(sheet, data):
 
 def main(words):
     """What is printed, and the status."""
+    if words in (['--help'], ['-h']):
+        return __doc__.strip(), 0
     if len(words) != 1 or not words[0] or words[0].startswith('-'):
         return 'usage: check.py SHEET < CERTIFICATE', 2
     try:
