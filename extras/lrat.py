@@ -18,8 +18,8 @@ The status is that of `predicalc check`: 0 written, 2 words, 3 sheet refused, 4 
 """
 from itertools import combinations
 
-from check import (ATOMS, ON_SETS, Counter, Node, Refused, below, certificate_of, entries_of, literals, negated, test,
-                   test_all_given)
+from check import (ATOMS, ON_SETS, Counter, Node, Quantified, Refused, below, certificate_of, entries_of, literals, negated,
+                   test, test_all_given)
 from common import bytes_of, many, run, sheet_of, text_of_entry, words_of
 
 
@@ -108,18 +108,31 @@ class Ground:
 
     def model(self, cells):
         """The variables that are true where the cells have these values."""
+        truths = {}
         true = {self.variables[entry] for entry in cells.items()}
-        for path, variable in self.variables.items():
-            if not isinstance(path[0], tuple) and self.holds(path, cells):
-                true.add(variable)
-        return true
+        return true | {number for path, number in self.variables.items()
+                       if not isinstance(path[0], tuple) and self.holds(path, cells, truths)}
 
-    def holds(self, path, cells):
+    def holds(self, path, cells, truths):
+        """The truth of a node, by those of the nodes below it."""
+        if path not in truths:
+            truths[path] = self.truth(path, cells, truths)
+        return truths[path]
+
+    def truth(self, path, cells, truths):
         formula, variables = self.sheet.node(path)
-        if not isinstance(formula, Counter):
-            return self.sheet.holds(formula, variables, cells)
-        quantified = path[0], path[1][:-1]
-        return sum(self.holds(below(quantified, row), cells) for row in range(formula.row)) >= formula.column
+        if isinstance(formula, ATOMS):
+            return self.sheet.atom_holds(formula, variables, cells)
+        if isinstance(formula, Counter):
+            above = path[0], path[1][:-1]
+            return sum(self.holds(below(above, row), cells, truths) for row in range(formula.row)) >= formula.column
+        count = len(self.sheet.sorts[formula.sort] if isinstance(formula, Quantified) else formula.parts)
+        parts = [self.holds(below(path, number), cells, truths) for number in range(count)]
+        if isinstance(formula, Quantified):
+            return {'forall': all(parts), 'exists': any(parts), 'atmost': sum(parts) <= (formula.number or 0),
+                    'atleast': sum(parts) >= (formula.number or 0)}[formula.word]
+        return {'&': all(parts), '|': any(parts), '!': not parts[0], '->': not parts[0] or parts[-1],
+                '<->': parts[0] == parts[-1]}[formula.sign]
 
 
 class Asked(dict):
