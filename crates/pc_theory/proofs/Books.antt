@@ -29,13 +29,15 @@ use Rattle.pc_edit_laws.specs.Reasons.{IsRowFor}
 use Rattle.pc_cache.specs.Rows.{TargetRow, row_after}
 use Rattle.pc_world_list.specs.Worlds.{WorldView}
 use Rattle.pc_solver.specs.Solver.{SuspendedView}
+use Rattle.pc_solver.specs.declared.stop.Stop.{Stop}
+use Rattle.pc_solver.specs.declared.stop.Stop.TheVariants.{Spent, Memory}
 use Rattle.pc_search.specs.Parts.{AreWorldsOf}
 use Rattle.pc_reason.specs.Fitting.{IsFitting}
 use Rattle.pc_theory.specs.Theories.{rules_alone, IsTheory}
 use Rattle.pc_theory.specs.inside.Tasks.{AreSearchedParts, IsReady}
 use Rattle.pc_theory.specs.Spendings.{placed_of, learned_of, calls_of, LearnsWithin, IsSpentOn, IsSpendingOf, IsLawful}
-use Rattle.pc_theory.specs.inside.Starting.{ArePlaces, AreStarted}
-use Rattle.pc_theory.specs.inside.Searching.{AreSearched}
+use Rattle.pc_theory.specs.inside.Starting.{ArePlaces, AreStarted, HaltSays, halt_of}
+use Rattle.pc_theory.specs.inside.Searching.{AreSearched, StopPlaces}
 use Rattle.pc_theory.specs.Books.{IsFoundIn}
 use Rattle.pc_theory.specs.declared.spending.PartSpending.{PartSpending}
 use Rattle.pc_theory.specs.declared.spending.Spending.{Spending}
@@ -180,3 +182,8 @@ found_for sheet a b budget base worlds changes s h = record {
   spends = h.spends;
   spare = h.spare;
 }
+
+-- a stop, as the halt that it is
+pub stop_halts : (sheet : Sheet) (kept : Kept) (budget spent : ℕ) (parts : List PartSpending) (stop : Stop) → StopPlaces sheet kept budget spent parts stop → HaltSays sheet kept budget spent parts (halt_of stop)
+stop_halts sheet kept budget spent parts Spent h = h
+stop_halts sheet kept budget spent parts Memory h = h

@@ -236,7 +236,7 @@ module _ (searched : KeptPartsAreSearched) (sheet : Sheet) (g : Grounded) (kept 
 
   pub first_called : (cs s before : SolverView) (place : PartSpending) (log_before log : List LogLine) (blank tally : Tally) (end is : End) (limit : ℕ) → cs ≡ s → place.part ≡ i → place.tally ≡ tally → place.logs.items ≡ log ∷ [] → end ≡ is
       → before.problem ≡ given → s.problem ≡ before.problem → before.blocks ≡ [] → s.blocks ≡ before.blocks → HasLog s log → log_before ≡ [] → Spends (length before.problem.own) blank tally log_before log → blank.placed ≡ 0 → blank.learned ≡ 0 → blank.calls ≡ 0
-      → blank.limit ≡ limit → EndSays s place is → IsCalled sheet kept i limit cs place end
+      → blank.limit ≡ limit → EndSays s tally is → IsCalled sheet kept i limit cs place end
   first_called cs s before place log_before log blank tally end is limit same number is_tally logs is_end problem kept_problem none kept_blocks has new spends no_placed no_learned no_calls is_limit says =
       let here : s.problem ≡ given = kept_problem ∙ problem in
       let own_of : Problem → List Var = λ p. p.own in
@@ -249,7 +249,7 @@ module _ (searched : KeptPartsAreSearched) (sheet : Sheet) (g : Grounded) (kept 
         numbered = number;
         limit_is = limits;
         started = started sheet kept i at_part.0 cells used own at_part.1 place number s log blank (problem_is sheet g used own s.problem ready.ground_is here) (kept_blocks ∙ none) has logs paid no_placed no_learned no_calls;
-        says = says;
+        says = subst (λ t. EndSays s t is) (sym is_tally) says;
       }))
 
   pub problem_there : (s : SuspendedView) (place : PartSpending) → place.part ≡ i → IsStarted sheet kept place s → s.problem ≡ problem_of sheet used own

@@ -1,12 +1,19 @@
 //! A whole book: its theory, the worlds of its parts, and the reasons of all targets.
-ghost use Rattle.std.specs.Prelude.{◌≡◌, ◌≤◌, [], IfErr, IfOk, length};
+ghost use Rattle.std.specs.Prelude.{◌≡◌, ◌≤◌, ℕ, [], IfErr, IfOk, length};
 ghost use Rattle.pc_sheet.specs.Limits.{most_weight};
 ghost use Rattle.pc_sheet.specs.Weight.{weight};
+ghost use Rattle.pc_components.specs.View.{AreComponentsOf};
+ghost use Rattle.pc_ground.specs.Grounded.{grounded};
+ghost use Rattle.pc_kept.specs.Components.{AreKeptOf};
+ghost use Rattle.pc_reason.specs.Fitting.{IsFitting};
+ghost use Rattle.pc_theory.specs.inside.Searching.{AreSearched};
+ghost use Rattle.pc_theory.specs.inside.Starting.{HaltSays};
 ghost use Rattle.pc_theory.specs.inside.Tasks.{IsReady};
+ghost use Rattle.pc_theory.specs.Theories.{rules_alone};
 ghost use Rattle.pc_theory.specs.Books.{AreFound, IsCause, IsFoundIn, IsPartCause};
 
 use crate::searching::search_parts;
-use crate::spending::Spending;
+use crate::spending::{PartSpending, Spending};
 use crate::starting::start_parts;
 use crate::stop::Halt;
 use crate::task::{Fitted, Task};
@@ -15,8 +22,8 @@ use crate::totals::total;
 use pc_accept::certificates_are_sound;
 use pc_axiom_names::Names;
 use pc_cache::Patch;
-use pc_components::find_components;
-use pc_ground::{GroundFault, ground_book};
+use pc_components::{Components, find_components};
+use pc_ground::{Ground, GroundFault, ground_book};
 use pc_justify_laws::names_are_of_their_sheet;
 use pc_kept::kept_components;
 use pc_kept::laws::none_of_the_used_is_contained;
@@ -24,7 +31,6 @@ use pc_log::{Log, Span};
 use pc_logic::{Assignment, Book, few_cells, well_formed};
 use pc_parts::{divisions_divide, parts_are_a_division, parts_are_found};
 use pc_reuse::SpareTrails;
-use pc_solver::Stop;
 use pc_world_list::Worlds;
 use std::alloc::{AllocError, Global};
 use std::collections::VecDeque;
@@ -88,6 +94,13 @@ struct Searched {
     spending: Spending,
 }
 
+// An assignment that fits, and the worlds of each part.
+#[derive(Drop)]
+struct Listed {
+    base: Assignment,
+    worlds: Vec<Worlds>,
+}
+
 // What a span derives, a spending, or that memory was wanting.
 enum PartFault {
     Inconsistent(Log, Span),
@@ -105,8 +118,47 @@ impl From<AllocError> for PartFault {
     }
 }
 
-// Searches a book's parts: first whether each part's rules are consistent, and then each part's worlds and reasons. The trails
-// serve one part after the other.
+// A book's clauses, its parts, and the parts with the axioms that searches take.
+struct Parted {
+    ground: Ground,
+    components: Components,
+    searched: Components,
+}
+
+// First asks each part whether its rules are consistent, and then lists its worlds and finds its reasons. The trails serve one
+// part after the other.
+fn list_parts(
+    task: Task<'_>,
+    spent: &mut u64,
+    parts: &mut Vec<PartSpending>,
+    patch: &mut Patch,
+) -> Result<Listed, Halt>
+    requires ready { IsReady task.book.now task.ground.now task.components.now }
+    requires few { length task.components.now.cells ≤ 4097 }
+    requires blank { patch.old ≡ [] }
+    requires none { parts.old.items ≡ [] }
+    requires nothing { spent.old ≡ 0 }
+    ensures base { IfOk result (λ l. IsFitting task.entry.book.now l.base) }
+    ensures searched { IfOk result (λ l. AreSearched task.entry.book.now task.entry.components.now (length task.entry.components.now.cells) l.worlds.items patch.new spent.new parts.new.items) }
+    ensures within { spent.new ≤ task.entry.budget }
+    ensures halt { IfErr result (HaltSays task.entry.book.now task.entry.components.now task.entry.budget spent.new parts.new.items) }
+{
+    divisions_divide();
+    let mut solvers = Vec::new(task.alloc);
+    let mut trails = SpareTrails::new(task.alloc, task.ground.variables());
+    let base = start_parts(task, spent, &mut trails, parts, &mut solvers)?;
+    let worlds = search_parts(
+        Fitted { task, base: &base },
+        spent,
+        parts,
+        VecDeque::from_vec(solvers),
+        &mut trails,
+        patch,
+    )?;
+    Ok(Listed { base, worlds })
+}
+
+// Searches a book's parts, and tells what was spent.
 fn search_task(task: Task<'_>, patch: &mut Patch) -> Result<Searched, PartFault>
     requires ready { IsReady task.book.now task.ground.now task.components.now }
     requires few { length task.components.now.cells ≤ 4097 }
@@ -114,33 +166,63 @@ fn search_task(task: Task<'_>, patch: &mut Patch) -> Result<Searched, PartFault>
     ensures found { IfOk result (λ s. IsFoundIn task.entry.book.now task.entry.components.now task.entry.budget s.base s.worlds.items patch.new s.spending) }
     ensures fault { IfErr result (IsPartCause task.entry.book.now task.entry.budget) }
 {
-    divisions_divide();
     none_of_the_used_is_contained();
     let mut spent = 0;
     let mut parts = Vec::new(task.alloc);
-    let mut solvers = Vec::new(task.alloc);
-    let mut trails = SpareTrails::new(task.alloc, task.ground.variables());
-    let base = match start_parts(task, &mut spent, &mut trails, &mut parts, &mut solvers) {
-        Ok(base) => base,
-        Err(Halt::Inconsistent(log, span)) => return Err(PartFault::Inconsistent(log, span)),
-        Err(Halt::Spent) => return Err(PartFault::Spent(total(parts, spent, task.budget)?)),
-        Err(Halt::Memory) => return Err(PartFault::Memory),
-    };
-    match search_parts(
-        Fitted { task, base: &base },
-        &mut spent,
-        &mut parts,
-        VecDeque::from_vec(solvers),
-        &mut trails,
-        patch,
-    ) {
-        Ok(worlds) => Ok(Searched {
-            base,
-            worlds,
-            spending: total(parts, spent, task.budget)?,
+    match list_parts(task, &mut spent, &mut parts, patch) {
+        Ok(listed) => {
+            let spending = total(parts, spent, task.budget)?;
+            Ok(Searched {
+                base: listed.base,
+                worlds: listed.worlds,
+                spending,
+            })
+        }
+        Err(Halt::Inconsistent(log, span)) => Err(PartFault::Inconsistent(log, span)),
+        Err(Halt::Spent) => Err(PartFault::Spent(total(parts, spent, task.budget)?)),
+        Err(Halt::Memory) => Err(PartFault::Memory),
+    }
+}
+
+// Grounds a book, divides it into parts, and chooses of each part the axioms that searches take.
+fn part_book(alloc: Global, book: &Book) -> Result<Parted, Fault>
+    ensures ready { IfOk result (λ p. IsReady book.now p.ground p.searched) }
+    ensures few { IfOk result (λ p. length p.searched.cells ≤ 4097) }
+    ensures components { IfOk result (λ p. AreComponentsOf (rules_alone book.now) p.components) }
+    ensures chosen { IfOk result (λ p. AreKeptOf (rules_alone book.now) p.components p.searched) }
+    ensures light { IfOk result (λ _. weight book.now ≤ most_weight) }
+    ensures fault { (budget : ℕ) → IfErr result (IsCause book.now budget) }
+{
+    parts_are_a_division();
+    parts_are_found();
+    names_are_of_their_sheet();
+    well_formed(book);
+    few_cells(book);
+    let ground = ground_book(alloc, book)?;
+    let components = find_components(alloc, book, &ground)?;
+    let searched = kept_components(alloc, book, &ground, &components)?;
+    Ok(Parted {
+        ground,
+        components,
+        searched,
+    })
+}
+
+// Why the search of the parts of a book that isn't too large ended.
+fn end_with(book: &Book, fault: PartFault, ground: Ground) -> Fault
+    requires ground { ground ≡ grounded book.now }
+    requires light { weight book.now ≤ most_weight }
+    ensures { (budget : ℕ) → IsPartCause book.now budget fault → IsCause book.now budget result }
+{
+    certificates_are_sound();
+    match fault {
+        PartFault::Inconsistent(log, span) => Fault::Inconsistent(Disproof {
+            names: ground.into_names(),
+            log,
+            span,
         }),
-        Err(Stop::Spent) => Err(PartFault::Spent(total(parts, spent, task.budget)?)),
-        Err(Stop::Memory) => Err(PartFault::Memory),
+        PartFault::Spent(spending) => Fault::Spent(spending),
+        PartFault::Memory => Fault::Memory,
     }
 }
 
@@ -159,15 +241,11 @@ pub fn search_book(
     ensures light { IfOk result (λ _. weight book.now ≤ most_weight) }
     ensures fault { IfErr result (IsCause book.now budget) }
 {
-    parts_are_a_division();
-    parts_are_found();
-    names_are_of_their_sheet();
-    certificates_are_sound();
-    well_formed(book);
-    few_cells(book);
-    let ground = ground_book(alloc, book)?;
-    let components = find_components(alloc, book, &ground)?;
-    let searched = kept_components(alloc, book, &ground, &components)?;
+    let Parted {
+        ground,
+        components,
+        searched,
+    } = part_book(alloc, book)?;
     let task = Task {
         alloc,
         book,
@@ -192,12 +270,6 @@ pub fn search_book(
             worlds,
             spending,
         }),
-        Err(PartFault::Inconsistent(log, span)) => Err(Fault::Inconsistent(Disproof {
-            names: ground.into_names(),
-            log,
-            span,
-        })),
-        Err(PartFault::Spent(spending)) => Err(Fault::Spent(spending)),
-        Err(PartFault::Memory) => Err(Fault::Memory),
+        Err(fault) => Err(end_with(book, fault, ground)),
     }
 }

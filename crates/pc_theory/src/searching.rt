@@ -1,25 +1,67 @@
 //! The search of all parts of a book.
-ghost use Rattle.std.specs.Prelude.{◌≡◌, ◌<◌, ◌≤◌, [], IfErr, IfOk, OnOk, length};
+ghost use Rattle.std.specs.Prelude.{◌≡◌, ◌+◌, ◌*◌, ◌<◌, ◌≤◌, [], ◌∷◌, ◌++◌, All, IfErr, IfOk, OnOk, length, map, vec_capacity, vec_len};
+ghost use Rattle.pc_sheet.specs.Entailment.{cell_sizes};
+ghost use Rattle.pc_sheet.specs.Limits.{most_cells, most_entries};
+ghost use Rattle.pc_components.specs.View.{number_of};
+ghost use Rattle.pc_parts.specs.PartSheets.{entries_on};
 ghost use Rattle.pc_search.specs.Parts.{AreWorldsOf};
 ghost use Rattle.pc_reason.specs.Fitting.{IsFitting};
 ghost use Rattle.pc_parts.specs.Parts.{Part};
 ghost use Rattle.pc_theory.specs.inside.Tasks.{IsReady};
 ghost use Rattle.pc_theory.specs.inside.Searching.{AreSearched, FindsIn, IsMoved, StopMoves, StopPlaces};
 ghost use Rattle.pc_theory.specs.inside.Starting.{AreStarted, IsStarted};
+ghost use Rattle.pc_theory.specs.Targets.{targets_on};
 ghost use Rattle.pc_theory.specs.Theories.{rules_alone, IsPartNumbered};
 
 use crate::spending::PartSpending;
 use crate::targets::targets_on;
-use crate::task::Fitted;
+use crate::task::{Fitted, Task};
 use pc_cache::Patch;
 use pc_kept::laws::kept_parts_are_searched;
+use pc_log::Log;
 use pc_logic::few_cells;
 use pc_reuse::SpareTrails;
 use pc_search::PartTask;
+use pc_sheet::{CellId, Entry, Target};
 use pc_solver::{Stop, Suspended};
 use pc_world_list::Worlds;
 use pc_worlds::entries_on;
+use std::alloc::AllocError;
 use std::collections::VecDeque;
+
+// The entries and targets on a part's cells.
+#[derive(Drop)]
+struct Asked {
+    entries: Vec<Entry>,
+    targets: Vec<Target>,
+}
+
+// What stands on a part's cells, and what is asked of them.
+fn asked_on(task: Task<'_>, cells: &[CellId]) -> Result<Asked, AllocError>
+    requires { All (λ c. c.0 < length (cell_sizes task.book.now.universe)) cells.now }
+    ensures on { IfOk result (λ a. a.entries.items ≡ entries_on (map number_of cells.now) task.entry.book.now.entries) }
+    ensures few { IfOk result (λ a. length a.entries.items ≤ most_entries * most_cells) }
+    ensures targets { IfOk result (λ a. a.targets.items ≡ targets_on (cell_sizes task.entry.book.now.universe) cells.now) }
+{
+    Ok(Asked {
+        entries: entries_on(task.alloc, task.book, cells)?,
+        targets: targets_on(task.alloc, task.book, cells)?,
+    })
+}
+
+// Takes the only log, and makes room for two more.
+fn take_log(logs: &mut Vec<Log>) -> Result<Log, AllocError>
+    requires { 0 < length logs.old.items }
+    ensures taken { IfOk result (λ log. logs.old.items ≡ logs.new.items ++ log ∷ []) }
+    ensures room { OnOk result (vec_len logs.new + 2 ≤ vec_capacity logs.new) }
+{
+    let Some(log) = logs.pop() else {
+        // It is there.
+        unreachable!();
+    };
+    logs.reserve(2)?;
+    Ok(log)
+}
 
 // Lists the worlds of a part whose solver has made its first call, and finds the reasons of all targets on its cells.
 fn search_one(
@@ -48,13 +90,8 @@ fn search_one(
     let task = fitted.task;
     few_cells(task.book);
     let part = task.components.part(place.part as usize);
-    let entries = entries_on(task.alloc, task.book, part.cells)?;
-    let targets = targets_on(task.alloc, task.book, part.cells)?;
-    let Some(mut log) = place.logs.pop() else {
-        // The solver's log is there.
-        unreachable!();
-    };
-    place.logs.reserve(2)?;
+    let asked = asked_on(task, part.cells)?;
+    let mut log = take_log(&mut place.logs)?;
     let before = place.tally.placed;
     place.tally.limit = before + (task.budget - *spent);
     let part_task = PartTask {
@@ -63,8 +100,8 @@ fn search_one(
         ground: task.ground,
         part,
         base: fitted.base,
-        entries: &entries,
-        targets: &targets,
+        entries: &asked.entries,
+        targets: &asked.targets,
     };
     let outcome = part_task.search_started(
         solver,

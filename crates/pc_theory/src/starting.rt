@@ -1,11 +1,12 @@
 //! The first call of each part, which tells whether its rules are consistent.
-ghost use Rattle.std.specs.Prelude.{◌≡◌, ◌+◌, ◌<◌, ◌≤◌, ◌∷◌, [], IfErr, IfOk, OnOk, length};
+ghost use Rattle.std.specs.Prelude.{◌≡◌, ℕ, ◌+◌, ◌<◌, ◌≤◌, ◌∷◌, [], IfErr, IfOk, OnOk, length};
 ghost use Rattle.pc_sheet.specs.Limits.{most_cells};
 ghost use Rattle.pc_ground.specs.Naming.{names_of};
 ghost use Rattle.pc_reason.specs.Refutations.{RefutesRules};
+ghost use Rattle.pc_solver.specs.Solver.{HasLog, Spends};
 ghost use Rattle.pc_theory.specs.inside.Tasks.{IsReady};
 ghost use Rattle.pc_theory.specs.inside.Starting.{AreStarted, HaltSays};
-ghost use Rattle.pc_theory.specs.inside.Calling.{IsCalled, IsEmptyAt, IsRefused};
+ghost use Rattle.pc_theory.specs.inside.Calling.{EndSays, IsCalled, IsEmptyAt, IsFresh, IsRefused};
 
 use crate::reading::read_values;
 use crate::spending::PartSpending;
@@ -62,6 +63,66 @@ struct Called<'g> {
     end: End,
 }
 
+// A solver of a part, which has made no call.
+fn new_solver<'g>(
+    task: Task<'g>,
+    number: usize,
+    trails: &mut SpareTrails,
+) -> Result<Solver<'g>, AllocError>
+    requires ready { IsReady task.book.now task.ground.now task.components.now }
+    requires trails { trails.old ≡ task.ground.now.variables }
+    requires number { number < length task.components.now.cells }
+    ensures fresh { IfOk result (IsFresh task.entry.ground.now task.entry.components.now number) }
+    ensures variables { IfOk result (λ solver. solver.variables ≡ trails.old) }
+    ensures trails { trails.new ≡ trails.old }
+{
+    kept_parts_are_searched();
+    let part = task.components.part(number);
+    let trail = trails.take()?;
+    let mut solver = Solver::on(
+        task.alloc,
+        task.ground.store(),
+        part.axioms,
+        part.variables,
+        trail,
+    )?;
+    solver.prefer_first(count_pairs(task.book, part.cells));
+    Ok(solver)
+}
+
+// Makes the first call of a part's solver.
+fn first_call(
+    task: Task<'_>,
+    solver: &mut Solver<'_>,
+    log: &mut Log,
+    tally: &mut Tally,
+) -> Result<End, Halt>
+    requires ready { IsReady task.book.now task.ground.now task.components.now }
+    requires fresh { (number : ℕ) × IsFresh task.ground.now task.components.now number solver.old }
+    requires log { log.old ≡ [] }
+    requires learned { tally.old.learned ≡ 0 }
+    requires calls { tally.old.calls ≡ 0 }
+    ensures says { IfOk result (EndSays solver.new tally.new) }
+    ensures refused { IfErr result (IsRefused task.entry.book.now) }
+    ensures problem { solver.new.problem ≡ solver.old.problem }
+    ensures variables { solver.new.variables ≡ solver.old.variables }
+    ensures blocks { solver.new.blocks ≡ solver.old.blocks }
+    ensures log { HasLog solver.new log.new }
+    ensures spends { Spends (length solver.old.problem.own) tally.old tally.new log.old log.new }
+{
+    kept_parts_are_searched();
+    own_lines_are_named();
+    match solver.solve(&[], log, tally) {
+        Outcome::Unsat(last) => {
+            let derivation = refuted(task, log, last)?;
+            Err(Halt::Inconsistent(derivation.log, derivation.span))
+        }
+        Outcome::Sat => Ok(End::Met),
+        Outcome::Spent => Ok(End::Spent),
+        Outcome::Memory => Err(Halt::Memory),
+    }
+}
+
 // Makes the first call of a part.
 fn call_part<'g>(
     task: Task<'g>,
@@ -79,17 +140,7 @@ fn call_part<'g>(
     ensures trails { trails.new ≡ trails.old }
 {
     kept_parts_are_searched();
-    own_lines_are_named();
-    let part = task.components.part(number);
-    let trail = trails.take()?;
-    let mut solver = Solver::on(
-        task.alloc,
-        task.ground.store(),
-        part.axioms,
-        part.variables,
-        trail,
-    )?;
-    solver.prefer_first(count_pairs(task.book, part.cells));
+    let mut solver = new_solver(task, number, trails)?;
     let mut log = Log::new(task.alloc);
     let mut tally = Tally {
         placed: 0,
@@ -97,21 +148,9 @@ fn call_part<'g>(
         calls: 0,
         limit,
     };
-    match solver.solve(&[], &mut log, &mut tally) {
-        Outcome::Unsat(last) => {
-            let derivation = refuted(task, &log, last)?;
-            Err(Halt::Inconsistent(derivation.log, derivation.span))
-        }
-        Outcome::Sat => {
-            let called = keep(task.alloc, number, solver, log, tally, End::Met)?;
-            Ok(called)
-        }
-        Outcome::Spent => {
-            let called = keep(task.alloc, number, solver, log, tally, End::Spent)?;
-            Ok(called)
-        }
-        Outcome::Memory => Err(Halt::Memory),
-    }
+    let end = first_call(task, &mut solver, &mut log, &mut tally)?;
+    let called = keep(task.alloc, number, solver, log, tally, end)?;
+    Ok(called)
 }
 
 // The place of a part with its first log.
@@ -143,7 +182,8 @@ fn keep<'g>(
     })
 }
 
-// Makes the first call of the next part, and reads the values of its cells. The solver is kept without its trail.
+// Makes the first call of the next part, and reads the values of its cells, which mean nothing where the limit is reached. The
+// solver is kept without its trail.
 fn start_part<'g>(
     task: Task<'g>,
     spent: &mut u64,
@@ -167,21 +207,18 @@ fn start_part<'g>(
     kept_parts_are_searched();
     let number = parts.len();
     let part = task.components.part(number);
+    parts.reserve(1)?;
+    solvers.reserve(1)?;
     let called = call_part(task, number, task.budget - *spent, trails)?;
     *spent += called.place.tally.placed;
+    read_values(task.book, task.ground, part.cells, &called.solver, base);
+    let (solver, trail) = called.solver.suspend();
+    trails.give(trail);
+    parts.push(called.place).unwrap();
+    solvers.push(solver).unwrap();
     match called.end {
-        End::Spent => {
-            parts.push(called.place)?;
-            Err(Halt::Spent)
-        }
-        End::Met => {
-            read_values(task.book, task.ground, part.cells, &called.solver, base);
-            let (solver, trail) = called.solver.suspend();
-            trails.give(trail);
-            parts.push(called.place)?;
-            solvers.push(solver)?;
-            Ok(())
-        }
+        End::Met => Ok(()),
+        End::Spent => Err(Halt::Spent),
     }
 }
 

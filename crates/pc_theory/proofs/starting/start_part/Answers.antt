@@ -1,4 +1,4 @@
-use Rattle.std.proofs.Common.{◌≡◌, ◌+◌, [], ◌∷◌, ◌++◌, List, map, Contains, sym, ap, subst, arith, ℕ}
+use Rattle.std.proofs.Common.{◌≡◌, ◌+◌, ◌∙◌, [], ◌∷◌, ◌++◌, List, map, Contains, sym, ap, subst, arith, ℕ}
 use Rattle.std.proofs.lemmas.Result.{err_from_is_err_and}
 use Rattle.pc_ground.specs.GroundView.{Grounded}
 use Rattle.pc_components.specs.Used.{HasValues}
@@ -30,8 +30,8 @@ read_values-requires-clause-within c =
     let sizes : Grounded → List ℕ = λ g. g.sizes in
     subst (λ (ns : List ℕ). AreWithin ns c.args.base.now) (sym (ap sizes c.requires.ready.ground_is)) c.requires.started.assigns
 
-pub returns-in_ok-push-in-Met-2-clause-started : goal.returns-in_ok-push-in-Met-2-clause-started
-returns-in_ok-push-in-Met-2-clause-started c =
+pub returns-in-Met-clause-started : goal.returns-in-Met-clause-started
+returns-in-Met-clause-started c =
     let a = c.args in
     let called = c.in_ok-called.ensures.called in
     let place = c.in_ok-called.called.place in
@@ -48,25 +48,31 @@ returns-in_ok-push-in-Met-2-clause-started c =
     started_next c.kept_parts_are_searched.ensures a.task.book.now a.task.ground.now a.task.components.now c.requires.ready a.spent.now c.len-number.result a.base.now base a.parts.now.items a.solvers.now.items cells _ _
     c.part-part.ensures.cells c.part-part.ensures.axioms c.part-part.ensures.variables c.requires.started (omega (arith, c.len-number.ensures, a.parts.now.ok.0)) place solver c.suspend-solver.result.0 called.numbered called.started
     (aside_started a.task.book.now a.task.components.now place solver c.suspend-solver.result.0 c.suspend-solver.ensures.problem c.suspend-solver.ensures.blocks c.suspend-solver.ensures.log called.started)
-    (subst (λ (e : End). EndSays solver place e) c.in-Met.is called.says) assigns reads c.read_values.ensures.elsewhere
+    (subst (λ (e : End). EndSays solver place.tally e) c.in-Met.is called.says) assigns reads c.read_values.ensures.elsewhere
     in
-    subst (λ (ps : List PartSpending). AreStarted a.task.book.now a.task.components.now (a.spent.now + place.tally.placed) base ps c.push-in-Met-2.new.self.items) (sym c.in_ok-push-in-Met.ensures.items)
-    (subst (λ (ss : List SuspendedView). AreStarted a.task.book.now a.task.components.now (a.spent.now + place.tally.placed) base (a.parts.now.items ++ place ∷ []) ss) (sym c.in_ok-push-in-Met-2.ensures.items) next)
+    let pushed = rw c.unwrap.ensures at c.push.ensures.items in
+    let parts : c.push.new.self.items ≡ a.parts.now.items ++ place ∷ [] = pushed ∙ ap (λ ps. ps ++ place ∷ []) c.in_ok-reserve.ensures.items in
+    let pushed-2 = rw c.unwrap-2.ensures at c.push-2.ensures.items in
+    let solvers : c.push-2.new.self.items ≡ a.solvers.now.items ++ c.suspend-solver.result.0 ∷ [] = pushed-2 ∙ ap (λ ss. ss ++ c.suspend-solver.result.0 ∷ []) c.in_ok-reserve-2.ensures.items in
+    subst (λ (ps : List PartSpending). AreStarted a.task.book.now a.task.components.now (a.spent.now + place.tally.placed) base ps c.push-2.new.self.items) (sym parts)
+    (subst (λ (ss : List SuspendedView). AreStarted a.task.book.now a.task.components.now (a.spent.now + place.tally.placed) base (a.parts.now.items ++ place ∷ []) ss) (sym solvers) next)
 
-pub returns-in_ok-push-in-Spent-clause-halt : goal.returns-in_ok-push-in-Spent-clause-halt
-returns-in_ok-push-in-Spent-clause-halt c =
+pub returns-in-Spent-clause-halt : goal.returns-in-Spent-clause-halt
+returns-in-Spent-clause-halt c =
     let a = c.args in
     let called = c.in_ok-called.ensures.called in
     let place = c.in_ok-called.called.place in
     let solver = c.in_ok-called.called.solver in
-    let says : place.tally.placed ≡ place.tally.limit = subst (λ (e : End). EndSays solver place e) c.in-Spent.is called.says in (
+    let says : place.tally.placed ≡ place.tally.limit = subst (λ (e : End). EndSays solver place.tally e) c.in-Spent.is called.says in
+    let pushed = rw c.unwrap.ensures at c.push.ensures.items in
+    let parts : c.push.new.self.items ≡ a.parts.now.items ++ place ∷ [] = pushed ∙ ap (λ ps. ps ++ place ∷ []) c.in_ok-reserve.ensures.items in (
       omega (arith, says, called.limit_is, c.requires.within),
-      subst (λ (ps : List PartSpending). ArePlaces a.task.book.now a.task.components.now (a.spent.now + place.tally.placed) ps) (sym c.in_ok-push-in-Spent.ensures.items)
+      subst (λ (ps : List PartSpending). ArePlaces a.task.book.now a.task.components.now (a.spent.now + place.tally.placed) ps) (sym parts)
           (places_more a.task.book.now a.task.components.now a.spent.now c.len-number.result a.parts.now.items place c.requires.started.places (omega (arith, c.len-number.ensures, a.parts.now.ok.0)) called.numbered called.started.spent),
     )
 
 pub returns-in_err-called-clause-halt : goal.returns-in_err-called-clause-halt
 returns-in_err-called-clause-halt c =
     let a = c.args in
-    let p = err_from_is_err_and c.from_residual.result c.from_residual.ensures.1 in
-    rw (p.1, p.2) (refused_halts a.task.book.now a.task.components.now a.task.budget a.spent.now a.parts.now.items _ c.in_err-called.ensures.refused)
+    let p = err_from_is_err_and c.from_residual-in_err-called.result c.from_residual-in_err-called.ensures.1 in
+    rw (p.1, p.2) (refused_halts a.task.book.now a.task.components.now a.task.budget a.spent.now c.reserve.new.self.items _ c.in_err-called.ensures.refused)
