@@ -22,7 +22,7 @@ use pc_logic::{Assignment, Book, well_formed};
 use pc_sheet::Target;
 use pc_solver::{Solver, Stop};
 use pc_world_list::Worlds;
-use std::alloc::Global;
+use std::alloc::{AllocError, Global};
 
 // What a search for such assignments works on: the solver, the assignment that it found last, and the sets with theirs.
 #[derive(Drop)]
@@ -130,6 +130,50 @@ fn add_all(
     Ok(true)
 }
 
+// A search of all of the book, which has found nothing.
+fn new_search<'g>(task: Task<'g>) -> Result<Search<'g>, AllocError>
+    requires { IsTask task.book.now task.ground.now task.axioms.now task.variables.now task.cells.now }
+    ensures asked { IfOk result (λ s. IsAsked task.entry.book.now [] s.solver []) }
+    ensures shown { IfOk result (λ s. IsAssignment task.entry.book.now.universe s.shown) }
+    ensures found { IfOk result (λ s. s.found ≡ []) }
+{
+    let shown = Assignment::first(task.alloc, task.book)?;
+    let solver = task.solver()?;
+    Ok(Search {
+        solver,
+        shown,
+        found: Worlds::new(task.alloc),
+    })
+}
+
+// The sets with assignments that lack the target, by a search.
+fn lacking_by_search(
+    task: Task<'_>,
+    sets: &Worlds,
+    target: Target,
+    log: &mut Log,
+    tally: &mut Tally,
+) -> Result<Option<Worlds>, Stop>
+    requires task { IsTask task.book.now task.ground.now task.axioms.now task.variables.now task.cells.now }
+    requires exact { AreExact task.book.now sets.now }
+    requires target { IsTargetIn task.book.now.universe target }
+    requires holds { target.holds ≡ true }
+    requires new_log { log.old ≡ [] }
+    requires few_learned { tally.old.learned < 2 ^ 120 }
+    requires few_calls { tally.old.calls < 2 ^ 120 }
+    ensures says { IfOk result (LackSays task.entry.book.now sets.now target) }
+    ensures stop { IfErr result (StopSays tally.new) }
+    ensures search { IsWholeSearch task.entry.book.now [] (length sets.now) tally.old tally.new log.new }
+{
+    implied_is_by_maximal_set();
+    well_formed(task.book);
+    let mut search = new_search(task)?;
+    if !add_all(task, sets, target, &mut search, log, tally)? {
+        return Ok(None);
+    }
+    Ok(Some(search.found))
+}
+
 /// The book's maximal sets in their order, each with an assignment that fits and has it, and gives the target's cell another
 /// value; `None` exactly where some set entails the target, which says that its cell has a value. An assignment that a set
 /// has already may do, so that there is a call of a solver for each other set alone. The log is empty before. Whatever is
@@ -168,14 +212,5 @@ pub fn lacking(
         variables: &numbers.variables,
         cells: &numbers.cells,
     };
-    let mut search = Search {
-        solver: task.solver()?,
-        shown: Assignment::first(alloc, book)?,
-        found: Worlds::new(alloc),
-    };
-    if !add_all(task, sets, target, &mut search, log, tally)? {
-        return Ok(None);
-    }
-    let Search { found, .. } = search;
-    Ok(Some(found))
+    lacking_by_search(task, sets, target, log, tally)
 }
