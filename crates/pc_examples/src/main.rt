@@ -40,6 +40,7 @@ rows/counting.rows
 rows/faults.rows
 rows/modes.rows
 rows/pairs.rows
+rows/reading.rows
 rows/repairs.rows
 rows/several.rows
 rows/sheets.rows
