@@ -1,5 +1,5 @@
 // Lines from a source: that calls succeed with ample memory, worked lines, and how often the source is read.
-ghost use Rattle.std.specs.Prelude.{◌≡◌, ◌<◌, ◌≤◌, ◌^◌, ◌-◌, Some};
+ghost use Rattle.std.specs.Prelude.{◌<◌, ◌^◌, ◌-◌};
 
 use pc_lines::{LineReader, Taken};
 use pc_port::{Failed, MemorySource, Source};
@@ -97,20 +97,31 @@ fn lines_in_any_pieces(rt: HostRuntime) -> Result<(), Fail> {
     Ok(())
 }
 
-// The read of one byte that fails, and the outline of two lines.
+// A text, how many bytes of it come at a time, the read that fails, and the outline: a line is taken before the read behind it, and
+// the end by a read of its own.
 const FAILING: &str = "\
-1 => ?
-2 => ?a
-3 => ?ab
-4 => ab|?
-5 => ab|?c
-6 => ab|c|?
-7 => ab|c|$
+ab/c/ 1 1 => ?
+ab/c/ 1 2 => ?a
+ab/c/ 1 3 => ?ab
+ab/c/ 1 4 => ab|?
+ab/c/ 1 5 => ab|?c
+ab/c/ 1 6 => ab|c|?
+ab/c/ 1 7 => ab|c|$
+a/b/c/d 3 1 => ?
+a/b/c/d 3 2 => a|?b
+a/b/c/d 3 3 => a|b|c|?
+a/b/c/d 3 4 => a|b|c|?d
+a/b/c/d 3 5 => a|b|c|d.?
+a/b/c/d 3 6 => a|b|c|d.$
 ";
 
 fn is_failing(alloc: Global, row: &str) -> Result<bool, AllocError> {
-    let (read, want) = row.split_once(" => ").unwrap_or((row, ""));
-    is_outline(alloc, "ab\nc\n", 1, number_in(read) as u64, 9, want)
+    let (given, want) = row.split_once(" => ").unwrap_or((row, ""));
+    let (text, numbers) = given.split_once(' ').unwrap_or((given, ""));
+    let (most, read) = numbers.split_once(' ').unwrap_or((numbers, ""));
+    let text = in_full(alloc, text)?;
+    let read = number_in(read) as u64;
+    is_outline(alloc, text.as_str(), number_in(most), read, 9, want)
 }
 
 #[test]
@@ -118,68 +129,5 @@ fn reads_that_fail(rt: HostRuntime) -> Result<(), Fail> {
     for row in FAILING.lines() {
         assert!(rt; is_failing(rt.alloc(), row)?, "{row}");
     }
-    Ok(())
-}
-
-// A source that counts its reads.
-#[derive(Drop)]
-struct Counted {
-    bytes: MemorySource,
-    reads: u64,
-}
-
-impl Source for Counted {
-    ghost left = { λ s. Some s.bytes.left };
-
-    ghost faults = { λ s. s.bytes.faults };
-
-    fn read(&mut self, into: &mut [u8]) -> Result<usize, Failed> {
-        self.reads = self.reads.saturating_add(1);
-        self.bytes.read(into)
-    }
-}
-
-// What is taken of a source that gives three bytes at a time: the line, and how often the source was read by then.
-const READS: &str = "\
-Ok(Line) a/ 1
-Ok(Line) b/ 2
-Ok(Line) c/ 2
-Ok(Last) d 4
-Ok(End)  5
-";
-
-// What is taken next.
-fn next_taken(
-    alloc: Global,
-    reader: &mut LineReader,
-    source: &mut Counted,
-) -> Result<String, AllocError>
-    requires { 9 ≤ reader.old.longest }
-    ensures { reader.new.longest ≡ reader.old.longest }
-{
-    let taken = reader.next(source, 9);
-    let Ok(line) = str::from_utf8(reader.line()) else {
-        return String::from_str(alloc, "not UTF-8");
-    };
-    let line = line.replace(alloc, '\n', "/")?;
-    format!(in alloc; "{taken:?} {line} {}\n", source.reads)
-}
-
-// What is taken until the end and at it.
-fn all_taken(alloc: Global, text: &[u8]) -> Result<String, AllocError> {
-    let bytes = MemorySource::new(text.to_vec(alloc)?, 3, Vec::new(alloc));
-    let mut source = Counted { bytes, reads: 0 };
-    let mut reader = LineReader::new(alloc, 4096)?;
-    let mut all = String::new(alloc);
-    for _ in 0..5u32 {
-        let taken = next_taken(alloc, &mut reader, &mut source)?;
-        all.push_str(taken.as_str())?;
-    }
-    Ok(all)
-}
-
-#[test]
-fn reads_no_more_than_it_needs(rt: HostRuntime) -> Result<(), Fail> {
-    assert!(rt; all_taken(rt.alloc(), b"a\nb\nc\nd")?.as_str() == READS);
     Ok(())
 }
