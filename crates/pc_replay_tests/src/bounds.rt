@@ -1,186 +1,59 @@
-// The longest lines, the most lines and the deepest formulas that a run takes, and one more of each.
-use crate::devices::status_of;
-use crate::sheets::{EQUAL, ends_so, is_worked, run_with};
-use pc_port::{MemorySink, MemorySource};
-use pc_replay::Status;
-use std::alloc::{AllocError, Global};
+// The longest lines, sheets and files, the most lines, as many of a kind as a sheet may have, and formulas of many parts: and one more of
+// each. What no table of texts can hold.
+use crate::sheets::is_row;
 use std::test::Fail;
 
-// Whether a run over three equal cells and these bytes ends so: behind a line feed stands what is printed.
-fn ends_behind(alloc: Global, bytes: &[u8], want: &str) -> Result<bool, AllocError> {
-    let mut input = EQUAL.as_bytes().to_vec(alloc)?;
-    input.extend_from_slice(bytes)?;
-    let (ended, out) = run_with(alloc, "replay", b"", &input)?;
-    let (status, text) = want.split_once('\n').unwrap_or((want, ""));
-    Ok(format!(in alloc; "{ended:?}")?.as_str() == status && out.bytes() == text.as_bytes())
-}
+// Lines, sheets, files and certificates of the size that they may have, and of a byte more; and the most lines.
+const SIZES: &str = "\
+replay%%sheet 1|begin|show~4092* ~| => Done|
+replay%%sheet 1|begin|show~4093* ~| => TooLong|refused 19 too-long|
+replay%%sheet 1|begin|~4096*y~ => SomeRefused|refused 2 syntax|
+replay%%sheet 1|begin|~4097*y~ => TooLong|refused 19 too-long|
+replay%%sheet 1|~4194289*;~|begin|dump => Done|sheet 1|begin|
+replay%%sheet 1|~4194290*;~|begin|dump => TooLong|refused 19 too-long|
+replay%%sheet 1|begin|~999999*|~dump => Done|sheet 1|begin|
+replay%%sheet 1|begin|~999999*|~dump|dump => TooLong|sheet 1|begin|refused 19 too-long|
+replay%%sheet 1|begin|~1000001*|~ => TooLong|refused 19 too-long|
+edit k.sheet%sheet 1|begin|~4194290*;~%dump => Done|sheet 1|begin|
+edit k.sheet%sheet 1|begin|~4194291*;~%dump => TooLong|refused 19 too-long|
+check k.sheet%~4194304*;~% => SheetRefused|sheet refused 3 no-begin|
+check k.sheet%~4194305*;~% => TooLong|refused 19 too-long|
+check k.sheet%sheet 1|begin|%~67108865* ~ => TooLong|refused 19 too-long|
+";
 
-// How a line of so many bytes ends, which asks for a display and is filled up by spaces.
-fn is_filled_up(alloc: Global, size: usize, want: &str) -> Result<bool, AllocError> {
-    let mut line = b"show".to_vec(alloc)?;
-    line.extend_from_slice(&vec![in alloc; b' '; size.saturating_sub(4)]?)?;
-    line.extend_from_slice(b"\n")?;
-    ends_behind(alloc, &line, want)
-}
-
-// How a rule with so many signs ends.
-fn is_negated(alloc: Global, signs: usize, want: &str) -> Result<bool, AllocError> {
-    let signs = "!".repeat(alloc, signs)?;
-    let line = format!(in alloc; "rule q : {signs}a = b\n")?;
-    ends_behind(alloc, line.as_bytes(), want)
-}
-
-// How a question with so many signs before a formula that never holds ends.
-fn is_asked(alloc: Global, signs: usize, want: &str) -> Result<bool, AllocError> {
-    let signs = "!".repeat(alloc, signs)?;
-    let line = format!(in alloc; "ask {signs}a != b\n")?;
-    ends_behind(alloc, line.as_bytes(), want)
-}
-
-// Whether a run over a sheet of so many rules and these commands ends so.
-fn is_ruled(alloc: Global, rules: usize, block: &str) -> Result<bool, AllocError> {
-    let mut sheet = String::from_str(alloc, "sheet 1\nsort color = red green\ncell a : color\n")?;
-    for number in 0..rules {
-        sheet.push_str(format!(in alloc; "rule r{number} : a = a\n")?.as_str())?;
+#[test]
+fn sizes(rt: HostRuntime) -> Result<(), Fail> {
+    for row in SIZES.lines() {
+        assert!(rt; is_row(rt.alloc(), row)?, "{row}");
     }
-    is_worked(alloc, sheet.as_str(), block)
+    Ok(())
 }
 
-// Rules and questions where as many rules stand as may, and behind dashes how the run ends and what is printed.
-const AMONG_RULES: &str = "\
-begin
-rule r1 : a = red
-rule r1 : a = 1
-ask a = red
-ask a = blue
-drop r1
-ask a = red
-rule ask : a = a
-ask a = red
-drop r2
-ask a = red
-drop ask
-ask a = red
---- SomeRefused
-refused 11 limit rules
-refused 8 wrong-sort
-refused 11 limit rules
-refused 5 unknown-name
-ok
-not implied
-ok
-refused 11 limit rules
-ok
-refused 17 duplicate-rule
-ok
-not implied
+// As many of a kind as there may be, and one more, questions among them; formulas of many parts, items and arguments; many entries in
+// a sheet; and a roster of eight persons in pairs with entries of which some clash, the last one made many times again.
+const COUNTS: &str = "\
+replay%%sheet 1|~256#sort s# = v#|~begin| => Done|
+replay%%sheet 1|~257#sort s# = v#|~begin| => SheetRefused|sheet refused 11 limit line 258 sorts|
+replay%%sheet 1|sort s =~256# v#~|begin| => Done|
+replay%%sheet 1|sort s =~257# v#~|begin| => SheetRefused|sheet refused 11 limit line 2 values|
+replay%%sheet 1|sort s = a|~256#table t#(s)|~begin| => Done|
+replay%%sheet 1|sort s = a|~257#table t#(s)|~begin| => SheetRefused|sheet refused 11 limit line 259 tables|
+replay%%sheet 1|sort s = a|~256#cell c# : s|~begin| => Done|
+replay%%sheet 1|sort s = a|~257#cell c# : s|~begin| => SheetRefused|sheet refused 11 limit line 259 families|
+replay%%sheet 1|~1024#rule r# : 1 = 1|~begin| => Done|
+replay%%sheet 1|~1025#rule r# : 1 = 1|~begin| => SheetRefused|sheet refused 11 limit line 1026 rules|
+replay%%sheet 1|sort color = red green|cell a : color|~1024#rule r# : a = a|~begin|rule r1 : a = red|rule r1 : a = 1|ask a = red|ask a = blue|drop r1|ask a = red|rule ask : a = a|ask a = red|drop r2|ask a = red|drop ask|ask a = red| => SomeRefused|refused 11 limit rules|refused 8 wrong-sort|refused 11 limit rules|refused 5 unknown-name|ok|not implied|ok|refused 11 limit rules|ok|refused 17 duplicate-rule|ok|not implied|
+replay%%sheet 1|sort s = u v|cell a : s|cell b : s|rule r : a=b~19999*&a=b~|begin|show => Done|a : -|b : -|
+replay%%sheet 1|sort n = 0 .. 1|cell x : n|rule r : x != 0~99999*-1~|begin|show => Done|x : -|
+replay%%sheet 1|sort s = u v|table t(s)|rule r : t(u~99999*,u~)|begin| => SheetRefused|sheet refused 7 wrong-arity line 4|
+replay%%sheet 1|sort s = u v|cell c : s|~10000*enter c = v|~begin|dump => Done|sheet 1|sort s = u v|cell c : s|enter c = v|begin|
+replay%%sheet 1|sort person = ann bob cho dan eva fay gus hal|sort day = 1 .. 5|sort place = north south|table pair(person, person)|row pair(ann, bob)|row pair(cho, dan)|row pair(eva, fay)|row pair(gus, hal)|cell shift(person) : day|cell room(person) : place|cell lead : person|rule together : forall x:person . forall y:person . pair(x, y) -> shift(x) = shift(y)|rule apart : forall x:person . forall y:person . pair(x, y) -> room(x) != room(y)|rule leads : shift(lead) = 1 & room(lead) = north|rule weekend : forall x:person . shift(x) = 5 -> room(x) = north|begin|enter shift(ann) = 1|enter room(ann) = north|enter shift(bob) = 2|enter shift(cho) = 3|enter room(dan) = north|enter shift(eva) = 4|enter room(eva) = south|enter room(fay) = south|enter shift(gus) = 2|enter shift(hal) = 2|enter room(gus) = north|enter lead = ann|~200000*enter lead = ann|~ => Done|~200012*ok|~
 ";
 
-const TOO_LONG: &str = "TooLong\nrefused 19 too-long\n";
-
 #[test]
-fn longest_lines(rt: HostRuntime) -> Result<(), Fail> {
-    let alloc = rt.alloc();
-    assert!(rt; is_filled_up(alloc, 4096, "Done\na : -\nb : -\nc : -\n")?);
-    assert!(rt; is_filled_up(alloc, 4097, TOO_LONG)?);
-    Ok(())
-}
-
-#[test]
-fn deepest_formulas(rt: HostRuntime) -> Result<(), Fail> {
-    let alloc = rt.alloc();
-    assert!(rt; is_negated(alloc, 128, "Done\nok\n")?);
-    assert!(rt; is_negated(alloc, 129, "SomeRefused\nrefused 21 too-deep\n")?);
-    assert!(rt; is_asked(alloc, 126, "Done\nnot implied\n")?);
-    assert!(rt; is_asked(alloc, 127, "SomeRefused\nrefused 21 too-deep\n")?);
-    Ok(())
-}
-
-#[test]
-fn most_rules_and_a_question(rt: HostRuntime) -> Result<(), Fail> {
-    assert!(rt; is_ruled(rt.alloc(), 1024, AMONG_RULES)?);
-    Ok(())
-}
-
-// How a run over so many blank lines ends.
-fn are_blank(alloc: Global, lines: usize, want: &str) -> Result<bool, AllocError> {
-    ends_behind(alloc, &vec![in alloc; b'\n'; lines]?, want)
-}
-
-#[test]
-fn most_lines(rt: HostRuntime) -> Result<(), Fail> {
-    let alloc = rt.alloc();
-    assert!(rt; are_blank(alloc, 1_000_000, "Done\n")?);
-    assert!(rt; are_blank(alloc, 1_000_001, TOO_LONG)?);
-    Ok(())
-}
-
-// A certificate of one byte more than is read of it.
-#[test]
-fn longest_certificate(rt: HostRuntime) -> Result<(), Fail> {
-    let spaces = vec![in rt.alloc(); b' '; 67_108_865]?;
-    assert!(rt;
-        ends_so(
-            rt.alloc(),
-            "check k.sheet",
-            EQUAL.as_bytes(),
-            &spaces,
-            TOO_LONG
-        )?
-    );
-    Ok(())
-}
-
-// A roster of eight persons in pairs: what is declared, but for one rule; that rule; and entries, of which some clash.
-const DECLARED: &str = "\
-sheet 1
-sort person = ann bob cho dan eva fay gus hal
-sort day = 1 .. 5
-sort place = north south
-table pair(person, person)
-row pair(ann, bob)
-row pair(cho, dan)
-row pair(eva, fay)
-row pair(gus, hal)
-cell shift(person) : day
-cell room(person) : place
-cell lead : person
-rule together : forall x:person . forall y:person . pair(x, y) -> shift(x) = shift(y)
-rule apart : forall x:person . forall y:person . pair(x, y) -> room(x) != room(y)
-rule leads : shift(lead) = 1 & room(lead) = north
-";
-
-const WEEKEND: &str = "rule weekend : forall x:person . shift(x) = 5 -> room(x) = north\n";
-
-const ENTRIES: &str = "\
-enter shift(ann) = 1
-enter room(ann) = north
-enter shift(bob) = 2
-enter shift(cho) = 3
-enter room(dan) = north
-enter shift(eva) = 4
-enter room(eva) = south
-enter room(fay) = south
-enter shift(gus) = 2
-enter shift(hal) = 2
-enter room(gus) = north
-enter lead = ann
-";
-
-// Whether the last entry can be made so many times again.
-fn is_entered_again(alloc: Global, times: usize) -> Result<bool, AllocError> {
-    let again = "enter lead = ann\n".repeat(alloc, times)?;
-    let input = format!(in alloc; "{DECLARED}{WEEKEND}begin\n{ENTRIES}{again}")?;
-    let want = "ok\n".repeat(alloc, times.saturating_add(12))?;
-    let bytes = input.as_bytes().to_vec(alloc)?;
-    let mut source = MemorySource::new(bytes, 4096, Vec::new(alloc));
-    let mut out = MemorySink::new(alloc, want.len(), Vec::new(alloc))?;
-    let ended = status_of(alloc, "replay", &mut source, &mut out)?;
-    Ok(ended == Status::Done && out.bytes() == want.as_bytes())
-}
-
-#[test]
-fn an_entry_many_times(rt: HostRuntime) -> Result<(), Fail> {
-    assert!(rt; is_entered_again(rt.alloc(), 200_000)?);
+fn counts(rt: HostRuntime) -> Result<(), Fail> {
+    for row in COUNTS.lines() {
+        assert!(rt; is_row(rt.alloc(), row)?, "{row}");
+    }
     Ok(())
 }

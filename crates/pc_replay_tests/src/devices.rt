@@ -56,14 +56,14 @@ fn whole_input(alloc: Global) -> Result<Vec<u8>, AllocError> {
 }
 
 // How a run of these words ends, over a shelf with the sheet.
-pub(crate) fn status_of<I: Source, O: Sink>(
+fn status_of<I: Source, O: Sink>(
     alloc: Global,
     words: &str,
     input: &mut I,
     out: &mut O,
 ) -> Result<Status, AllocError> {
     let words = parted(alloc, words)?;
-    let mut shelf = shelf_of(alloc, EQUAL.as_bytes())?;
+    let mut shelf = shelf_of(alloc, EQUAL.as_bytes(), Vec::new(alloc))?;
     let mut spent = Spendings::new(alloc);
     Ok(run(alloc, &words, input, &mut shelf, out, &mut spent))
 }
@@ -115,24 +115,6 @@ fn reads_that_fail(rt: HostRuntime) -> Result<(), Fail> {
     for read in 1..16usize {
         assert!(rt; is_stopped_by_read(rt.alloc(), read)?, "{read}");
     }
-    Ok(())
-}
-
-// Whether the answers to lines that came together stand, where the read behind them fails.
-fn is_cut_behind_answers(alloc: Global) -> Result<bool, AllocError> {
-    let mut bytes = EQUAL.as_bytes().to_vec(alloc)?;
-    bytes.extend_from_slice(b"enter a = red\nshow\nclear a\n")?;
-    let mut input = MemorySource::new(bytes, 4096, vec![in alloc; 2]?);
-    let mut out = MemorySink::new(alloc, 4096, Vec::new(alloc))?;
-    let ended = status_of(alloc, "replay", &mut input, &mut out)?;
-    let told =
-        "ok\na : red\n  = red because a = red\nb : -\n  = red because a = red\nc : -\n  = red because a = red\nok\n";
-    Ok(ended == Status::ReadFault && out.bytes() == told.as_bytes())
-}
-
-#[test]
-fn a_read_that_fails_behind_answers(rt: HostRuntime) -> Result<(), Fail> {
-    assert!(rt; is_cut_behind_answers(rt.alloc())?);
     Ok(())
 }
 

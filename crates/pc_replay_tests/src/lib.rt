@@ -1,17 +1,15 @@
-//! Runs that no text can say, with ample memory: over devices that fail or watch, with bytes that are no text, cut anywhere, and at
-//! the limits.
+//! Runs that no table of texts can say, with ample memory: over devices that fail or watch, with bytes that are no text, cut
+//! anywhere, at the limits, and over a machine for which memory is wanting.
 #![tactic(auto)]
 
 #[cfg(test)]
 mod bounds;
 #[cfg(test)]
-mod certificates;
-#[cfg(test)]
 mod devices;
 #[cfg(test)]
-mod journals;
+mod faults;
 #[cfg(test)]
-mod judging;
+mod journals;
 #[cfg(test)]
 mod runs;
 #[cfg(test)]
