@@ -1,2 +1,0 @@
-mod NewName
-mod WithRule

@@ -1,5 +1,0 @@
-use Rattle.pc_cache.specs.Rows.{HaveTargets}
-use Rattle.pc_cache_tests.proofs.tests.removals.Given as goal
-
-abbrev pub invariant-loop-target : goal.invariant-loop-target
-invariant-loop-target l = HaveTargets l.cache.rows l.patch

@@ -1,4 +1,0 @@
-pub mod Whole
-pub mod Searching
-pub mod Solving
-pub mod Codes

@@ -1,2 +1,0 @@
-mod PlacedLemmas
-mod TestLemmas
