@@ -1,6 +1,7 @@
 -- What is found over an asked sheet is its answer.
 use Rattle.std.proofs.Common.{◌≡◌, ◌↔◌, ℕ, ◌-◌, ◌≤◌, ◌+◌, ◌*◌, ◌<◌, ◌^◌, List, [], filter, length, Option, None, Some, All, Contains, arith, ap, sym, ◌∙◌, subst}
 use Rattle.std.specs.List.{AllZip}
+use Rattle.std.proofs.Math.Nat.{mul-le-mul_right}
 use Rattle.std.proofs.lemmas.List.Elements.{All-contains, All-filter}
 use Rattle.pc_laws.specs.Laws.{DifferentSublistsAreOrdered}
 use Rattle.pc_lemmas.proofs.Elements.{all_from, kept_is}
@@ -35,7 +36,7 @@ use Rattle.pc_ask.specs.Asking.{AreReadSizes, IsAskedPart, IsDeniedAt, Reads}
 use Rattle.pc_ask.specs.declared.finding.Found.{Found}
 use Rattle.pc_ask.specs.declared.narrowing.Choosing.{Choosing}
 use Rattle.pc_ask.specs.inside.Answered.{IsSearchOf, SearchSays}
-use Rattle.pc_ask.specs.inside.Choices.{IsChoosing}
+use Rattle.pc_ask.specs.inside.Choices.{all_of, IsChoosing, tried_of}
 use Rattle.pc_ask.specs.inside.Finding.{FindSays}
 use Rattle.pc_ask.specs.inside.Narrowing.{LacksWitness, IsNarrowed}
 use Rattle.pc_ask.specs.inside.Parts.{IsAskable, IsAsked, IsTask}
@@ -53,7 +54,7 @@ read_sized sheet formed fitting fit reads qs zip sets are =
 
 -- ---- what is asked about
 
-module _ (sheet book : Sheet) (formed : IsWellFormed book) (entries : List Entry) (all : List (List ValueId)) (k : AreCandidates sheet book entries all) where
+module _ (sheet book : Sheet) (formed : IsWellFormed book) (entries : List Entry) (fitting : List ValueId) (chosen : List PartSets) (k : AreCandidates sheet book entries fitting chosen) where
   entry_there : (e : Entry) → Contains entries e → Contains book.entries e
   entry_there e c = (kept_is (is_on_some (filter (is_read k.reads) k.qs)) book.entries e (subst (λ es. Contains es e) k.entries_are c)).0
 
@@ -68,10 +69,11 @@ module _ (sheet book : Sheet) (formed : IsWellFormed book) (entries : List Entry
       }
 
   pub choosing_is : IsWellFormed sheet → (f : Statement) → book ≡ asked sheet f → (c : Choosing) → c.task.book.now ≡ book → c.task.ground.now ≡ grounded book → length (clauses book) < 2 ^ 32
-      → c.entries.now ≡ entries → length book.entries ≤ most_entries * most_cells → IsChoosing c
-  choosing_is own f is c book_at ground_at few_axioms entries_at few =
-      let task : IsTask book c.task.ground.now = record { formed = formed; ground_is = ground_at; few = few_axioms; sheet = sheet; f = f; is = is; fitting = k.fitting; fit = k.fit } in
+      → c.entries.now ≡ entries → c.fitting.now ≡ fitting → c.parts.now ≡ chosen → length book.entries ≤ most_entries * most_cells → IsChoosing c
+  choosing_is own f is c book_at ground_at few_axioms entries_at fitting_at parts_at few =
+      let task : IsTask book c.task.ground.now = record { formed = formed; ground_is = ground_at; few = few_axioms; sheet = sheet; f = f; is = is; fitting = fitting; fit = k.fit } in
       record {
+        sized = subst (λ v. All (IsSized (length v)) c.parts.now) (sym fitting_at) (read_sized sheet own fitting k.fit k.reads k.qs k.zip c.parts.now (parts_at ∙ k.parts_are));
         task = subst (λ (s : Sheet). IsTask s c.task.ground.now) (sym book_at) task;
         askable = subst (λ (s : Sheet). All (IsAskable s) c.entries.now) (sym book_at)
             (all_from (IsAskable book) c.entries.now (λ e at. entry_askable own f is e (subst (λ es. Contains es e) entries_at at)));
@@ -83,15 +85,12 @@ module _ (sheet book : Sheet) (formed : IsWellFormed book) (entries : List Entry
 
 -- ---- what is found
 
-module _ (sheet : Sheet) (formed : IsWellFormed sheet) (f : Statement) (book : Sheet) (book_is : book ≡ asked sheet f) (book_formed : IsWellFormed book) (entries : List Entry) (every : List (List ValueId)) (k : AreCandidates sheet book entries every) where
-  abbrev fitting : List ValueId
-  fitting = k.fitting
-
+module _ (sheet : Sheet) (formed : IsWellFormed sheet) (f : Statement) (book : Sheet) (book_is : book ≡ asked sheet f) (book_formed : IsWellFormed book) (entries : List Entry) (fitting : List ValueId) (chosen : List PartSets) (k : AreCandidates sheet book entries fitting chosen) where
   abbrev sets : List PartSets
   sets = filter (is_read k.reads) k.qs
 
   abbrev all : List (List ValueId)
-  all = joined_by k.fitting sets
+  all = joined_by fitting sets
 
   abbrev on : List Entry
   on = filter (is_on_some sets) sheet.entries
@@ -102,18 +101,18 @@ module _ (sheet : Sheet) (formed : IsWellFormed sheet) (f : Statement) (book : S
   entries_same : book.entries ≡ sheet.entries
   entries_same = ap (λ (s : Sheet). s.entries) book_is
 
-  module _ (c : Choosing) (book_at : c.task.book.now ≡ book) (entries_at : c.entries.now ≡ entries) (all_at : c.all.now ≡ every) where
+  module _ (c : Choosing) (book_at : c.task.book.now ≡ book) (entries_at : c.entries.now ≡ entries) (all_at : all_of c ≡ joined_by fitting chosen) where
     on_are : c.entries.now ≡ on
     on_are = entries_at ∙ (k.entries_are ∙ ap (filter (is_on_some sets)) entries_same)
 
-    all_are : c.all.now ≡ all
-    all_are = all_at ∙ k.all_are
+    all_are : all_of c ≡ all
+    all_are = all_at ∙ ap (joined_by fitting) k.parts_are
 
-    none_found : LacksWitness c.task.book.now c.entries.now c.all.now (length c.entries.now) [] → LacksWitness book on all (length on) []
-    none_found h = subst (λ es. LacksWitness book es all (length es) []) on_are (subst (λ l. LacksWitness book c.entries.now l (length c.entries.now) []) all_are (subst (λ s. LacksWitness s c.entries.now c.all.now (length c.entries.now) []) book_at h))
+    none_found : LacksWitness c.task.book.now c.entries.now (all_of c) (length c.entries.now) [] → LacksWitness book on all (length on) []
+    none_found h = subst (λ es. LacksWitness book es all (length es) []) on_are (subst (λ l. LacksWitness book c.entries.now l (length c.entries.now) []) all_are (subst (λ s. LacksWitness s c.entries.now (all_of c) (length c.entries.now) []) book_at h))
 
-    narrowed_found : (set : List Entry) → IsNarrowed c.task.book.now c.entries.now c.all.now 0 set → IsNarrowed book on all 0 set
-    narrowed_found set h = subst (λ es. IsNarrowed book es all 0 set) on_are (subst (λ l. IsNarrowed book c.entries.now l 0 set) all_are (subst (λ s. IsNarrowed s c.entries.now c.all.now 0 set) book_at h))
+    narrowed_found : (set : List Entry) → IsNarrowed c.task.book.now c.entries.now (all_of c) 0 set → IsNarrowed book on all 0 set
+    narrowed_found set h = subst (λ es. IsNarrowed book es all 0 set) on_are (subst (λ l. IsNarrowed book c.entries.now l 0 set) all_are (subst (λ s. IsNarrowed s c.entries.now (all_of c) 0 set) book_at h))
 
     pub found_says : DifferentSublistsAreOrdered → (log : List LogLine) (o : Option Found) → FindSays c log o → SearchSays sheet f log o
     found_says ordered log None h =
@@ -131,14 +130,17 @@ module _ (sheet : Sheet) (formed : IsWellFormed sheet) (f : Statement) (book : S
         }
 
     -- so many calls are few enough
-    calls_within : (n many : ℕ) → AreReadSizes sheet f n many → length c.all.now * (length c.entries.now + 1) + 1 ≤ many * (n + 2) + 1
+    calls_within : (n many : ℕ) → AreReadSizes sheet f n many → tried_of c * (length c.entries.now + 1) + 1 ≤ many * (n + 2) + 1
     calls_within n many h =
         let es : length c.entries.now ≡ n = ap length on_are ∙ sym (many_entries sheet formed fitting k.fit f k.reads reads_are k.qs k.zip n many h) in
-        let ms : length c.all.now ≡ many = ap length all_are ∙ sym (many_choices sheet formed fitting k.fit f k.reads reads_are k.qs k.zip n many h) in
-        subst (λ m. m * (length c.entries.now + 1) + 1 ≤ many * (n + 2) + 1) (sym ms) (subst (λ m. many * (m + 1) + 1 ≤ many * (n + 2) + 1) (sym es) (by many n))
+        let ms : length (all_of c) ≡ many = ap length all_are ∙ sym (many_choices sheet formed fitting k.fit f k.reads reads_are k.qs k.zip n many h) in
+        by (tried_of c) many (length c.entries.now) n (subst (λ m. tried_of c ≤ m) ms (omega arith)) es
       where
-        by : (m n : ℕ) → m * (n + 1) + 1 ≤ m * (n + 2) + 1
-        by m n = omega arith
+        by : (tried m e n : ℕ) → tried ≤ m → e ≡ n → tried * (e + 1) + 1 ≤ m * (n + 2) + 1
+        by tried m e n few is =
+            let first : tried * (e + 1) ≤ m * (e + 1) = mul-le-mul_right (e + 1) few in
+            let same : m * (e + 1) ≡ m * (n + 1) = ap (λ x. m * (x + 1)) is in
+            omega (arith, first, same)
 
 -- ---- what is spent
 
@@ -151,13 +153,13 @@ nothing_asked sheet book t log none = record {
 }
 
 -- by what is asked of the candidates
-pub all_asked : PartsAreSearched → (sheet : Sheet) → IsWellFormed sheet → (book : Sheet) → IsWellFormed book → (entries : List Entry) (every : List (List ValueId)) → AreCandidates sheet book entries every
-    → (c : Choosing) → IsTask c.task.book.now c.task.ground.now → c.task.book.now ≡ book → c.entries.now ≡ entries → c.all.now ≡ every
+pub all_asked : PartsAreSearched → (sheet : Sheet) → IsWellFormed sheet → (book : Sheet) → IsWellFormed book → (entries : List Entry) (fitting : List ValueId) (chosen : List PartSets) → AreCandidates sheet book entries fitting chosen
+    → (c : Choosing) → IsTask c.task.book.now c.task.ground.now → c.task.book.now ≡ book → c.entries.now ≡ entries → all_of c ≡ joined_by fitting chosen
     → (before after : Tally) (s : SolverView) (log grown : List LogLine) → log ≡ [] → IsAsked c.task.book.now c.task.variables.now s grown
-    → SpendsIn (length c.task.variables.now) (length c.all.now * (length c.entries.now + 1) + 1) before after log grown → IsSearchOf sheet book before after grown
-all_asked parts sheet formed book book_formed entries every k c task book_at entries_at all_at before after s log grown none is_asked spends =
+    → SpendsIn (length c.task.variables.now) (tried_of c * (length c.entries.now + 1) + 1) before after log grown → IsSearchOf sheet book before after grown
+all_asked parts sheet formed book book_formed entries fitting chosen k c task book_at entries_at all_at before after s log grown none is_asked spends =
     let own : List Var = c.task.variables.now in
-    let calls : ℕ = length c.all.now * (length c.entries.now + 1) + 1 in
+    let calls : ℕ = tried_of c * (length c.entries.now + 1) + 1 in
     let task_here : IsTask book c.task.ground.now = subst (λ (b : Sheet). IsTask b c.task.ground.now) book_at task in
     let asked_here : IsAsked book own s grown = subst (λ (b : Sheet). IsAsked b own s grown) book_at is_asked in
     let spends_here : SpendsIn (length own) calls before after [] grown = subst (λ l. SpendsIn (length own) calls before after l grown) none spends in
@@ -166,5 +168,5 @@ all_asked parts sheet formed book book_formed entries every k c task book_at ent
       part = (calls, searched_part parts book c.task.ground.now task_here own s grown asked_here calls before after spends_here);
       within = λ f n many is sizes.
           searched_whole parts book c.task.ground.now task_here own s grown asked_here (many * (n + 2) + 1) before after
-          (within_more own calls (many * (n + 2) + 1) before after [] grown (calls_within sheet formed f book is book_formed entries every k c book_at entries_at all_at n many sizes) spends_here);
+          (within_more own calls (many * (n + 2) + 1) before after [] grown (calls_within sheet formed f book is book_formed entries fitting chosen k c book_at entries_at all_at n many sizes) spends_here);
     }

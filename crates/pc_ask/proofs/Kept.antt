@@ -2,15 +2,13 @@
 use Rattle.std.proofs.Common.{List, All, Contains}
 use Rattle.std.proofs.lemmas.List.Elements.{All-contains}
 use Rattle.pc_lemmas.proofs.Elements.{all_from, kept, kept_is}
-use Rattle.pc_laws.proofs.Contained.{all_contained}
 use Rattle.pc_accept.specs.Sets.{is_in, those_in}
 use Rattle.pc_sheet.specs.Sheet.{Sheet}
-use Rattle.pc_sheet.specs.Entailment.{HasEntry, IsConsistent}
+use Rattle.pc_sheet.specs.Entailment.{IsConsistent}
 use Rattle.pc_sheet.specs.MaximalSets.{IsContained}
 use Rattle.pc_sheet.specs.declared.ids.ValueId.{ValueId}
 use Rattle.pc_sheet.specs.declared.ids.Entry.{Entry}
 use Rattle.pc_ask.specs.inside.Narrowing.{left_of, IsNarrowed}
-use Rattle.pc_ask.specs.inside.Shown.{HasShown}
 use Rattle.pc_ask.proofs.Witnesses.{among}
 use Rattle.pc_ask.proofs.Narrowed.{fewer_stand}
 use Rattle.pc_ask.proofs.Least.{in_is, is_in_of}
@@ -18,10 +16,6 @@ use Rattle.pc_ask.proofs.Least.{in_is, is_in_of}
 module _ (sheet : Sheet) (entries : List Entry) (all : List (List ValueId)) (set : List Entry) (h : IsNarrowed sheet entries all 0 set) where
   chosen : IsContained (those_in sheet.entries set) set
   chosen e c = in_is set e (kept_is (is_in set) sheet.entries e c).1
-
-  -- some assignment has it
-  pub support_shown : HasShown all (those_in sheet.entries set)
-  support_shown = (h.witness.0, h.witness.1, all_contained (HasEntry h.witness.0) (those_in sheet.entries set) set chosen h.witness.2.0)
 
   pub support_all : (P : Entry → Type 0) → All P entries → All P (those_in sheet.entries set)
   support_all P each = all_from P (those_in sheet.entries set)

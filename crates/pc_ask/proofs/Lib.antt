@@ -4,12 +4,12 @@ pub mod Kept
 pub mod Least
 pub mod Lists
 pub mod Narrowed
+pub mod Numbered
 pub mod Over
 pub mod Overlaid
 pub mod Places
 pub mod Proved
 pub mod Reading
-pub mod Room
 pub mod Searched
 pub mod Spent
 pub mod Tied

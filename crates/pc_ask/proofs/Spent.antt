@@ -1,6 +1,8 @@
 -- That little is spent enough for the next call.
-use Rattle.std.proofs.Common.{ℕ, ◌+◌, ◌-◌, ◌*◌, ◌<◌, ◌≤◌, ◌^◌, List, ap, refl, arith}
+use Rattle.std.proofs.Common.{ℕ, ◌+◌, ◌-◌, ◌*◌, ◌<◌, ◌≤◌, ◌^◌, List, length, ap, refl, arith}
 use Rattle.std.proofs.Math.Nat.{mul-le-mul_left}
+use Rattle.std.specs.Prelude.{min}
+use Rattle.pc_ask.specs.inside.Ways.{most_tried}
 use Rattle.pc_lits.specs.declared.tally.Tally.{Tally}
 use Rattle.pc_log.specs.Lines.{LogLine}
 use Rattle.pc_solver.specs.Spending.{SpendsIn}
@@ -11,6 +13,10 @@ still_low own most low high a b log grown s limit few room learned calls = (
   omega (arith, s.learned, s.spare, s.few, ap (λ (n : ℕ). n) s.limit, b.within_limit, limit, few, room, learned),
   omega (arith, s.calls, s.few, few, room, calls),
 )
+
+-- no more than 2^64 ways are gone over
+pub tried_few : {X : Type 0} (all : List X) → min (length all) most_tried < 2 ^ 64
+tried_few all = omega arith
 
 -- so many calls for each of few entries
 few_together : (sets places : ℕ) → sets < 2 ^ 64 → places < 2 ^ 48 → sets * places < 2 ^ 114

@@ -1,7 +1,6 @@
 -- Witnesses, one assignment after the other.
-use Rattle.std.proofs.Common.{◌≡◌, ℕ, ◌+◌, ◌<◌, ◌≤◌, inl, inr, List, length, take, drop, Bool, Option, None, Some, is_some, get_or, slice_get, All, Contains, arith, ap, sym, ◌∙◌, subst}
+use Rattle.std.proofs.Common.{◌≡◌, ℕ, ◌+◌, ◌<◌, ◌≤◌, inl, inr, List, length, take, drop, Bool, Option, None, Some, is_some, slice_get, All, Contains, arith, ap, sym, ◌∙◌, subst}
 use Rattle.std.proofs.lemmas.Bool.{cases_lt}
-use Rattle.std.proofs.lemmas.Option.{slice_get-get_or}
 use Rattle.std.proofs.lemmas.List.Elements.{All-contains, Contains-append_cases}
 use Rattle.pc_lemmas.proofs.Elements.{all_from, kept_is}
 use Rattle.pc_lemmas.proofs.Options.{same_some}
@@ -16,10 +15,6 @@ use Rattle.pc_ask.specs.inside.Narrowing.{left_of, RefuteSays, IsWitness, HasWit
 use Rattle.pc_ask.specs.declared.narrowing.Choosing.{Choosing}
 use Rattle.pc_ask.specs.inside.Choices.{OneSays}
 use Rattle.pc_ask.proofs.Places.{low_at, there_at, place_of, take_there, drop_there}
-
--- what is read at a place
-pub at_index : {X : Type 0} (xs : List X) (i : ℕ) (x : X) → i < length xs → x ≡ get_or xs i x → slice_get xs i ≡ Some x
-at_index xs i x low is = slice_get-get_or xs i x low ∙ ap Some (sym is)
 
 -- what holds of all entries does of those that are left
 pub left_all : (P : Entry → Type 0) (entries set : List Entry) (k : ℕ) (a : List ValueId) → All P entries → All (Contains entries) set → All P (left_of entries k set a)

@@ -1,5 +1,5 @@
 -- What is answered where a statement is asked.
-use Rattle.std.specs.Prelude.{◌≡◌, ⊤, ℕ, ◌+◌, ◌-◌, ◌*◌, ◌<◌, ◌≤◌, List, [], Option, Some, None, All, AllPairs, length, map, slice_get, Contains}
+use Rattle.std.specs.Prelude.{◌≡◌, ℕ, ◌-◌, ◌<◌, ◌≤◌, List, [], Option, Some, None, All, AllPairs, length, map, slice_get, Contains}
 use Rattle.std.specs.List.{AllZip}
 use Rattle.pc_lits.specs.declared.literal.Var.{Var}
 use Rattle.pc_lits.specs.declared.tally.Tally.{Tally}
@@ -28,7 +28,7 @@ use Rattle.pc_choices.specs.Chosen.{chosen_parts}
 use Rattle.pc_asked_laws.specs.Asked.{IsStatementImplied, IsLeastForStatement, asked}
 use Rattle.pc_ask.specs.declared.answer.Answer.{Answer}
 use Rattle.pc_ask.specs.declared.answer.AskStop.{AskStop}
-use Rattle.pc_ask.specs.declared.answer.AskStop.TheVariants.{TooLarge, TooMany, Spent, Memory}
+use Rattle.pc_ask.specs.declared.answer.AskStop.TheVariants.{TooLarge, Spent, Memory}
 
 -- ---- what a statement reads
 
@@ -54,23 +54,6 @@ pub record AreReadSizes (sheet : Sheet) (f : Statement) (entries sets : ℕ) : T
   pub on : List Entry
   pub on_read : IsFiltered (IsOnRead sheet f) sheet.entries on
   pub entries_are : entries ≡ length on
-
--- ---- room for the assignments that are asked about
-
--- the most values that they may take together
-abbrev pub most_values : ℕ
-most_values = 134217728
-
--- what one takes beside its values, counted in values
-abbrev pub values_beside : ℕ
-values_beside = 32
-
--- so many assignments to so many cells take more than that
-abbrev pub AreTooMany : ℕ → ℕ → Type 0
-AreTooMany ways cells = most_values < ways * (cells + values_beside)
-
-abbrev pub AreFew : ℕ → ℕ → Type 0
-AreFew ways cells = ways * (cells + values_beside) ≤ most_values
 
 -- ---- the part that is searched
 
@@ -121,13 +104,5 @@ AskSays sheet f log (Some answer) = IsAnswer sheet f log answer
 -- why there is none, of an asked sheet
 abbrev pub AskStops : Sheet → Tally → AskStop → Type 0
 AskStops sheet tally TooLarge = most_weight < weight sheet
-AskStops sheet tally TooMany = weight sheet ≤ most_weight
 AskStops sheet tally Spent = (weight sheet ≤ most_weight) × (tally.placed ≡ tally.limit)
 AskStops sheet tally Memory = weight sheet ≤ most_weight
-
--- that there are too many ways to choose is told of too many alone, and that the limit is reached where they are few
-abbrev pub RoomStops : ℕ → ℕ → AskStop → Type 0
-RoomStops ways cells TooLarge = ⊤
-RoomStops ways cells TooMany = AreTooMany ways cells
-RoomStops ways cells Spent = AreFew ways cells
-RoomStops ways cells Memory = ⊤

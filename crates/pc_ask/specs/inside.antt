@@ -4,5 +4,5 @@ pub mod Finding
 pub mod Narrowing
 pub mod Parts
 pub mod Reading
-pub mod Shown
 pub mod Stops
+pub mod Ways

@@ -27,55 +27,10 @@ pub struct Answer {
 pub enum AskStop {
     /// The asked book's axioms have more than 4,000,000 literals.
     TooLarge,
-    /// The assignments for all ways to choose one maximal set of each part that the formula reads would take more room than is
-    /// given to them.
-    TooMany,
     /// The limit on placed literals is reached.
     Spent,
     /// Memory was wanting.
     Memory,
-}
-
-/// Why it isn't known what is asked about.
-#[derive(Clone, Copy)]
-pub(crate) enum NoCandidates {
-    /// There are too many ways to choose one maximal set of each part that the formula reads.
-    TooMany,
-    /// Memory was wanting.
-    Memory,
-}
-
-impl From<AllocError> for NoCandidates {
-    ghost use Rattle.pc_ask.specs.declared.answer.NoCandidates.TheVariants.{Memory};
-
-    ghost from_gives = { λ _ lack. lack ≡ Memory };
-
-    fn from(_: AllocError) -> Self {
-        NoCandidates::Memory
-    }
-}
-
-impl<T: Drop> From<AllocFailed<T>> for NoCandidates {
-    ghost use Rattle.pc_ask.specs.declared.answer.NoCandidates.TheVariants.{Memory};
-
-    ghost from_gives = { λ _ lack. lack ≡ Memory };
-
-    fn from(_: AllocFailed<T>) -> Self {
-        NoCandidates::Memory
-    }
-}
-
-impl From<NoCandidates> for AskStop {
-    ghost use Rattle.pc_ask.specs.inside.Stops.{lack_of};
-
-    ghost from_gives = { λ lack stop. stop ≡ lack_of lack };
-
-    fn from(lack: NoCandidates) -> Self {
-        match lack {
-            NoCandidates::TooMany => AskStop::TooMany,
-            NoCandidates::Memory => AskStop::Memory,
-        }
-    }
 }
 
 impl From<AllocError> for AskStop {

@@ -5,10 +5,9 @@ ghost use Rattle.pc_sheet.specs.Limits.{most_weight};
 ghost use Rattle.pc_sheet.specs.Weight.{weight};
 ghost use Rattle.pc_asked_laws.specs.Asked.{asked};
 ghost use Rattle.pc_ground.specs.Grounded.{grounded};
-ghost use Rattle.pc_parts.specs.Parts.{cell_count};
 ghost use Rattle.pc_repairs.specs.Searches.{IsWholeSearch};
 ghost use Rattle.pc_solver.specs.Spending.{StopSays};
-ghost use Rattle.pc_ask.specs.Asking.{AreFew, AreReadSizes, AskSays, AskStops, IsPartSearch, RoomStops};
+ghost use Rattle.pc_ask.specs.Asking.{AreReadSizes, AskSays, AskStops, IsPartSearch};
 ghost use Rattle.pc_ask.specs.inside.Answered.{IsSearchOf, SearchSays};
 ghost use Rattle.pc_ask.specs.inside.Reading.{AreCandidates};
 
@@ -29,19 +28,19 @@ use pc_solver::Stop;
 use std::alloc::Global;
 
 // Searches the asked book by its ground for what is asked about: the part alone that has what is asked.
-fn search_book<'a, C: Choices>(
+fn search_book<'a, 'b, C: Choices>(
     alloc: Global,
     view: &C,
     book: &'a Book,
     ground: &'a Ground,
-    chosen: &'a Candidates,
+    chosen: &'a Candidates<'b>,
     log: &mut Log,
     tally: &mut Tally,
 ) -> Result<Option<Found>, Stop>
     requires ground { ground.now ≡ grounded book.now }
     requires literals { All (All (λ l. l.variable.0 < ground.now.variables)) ground.now.clauses }
     requires asked { (f : Statement) × (book.now ≡ asked (C.sheet view.now) f) }
-    requires chosen { AreCandidates (C.sheet view.now) book.now chosen.now.entries.items chosen.now.all.items }
+    requires chosen { AreCandidates (C.sheet view.now) book.now chosen.now.entries.items chosen.now.fitting.now chosen.now.parts.items }
     requires new_log { log.old ≡ [] }
     requires few_learned { tally.old.learned < 2 ^ 120 }
     requires few_calls { tally.old.calls < 2 ^ 120 }
@@ -68,7 +67,8 @@ fn search_book<'a, C: Choices>(
             variables: part.variables,
         },
         entries: &chosen.entries,
-        all: &chosen.all,
+        fitting: chosen.fitting,
+        parts: &chosen.parts,
     };
     let found = find(choosing, &mut solver, log, tally)?;
     Ok(found)
@@ -76,9 +76,8 @@ fn search_book<'a, C: Choices>(
 
 /// Whether the view's entries imply the formula that the last rule of the asked book denies: the asked book is the view's
 /// with that rule. Ok is the formula's least support with what a certificate of it is made of; `None` exactly where the formula
-/// isn't implied. Only the part with the last rule is searched, which ties the parts together that the formula reads. Where
-/// there are too many ways to choose one maximal set of each of these parts, nothing is searched. The log is empty before.
-/// Whatever is answered, tally and log have what was done.
+/// isn't implied. Only the part with the last rule is searched, which ties the parts together that the formula reads. The log
+/// is empty before. Whatever is answered, tally and log have what was done.
 pub fn ask<C: Choices>(
     alloc: Global,
     view: &C,
@@ -93,8 +92,6 @@ pub fn ask<C: Choices>(
     ensures says { (f : Statement) → book.now ≡ asked (C.sheet view.now) f → IfOk result (AskSays (C.sheet view.now) f log.new) }
     ensures large { IfOk result (λ _. weight book.now ≤ most_weight) }
     ensures stop { IfErr result (AskStops book.now tally.new) }
-    ensures few { (f : Statement) (entries sets : ℕ) → book.now ≡ asked (C.sheet view.now) f → AreReadSizes (C.sheet view.now) f entries sets → IfOk result (λ _. AreFew sets (cell_count book.now.universe)) }
-    ensures room { (f : Statement) (entries sets : ℕ) → book.now ≡ asked (C.sheet view.now) f → AreReadSizes (C.sheet view.now) f entries sets → IfErr result (RoomStops sets (cell_count book.now.universe)) }
     ensures search { (f : Statement) (entries sets : ℕ) → book.now ≡ asked (C.sheet view.now) f → AreReadSizes (C.sheet view.now) f entries sets → IsWholeSearch book.now [] (sets * (entries + 2) + 1) tally.old tally.new log.new }
     ensures whole { (most : ℕ) × IsWholeSearch book.now [] most tally.old tally.new log.new }
     ensures part { (most : ℕ) × IsPartSearch book.now most tally.old tally.new log.new }

@@ -1,16 +1,17 @@
 //! The least entries that can't stand together in a book, with an assignment that has them and the line that derives it.
-ghost use Rattle.std.specs.Prelude.{◌≡◌, ◌<◌, ◌+◌, ◌*◌, ◌^◌, [], Contains, IfErr, IfOk, length};
+ghost use Rattle.std.specs.Prelude.{◌≡◌, ◌<◌, ◌+◌, ◌*◌, ◌^◌, [], All, Contains, IfErr, IfOk, length};
+ghost use Rattle.pc_repairs.specs.inside.Joining.{IsSized};
 ghost use Rattle.pc_sheet.specs.Entailment.{HasAll};
 ghost use Rattle.pc_sheet.specs.MaximalSets.{IsContained};
 ghost use Rattle.pc_solver.specs.Spending.{SpendsIn, StopSays};
-ghost use Rattle.pc_ask.specs.inside.Choices.{AreNarrowed, IsChoosing};
+ghost use Rattle.pc_ask.specs.inside.Choices.{all_of, AreNarrowed, IsChoosing, tried_of};
 ghost use Rattle.pc_ask.specs.inside.Finding.{FindSays, IsExplained};
 ghost use Rattle.pc_ask.specs.inside.Parts.{IsAsked};
-ghost use Rattle.pc_ask.specs.inside.Shown.{HasShown};
 
 use crate::candidates::those_in;
-use crate::narrowing::{Choosing, few_assignments, has_all, narrow};
+use crate::narrowing::{Choosing, has_all, narrow};
 use crate::refuting::refute_set;
+use crate::ways::{count_ways, way_at};
 use pc_lits::Tally;
 use pc_log::{Log, StepId};
 use pc_logic::Assignment;
@@ -26,25 +27,29 @@ pub(crate) struct Found {
     pub(crate) last: StepId,
 }
 
-// A copy of the first of the assignments that has the entries.
-fn first_with(choosing: Choosing<'_>, set: &[Entry]) -> Result<Assignment, AllocError>
-    requires { HasShown choosing.all.now set.now }
-    ensures there { IfOk result (Contains choosing.entry.all.now) }
+// The assignment of the first way that has the entries. It is found before numbers come to an end.
+fn first_with(choosing: Choosing<'_, '_>, set: &[Entry]) -> Result<Assignment, AllocError>
+    requires { All (IsSized (length choosing.fitting.now)) choosing.parts.now }
+    ensures there { IfOk result (Contains (all_of choosing.entry)) }
     ensures has { IfOk result (λ a. HasAll a set.now) }
 {
-    let all = choosing.all;
-    for place in 0..all.len() {
-        if has_all(&all[place], set) {
-            let values = all[place].values();
-            return Ok(Assignment::new(Vec::from_slice(choosing.task.alloc, values)?));
+    for number in 0..count_ways(choosing.parts) {
+        let way = way_at(
+            choosing.task.alloc,
+            choosing.fitting,
+            choosing.parts,
+            number,
+        )?;
+        if has_all(&way, set) {
+            return Ok(way);
         }
     }
-    unreachable!()
+    Err(AllocError)
 }
 
 // Why what is kept can't stand together.
 fn explain(
-    choosing: Choosing<'_>,
+    choosing: Choosing<'_, '_>,
     kept: &[Entry],
     solver: &mut Solver<'_>,
     log: &mut Log,
@@ -74,10 +79,10 @@ fn explain(
     }
 }
 
-/// The least entries that can't stand together and that one of the assignments has; `None` where no assignment's entries
-/// can't stand together.
+/// The least entries that can't stand together and that the assignment of some way has; `None` where no way's entries can't
+/// stand together.
 pub(crate) fn find(
-    choosing: Choosing<'_>,
+    choosing: Choosing<'_, '_>,
     solver: &mut Solver<'_>,
     log: &mut Log,
     tally: &mut Tally,
@@ -88,12 +93,11 @@ pub(crate) fn find(
     requires few_learned { tally.old.learned < 2 ^ 120 }
     requires few_calls { tally.old.calls < 2 ^ 120 }
     ensures asked { IsAsked choosing.entry.task.book.now choosing.entry.task.variables.now solver.new log.new }
-    ensures spends { SpendsIn (length choosing.entry.task.variables.now) (length choosing.entry.all.now * (length choosing.entry.entries.now + 1) + 1) tally.old tally.new log.old log.new }
+    ensures spends { SpendsIn (length choosing.entry.task.variables.now) (tried_of choosing.entry * (length choosing.entry.entries.now + 1) + 1) tally.old tally.new log.old log.new }
     ensures says { IfOk result (FindSays choosing.entry log.new) }
     ensures stop { IfErr result (StopSays tally.new) }
 {
     tally.recall_limit();
-    few_assignments(choosing.all);
     match narrow(choosing, solver, log, tally)? {
         None => Ok(None),
         Some(kept) => Ok(Some(explain(choosing, &kept, solver, log, tally)?)),

@@ -13,6 +13,7 @@ mod narrowing;
 mod part;
 mod proving;
 mod refuting;
+mod ways;
 
 pub use answer::{Answer, AskStop};
 pub use asking::ask;

@@ -110,7 +110,6 @@ fn answer_by(alloc: Global, session: &Session, book: Book, notes: &mut Spendings
         Ok(None) => Reply::Shown(Page::Unanswered(book)),
         Err(AskStop::TooLarge) => Reply::Refused(Refusal::TooLarge, None),
         Err(AskStop::Spent) => note_whole(&book, &[log], tally, notes),
-        Err(AskStop::TooMany) => Reply::Memory,
         Err(AskStop::Memory) => Reply::Memory,
     }
 }

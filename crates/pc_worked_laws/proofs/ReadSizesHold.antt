@@ -16,7 +16,7 @@ use Rattle.pc_choices.specs.Chosen.{chosen_parts}
 use Rattle.pc_ask.specs.Asking.{ReadsPart, IsOnRead, AreReadSizes}
 use Rattle.pc_lemmas.proofs.Elements.{contains_first, contains_later, contains_cases, contains_none}
 use Rattle.pc_worked_laws.specs.PartSheets.{one_is_two}
-use Rattle.pc_worked_laws.specs.ReadSizes.{three_parts, WorkedReadSizes, WorkedRoom}
+use Rattle.pc_worked_laws.specs.ReadSizes.{three_parts, WorkedReadSizes}
 use Rattle.pc_worked_laws.proofs.Computing.{is_consistent, lists}
 use Rattle.pc_worked_laws.proofs.Numbers.{has_number, there, not_there, every, every_is}
 
@@ -205,19 +205,4 @@ worked_read_sizes = record {
   blank_part_alone = of_neither (is_color 3 red) (reads_not (is_color 3 red) (3 ∷ []) first (λ a. refl) refl) (reads_not (is_color 3 red) (3 ∷ []) second (λ a. refl) refl);
   no_cell = no_cell;
   no_way = λ h. let same = one_size three_parts one_is_two 0 0 0 1 h no_cell in absurd (omega (arith, same.1));
-}
-
--- ---- room
-
-pub worked_room : WorkedRoom
-worked_room = record {
-  few = omega arith;
-  one_way_more = omega arith;
-  few_of_cells = omega arith;
-  one_more_of_cells = omega arith;
-  one_cell_more = omega arith;
-  too_many_told = omega arith;
-  too_many_not_told = λ many. omega (arith, many);
-  spent_told = omega arith;
-  spent_not_told = λ few. omega (arith, few);
 }

@@ -1,9 +1,8 @@
--- What formulas read of a small sheet, and how many assignments are too many to be asked about.
+-- What formulas read of a small sheet.
 use Rattle.std.specs.Prelude.{[], ◌∷◌, codes}
 use Rattle.pc_sheet.specs.Sheet.{Sheet}
 use Rattle.pc_laws.specs.Examples.{red, green, colored, entry, cells_and_rules, equals, is_color}
-use Rattle.pc_ask.specs.Asking.{AreReadSizes, AreTooMany, AreFew, RoomStops}
-use Rattle.pc_ask.specs.declared.answer.AskStop.TheVariants.{TooMany, Spent}
+use Rattle.pc_ask.specs.Asking.{AreReadSizes}
 use Rattle.pc_worked_laws.specs.PartSheets.{one_is_two}
 
 -- a = b, where a is entered as red and b as green; c, which is entered as red; and d, which isn't entered
@@ -26,17 +25,3 @@ pub record WorkedReadSizes : Type 0 where
   pub blank_part_alone : AreReadSizes three_parts (is_color 3 red) 0 1
   pub no_cell : AreReadSizes three_parts one_is_two 0 1
   pub no_way : ¬ AreReadSizes three_parts one_is_two 0 0
-
--- an assignment takes 32 beside its cells
-pub record WorkedRoom : Type 0 where
-  pub few : AreFew 4194304 0
-  pub one_way_more : AreTooMany 4194305 0
-  -- to 96 cells 1,048,576, but not to 97
-  pub few_of_cells : AreFew 1048576 96
-  pub one_more_of_cells : AreTooMany 1048577 96
-  pub one_cell_more : AreTooMany 1048576 97
-  -- at the limit it isn't told that there are too many, and past it not that a budget is spent
-  pub too_many_told : RoomStops 1048577 96 TooMany
-  pub too_many_not_told : ¬ RoomStops 1048576 96 TooMany
-  pub spent_told : RoomStops 1048576 96 Spent
-  pub spent_not_told : ¬ RoomStops 1048577 96 Spent

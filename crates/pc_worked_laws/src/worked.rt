@@ -7,7 +7,7 @@ ghost use Rattle.pc_worked_laws.specs.Certificates.{WorkedAgainst, WorkedOpposed
 ghost use Rattle.pc_worked_laws.specs.Newest.{NewestDecides};
 ghost use Rattle.pc_worked_laws.specs.LargestSets.{NothingIsKept, PairsHaveFourSets};
 ghost use Rattle.pc_worked_laws.specs.PartSheets.{WorkedPartSheets};
-ghost use Rattle.pc_worked_laws.specs.ReadSizes.{WorkedReadSizes, WorkedRoom};
+ghost use Rattle.pc_worked_laws.specs.ReadSizes.{WorkedReadSizes};
 ghost use Rattle.pc_worked_laws.specs.Worlds.{WorkedWorlds, WorkedWithout};
 ghost use Rattle.pc_worked_laws.specs.Transcripts.{WorkedTranscripts, WorkedAnswers};
 ghost use Rattle.pc_worked_laws.specs.Rows.{WorkedRows};
@@ -84,10 +84,9 @@ pub fn part_sheets_are_worked()
     ensures { WorkedPartSheets }
 {}
 
-/// What formulas read of a small sheet, and how many assignments are too many to be asked about.
+/// What formulas read of a small sheet.
 pub fn read_sizes_are_worked()
-    ensures sizes { WorkedReadSizes }
-    ensures room { WorkedRoom }
+    ensures { WorkedReadSizes }
 {}
 
 /// The worlds of small sheets, and what is left of them without an entry.

@@ -10,7 +10,7 @@ use Rattle.pc_parts.specs.PartSheets.{is_among}
 use Rattle.pc_parts.specs.Pieces.{pieces}
 use Rattle.pc_choices.specs.Chosen.{chosen_parts}
 use Rattle.pc_reason.specs.Fitting.{IsFitting}
-use Rattle.pc_repairs.specs.inside.Joining.{IsPartSets, joined_by}
+use Rattle.pc_repairs.specs.inside.Joining.{IsPartSets}
 use Rattle.pc_repairs.specs.declared.part_sets.PartSets.{PartSets}
 
 -- one of the cells is read
@@ -34,14 +34,12 @@ reads_of sheet = map (cells_of sheet.universe) (pieces sheet)
 abbrev pub AreLastReads : Sheet → List ℕ → Type 0
 AreLastReads sheet reads = slice_get (reads_of sheet) (length (reads_of sheet) - 1) ≡ Some reads
 
--- Of a sheet's parts, those with a cell that the book's last piece reads: the book's entries on their cells, and an assignment
--- for each way to choose one maximal set of each.
-pub record AreCandidates (sheet book : Sheet) (entries : List Entry) (all : List (List ValueId)) : Type 0 where
-  pub fitting : List ValueId
+-- The parts of a sheet with a cell that the book's last piece reads, the book's entries on their cells, and an assignment that fits.
+pub record AreCandidates (sheet book : Sheet) (entries : List Entry) (fitting : List ValueId) (parts : List PartSets) : Type 0 where
   pub fit : IsFitting sheet fitting
   pub reads : List ℕ
   pub last : AreLastReads book reads
   pub qs : List PartSets
   pub zip : AllZip (IsPartSets sheet) (chosen_parts sheet) qs
   pub entries_are : entries ≡ filter (is_on_some (filter (is_read reads) qs)) book.entries
-  pub all_are : all ≡ joined_by fitting (filter (is_read reads) qs)
+  pub parts_are : parts ≡ filter (is_read reads) qs

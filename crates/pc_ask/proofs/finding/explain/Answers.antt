@@ -3,19 +3,17 @@ use Rattle.pc_accept.specs.Sets.{those_in}
 use Rattle.pc_ask.specs.inside.Parts.{IsAskable}
 use Rattle.pc_sheet.specs.Entailment.{HasAll, IsConsistent}
 use Rattle.pc_ask.specs.Asking.{IsDeniedAt}
+use Rattle.pc_ask.specs.inside.Choices.{all_of}
 use Rattle.pc_ask.specs.inside.Narrowing.{RefuteSays}
-use Rattle.pc_ask.specs.inside.Shown.{HasShown}
 use Rattle.pc_ask.proofs.Searched.{none_spent}
-use Rattle.pc_ask.proofs.Kept.{support_all, support_falls, support_shown}
+use Rattle.pc_ask.proofs.Kept.{support_all, support_falls}
 use Rattle.pc_ask.proofs.finding.explain.Goals as goal
 
 pub returns-in_err-support-clause-spends : goal.returns-in_err-support-clause-spends
 returns-in_err-support-clause-spends c = none_spent c.args.choosing.task.variables.now 1 c.args.tally.now c.args.log.now
 
 pub first_with-requires : goal.first_with-requires
-first_with-requires c =
-    subst (HasShown c.args.choosing.all.now) (sym (c.deref.ensures.value ∙ (c.in_ok-support.ensures ∙ ap (λ es. those_in es c.args.kept.now) c.entries.ensures.items)))
-    (support_shown c.args.choosing.task.book.now c.args.choosing.entries.now c.args.choosing.all.now c.args.kept.now c.requires.narrowed)
+first_with-requires c = c.requires.choosing.sized
 
 pub returns-in_err-shown-clause-spends : goal.returns-in_err-shown-clause-spends
 returns-in_err-shown-clause-spends c = none_spent c.args.choosing.task.variables.now 1 c.args.tally.now c.args.log.now
@@ -23,11 +21,11 @@ returns-in_err-shown-clause-spends c = none_spent c.args.choosing.task.variables
 pub refute_set-requires-clause-set : goal.refute_set-requires-clause-set
 refute_set-requires-clause-set c =
     subst (All (IsAskable c.args.choosing.task.book.now)) (sym (c.deref-2.ensures.value ∙ (c.in_ok-support.ensures ∙ ap (λ es. those_in es c.args.kept.now) c.entries.ensures.items)))
-    (support_all c.args.choosing.task.book.now c.args.choosing.entries.now c.args.choosing.all.now c.args.kept.now c.requires.narrowed (IsAskable c.args.choosing.task.book.now) c.requires.choosing.askable)
+    (support_all c.args.choosing.task.book.now c.args.choosing.entries.now (all_of c.args.choosing) c.args.kept.now c.requires.narrowed (IsAskable c.args.choosing.task.book.now) c.requires.choosing.askable)
 
 pub unreachable-requires : goal.unreachable-requires
 unreachable-requires c =
-    support_falls c.args.choosing.task.book.now c.args.choosing.entries.now c.args.choosing.all.now c.args.kept.now c.requires.narrowed c.requires.entered
+    support_falls c.args.choosing.task.book.now c.args.choosing.entries.now (all_of c.args.choosing) c.args.kept.now c.requires.narrowed c.requires.entered
     (subst (IsConsistent c.args.choosing.task.book.now) (c.deref-2.ensures.value ∙ (c.in_ok-support.ensures ∙ ap (λ es. those_in es c.args.kept.now) c.entries.ensures.items))
     (subst (RefuteSays c.args.choosing.task.book.now c.deref-2.result.now c.refute_set.new.log) c.in-None.is c.in_ok-last.ensures.says))
 

@@ -2,19 +2,19 @@ use Rattle.std.proofs.Common.{◌+◌, ◌*◌, ◌^◌, Vec, Global, length, ar
 use Rattle.pc_sheet.specs.declared.ids.Entry.{Entry}
 use Rattle.pc_support.proofs.NarrowingLemmas.{at_none, at_some}
 use Rattle.pc_support.proofs.SpendingLemmas.{spends_on}
-use Rattle.pc_ask.specs.inside.Choices.{AreNarrowed}
+use Rattle.pc_ask.specs.inside.Choices.{all_of, AreNarrowed, tried_of}
 use Rattle.pc_ask.specs.inside.Finding.{IsExplained}
 use Rattle.pc_ask.proofs.Searched.{within_more}
-use Rattle.pc_ask.proofs.Spent.{few_and_once, still_low}
+use Rattle.pc_ask.proofs.Spent.{few_and_once, still_low, tried_few}
 use Rattle.pc_ask.proofs.finding.find.Goals as goal
 
 pub returns-in_err-narrow-clause-spends : goal.returns-in_err-narrow-clause-spends
 returns-in_err-narrow-clause-spends c =
-    within_more c.args.choosing.task.variables.now (length c.args.choosing.all.now * (length c.args.choosing.entries.now + 1)) _ c.args.tally.now c.narrow.new.tally c.args.log.now c.narrow.new.log (omega arith) c.narrow.ensures.spends
+    within_more c.args.choosing.task.variables.now (tried_of c.args.choosing * (length c.args.choosing.entries.now + 1)) _ c.args.tally.now c.narrow.new.tally c.args.log.now c.narrow.new.log (omega arith) c.narrow.ensures.spends
 
 pub returns-in-None-clause-spends : goal.returns-in-None-clause-spends
 returns-in-None-clause-spends c =
-    within_more c.args.choosing.task.variables.now (length c.args.choosing.all.now * (length c.args.choosing.entries.now + 1)) _ c.args.tally.now c.narrow.new.tally c.args.log.now c.narrow.new.log (omega arith) c.narrow.ensures.spends
+    within_more c.args.choosing.task.variables.now (tried_of c.args.choosing * (length c.args.choosing.entries.now + 1)) _ c.args.tally.now c.narrow.new.tally c.args.log.now c.narrow.new.log (omega arith) c.narrow.ensures.spends
 
 pub returns-in-None-clause-says : goal.returns-in-None-clause-says
 returns-in-None-clause-says c = at_none c.in_ok-narrow.field-0 c.in-None.is c.in_ok-narrow.ensures.none
@@ -25,12 +25,12 @@ explain-requires-clause-narrowed c =
 
 pub returns-in_err-explain-in-Some-clause-spends : goal.returns-in_err-explain-in-Some-clause-spends
 returns-in_err-explain-in-Some-clause-spends c =
-    spends_on (length c.args.choosing.task.variables.now) (length c.args.choosing.all.now * (length c.args.choosing.entries.now + 1)) 1 _ c.args.tally.now c.narrow.new.tally c.explain.new.tally c.args.log.now c.narrow.new.log c.explain.new.log
+    spends_on (length c.args.choosing.task.variables.now) (tried_of c.args.choosing * (length c.args.choosing.entries.now + 1)) 1 _ c.args.tally.now c.narrow.new.tally c.explain.new.tally c.args.log.now c.narrow.new.log c.explain.new.log
     (omega arith) c.narrow.ensures.spends c.explain.ensures.spends
 
 pub returns-in_ok-explain-in-Some-clause-spends : goal.returns-in_ok-explain-in-Some-clause-spends
 returns-in_ok-explain-in-Some-clause-spends c =
-    spends_on (length c.args.choosing.task.variables.now) (length c.args.choosing.all.now * (length c.args.choosing.entries.now + 1)) 1 _ c.args.tally.now c.narrow.new.tally c.explain.new.tally c.args.log.now c.narrow.new.log c.explain.new.log
+    spends_on (length c.args.choosing.task.variables.now) (tried_of c.args.choosing * (length c.args.choosing.entries.now + 1)) 1 _ c.args.tally.now c.narrow.new.tally c.explain.new.tally c.args.log.now c.narrow.new.log c.explain.new.log
     (omega arith) c.narrow.ensures.spends c.explain.ensures.spends
 
 pub returns-in_ok-explain-in-Some-clause-says : goal.returns-in_ok-explain-in-Some-clause-says
@@ -42,10 +42,10 @@ returns-in_ok-explain-in-Some-clause-says c = (
 
 pub explain-requires-clause-few_learned : goal.explain-requires-clause-few_learned
 explain-requires-clause-few_learned c =
-    (still_low (length c.args.choosing.task.variables.now) (length c.args.choosing.all.now * (length c.args.choosing.entries.now + 1)) (2 ^ 120) (2 ^ 126) c.args.tally.now c.narrow.new.tally c.args.log.now c.narrow.new.log c.narrow.ensures.spends c.recall_limit.ensures
-    (few_and_once (length c.args.choosing.all.now) (length c.args.choosing.entries.now) c.few_assignments.ensures c.requires.choosing.few) (omega arith) c.requires.few_learned c.requires.few_calls).0
+    (still_low (length c.args.choosing.task.variables.now) (tried_of c.args.choosing * (length c.args.choosing.entries.now + 1)) (2 ^ 120) (2 ^ 126) c.args.tally.now c.narrow.new.tally c.args.log.now c.narrow.new.log c.narrow.ensures.spends c.recall_limit.ensures
+    (few_and_once (tried_of c.args.choosing) (length c.args.choosing.entries.now) (tried_few (all_of c.args.choosing)) c.requires.choosing.few) (omega arith) c.requires.few_learned c.requires.few_calls).0
 
 pub explain-requires-clause-few_calls : goal.explain-requires-clause-few_calls
 explain-requires-clause-few_calls c =
-    (still_low (length c.args.choosing.task.variables.now) (length c.args.choosing.all.now * (length c.args.choosing.entries.now + 1)) (2 ^ 120) (2 ^ 126) c.args.tally.now c.narrow.new.tally c.args.log.now c.narrow.new.log c.narrow.ensures.spends c.recall_limit.ensures
-    (few_and_once (length c.args.choosing.all.now) (length c.args.choosing.entries.now) c.few_assignments.ensures c.requires.choosing.few) (omega arith) c.requires.few_learned c.requires.few_calls).1
+    (still_low (length c.args.choosing.task.variables.now) (tried_of c.args.choosing * (length c.args.choosing.entries.now + 1)) (2 ^ 120) (2 ^ 126) c.args.tally.now c.narrow.new.tally c.args.log.now c.narrow.new.log c.narrow.ensures.spends c.recall_limit.ensures
+    (few_and_once (tried_of c.args.choosing) (length c.args.choosing.entries.now) (tried_few (all_of c.args.choosing)) c.requires.choosing.few) (omega arith) c.requires.few_learned c.requires.few_calls).1

@@ -34,8 +34,5 @@ returns-in-Err-Spent c = λ f is.
     ask_noted c.args.session.now.sheet f c.args.book c.args.session.now.budget whole.0 c.ask.new.log _ c.ask.new.tally c.args.notes.now c.note_whole.new.notes c.note_whole.result is (light_by c.args.session.now.sheet f c.args.book is stop.0) whole.1
     (none_is_spent c.args.book c.args.session.now.budget _ refl refl refl c.budget.ensures) (λ entries sets sizes. c.in-Err-Spent.ensures.search f entries sets is sizes) stop.1 c.note_whole.ensures
 
-pub returns-in-Err-TooMany : goal.returns-in-Err-TooMany
-returns-in-Err-TooMany c = λ f is. by_want refl
-
 pub returns : goal.returns
 returns c = λ f is. by_want refl
