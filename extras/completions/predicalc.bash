@@ -33,6 +33,7 @@ _predicalc() {
     [ "$before" = --budget ] && return
     if [ -z "$mode" ]; then
         words='replay edit check merge posts demo'
+        [[ $COMP_CWORD -eq 1 && ${COMP_WORDS[0]} == */predicalc ]] && words="try $words"
     elif [ "$COMP_CWORD" -eq $((at + 1)) ] && [[ $word != -* ]]; then
         case $mode in
         edit | check | posts) _predicalc_files .sheet "$word" && return ;;
