@@ -5,7 +5,9 @@
 mod books;
 mod literals;
 mod preferring;
+mod reasons;
 mod rows;
+mod sessions;
 mod solving;
 mod tables;
 mod targets;
@@ -20,8 +22,11 @@ use std::io;
 /// The tables.
 const TABLES: &str = "\
 books.rows
+counts.rows
 preferences.rows
+sessions.rows
 solver.rows
+walks.rows
 ";
 
 // Says how many rows a table has, and which of them don't come out so.

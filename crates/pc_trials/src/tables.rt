@@ -1,11 +1,13 @@
 // Tables of trials. A table is a text: what it is about, and behind each `=== ` a block. A block has its title, then behind `--- `
 // what is tried, and behind `--- rows` the commands, each with what comes of it. Tried are: a solver over `clauses`, a line each;
-// `preferences` among some variables; a solver over the clauses of a sheet (`solver`); and a `book`. Variables are counted from 1, and `-` stands for a negation. Cells
+// `preferences` among some variables; a solver over the clauses of a sheet (`solver`); a `book`; and a `session` that loads a
+// sheet under a budget, whose first row says how the load ends. Variables are counted from 1, and `-` stands for a negation. Cells
 // and values are counted from 0: `3.1` is the fourth cell's second value.
 
 use crate::books::judge_book;
 use crate::preferring::judge_preferences;
-use crate::rows::not_tried;
+use crate::rows::{not_tried, parted};
+use crate::sessions::judge_session;
 use crate::solving::{judge_clauses, judge_ground};
 use std::alloc::{AllocError, Global};
 use std::str;
@@ -18,11 +20,13 @@ fn judge_tried(
     wrong: &mut String,
 ) -> Result<u64, AllocError> {
     let (words, text) = tried.split_once('\n').unwrap_or((tried, ""));
-    match words {
+    let (kind, with) = parted(words);
+    match kind {
         "clauses" => judge_clauses(alloc, text, rows, wrong),
         "preferences" => judge_preferences(alloc, text, rows, wrong),
         "solver" => judge_ground(alloc, text, rows, wrong),
         "book" => judge_book(alloc, text, rows, wrong),
+        "session" => judge_session(alloc, with, text, rows, wrong),
         _ => not_tried(wrong, words),
     }
 }
