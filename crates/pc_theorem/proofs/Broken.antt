@@ -1,5 +1,5 @@
 -- Runs that would not keep their word.
-use Rattle.std.proofs.Common.{◌≡◌, ℕ, true, List, [], ◌∷◌, ◌++◌, codes, refl, sym, ap, subst, inl, Contains, Some, arith}
+use Rattle.std.proofs.Common.{◌≡◌, ℕ, true, List, [], ◌∷◌, ◌++◌, codes, refl, sym, ap, subst, inl, inr, Contains, Some, arith}
 use Rattle.std.specs.List.{list_any}
 use Rattle.pc_lemmas.proofs.Elements.{contains_first, contains_none}
 use Rattle.pc_writer.specs.SheetText.{ended}
@@ -10,11 +10,24 @@ use Rattle.pc_collab.specs.Journal.{Post}
 use Rattle.pc_collab.specs.Text.{journal_text}
 use Rattle.pc_port.specs.Shelf.{Files, file_named}
 use Rattle.pc_refusals.specs.declared.status.Status.{Status}
-use Rattle.pc_refusals.specs.declared.status.Status.TheVariants.{Done, SheetRefused, CertRefused}
-use Rattle.pc_words.specs.Words.{replays, checks, merges, usual_budget}
-use Rattle.pc_theorem.specs.Theorem.{Run, AskFor, IsTold, IsMerged}
-use Rattle.pc_theorem.specs.Examples.{outside_of, merge_words, BrokenWords}
-use Rattle.pc_theorem.proofs.BrokenSessions.{run_on, is_file_name, no_line, none_refused, ok_for_repairs, refused_demo, silent_demo}
+use Rattle.pc_refusals.specs.declared.status.Status.TheVariants.{Done, SheetRefused, CertRefused, Memory}
+use Rattle.pc_words.specs.Words.{replays, checks, merges, Request, FitsWords, usual_budget}
+use Rattle.pc_afresh_laws.specs.Afresh.{DumpsStartAgain}
+use Rattle.pc_theorem.specs.Theorem.{IsMerged, EndsCheck, accepts, declines, finds_no_sheet, EndsMerge, merges_both, finds_no_merge, EndsSession, answers_all, refuses, finds_no_journal, Ends, IsCutOff}
+use Rattle.pc_theorem.specs.Examples.{Keeps, merge_words, BrokenWords}
+use Rattle.pc_theorem.proofs.BrokenSessions.{a_post, run_on, told, is_file_name, no_line, none_refused, quietly_refused, ok_for_repairs, refused_demo, silent_demo}
+use Rattle.pc_theorem.proofs.Clearing.{CommandsHaveOneReading}
+use Rattle.pc_theorem.proofs.OtherDisplay.{other_session}
+
+-- ---- how such a run ends
+
+ends : (words : List (List ℕ)) (files : Files) (printed : List ℕ) (status : Status) (request : Request) → FitsWords words request → (status ≡ Memory → ⊥) → ¬ IsCutOff status → Keeps words files [] printed status → Ends (run_on words files [] printed status) request.budget request.mode
+ends words files printed status request fits other uncut keeps = elim ((keeps (run_on words files [] printed status) (told words files [] printed status) uncut).asked_for request fits) [
+  | inl e ↦ e
+  | inr lacks ↦ absurd (other lacks.0)
+]
+
+-- ---- a sheet that isn't there
 
 front_empty : (xs ys : List ℕ) → [] ≡ xs ++ ys → xs ≡ []
 front_empty [] ys e = refl
@@ -27,16 +40,7 @@ no_forms (f ∷ fs) standing has_begin = standing
 empty_is_no_sheet : (declared : List (ℕ × Declared)) → IsSheet [] declared → ⊥
 empty_is_no_sheet declared (whole forms standing has_begin) = no_forms forms standing has_begin
 
-abbrev run_of : List (List ℕ) → Files → List ℕ → Status → Run
-run_of words files printed status = run_on words files [] printed status
-
-told : (words : List (List ℕ)) (files : Files) (printed : List ℕ) (status : Status) → IsTold words status (outside_of files [] []) (outside_of files [] printed) (run_of words files printed status)
-told words files printed status = record { words_are = refl; status_is = refl; files_are = refl; input_is = refl; earlier = []; given_before = refl; given_after = refl }
-
 -- ---- a post that is lost
-
-abbrev pub a_post : List ℕ
-a_post = codes "post 1 1 7 : show\n"
 
 no_text : (p : Post) (ps : List Post) → journal_text (p ∷ ps) ≡ [] → ⊥
 no_text p ps e = absurd (cc)
@@ -64,41 +68,48 @@ accepted_not_refused more e = let bytes : 97 ≡ 114 = ap first_byte e in omega 
 nothing_not_refused : (more : List ℕ) → [] ≡ codes "journal refused " ++ more → ⊥
 nothing_not_refused more e = let bytes : 0 ≡ 106 = ap first_byte e in omega (arith, bytes)
 
+-- ---- checks, merges and inputs
+
 abbrev check_words : List (List ℕ)
 check_words = codes "check" ∷ codes "f" ∷ []
 
-pub broken_words : BrokenWords
-broken_words = record {
-  no_file = λ keeps.
-      let run = run_of (codes "check" ∷ codes "f" ∷ []) [] (ended (codes "accepted")) Done in
-      let asks : AskFor run (checks (codes "f")) usual_budget = (record { mode = checks (codes "f"); budget = usual_budget }, inl ((refl, is_file_name), refl), refl, refl) in
-      let worth = keeps run (told run.words [] run.printed Done) in
-      let found = ((worth.check (codes "f") usual_budget asks).accepted refl).found in
-      absurd (cc);
-  no_sheet = λ keeps.
-      let run = run_of (codes "replay" ∷ []) [] [] Done in
-      let asks : AskFor run replays usual_budget = (record { mode = replays; budget = usual_budget }, inl (refl, refl), refl, refl) in
-      let worth = keeps run (told run.words [] [] Done) in
-      let s = worth.session replays usual_budget asks tt (inl refl) in
-      let reads = s.session.starts.reads in
-      empty_is_no_sheet reads.declared (subst (λ text. IsSheet text reads.declared) (front_empty s.text s.given.0 s.given.1) reads.is);
-  told_as_accepted = λ files keeps.
-      let run = run_of check_words files (ended (codes "accepted")) CertRefused in
-      let asks : AskFor run (checks (codes "f")) usual_budget = (record { mode = checks (codes "f"); budget = usual_budget }, inl ((refl, is_file_name), refl), refl, refl) in
-      let declined = (((keeps run (told run.words files run.printed CertRefused)).check (codes "f") usual_budget asks).declined refl).told in
-      accepted_not_refused declined.0 declined.1;
-  untold = λ files keeps.
-      let run = run_of merge_words files [] SheetRefused in
-      let asks : AskFor run (merges (codes "f")) usual_budget = (record { mode = merges (codes "f"); budget = usual_budget }, inl ((refl, is_file_name), refl), refl, refl) in
-      let declined = (((keeps run (told run.words files [] SheetRefused)).merge (codes "f") usual_budget asks).declined refl).told in
-      nothing_not_refused declined.0 declined.1;
-  lost_post = λ keeps.
-      let run = run_of merge_words ((codes "f", a_post) ∷ []) [] Done in
-      let asks : AskFor run (merges (codes "f")) usual_budget = (record { mode = merges (codes "f"); budget = usual_budget }, inl ((refl, is_file_name), refl), refl, refl) in
-      lost (((keeps run (told run.words run.files [] Done)).merge (codes "f") usual_budget asks).merged refl);
+no_file : EndsCheck (run_on check_words [] [] (ended (codes "accepted")) Done) (codes "f") → ⊥
+no_file (accepts so is) = let found = is.found in absurd (cc found)
+no_file (declines so is) = absurd (cc)
+no_file (finds_no_sheet so is) = absurd (cc)
+
+as_accepted : (files : Files) → EndsCheck (run_on check_words files [] (ended (codes "accepted")) CertRefused) (codes "f") → ⊥
+as_accepted files (accepts so is) = absurd (cc)
+as_accepted files (declines so is) = accepted_not_refused is.told.0 is.told.1
+as_accepted files (finds_no_sheet so is) = absurd (cc)
+
+untold : (files : Files) → EndsMerge (run_on merge_words files [] [] SheetRefused) (codes "f") → ⊥
+untold files (merges_both so is) = absurd (cc)
+untold files (finds_no_merge so is) = nothing_not_refused is.told.0 is.told.1
+
+lost_post : EndsMerge (run_on merge_words ((codes "f", a_post) ∷ []) [] [] Done) (codes "f") → ⊥
+lost_post (merges_both so is) = lost is
+lost_post (finds_no_merge so is) = absurd (cc)
+
+no_sheet : EndsSession (run_on (codes "replay" ∷ []) [] [] [] Done) usual_budget replays → ⊥
+no_sheet (answers_all text commands sheet commands_are s) =
+    let reads = s.starts.reads in
+    empty_is_no_sheet reads.declared (subst (λ t. IsSheet t reads.declared) (front_empty text sheet.0 sheet.1) reads.is)
+no_sheet (refuses text why more so sheet refusing told_so) = absurd (cc)
+no_sheet (finds_no_journal file so mode none told_so) = absurd (cc)
+
+pub broken_words : CommandsHaveOneReading → DumpsStartAgain → BrokenWords
+broken_words read again = record {
+  no_file = λ keeps. no_file (ends check_words [] (ended (codes "accepted")) Done (record { mode = checks (codes "f"); budget = usual_budget }) (inl ((refl, is_file_name), refl)) (λ e. absurd (cc)) (λ c. c) keeps);
+  no_sheet = λ keeps. no_sheet (ends (codes "replay" ∷ []) [] [] Done (record { mode = replays; budget = usual_budget }) (inl (refl, refl)) (λ e. absurd (cc)) (λ c. c) keeps);
+  told_as_accepted = λ files keeps. as_accepted files (ends check_words files (ended (codes "accepted")) CertRefused (record { mode = checks (codes "f"); budget = usual_budget }) (inl ((refl, is_file_name), refl)) (λ e. absurd (cc)) (λ c. c) keeps);
+  untold = λ files keeps. untold files (ends merge_words files [] SheetRefused (record { mode = merges (codes "f"); budget = usual_budget }) (inl ((refl, is_file_name), refl)) (λ e. absurd (cc)) (λ c. c) keeps);
+  lost_post = λ keeps. lost_post (ends merge_words ((codes "f", a_post) ∷ []) [] Done (record { mode = merges (codes "f"); budget = usual_budget }) (inl ((refl, is_file_name), refl)) (λ e. absurd (cc)) (λ c. c) keeps);
   no_line = no_line;
   none_refused = none_refused;
-  ok_for_repairs = ok_for_repairs;
+  quietly_refused = quietly_refused;
+  ok_for_repairs = ok_for_repairs read;
+  other_shown = other_session read again;
   refused_demo = refused_demo;
   silent_demo = silent_demo;
 }

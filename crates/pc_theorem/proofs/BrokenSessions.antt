@@ -1,68 +1,94 @@
 -- Sessions and demonstrations that would not keep their word.
-use Rattle.std.proofs.Common.{◌≡◌, ℕ, zero, suc, ◌<◌, ◌≤◌, true, List, [], ◌∷◌, ◌++◌, map, length, get_or, codes, refl, sym, ◌∙◌, ap, subst, inl, inr, ◌⊎◌, arith, append-nil, ⊎_elim}
-use Rattle.std.specs.Prelude.{slice_index}
-use Rattle.std.specs.List.{flat_map}
+use Rattle.std.proofs.Common.{◌≡◌, ℕ, ◌<◌, Bool, true, false, List, [], ◌∷◌, ◌++◌, length, get_or, codes, refl, sym, ◌∙◌, ap, subst, inl, inr, ◌⊎◌, arith, append-nil}
 use Rattle.std.specs.Str.Parse.{IsNumeral, digits_value}
 use Rattle.std.proofs.lemmas.Fmt.{decimal_digit, decimal_is_IsNumeral_wide}
 use Rattle.pc_port.specs.Shelf.{Files}
-use Rattle.pc_sheet.specs.Sheet.{Universe}
-use Rattle.pc_token.specs.Token.{is_blank}
-use Rattle.pc_formula.specs.Word.{name, nesting}
-use Rattle.pc_syntax.specs.Tree.{asks_repairs}
-use Rattle.pc_syntax.specs.Spelling.{IsNothing, IsSpelled}
-use Rattle.pc_syntax.specs.Command.{IsCommandReading, asks, spelled_command, IsDeepAsk}
-use Rattle.pc_canonical_laws.proofs.Counting.{levels_are}
-use Rattle.pc_canonical_laws.proofs.Cuts.{Cuts, done, cuts_utf8}
+use Rattle.pc_sheet.specs.Sheet.{Sheet, Universe}
+use Rattle.pc_formula.specs.Word.{name}
+use Rattle.pc_syntax.specs.Tree.{Asked, asks_repairs}
+use Rattle.pc_syntax.specs.Command.{IsCommandReading, asks}
+use Rattle.pc_canonical_laws.proofs.Cuts.{Cuts, done}
 use Rattle.pc_canonical_laws.proofs.Cutting.{nothing, cut_name}
-use Rattle.pc_canonical_laws.proofs.Lines.{has_words, cuts_to_end}
+use Rattle.pc_canonical_laws.proofs.Lines.{cuts_to_end}
 use Rattle.pc_gen.proofs.Names.{small_name}
 use Rattle.pc_writer.specs.SheetText.{ended}
 use Rattle.pc_repairs.specs.Listed.{ListedPart, listing_text}
 use Rattle.pc_refusals.specs.declared.status.Status.{Status}
-use Rattle.pc_refusals.specs.declared.status.Status.TheVariants.{Done, SomeRefused, SheetRefused}
-use Rattle.pc_words.specs.Words.{edits, demonstrates, IsNumber, IsFileName, usual_budget}
+use Rattle.pc_refusals.specs.declared.status.Status.TheVariants.{Done, SomeRefused, SheetRefused, Memory}
+use Rattle.pc_transcript.specs.Answer.{Answer, refused, answer_text}
+use Rattle.pc_transcript.specs.Transcript.{Transcript, Legal, lines, output_of, worse_of, status_of}
+use Rattle.pc_words.specs.Words.{edits, IsNumber, IsFileName, usual_budget}
 use Rattle.pc_spreadsheet.specs.declared.summary.Summary.{Summary}
-use Rattle.pc_spreadsheet.specs.Tasks.{State, shows, repairs_page, listing}
+use Rattle.pc_spreadsheet.specs.Tasks.{State, PageKind, shows, IsTaskOf, listing, IsEdit, Task}
 use Rattle.pc_demo.specs.Summing.{summary_text}
-use Rattle.pc_theorem.specs.Theorem.{Run, AskFor, IsTold, Course, LineAsks, no_line as nothing_accepted}
-use Rattle.pc_theorem.specs.Examples.{outside_of, edit_words, demo_words, Keeps}
+use Rattle.pc_theorem.specs.Theorem.{Run, Tells, Answers, nothing_asked, edit_done, page_shown, not_doable, contradicting, budget_spent, memory_lacking, EndsSession, answers_all, refuses, finds_no_journal, LacksMemory, IsTold, IsCutOff}
+use Rattle.pc_theorem.specs.Demonstrations.{EndsDemonstration, demonstrates_all, has_too_little}
+use Rattle.pc_theorem.specs.Examples.{told_outside, edit_words, demo_words, Keeps, Demonstrated}
+use Rattle.pc_theorem.proofs.Clearing.{CommandsHaveOneReading, asked_same}
+use Rattle.pc_theorem.proofs.OneWord.{one_word}
 
 -- ---- runs
 
 abbrev pub run_on : List (List ℕ) → Files → List ℕ → List ℕ → Status → Run
 run_on words files input printed status = record { words = words; files = files; input = input; printed = printed; status = status }
 
-told : (words : List (List ℕ)) (files : Files) (input printed : List ℕ) (status : Status) → IsTold words status (outside_of files input []) (outside_of files [] printed) (run_on words files input printed status)
+pub told : (words : List (List ℕ)) (files : Files) (input printed : List ℕ) (status : Status) → IsTold words status (told_outside files input []) (told_outside files [] printed) (run_on words files input printed status)
 told words files input printed status = record { words_are = refl; status_is = refl; files_are = refl; input_is = refl; earlier = []; given_before = refl; given_after = refl }
+
+-- a journal of one post
+abbrev pub a_post : List ℕ
+a_post = codes "post 1 1 7 : show\n"
 
 pub is_file_name : IsFileName (codes "f")
 is_file_name = λ e. omega (arith, e)
 
-edit_asked : (files : Files) (input printed : List ℕ) (status : Status) → AskFor (run_on edit_words files input printed status) (edits (codes "f")) usual_budget
-edit_asked files input printed status = (record { mode = edits (codes "f"); budget = usual_budget }, inl ((refl, is_file_name), refl), refl, refl)
+-- how a session ends that doesn't want memory
+pub session_ends : (words : List (List ℕ)) (run : Run) (budget : ℕ) → (run.status ≡ Memory → ⊥) → EndsSession run budget (edits (codes "f")) ⊎ LacksMemory run → EndsSession run budget (edits (codes "f"))
+session_ends words run budget other (inl ends) = ends
+session_ends words run budget other (inr lacks) = absurd (other lacks.0)
+
+pub edit_ends : (files : Files) (input printed : List ℕ) (status : Status) → Keeps edit_words files input printed status → (status ≡ Memory → ⊥) → ¬ IsCutOff status → EndsSession (run_on edit_words files input printed status) usual_budget (edits (codes "f"))
+edit_ends files input printed status keeps other uncut =
+    let run = run_on edit_words files input printed status in
+    session_ends edit_words run usual_budget other ((keeps run (told edit_words files input printed status) uncut).asked_for (record { mode = edits (codes "f"); budget = usual_budget }) (inl ((refl, is_file_name), refl)))
 
 -- ---- no command
 
-nothing_printed : (course : Course) (commands : List (List ℕ)) (printed : List ℕ) → map (λ p. p.0) course ≡ commands → commands ≡ [] → flat_map (λ p. p.1) course ≡ printed → printed ≡ []
-nothing_printed [] commands printed lines none texts = sym texts
-nothing_printed (p ∷ ps) commands printed lines none texts = absurd (cc (lines, none))
+no_lines : (t : Transcript) (commands : List (List ℕ)) → lines t ≡ commands → commands ≡ [] → t ≡ []
+no_lines [] commands are none = refl
+no_lines (p ∷ ps) commands are none = absurd (cc (are, none))
+
+nothing_is_done : (files : Files) (printed : List ℕ) (status : Status) → (status ≡ SheetRefused → ⊥) → EndsSession (run_on edit_words files [] printed status) usual_budget (edits (codes "f")) → (printed ≡ []) × (status ≡ Done)
+nothing_is_done files printed status other (answers_all text commands sheet commands_are s) =
+    let none = no_lines s.transcript commands s.lines_are commands_are in
+    (s.printed_are ∙ ap output_of none, s.status_is ∙ ap status_of none)
+nothing_is_done files printed status other (refuses text why more so sheet refusing told_so) = absurd (other so)
+nothing_is_done files printed status other (finds_no_journal file so mode none told_so) = absurd (other so)
 
 pub no_line : (files : Files) → ¬ Keeps edit_words files [] (ended (codes "ok")) Done
-no_line files keeps =
-    let s = (keeps (run_on edit_words files [] (ended (codes "ok")) Done) (told edit_words files [] (ended (codes "ok")) Done)).session (edits (codes "f")) usual_budget (edit_asked files [] (ended (codes "ok")) Done) tt (inl refl) in
-    let none = nothing_printed s.session.course s.commands (ended (codes "ok")) s.session.lines_are s.given.1 s.session.texts_are in
-    absurd (cc none)
-
-no_course : (course before more : Course) (p : List ℕ × List ℕ) (commands : List (List ℕ)) → map (λ p. p.0) course ≡ commands → commands ≡ [] → course ≡ before ++ p ∷ more → ⊥
-no_course [] [] more p commands lines none is = absurd (cc is)
-no_course [] (b ∷ bs) more p commands lines none is = absurd (cc is)
-no_course (q ∷ qs) before more p commands lines none is = absurd (cc (lines, none))
+no_line files keeps = absurd (cc (nothing_is_done files (ended (codes "ok")) Done (λ e. absurd (cc)) (edit_ends files [] (ended (codes "ok")) Done keeps (λ e. absurd (cc)) (λ c. c))).0)
 
 pub none_refused : (files : Files) → ¬ Keeps edit_words files [] [] SomeRefused
-none_refused files keeps =
-    let s = (keeps (run_on edit_words files [] [] SomeRefused) (told edit_words files [] [] SomeRefused)).session (edits (codes "f")) usual_budget (edit_asked files [] [] SomeRefused) tt (inr refl) in
-    let refusal = s.session.refused refl in
-    no_course s.session.course refusal.before refusal.stands.more (refusal.line, refusal.text) s.commands s.session.lines_are s.given.1 refusal.stands.is
+none_refused files keeps = absurd (cc (nothing_is_done files [] SomeRefused (λ e. absurd (cc)) (edit_ends files [] [] SomeRefused keeps (λ e. absurd (cc)) (λ c. c))).1)
+
+-- ---- a refusal that isn't told
+
+abbrev first_byte : List ℕ → ℕ
+first_byte [] = 0
+first_byte (b ∷ bs) = b
+
+never_refused : (b c : Bool) → SheetRefused ≡ worse_of b c → ⊥
+never_refused true c is = absurd (cc)
+never_refused false true is = absurd (cc)
+never_refused false false is = absurd (cc)
+
+quiet_refusal : (files : Files) → EndsSession (run_on edit_words files [] [] SheetRefused) usual_budget (edits (codes "f")) → ⊥
+quiet_refusal files (answers_all text commands sheet commands_are s) = never_refused _ _ s.status_is
+quiet_refusal files (refuses text why more so sheet refusing told_so) = let bytes : 0 ≡ 115 = ap first_byte told_so in omega (arith, bytes)
+quiet_refusal files (finds_no_journal file so mode none told_so) = absurd (cc)
+
+pub quietly_refused : (files : Files) → ¬ Keeps edit_words files [] [] SheetRefused
+quietly_refused files keeps = quiet_refusal files (edit_ends files [] [] SheetRefused keeps (λ e. absurd (cc)) (λ c. c))
 
 -- ---- a listing
 
@@ -72,64 +98,57 @@ listing_word = codes "repairs"
 cuts : Cuts listing_word (name listing_word ∷ [])
 cuts = cuts_to_end listing_word (name listing_word ∷ []) (cut_name listing_word [] [] (small_name _ _ refl refl refl) nothing done)
 
-says_something : IsNothing listing_word → ⊥
-says_something none = ⊎_elim (λ blanks. clash (blanks 0 (omega arith) (omega arith))) (λ comment. remark comment.0 comment.1 comment.2) none.empty
-  where
-    clash : is_blank 114 ≡ true → ⊥
-    clash seen = absurd (cc)
-
-    remark : (at : ℕ) → ((i : ℕ) → 0 ≤ i → i < at → is_blank (slice_index listing_word i) ≡ true) → slice_index listing_word at ≡ 59 → ⊥
-    remark zero blanks here = omega (arith, here)
-    remark (suc at) blanks here = clash (blanks 0 (omega arith) (omega arith))
-
-no_level : nesting (name listing_word ∷ []) ≡ 0
-no_level = levels_are (name listing_word ∷ [])
-
-spelled : IsSpelled listing_word (name listing_word ∷ [])
-spelled = record {
-  split = record { utf8 = cuts_utf8 listing_word (name listing_word ∷ []) cuts; something = says_something; has = has_words listing_word (name listing_word ∷ []) cuts };
-  within = omega (arith, no_level);
-}
-
-shallow : ¬ IsDeepAsk (name listing_word ∷ [])
-shallow deep = omega (arith, no_level, deep.deep)
+long : 0 < length listing_word
+long = omega arith
 
 asks_listing : IsCommandReading listing_word (asks asks_repairs)
-asks_listing = spelled_command (name listing_word ∷ []) spelled (record { rest = []; words = refl; follows = refl }) shallow
+asks_listing = one_word listing_word cuts long (λ seen. absurd (cc)) (λ here. omega (arith, here)) asks_repairs (record { rest = []; words = refl; follows = refl })
 
 abbrev listing_line : List ℕ
 listing_line = codes "repairs\n"
 
-line_asks : (state : State) → LineAsks state listing_line (shows repairs_page)
-line_asks state = (asks_repairs, asks_listing, listing)
-
-one_line : (course : Course) (commands : List (List ℕ)) (line printed : List ℕ) → map (λ p. p.0) course ≡ commands → commands ≡ line ∷ [] → flat_map (λ p. p.1) course ≡ printed → course ≡ (line, printed) ∷ []
-one_line [] commands line printed lines is texts = absurd (cc (lines, is))
-one_line (p ∷ (q ∷ more)) commands line printed lines is texts = absurd (cc (lines, is))
-one_line (p ∷ []) commands line printed lines is texts =
-    let line_is : p.0 ≡ line = head_is p.0 line (lines ∙ is) in
-    ap (λ (l : List ℕ). (l, p.1) ∷ []) line_is ∙ ap (λ (x : List ℕ). (line, x) ∷ []) (sym (append-nil p.1) ∙ texts)
-  where
-    head_is : (x y : List ℕ) → x ∷ [] ≡ y ∷ [] → x ≡ y
-    head_is x y e = cc
-
-abbrev first_byte : List ℕ → ℕ
-first_byte [] = 0
-first_byte (b ∷ bs) = b
-
+-- what is printed as `ok` was no listing
 not_a_listing : (u : Universe) (ls : List ListedPart) → ended (codes "ok") ≡ listing_text u ls → ⊥
 not_a_listing u [] e = let bytes : 111 ≡ 0 = ap first_byte e in omega (arith, bytes)
 not_a_listing u (l ∷ ls) e = let bytes : 111 ≡ 112 = ap first_byte e in omega (arith, bytes)
 
-pub ok_for_repairs : (files : Files) → ¬ Keeps edit_words files listing_line (ended (codes "ok")) Done
-ok_for_repairs files keeps =
-    let s = (keeps (run_on edit_words files listing_line (ended (codes "ok")) Done) (told edit_words files listing_line (ended (codes "ok")) Done)).session (edits (codes "f")) usual_budget (edit_asked files listing_line (ended (codes "ok")) Done) tt (inl refl) in
-    let is = one_line s.session.course s.commands listing_line (ended (codes "ok")) s.session.lines_are s.given.1 s.session.texts_are in
-    let answers = s.session.answered [] listing_line (ended (codes "ok")) [] (record { more = []; is = is }) nothing_accepted in
-    elim (answers.tells (shows repairs_page) (line_asks s.session.start)) [
-      | inl told ↦ not_a_listing s.session.start.sheet.universe told.is.listing told.is.told
-      | inr spent ↦ spent.0
-    ]
+no_ok : (sheet : Sheet) (kind : PageKind) (text : List ℕ) → IsTaskOf sheet asks_repairs (shows kind) → Tells sheet kind text → ended (codes "ok") ≡ text → ⊥
+no_ok sheet kind text listing tells same = not_a_listing sheet.universe tells.is.listing (same ∙ tells.is.told)
+
+no_edit : (sheet : Sheet) (edit : Task) → IsTaskOf sheet asks_repairs edit → ¬ IsEdit edit
+no_edit sheet edit listing is_edit = is_edit
+
+module _ (read : CommandsHaveOneReading) where
+  asks_so : (a : Asked) → IsCommandReading listing_word (asks a) → a ≡ asks_repairs
+  asks_so a reading = asked_same a asks_repairs (read listing_word (asks a) (asks asks_repairs) reading asks_listing)
+
+  never_ok : (start end : State) (answer : Answer) → Answers start listing_word answer end → ended (codes "ok") ≡ answer_text answer → Done ≡ status_of ((listing_line, answer) ∷ []) → ⊥
+  never_ok start end answer (nothing_asked none) same status = absurd (cc)
+  never_ok start end answer (edit_done edit asked is_edit) same status = no_edit start.sheet edit (subst (λ a. IsTaskOf start.sheet a edit) (asks_so asked.0 asked.1) asked.2) is_edit
+  never_ok start end answer (page_shown kind text asked tells) same status = no_ok start.sheet kind text (subst (λ a. IsTaskOf start.sheet a (shows kind)) (asks_so asked.0 asked.1) asked.2) tells same
+  never_ok start end answer (not_doable why is) same status = absurd (cc)
+  never_ok start end answer (contradicting r certificate is shows_it) same status = absurd (cc)
+  never_ok start end answer (budget_spent counts short placed) same status = absurd (cc)
+  never_ok start end answer (memory_lacking takes) same status = absurd (cc)
+
+pub one_answer : (t : Transcript) (commands : List (List ℕ)) (line : List ℕ) → lines t ≡ commands → commands ≡ line ∷ [] → (answer : Answer) × (t ≡ (line, answer) ∷ [])
+one_answer [] commands line are is = absurd (cc (are, is))
+one_answer (p ∷ (q ∷ more)) commands line are is = absurd (cc (are, is))
+one_answer (p ∷ []) commands line are is = (p.1, ap (λ (l : List ℕ). (l, p.1) ∷ []) (head_is p.0 line (are ∙ is)))
+  where
+    head_is : (x y : List ℕ) → x ∷ [] ≡ y ∷ [] → x ≡ y
+    head_is x y e = cc
+
+pub ok_for_repairs : CommandsHaveOneReading → (files : Files) → ¬ Keeps edit_words files listing_line (ended (codes "ok")) Done
+ok_for_repairs read files keeps = by (edit_ends files listing_line (ended (codes "ok")) Done keeps (λ e. absurd (cc)) (λ c. c))
+  where
+    by : EndsSession (run_on edit_words files listing_line (ended (codes "ok")) Done) usual_budget (edits (codes "f")) → ⊥
+    by (answers_all text commands sheet commands_are s) =
+        let one = one_answer s.transcript commands listing_line s.lines_are commands_are in
+        let legal = subst (λ (t : Transcript). Legal Answers s.start t s.end) one.1 s.legal in
+        never_ok read s.start legal.0 one.0 legal.1 (s.printed_are ∙ ap output_of one.1 ∙ append-nil (answer_text one.0)) (s.status_is ∙ ap status_of one.1)
+    by (refuses text why more so sheet refusing told_so) = absurd (cc)
+    by (finds_no_journal file so mode none told_so) = absurd (cc)
 
 -- ---- a demonstration
 
@@ -149,8 +168,11 @@ one_digit =
 not_silent : (s : Summary) (loaded more : List ℕ) → loaded ≡ summary_text (codes "loaded") s → [] ≡ loaded ++ more → ⊥
 not_silent s loaded more is e = let bytes : 0 ≡ 108 = ap first_byte (e ∙ ap (λ (xs : List ℕ). xs ++ more) is) in omega (arith, bytes)
 
-demo_asked : (files : Files) (printed : List ℕ) (status : Status) → AskFor (run_on demo_words files [] printed status) (demonstrates 1) usual_budget
-demo_asked files printed status = (record { mode = demonstrates 1; budget = usual_budget }, inl ((codes "1", refl, one_digit), refl), refl, refl)
+demo_ends : (files : Files) (printed : List ℕ) (status : Status) → Demonstrated demo_words files [] printed status → (status ≡ Memory → ⊥) → ¬ IsCutOff status → EndsDemonstration (run_on demo_words files [] printed status) usual_budget 1
+demo_ends files printed status keeps other uncut = elim (keeps (run_on demo_words files [] printed status) (told demo_words files [] printed status) uncut 1 usual_budget (inl ((codes "1", refl, one_digit), refl))) [
+  | inl ends ↦ ends
+  | inr lacks ↦ absurd (other lacks.0)
+]
 
 -- the byte at which `13` and `14` differ
 abbrev sixteenth : List ℕ → ℕ
@@ -159,15 +181,16 @@ sixteenth text = get_or text 15 0
 abbrev told_inconsistent : List ℕ
 told_inconsistent = ended (codes "sheet refused 13 inconsistent")
 
-pub refused_demo : (files : Files) → ¬ Keeps demo_words files [] told_inconsistent SheetRefused
-refused_demo files keeps =
-    let run = run_on demo_words files [] told_inconsistent SheetRefused in
-    let spent = ((keeps run (told demo_words files [] told_inconsistent SheetRefused)).demo 1 usual_budget (demo_asked files told_inconsistent SheetRefused)).declined refl in
-    let bytes : 51 ≡ 52 = ap sixteenth spent.2 in
-    omega (arith, bytes)
+refused_so : (files : Files) → EndsDemonstration (run_on demo_words files [] told_inconsistent SheetRefused) usual_budget 1 → ⊥
+refused_so files (demonstrates_all d) = never_refused _ _ d.status_is
+refused_so files (has_too_little counts so short placed told_so) = let bytes : 51 ≡ 52 = ap sixteenth told_so in omega (arith, bytes)
 
-pub silent_demo : (files : Files) → ¬ Keeps demo_words files [] [] Done
-silent_demo files keeps =
-    let run = run_on demo_words files [] [] Done in
-    let d = ((keeps run (told demo_words files [] [] Done)).demo 1 usual_budget (demo_asked files [] Done)).summed (inl refl) in
-    not_silent d.sums.0 d.loaded _ d.sums.2 d.printed_are
+pub refused_demo : (files : Files) → ¬ Demonstrated demo_words files [] told_inconsistent SheetRefused
+refused_demo files keeps = refused_so files (demo_ends files told_inconsistent SheetRefused keeps (λ e. absurd (cc)) (λ c. c))
+
+silent_so : (files : Files) → EndsDemonstration (run_on demo_words files [] [] Done) usual_budget 1 → ⊥
+silent_so files (demonstrates_all d) = not_silent d.sums.0 d.loaded _ d.sums.2 d.printed_are
+silent_so files (has_too_little counts so short placed told_so) = absurd (cc)
+
+pub silent_demo : (files : Files) → ¬ Demonstrated demo_words files [] [] Done
+silent_demo files keeps = silent_so files (demo_ends files [] Done keeps (λ e. absurd (cc)) (λ c. c))

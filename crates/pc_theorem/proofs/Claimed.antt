@@ -1,5 +1,5 @@
--- What a text that reads as a certificate claims, and which entries it uses, by its lines.
-use Rattle.std.proofs.Common.{◌≡◌, ℕ, zero, suc, ◌+◌, ◌⊎◌, Bool, true, false, not, ◌&&◌, ◌||◌, List, [], ◌∷◌, ◌++◌, map, Some, Any, Contains, refl, sym, ◌∙◌, ap, subst, inl, inr, arith}
+-- What a text that reads as a certificate claims, and which entries it uses and which values it gives, by its lines.
+use Rattle.std.proofs.Common.{◌≡◌, ◌↔◌, ℕ, zero, suc, ◌+◌, ◌⊎◌, Bool, true, false, not, ◌&&◌, ◌||◌, List, [], ◌∷◌, ◌++◌, map, Some, Any, Contains, refl, sym, ◌∙◌, ap, subst, inl, inr, arith}
 use Rattle.std.specs.List.{list_any, AllZip}
 use Rattle.std.specs.Str.Lines.{lines}
 use Rattle.std.proofs.lemmas.List.Folds.{list_any-append}
@@ -8,15 +8,15 @@ use Rattle.pc_sheet.specs.Sheet.{Sheet}
 use Rattle.pc_sheet.specs.WellFormed.{IsWellFormed}
 use Rattle.pc_sheet.specs.declared.ids.Entry.{Entry}
 use Rattle.pc_accept.specs.Accepts.{Claim, implied, inconsistent, repairs, unimplied, against, Certificate}
-use Rattle.pc_cert.specs.Written.{claims, begins, uses, WrittenLine, SaidLine}
+use Rattle.pc_cert.specs.Written.{claims, begins, uses, assigns, WrittenLine, SaidLine}
 use Rattle.pc_cert.specs.Claims.{WrittenClaim, written_implied, written_inconsistent, written_repairs, written_unimplied, written_against}
 use Rattle.pc_cert.specs.Line.{IsCertificateLine}
 use Rattle.pc_cert.specs.Order.{LineKind, kind_of, kind_of_claim, kind_of_written, kind_of_written_claim, is_claim, is_heading, has, lacks, sets_in, may_stand}
 use Rattle.pc_cert.specs.Meaning.{IsSaidLine}
-use Rattle.pc_cert.specs.Text.{SetReading, CertificateReading, certificate, IsTextReading, whole, AllSay, SaysOfSheet, in_front, uses_from, sets_from, claim_in, entry_said, set_read, certificate_read}
+use Rattle.pc_cert.specs.Text.{SetReading, CertificateReading, certificate, IsTextReading, whole, AllSay, SaysOfSheet, in_front, uses_from, values_from, sets_from, claim_in, entry_said, set_read, certificate_read}
 use Rattle.pc_reading_laws.specs.Laws.{LinesHaveOneForm, FormsSayOneThing}
 use Rattle.pc_spreadsheet.specs.Pages.{uses_of}
-use Rattle.pc_theorem.specs.Certificates.{IsUseLine, IsClaimLine, IsSetLine, ArePartedAtSets, none_left, other_line, set_line, AreUsedBy, Claims}
+use Rattle.pc_theorem.specs.Certificates.{IsUseLine, IsValueLine, Assigns, IsClaimLine, IsSetLine, ArePartedAtSets, none_left, other_line, set_line, AreUsedBy, Claims}
 
 -- ---- lists
 
@@ -87,6 +87,17 @@ no_use l none e same = subst NoUse same none
 
 entry_same : (f e : Entry) (k l : SaidLine) → k ≡ uses f → l ≡ uses e → k ≡ l → f ≡ e
 entry_same f e k l k_is l_is same = cc
+
+-- ... and none that gives a value
+abbrev NoValue : SaidLine → Type 0
+NoValue (assigns e) = ⊥
+NoValue l = Unit {0}
+
+no_value : (l : SaidLine) → NoValue l → (e : Entry) → l ≡ assigns e → ⊥
+no_value l none e same = subst NoValue same none
+
+value_same : (f e : Entry) (k l : SaidLine) → k ≡ assigns f → l ≡ assigns e → k ≡ l → f ≡ e
+value_same f e k l k_is l_is same = cc
 
 no_set : (l : SaidLine) → NoSet l → l ≡ begins → ⊥
 no_set l none same = subst NoSet same none
@@ -243,6 +254,60 @@ module _ (one_form : LinesHaveOneForm) (one_thing : FormsSayOneThing) (sheet : S
         used = no_more before line r.front l (used_from (n + 1) ls) all.0 (no_use l tt) r.used;
         given = r.given;
       }
+
+  -- ---- the values, where there are no sets
+
+  value_said : (n : ℕ) (line : List ℕ) (form : WrittenLine) (e : Entry) → IsCertificateLine line form → IsSaidLine sheet n form (assigns e) → IsValueLine sheet line e
+  value_said n line (assigns p) e is named = (p, is.0, is.1, named)
+  value_said n line form e is named = absurd named
+
+  says_value : (before : List LineKind) (line : List ℕ) (l : SaidLine) (e : Entry) → SaysOfSheet sheet before line l → IsValueLine sheet line e → l ≡ assigns e
+  says_value before line l e is (p, starts, spells, named) = says before line l (assigns e) (assigns p) is (starts, spells) named
+
+  abbrev AreGivenBy : List (List ℕ) → List Entry → Type 0
+  AreGivenBy of_lines values = (e : Entry) → Contains values e ↔ Any (λ line. IsValueLine sheet line e) of_lines
+
+  abbrev given_from : ℕ → List SaidLine → List Entry
+  given_from n ls = map entry_said (values_from n (in_front ls))
+
+  one_value_more : (before : List LineKind) (line : List ℕ) (rest : List (List ℕ)) (f : Entry) (es : List Entry) → SaysOfSheet sheet before line (assigns f) → AreGivenBy rest es → AreGivenBy (line ∷ rest) (f ∷ es)
+  one_value_more before line rest f es is all e = (
+    λ within. elim (contains_cases f es e within) [
+      | inl same ↦ any_first (λ x. IsValueLine sheet x e) line rest (subst (λ d. IsValueLine sheet line d) same (value_said (sets_in before) line is.form f is.is is.named))
+      | inr later ↦ any_later (λ x. IsValueLine sheet x e) line rest ((all e).0 later)
+    ],
+    λ some. elim (any_cases (λ x. IsValueLine sheet x e) line rest some) [
+      | inl here ↦ subst (λ d. Contains (d ∷ es) e) (sym (value_same f e (assigns f) (assigns e) refl refl (says_value before line (assigns f) e is here))) (contains_first e es)
+      | inr later ↦ contains_later f es e ((all e).1 later)
+    ],
+  )
+
+  no_value_more : (before : List LineKind) (line : List ℕ) (rest : List (List ℕ)) (l : SaidLine) (es : List Entry) → SaysOfSheet sheet before line l → ((e : Entry) → l ≡ assigns e → ⊥) → AreGivenBy rest es → AreGivenBy (line ∷ rest) es
+  no_value_more before line rest l es is other all e = (
+    λ within. any_later (λ x. IsValueLine sheet x e) line rest ((all e).0 within),
+    λ some. elim (any_cases (λ x. IsValueLine sheet x e) line rest some) [
+      | inl here ↦ absurd (other e (says_value before line l e is here))
+      | inr later ↦ (all e).1 later
+    ],
+  )
+
+  given_lines : (before : List LineKind) (n : ℕ) (texts : List (List ℕ)) (ls : List SaidLine) → AllSay sheet before texts ls → sets_from n ls ≡ [] → AreGivenBy texts (given_from n ls)
+  given_lines before n [] [] all none e = (λ within. absurd (contains_none e within), λ some. absurd (any_none (λ x. IsValueLine sheet x e) some))
+  given_lines before n [] (l ∷ ls) all none e = absurd all
+  given_lines before n (line ∷ texts) [] all none e = absurd all
+  given_lines before n (line ∷ texts) (begins ∷ ls) all none e = absurd (cc)
+  given_lines before n (line ∷ texts) (assigns f ∷ ls) all none e =
+      one_value_more before line texts f (given_from (n + 1) ls) all.0 (given_lines (before ++ kind_of (assigns f) ∷ []) (n + 1) texts ls all.1 none) e
+  given_lines before n (line ∷ texts) (l ∷ ls) all none e =
+      no_value_more before line texts l (given_from (n + 1) ls) all.0 (no_value l tt) (given_lines (before ++ kind_of l ∷ []) (n + 1) texts ls all.1 none) e
+
+  reading_assigns : (text : List ℕ) (r : CertificateReading) → IsTextReading sheet text (certificate r) → r.sets ≡ [] → Assigns sheet text (map entry_said r.values)
+  reading_assigns text r (whole ls all has_its_end together) none =
+      subst (λ vs. Assigns sheet text (map entry_said vs)) (sym together.values) (given_lines [] 1 (lines text) ls all (sym together.sets ∙ none))
+
+  -- the text of a reading without sets gives its certificate's values
+  pub certificate_assigns : (text : List ℕ) (r : CertificateReading) (c : Certificate) → IsTextReading sheet text (certificate r) → certificate_read r ≡ c → r.sets ≡ [] → Assigns sheet text c.values
+  certificate_assigns text r c is same none = subst (λ (d : Certificate). Assigns sheet text d.values) same (reading_assigns text r is none)
 
   -- ---- both
 

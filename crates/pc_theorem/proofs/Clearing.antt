@@ -1,7 +1,7 @@
 -- What the lines of a demonstration ask, and what they leave of the generated sheet.
-use Rattle.std.proofs.Common.{◌≡◌, ◌≢◌, ℕ, zero, suc, ◌+◌, ◌*◌, ◌%◌, ◌<◌, ◌≤◌, Bool, true, false, cond, not, ◌||◌, List, [], ◌∷◌, ◌++◌, map, codes, filter, pos, refl, sym, ◌∙◌, ap, ap₂, subst, arith, eq-eqb}
+use Rattle.std.proofs.Common.{◌≡◌, ◌≢◌, ℕ, zero, suc, ◌+◌, ◌*◌, ◌%◌, ◌<◌, ◌≤◌, Bool, true, false, cond, not, ◌||◌, List, [], ◌∷◌, ◌++◌, map, codes, pos, refl, sym, ◌∙◌, ap, ap₂, subst, arith, eq-eqb}
 use Rattle.std.specs.Prelude.{decimal}
-use Rattle.std.specs.List.{AllZip, flat_map, list_any}
+use Rattle.std.specs.List.{list_any}
 use Rattle.std.proofs.lemmas.Bool.{ne_eqb}
 use Rattle.std.proofs.lemmas.Fmt.{decimal_digit}
 use Rattle.std.proofs.lemmas.Int.{ints}
@@ -19,7 +19,7 @@ use Rattle.pc_formula.specs.Tree.{Cell, integer_value}
 use Rattle.pc_formula.specs.Value.{DerivesCell, natural, by_integer, last, next, enclosed, arguments, a_cell}
 use Rattle.pc_syntax.specs.Tree.{Asked, asks_clear}
 use Rattle.pc_syntax.specs.Spelling.{IsSpelled}
-use Rattle.pc_syntax.specs.Command.{no_command, IsCommandReading, asks, spelled_command, IsDeepAsk}
+use Rattle.pc_syntax.specs.Command.{CommandReading, no_command, IsCommandReading, asks, spelled_command, IsDeepAsk}
 use Rattle.pc_elaborate.specs.Elaboration.{IsCellNamed}
 use Rattle.pc_elaborate.specs.Laws.{TreesHaveOneOutcome}
 use Rattle.pc_canonical_laws.proofs.Counting.{levels_are}
@@ -33,18 +33,15 @@ use Rattle.pc_gen.specs.Text.{up_to}
 use Rattle.pc_gen.specs.Sheet.{sort, generated_universe, entry, block_entries, generated_entries, generated_sheet}
 use Rattle.pc_gen.proofs.Formed.{block_size}
 use Rattle.pc_gen.proofs.Names.{small_name}
-use Rattle.pc_course.specs.Events.{told}
-use Rattle.pc_course_laws.specs.Flat.{told_in}
-use Rattle.pc_transcript.specs.Answer.{Answer, silent, accepted, shown, refused, no_memory, is_refused, answer_text}
-use Rattle.pc_transcript.specs.Transcript.{Transcript, Legal, lines}
+use Rattle.pc_refusals.specs.declared.status.Status.TheVariants.{Done}
+use Rattle.pc_transcript.specs.Answer.{Answer, silent, accepted, shown, refused, no_memory, is_refused, is_no_memory}
+use Rattle.pc_transcript.specs.Transcript.{Transcript, Legal, lines, worse_of, status_of}
 use Rattle.pc_spreadsheet.specs.Tasks.{State, Task, clears, shows, PageKind, IsTaskOf, clearing, state_after}
 use Rattle.pc_spreadsheet.specs.Allowed.{Notes, Allows}
-use Rattle.pc_demo.specs.Demonstration.{told_of}
 use Rattle.pc_demo.specs.Summing.{clear_line, clear_lines}
 use Rattle.pc_demo.proofs.ClearLines.{own_text, is_something}
 use Rattle.pc_afresh_laws.specs.Afresh.{IsOpen, TranscriptsKeepOpen}
-use Rattle.pc_theorem.specs.Theorem.{third_entries, without_firsts, IsToldOf, of_ok, of_other}
-use Rattle.pc_theorem.proofs.Answered.{CommandsHaveOneReading, NeverWants, course_of, asked_same, refused_not_ok}
+use Rattle.pc_theorem.specs.Demonstrations.{third_entries, without_firsts}
 
 -- ---- a line that clears a block's first cell
 
@@ -176,9 +173,6 @@ no_page sheet c kind is = elim is [ ]
 not_quiet : (a : Asked) → no_command ≡ asks a → ⊥
 not_quiet a e = absurd (cc)
 
-empty_not_ok : [] ≡ codes "ok\n" → ⊥
-empty_not_ok e = absurd (cc)
-
 -- each of the lines clears a cell
 abbrev pub AreClearing : List (List ℕ) → Type 0
 AreClearing [] = Unit {0}
@@ -196,18 +190,35 @@ pub lines_clear : (n : ℕ) → n ≤ 256 → AreClearing (clear_lines n)
 lines_clear zero few = tt
 lines_clear (suc n) few = subst AreClearing (sym (map-push (up_to n) (suc n))) (clearing-push (clear_lines n) (clear_line (suc n)) (lines_clear n (omega (arith, few))) (first_cell (suc n), reads (suc n) few))
 
--- ---- what is told of the answers
+-- ---- along a transcript
 
-abbrev pub pieces_of : Transcript → List (List ℕ)
-pieces_of t = map (λ pair. told_of pair.1) t
+-- no line wanted memory
+abbrev pub NeverWants : Transcript → Type 0
+NeverWants [] = Unit {0}
+NeverWants (pair ∷ more) = (pair.1 ≡ no_memory → ⊥) × NeverWants more
 
-pub told_of_pieces : (t : Transcript) → told_in (map (λ pair. told (told_of pair.1)) t) ≡ flat_map (λ (piece : List ℕ). piece) (pieces_of t)
-told_of_pieces [] = refl
-told_of_pieces (pair ∷ more) = ap (λ (xs : List ℕ). told_of pair.1 ++ xs) (told_of_pieces more)
+no_want : (answer : Answer) → is_no_memory answer ≡ false → answer ≡ no_memory → ⊥
+no_want answer is same = absurd (cc (is, ap is_no_memory same))
 
 neither : (b c : Bool) → (b || c) ≡ false → (b ≡ false) × (c ≡ false)
 neither true c is = absurd (cc)
 neither false c is = (refl, is)
+
+never_wants : (t : Transcript) → list_any (λ pair. is_no_memory pair.1) t ≡ false → NeverWants t
+never_wants [] is = tt
+never_wants (pair ∷ more) is =
+    let parts = neither (is_no_memory pair.1) (list_any (λ pair. is_no_memory pair.1) more) is in
+    (no_want pair.1 parts.0, never_wants more parts.1)
+
+-- where a transcript's status is that all is done, none was refused and none wanted memory
+no_refusal : (b c : Bool) → worse_of b c ≡ Done → c ≡ false
+no_refusal true c is = absurd (cc is)
+no_refusal false true is = absurd (cc is)
+no_refusal false false is = refl
+
+no_wanting : (b c : Bool) → worse_of b c ≡ Done → b ≡ false
+no_wanting true c is = absurd (cc is)
+no_wanting false c is = refl
 
 no_cons : {X : Type 0} (x : X) (xs : List X) → [] ≡ x ∷ xs → ⊥
 no_cons x xs e = absurd (cc)
@@ -256,20 +267,16 @@ none_refused_last (pair ∷ more) line answer none =
     let r = none_refused_last more line answer two.1 in
     (ap₂ (λ (b c : Bool). b || c) two.0 r.0, r.1)
 
+-- a command line and a command have one reading
+abbrev pub CommandsHaveOneReading : Type 0
+CommandsHaveOneReading = (line : List ℕ) (q r : CommandReading) → IsCommandReading line q → IsCommandReading line r → q ≡ r
+
+pub asked_same : (a b : Asked) → asks a ≡ asks b → a ≡ b
+asked_same a b e = cc
+
 module _ (read : CommandsHaveOneReading) where
   asks_so : (line : List ℕ) (a : Asked) (c : Cell) → IsCommandReading line (asks (asks_clear c)) → IsCommandReading line (asks a) → a ≡ asks_clear c
   asks_so line a c clearing_it other = asked_same a (asks_clear c) (read line (asks a) (asks (asks_clear c)) other clearing_it)
-
-  piece_is : (old new : State × Notes) (line : List ℕ) (answer : Answer) (c : Cell) → IsCommandReading line (asks (asks_clear c)) → Allows old line answer new → (answer ≡ no_memory → ⊥) → IsToldOf (answer_text answer) (told_of answer)
-  piece_is old new line silent c clearing_it allowed some = of_other empty_not_ok
-  piece_is old new line accepted c clearing_it allowed some = of_ok refl
-  piece_is old new line (shown text) c clearing_it allowed some = absurd (no_page old.0.sheet c allowed.0 (subst (λ (a : Asked). IsTaskOf old.0.sheet a (shows allowed.0)) (asks_so line allowed.1.0 c clearing_it allowed.1.1) allowed.1.2))
-  piece_is old new line (refused why more) c clearing_it allowed some = of_other (refused_not_ok _)
-  piece_is old new line no_memory c clearing_it allowed some = absurd (some refl)
-
-  pub pieces_are : (old new : State × Notes) (t : Transcript) → AreClearing (lines t) → Legal Allows old t new → NeverWants t → AllZip (λ (p : List ℕ × List ℕ). IsToldOf p.1) (course_of t) (pieces_of t)
-  pieces_are old new [] are legal never = tt
-  pieces_are old new (pair ∷ more) are legal never = (piece_is old legal.0 (line_text_of pair.0) pair.1 are.0.0 are.0.1 legal.1 never.0, pieces_are legal.0 new more are.1 legal.2 never.1)
 
   -- ---- what the lines leave
 
@@ -303,6 +310,8 @@ module _ (read : CommandsHaveOneReading) where
         let earlier = lines_leave k (omega (arith, below)) old l.mid c.front is same c.lines_are l.before none.0 nothing_wanted.0 in
         line_leaves l.mid new k c.answer (keep_all old l.mid c.front is l.before) earlier (omega (arith, below)) l.allowed none.1 nothing_wanted.1
 
-    pub all_cleared : (old new : State × Notes) (t : Transcript) → IsOpen old.0.sheet → old.0.sheet ≡ generated_sheet blocks → lines t ≡ clear_lines blocks → Legal Allows old t new → list_any (λ pair. is_refused pair.1) t ≡ false → NeverWants t → new.0.sheet ≡ without_firsts blocks
-    all_cleared old new t is same are legal full never =
-        lines_leave blocks (omega arith) old new t is same are legal full never ∙ ap (λ (es : List Entry). record { universe = (generated_sheet blocks).universe; rules = (generated_sheet blocks).rules; entries = es }) (thirds_are_left blocks)
+    -- where all is done, the entries of the first cells are gone
+    pub all_cleared : (old new : State × Notes) (t : Transcript) → IsOpen old.0.sheet → old.0.sheet ≡ generated_sheet blocks → lines t ≡ clear_lines blocks → Legal Allows old t new → status_of t ≡ Done → new.0.sheet ≡ without_firsts blocks
+    all_cleared old new t is same are legal well =
+        lines_leave blocks (omega arith) old new t is same are legal (no_refusal _ _ well) (never_wants t (no_wanting _ _ well))
+        ∙ ap (λ (es : List Entry). record { universe = (generated_sheet blocks).universe; rules = (generated_sheet blocks).rules; entries = es }) (thirds_are_left blocks)

@@ -1,20 +1,18 @@
--- What events come to where the devices tell their bytes, and how runs end that end well.
+-- What events come to where the devices tell their bytes.
 use Rattle.std.proofs.Common.{◌≡◌, ℕ, List, [], ◌∷◌, ◌++◌, Option, Some, None, IfSome, refl, sym, ◌∙◌, ap, subst, append-nil}
 use Rattle.std.specs.Io.KnownBytes.{Consumes, Appends, IsAtEnd}
 use Rattle.std.proofs.lemmas.List.Concat.{flat_map-append}
 use Rattle.pc_port.specs.Shelf.{Files, file_named}
 use Rattle.pc_refusals.specs.declared.status.Status.{Status}
-use Rattle.pc_refusals.specs.declared.status.Status.TheVariants.{Done, SomeRefused, SheetRefused, CertRefused}
-use Rattle.pc_course.specs.Events.{Outside, Event, took_rest, gave, told, Happened}
-use Rattle.pc_course.specs.Stages.{Stage, takes, needs, tells, ends_with, ends}
-use Rattle.pc_course.specs.Runs.{IsSpare, nothing, ahead, Comes, on_course, past_limit, without_memory, Run, ended, ended_with, read_failed, read_failed_at_file, write_failed}
+use Rattle.pc_course.specs.Events.{Outside, Event, took_rest, gave, Happened}
+use Rattle.pc_course.specs.Runs.{IsSpare, nothing, ahead}
 use Rattle.pc_course_laws.specs.Flat.{taken_in, told_in, told_of, EventsAddUp}
 use Rattle.pc_theorem.specs.Theorem as page
 use Rattle.pc_theorem.specs.Theorem.{IsTold}
 
 -- ---- bytes
 
-front_cancels : (xs ys zs : List ℕ) → xs ++ ys ≡ xs ++ zs → ys ≡ zs
+pub front_cancels : (xs ys zs : List ℕ) → xs ++ ys ≡ xs ++ zs → ys ≡ zs
 front_cancels [] ys zs e = e
 front_cancels (x ∷ xs) ys zs e = front_cancels xs ys zs (tail_same (xs ++ ys) (xs ++ zs) e)
   where
@@ -32,7 +30,7 @@ through input xs bytes (Some l) (Some r) first second end = first ∙ ap (λ ys.
 
 -- ---- events
 
-split : (xs ys : List Event) (a b : Outside) → Happened (xs ++ ys) a b → (m : Outside) × Happened xs a m × Happened ys m b
+pub split : (xs ys : List Event) (a b : Outside) → Happened (xs ++ ys) a b → (m : Outside) × Happened xs a m × Happened ys m b
 split [] ys a b h = (a, refl, h)
 split (x ∷ xs) ys a b h = let two = split xs ys h.0 b h.2 in (two.0, (h.0, h.1, two.1), two.2)
 
@@ -64,43 +62,3 @@ module _ (sums : EventsAddUp) where
       let told_so : Appends a.output b.output (told_in events) = subst (Appends a.output b.output) (told_alone most events spare quiet) (sums.told (events ++ spare) a b h) in
       front_cancels is.earlier run.printed (told_in events)
       (subst (λ o. Appends (Some is.earlier) o (told_in events)) is.given_after (subst (λ o. Appends o b.output (told_in events)) is.given_before told_so))
-
--- ---- ends
-
--- a run that ends so followed its course to its end
-abbrev pub IsFull : Status → Type 0
-IsFull Done = Unit {0}
-IsFull SomeRefused = Unit {0}
-IsFull SheetRefused = Unit {0}
-IsFull CertRefused = Unit {0}
-IsFull status = ⊥
-
-module _ {N : Type 0} (Course : List Event → Stage → N → Type 0) where
-  abbrev At : List Event → N → Stage → Type 0
-  At events notes (ends status) = IsFull status → Course events (ends status) notes
-  At events notes (ends_with line status) = IsFull status → Course events (ends_with line status) notes
-  At events notes stage = Unit {0}
-
-  on_at : (events : List Event) (stage : Stage) (notes : N) → Course events stage notes → At events notes stage
-  on_at events (ends status) notes h = λ full. h
-  on_at events (ends_with line status) notes h = λ full. h
-  on_at events (takes intake) notes h = tt
-  on_at events (needs line) notes h = tt
-  on_at events (tells piece) notes h = tt
-
-  comes_at : (events : List Event) (stage : Stage) (notes : N) → Comes Course events stage notes → At events notes stage
-  comes_at events stage notes (on_course h) = on_at events stage notes h
-  comes_at events stage notes (past_limit before intake event h passes is) = λ full. absurd full
-  comes_at events stage notes (without_memory line h) = λ full. absurd full
-
-  -- its course ended without a further word, or with this line
-  pub data Finishes (events : List Event) (status : Status) (notes : N) : Type 0 where
-    quietly : Course events (ends status) notes → Finishes events status notes
-    telling : (before : List Event) (line : List ℕ) → Course before (ends_with line status) notes → events ≡ before ++ told line ∷ [] → Finishes events status notes
-
-  pub finishes : (events : List Event) (status : Status) (notes : N) → IsFull status → Run Course events status notes → Finishes events status notes
-  finishes events status notes full (ended h) = quietly (comes_at events (ends status) notes h full)
-  finishes events status notes full (ended_with before line h is) = telling before line (comes_at before (ends_with line status) notes h full) is
-  finishes events status notes full (read_failed before intake begun h can is) = absurd full
-  finishes events status notes full (read_failed_at_file before name h is) = absurd full
-  finishes events status notes full (write_failed before stage piece count h telling_it is) = absurd full

@@ -1,20 +1,36 @@
--- A run that keeps its word.
-use Rattle.std.proofs.Common.{◌≡◌, ◌≢◌, ℕ, List, [], ◌∷◌, ◌++◌, codes, length, Some, refl, sym, ◌∙◌, ap, subst, inl, inr, arith}
+-- Runs that keep their word.
+use Rattle.std.proofs.Common.{◌≡◌, ◌≢◌, ℕ, ◌<◌, List, [], ◌∷◌, ◌++◌, codes, length, Some, refl, sym, ◌∙◌, ap, subst, inl, inr, append-nil, arith}
 use Rattle.std.proofs.lemmas.List.Elements.{All-nil, All-cons}
 use Rattle.std.specs.Fmt.{decimal}
 use Rattle.std.proofs.lemmas.Fmt.{decimal_digit}
 use Rattle.pc_lemmas.proofs.Elements.{contains_none}
 use Rattle.pc_port.specs.Shelf.{Files}
+use Rattle.pc_sheet.specs.Sheet.{Sheet}
+use Rattle.pc_formula.specs.Word.{name}
+use Rattle.pc_syntax.specs.Tree.{asks_show}
+use Rattle.pc_syntax.specs.Command.{IsCommandReading, asks}
+use Rattle.pc_canonical_laws.proofs.Cuts.{Cuts, done}
+use Rattle.pc_canonical_laws.proofs.Cutting.{nothing, cut_name}
+use Rattle.pc_canonical_laws.proofs.Lines.{cuts_to_end}
+use Rattle.pc_gen.proofs.Names.{small_name}
 use Rattle.pc_collab.specs.Journal.{Post, IsOneLine, IsPost, AreNumberedByAuthor, IsJournal}
 use Rattle.pc_collab.proofs.Numbered.{numbered_push}
 use Rattle.pc_collab.specs.Text.{journal_text}
+use Rattle.pc_writer.specs.SheetText.{sheet_text}
+use Rattle.pc_display.specs.Show.{IsShown}
+use Rattle.pc_display.specs.OneDisplay.{SheetHasOneDisplay}
+use Rattle.pc_refusals.specs.declared.status.Status.{Status}
 use Rattle.pc_refusals.specs.declared.status.Status.TheVariants.{Done}
-use Rattle.pc_words.specs.Words.{Mode, checks, merges, demonstrates, Request, FitsWords, usual_budget}
+use Rattle.pc_transcript.specs.Answer.{shown}
+use Rattle.pc_words.specs.Words.{edits, merges, Request, FitsWords, usual_budget}
 use Rattle.pc_words.specs.Laws.{WordsFitOneRequest}
-use Rattle.pc_theorem.specs.Theorem.{Run, AskFor, IsMerged, IsMergeOf, AnswersCommands, IsTold, IsWorthIts}
-use Rattle.pc_theorem.specs.Examples.{outside_of, merge_words, WorkedWords}
-use Rattle.pc_theorem.proofs.BrokenSessions.{is_file_name}
-use Rattle.pc_theorem.proofs.Broken.{a_post}
+use Rattle.pc_spreadsheet.specs.Tasks.{State, lines_page, showing}
+use Rattle.pc_afresh_laws.specs.Afresh.{IsOpen, DumpsStartAgain}
+use Rattle.pc_theorem.specs.Theorem.{Run, IsMerged, merges_both, page_shown, IsSession, answers_all, Ends, IsTold, IsWorthIts, KeepsItsWord}
+use Rattle.pc_theorem.specs.Examples.{told_outside, merge_words, edit_words, WorkedWords}
+use Rattle.pc_theorem.proofs.BrokenSessions.{a_post, is_file_name}
+use Rattle.pc_theorem.proofs.OneWord.{one_word}
+use Rattle.pc_theorem.proofs.Pages.{the_text}
 
 abbrev the_post : Post
 the_post = record { author = 1; number = 1; stamp = 7; text = codes "show" }
@@ -71,47 +87,74 @@ merged = record {
   told = text_is;
 }
 
-abbrev request : Request
-request = record { mode = merges (codes "f"); budget = usual_budget }
+-- ---- the line `show`
 
-fits : FitsWords merge_words request
-fits = inl ((refl, is_file_name), refl)
+abbrev pub show_word : List ℕ
+show_word = codes "show"
 
-module _ (one : WordsFitOneRequest) (run : Run) (is : IsTold merge_words Done (outside_of the_files [] []) (outside_of the_files [] a_post) run) where
-  asked : (mode : Mode) (budget : ℕ) → AskFor run mode budget → merges (codes "f") ≡ mode
-  asked mode budget asks = ap (λ (r : Request). r.mode) (one merge_words request asks.0 fits (subst (λ ws. FitsWords ws asks.0) is.words_are asks.1)) ∙ asks.2
+cuts : Cuts show_word (name show_word ∷ [])
+cuts = cuts_to_end show_word (name show_word ∷ []) (cut_name show_word [] [] (small_name _ _ refl refl refl) nothing done)
 
-  files_are : the_files ≡ run.files
-  files_are = some_same the_files run.files is.files_are
+long : 0 < length show_word
+long = omega arith
+
+pub asks_to_show : IsCommandReading show_word (asks asks_show)
+asks_to_show = one_word show_word cuts long (λ seen. absurd (cc)) (λ here. omega (arith, here)) asks_show (record { rest = []; words = refl; follows = refl })
+
+abbrev pub show_line : List ℕ
+show_line = codes "show\n"
+
+-- ---- runs over told devices
+
+-- such a run is worth what its one request ends in
+module _ (one : WordsFitOneRequest) (words : List (List ℕ)) (files : Files) (input printed : List ℕ) (status : Status) (request : Request) (fits : FitsWords words request) where
+  abbrev the_run : Run
+  the_run = record { words = words; files = files; input = input; printed = printed; status = status }
+
+  run_is : (run : Run) → IsTold words status (told_outside files input []) (told_outside files [] printed) run → the_run ≡ run
+  run_is run is =
+      ap (λ (ws : List (List ℕ)). record { words = ws; files = files; input = input; printed = printed; status = status }) (sym is.words_are)
+      ∙ ap (λ (fs : Files). record { words = run.words; files = fs; input = input; printed = printed; status = status }) (some_same files run.files is.files_are)
+      ∙ ap (λ (i : List ℕ). record { words = run.words; files = run.files; input = i; printed = printed; status = status }) (bytes_same input run.input is.input_is)
+      ∙ ap (λ (p : List ℕ). record { words = run.words; files = run.files; input = run.input; printed = p; status = status }) (bytes_same printed (is.earlier ++ run.printed) is.given_after ∙ ap (λ (xs : List ℕ). xs ++ run.printed) (sym (bytes_same [] is.earlier is.given_before)))
+      ∙ ap (λ (s : Status). record { words = run.words; files = run.files; input = run.input; printed = run.printed; status = s }) (sym is.status_is)
     where
       some_same : (x y : Files) → Some x ≡ Some y → x ≡ y
       some_same x y e = cc
 
-  bytes_same : (x y : List ℕ) → Some x ≡ Some y → x ≡ y
-  bytes_same x y e = cc
+      bytes_same : (x y : List ℕ) → Some x ≡ Some y → x ≡ y
+      bytes_same x y e = cc
 
-  printed_is : a_post ≡ run.printed
-  printed_is = bytes_same a_post (is.earlier ++ run.printed) is.given_after ∙ ap (λ xs. xs ++ run.printed) (sym (bytes_same [] is.earlier is.given_before))
-
-  merge_of : (file : List ℕ) → merges (codes "f") ≡ merges file → IsMergeOf run file
-  merge_of file same = record {
-    merged = λ done.
-        let files = subst (λ fs. IsMerged fs (codes "f") [] a_post) files_are merged in
-        let input = subst (λ i. IsMerged run.files (codes "f") i a_post) (bytes_same [] run.input is.input_is) files in
-        subst (λ f. IsMerged run.files f run.input run.printed) (file_same file same) (subst (λ p. IsMerged run.files (codes "f") run.input p) printed_is input);
-    declined = λ refused. absurd (cc (refused, is.status_is));
-  }
-    where
-      file_same : (file : List ℕ) → merges (codes "f") ≡ merges file → codes "f" ≡ file
-      file_same file e = cc
-
-  worth : IsWorthIts run
-  worth = record {
-    check = λ file budget asks. absurd (cc (asked (checks file) budget asks));
-    merge = λ file budget asks. merge_of file (asked (merges file) budget asks);
-    session = λ mode budget asks answering well. absurd (subst AnswersCommands (sym (asked mode budget asks)) answering);
-    demo = λ blocks budget asks. absurd (cc (asked (demonstrates blocks) budget asks));
+  worth : Ends the_run request.budget request.mode → IsWorthIts the_run
+  worth ends = record {
+    asked_for = λ other asked. inl (subst (λ (q : Request). Ends the_run q.budget q.mode) (one words request other fits asked) ends);
+    unfit = λ none. absurd (none request fits);
   }
 
-pub worked_words : WordsFitOneRequest → WorkedWords
-worked_words one = record { merged = λ run is. worth one run is }
+  keeps : Ends the_run request.budget request.mode → KeepsItsWord words status (told_outside files input []) (told_outside files [] printed)
+  keeps ends run is uncut = subst IsWorthIts (run_is run is) (worth ends)
+
+-- ---- a sheet that is shown
+
+show_starts : DumpsStartAgain → SheetHasOneDisplay → (sheet : Sheet) (display : List ℕ) → IsOpen sheet → IsShown sheet display
+    → IsSession (record { words = edit_words; files = (codes "f", sheet_text sheet) ∷ []; input = show_line; printed = display; status = Done }) usual_budget (sheet_text sheet) (show_line ∷ [])
+show_starts again one_display sheet display is is_shown =
+    let state : State = record { sheet = sheet; budget = usual_budget } in
+    record {
+      start = state;
+      starts = (again sheet (sheet_text sheet) is refl).starts usual_budget;
+      transcript = (show_line, shown display) ∷ [];
+      end = state;
+      legal = (state, page_shown lines_page display (asks_show, asks_to_show, showing) (the_text IsShown one_display.shown sheet display is is_shown), refl);
+      lines_are = refl;
+      printed_are = sym (append-nil display);
+      status_is = refl;
+    }
+
+pub worked_words : WordsFitOneRequest → DumpsStartAgain → SheetHasOneDisplay → WorkedWords
+worked_words one again one_display = record {
+  merged = keeps one merge_words the_files [] a_post Done (record { mode = merges (codes "f"); budget = usual_budget }) (inl ((refl, is_file_name), refl)) (merges_both refl merged);
+  displayed = λ sheet display is is_shown.
+      keeps one edit_words ((codes "f", sheet_text sheet) ∷ []) show_line display Done (record { mode = edits (codes "f"); budget = usual_budget }) (inl ((refl, is_file_name), refl))
+      (answers_all (sheet_text sheet) (show_line ∷ []) refl refl (show_starts again one_display sheet display is is_shown));
+}

@@ -12,6 +12,14 @@ use Rattle.pc_cert.specs.Words.{texts_of}
 abbrev pub IsUseLine : Sheet → List ℕ → Entry → Type 0
 IsUseLine sheet line e = (p : WrittenPair) × StartsWithText (texts_of line) (codes "use") × SpellsPair line (codes "use") p × IsPairNamed sheet.universe p e
 
+-- the line says `value CELL = VALUE`
+abbrev pub IsValueLine : Sheet → List ℕ → Entry → Type 0
+IsValueLine sheet line e = (p : WrittenPair) × StartsWithText (texts_of line) (codes "value") × SpellsPair line (codes "value") p × IsPairNamed sheet.universe p e
+
+-- the text gives these values to cells
+abbrev pub Assigns : Sheet → List ℕ → List Entry → Type 0
+Assigns sheet text values = (e : Entry) → Contains values e ↔ Any (λ line. IsValueLine sheet line e) (lines text)
+
 -- the line says `claim` and what is claimed
 abbrev pub IsClaimLine : Sheet → List ℕ → Claim → Type 0
 IsClaimLine sheet line claim = (written : WrittenClaim) × IsClaimForm line (texts_of line) written × IsClaimNamed sheet written claim

@@ -1,19 +1,38 @@
--- Runs that would not keep their word.
-use Rattle.std.specs.Prelude.{ℕ, List, [], ◌∷◌, codes, Some}
+-- Runs that keep their word, and runs and answers that would not.
+use Rattle.std.specs.Prelude.{◌≢◌, ℕ, List, [], ◌∷◌, codes, Some}
 use Rattle.pc_port.specs.Shelf.{Files}
-use Rattle.pc_writer.specs.SheetText.{ended}
+use Rattle.pc_token.specs.Line.{IsOneName}
+use Rattle.pc_syntax.specs.Tree.{asks_clear, asks_show, Cell}
+use Rattle.pc_syntax.specs.Command.{IsCommandReading, asks}
+use Rattle.pc_sheet.specs.Sheet.{Sheet}
+use Rattle.pc_sheet.specs.Entailment.{IsImplied}
+use Rattle.pc_sheet.specs.declared.ids.Target.{Target}
+use Rattle.pc_laws.specs.Examples.{equal_cells}
+use Rattle.pc_writer.specs.SheetText.{sheet_text, ended}
+use Rattle.pc_display.specs.Show.{IsShown}
+use Rattle.pc_refusals.specs.declared.refusal.Counts.{Counts}
+use Rattle.pc_refusals.specs.declared.refusal.Refusal.TheVariants.{Spent}
 use Rattle.pc_refusals.specs.declared.status.Status.{Status}
 use Rattle.pc_refusals.specs.declared.status.Status.TheVariants.{Done, SomeRefused, SheetRefused, CertRefused}
 use Rattle.pc_course.specs.Events.{Outside}
-use Rattle.pc_theorem.specs.Theorem.{KeepsItsWord}
+use Rattle.pc_transcript.specs.Answer.{shown, refused, no_memory}
+use Rattle.pc_words.specs.Words.{usual_budget}
+use Rattle.pc_spreadsheet.specs.Tasks.{State, why_page}
+use Rattle.pc_afresh_laws.specs.Afresh.{IsOpen}
+use Rattle.pc_theorem.specs.Theorem.{Tells, Answers, KeepsItsWord}
+use Rattle.pc_theorem.specs.Demonstrations.{Demonstrates}
 
 -- what is outside where the shelf keeps these files, the input has this left, and the output was given this
-abbrev pub outside_of : Files → List ℕ → List ℕ → Outside
-outside_of files input output = record { kept = Some files; asked = []; shelf_faults = 0; input = Some input; input_faults = 0; output = Some output; output_faults = 0 }
+abbrev pub told_outside : Files → List ℕ → List ℕ → Outside
+told_outside files input output = record { kept = Some files; asked = []; shelf_faults = 0; input = Some input; input_faults = 0; output = Some output; output_faults = 0 }
 
 -- from such an outside, where nothing was given to the output, a run with these words that printed this
 abbrev pub Keeps : List (List ℕ) → Files → List ℕ → List ℕ → Status → Type 0
-Keeps words files input printed status = KeepsItsWord words status (outside_of files input []) (outside_of files [] printed)
+Keeps words files input printed status = KeepsItsWord words status (told_outside files input []) (told_outside files [] printed)
+
+-- the same of a demonstration
+abbrev pub Demonstrated : List (List ℕ) → Files → List ℕ → List ℕ → Status → Type 0
+Demonstrated words files input printed status = Demonstrates words status (told_outside files input []) (told_outside files [] printed)
 
 -- the words `merge f`
 abbrev pub merge_words : List (List ℕ)
@@ -30,6 +49,8 @@ demo_words = codes "demo" ∷ codes "1" ∷ []
 pub record WorkedWords : Type 0 where
   -- a journal of one post, merged with an empty one, is that journal
   pub merged : Keeps merge_words ((codes "f", codes "post 1 1 7 : show\n") ∷ []) [] (codes "post 1 1 7 : show\n") Done
+  -- on the canonical text of a sheet `show` is answered by the sheet's display
+  pub displayed : (sheet : Sheet) (display : List ℕ) → IsOpen sheet → IsShown sheet display → Keeps edit_words ((codes "f", sheet_text sheet) ∷ []) (codes "show\n") display Done
 
 pub record BrokenWords : Type 0 where
   -- a certificate is accepted for a file that isn't there
@@ -45,8 +66,22 @@ pub record BrokenWords : Type 0 where
   -- a command is answered though there is none, or refused
   pub no_line : (files : Files) → ¬ Keeps edit_words files [] (ended (codes "ok")) Done
   pub none_refused : (files : Files) → ¬ Keeps edit_words files [] [] SomeRefused
+  -- a sheet is refused, and that isn't told
+  pub quietly_refused : (files : Files) → ¬ Keeps edit_words files [] [] SheetRefused
   -- what may be kept together is answered as an edit is
   pub ok_for_repairs : (files : Files) → ¬ Keeps edit_words files (codes "repairs\n") (ended (codes "ok")) Done
+  -- on the canonical text of a sheet `show` is answered by another text than the display, as one that lacks a value
+  pub other_shown : (sheet : Sheet) (display printed : List ℕ) → IsOpen sheet → IsShown sheet display → printed ≢ display → ¬ Keeps edit_words ((codes "f", sheet_text sheet) ∷ []) (codes "show\n") printed Done
   -- a demonstration is refused for its rules, or tells nothing
-  pub refused_demo : (files : Files) → ¬ Keeps demo_words files [] (ended (codes "sheet refused 13 inconsistent")) SheetRefused
-  pub silent_demo : (files : Files) → ¬ Keeps demo_words files [] [] Done
+  pub refused_demo : (files : Files) → ¬ Demonstrated demo_words files [] (ended (codes "sheet refused 13 inconsistent")) SheetRefused
+  pub silent_demo : (files : Files) → ¬ Demonstrated demo_words files [] [] Done
+
+pub record BrokenAnswers : Type 0 where
+  -- `show` is answered by another text than the display, as one that lacks a value
+  pub other_display : (state next : State) (line text display : List ℕ) → IsCommandReading line (asks asks_show) → IsShown state.sheet display → text ≢ display → ¬ Answers state line (shown text) next
+  -- memory is wanting for `show`
+  pub memory_for_show : (state next : State) (line : List ℕ) → IsOneName line (codes "show") → ¬ Answers state line no_memory next
+  -- a target that is implied is told not to be
+  pub told_not_implied : (sheet : Sheet) (t : Target) → IsImplied sheet t → ¬ Tells sheet (why_page t) (ended (codes "not implied"))
+  -- the usual budget is spent at once where one of two cells is cleared
+  pub spent_at_once : (next : State) (line more : List ℕ) (c : Cell) (counts : Counts) → IsCommandReading line (asks (asks_clear c)) → ¬ Answers (record { sheet = equal_cells; budget = usual_budget }) line (refused (Spent counts) more) next

@@ -1,48 +1,59 @@
 -- What a run of PrediCalc is worth, in the words of sheets alone. Whoever wants to believe the program reads this page and what it cites:
 -- what a text says, what a sheet's rules and entries entail, what the display is. Nothing here says how anything is found. The page is read
 -- from its end: `KeepsItsWord` is what is proved of `run`.
-use Rattle.std.specs.Prelude.{◌≡◌, ◌≢◌, ◌↔◌, ◌⊎◌, ℕ, zero, suc, ◌+◌, ◌*◌, ◌%◌, List, [], ◌∷◌, ◌++◌, length, map, codes, None, Some, Contains}
-use Rattle.std.specs.List.{AllZip, flat_map}
+use Rattle.std.specs.Prelude.{◌≡◌, ◌↔◌, ◌⊎◌, ℕ, ◌+◌, ◌*◌, ◌^◌, ◌<◌, List, [], ◌++◌, length, codes, Option, Some, Contains}
+use Rattle.std.specs.List.{AllZip}
 use Rattle.pc_port.specs.Shelf.{Files, file_named}
-use Rattle.pc_lines.specs.Lines.{lines_of, line_text_of}
+use Rattle.pc_lines.specs.Lines.{lines_of}
 use Rattle.pc_sheet.specs.Sheet.{Sheet, Statement, NamedStatement, with_rule}
-use Rattle.pc_sheet.specs.Entailment.{IsSupport, IsImplied, IsLeastSupport}
+use Rattle.pc_sheet.specs.Entailment.{Fits, IsSupport, IsImplied, IsLeastSupport}
 use Rattle.pc_sheet.specs.MaximalSets.{ListsExactly, IsMaximalSet, AreRulesConsistent}
+use Rattle.pc_sheet.specs.declared.ids.CellId.{CellId}
 use Rattle.pc_sheet.specs.declared.ids.Entry.{Entry}
 use Rattle.pc_sheet.specs.declared.ids.Target.{Target}
+use Rattle.pc_syntax.specs.Tree.{Asked}
+use Rattle.pc_syntax.specs.Command.{IsCommandReading, asks, TakesNoMemory}
+use Rattle.pc_ground.specs.Variables.{variable_count}
+use Rattle.pc_enough_laws.specs.Enough.{enough_for_all}
 use Rattle.pc_parts.specs.Parts.{Part, AreParts}
 use Rattle.pc_parts.specs.Unions.{parts_with_entries, IsUnion}
-use Rattle.pc_gen.specs.Text.{generated_text}
-use Rattle.pc_gen.specs.Sheet.{entry, generated_sheet}
 use Rattle.pc_collab.specs.Journal.{Post}
 use Rattle.pc_collab.specs.Reading.{IsTextOf}
 use Rattle.pc_collab.specs.Merge.{IsMerge}
 use Rattle.pc_collab.specs.Text.{journal_text}
-use Rattle.pc_accept.specs.Accepts.{Claim, implied, inconsistent, repairs, unimplied, against}
+use Rattle.pc_accept.specs.Accepts.{Claim, implied, inconsistent, repairs, unimplied, against, AreShown}
 use Rattle.pc_accept.specs.Laws.{IsInOrder, AreAgainst}
 use Rattle.pc_asked_laws.specs.Asked.{IsStatementImplied, IsLeastForStatement, asked}
+use Rattle.pc_complete_laws.specs.Asking.{enough_to_ask}
 use Rattle.pc_writer.specs.SheetText.{ended}
 use Rattle.pc_display.specs.Show.{IsShown}
 use Rattle.pc_display.specs.Grid.{IsGrid}
+use Rattle.pc_display.specs.Json.{IsJsonLine}
 use Rattle.pc_repairs.specs.Listed.{ListedPart, IsListedPart, listing_text}
 use Rattle.pc_sortcheck.specs.Declaring.{ReadsAs}
-use Rattle.pc_refusals.specs.Refusals.{refusal_text, sheet_refusal_text}
+use Rattle.pc_load.specs.Outcome.{HasFault}
+use Rattle.pc_refusals.specs.Refusals.{sheet_refusal_text}
+use Rattle.pc_refusals.specs.Endings.{memory_text, sheet_memory_text}
 use Rattle.pc_refusals.specs.declared.refusal.Counts.{Counts}
+use Rattle.pc_refusals.specs.declared.refusal.SheetRefusal.{SheetRefusal}
 use Rattle.pc_refusals.specs.declared.refusal.Refusal.{Refusal}
-use Rattle.pc_refusals.specs.declared.refusal.Refusal.TheVariants.{Inconsistent, Spent}
+use Rattle.pc_refusals.specs.declared.refusal.Refusal.TheVariants.{TooLarge, Inconsistent, Spent}
 use Rattle.pc_refusals.specs.declared.status.Status.{Status}
-use Rattle.pc_refusals.specs.declared.status.Status.TheVariants.{Done, SomeRefused, SheetRefused, CertRefused}
+use Rattle.pc_refusals.specs.declared.status.Status.TheVariants.{Done, SheetRefused, Usage, ReadFault, WriteFault, Memory, TooLong, CertRefused}
 use Rattle.pc_course.specs.Events.{Outside}
 use Rattle.pc_transcript.specs.SheetPart.{IsSheetPart}
+use Rattle.pc_transcript.specs.Answer.{Answer, silent, accepted, shown, refused, no_memory}
+use Rattle.pc_transcript.specs.Transcript.{Transcript, Legal, lines, output_of, status_of}
 use Rattle.pc_journal.specs.PostLines.{lines_of_posts}
-use Rattle.pc_words.specs.Words.{Mode, replays, edits, checks, merges, posts, demonstrates, Request, FitsWords}
+use Rattle.pc_words.specs.Words.{Mode, replays, edits, checks, merges, posts, demonstrates, Request, FitsWords, FitNothing}
+use Rattle.pc_spreadsheet.specs.Judgement.{IsTooLarge, IsContradictory, of_whole}
 use Rattle.pc_spreadsheet.specs.Refused.{IsContradiction, IsRefused}
-use Rattle.pc_spreadsheet.specs.Tasks.{State, Starts, Task, budgets, shows, lines_page, grid_page, json_page, text_page, why_page, repairs_page, proof_page, whynot_page, ask_page, AsksNothing, IsTask, IsEdit, state_after}
-use Rattle.pc_display.specs.Json.{IsJsonLine}
-use Rattle.pc_demo.specs.Summing.{clear_lines, SumsUp}
+use Rattle.pc_spreadsheet.specs.Tasks.{State, IsLight, Starts, Task, shows, PageKind, lines_page, grid_page, json_page, text_page, why_page, repairs_page, proof_page, whynot_page, ask_page, AsksNothing, IsTask, IsEdit, state_after}
+use Rattle.pc_spreadsheet.specs.Allowed.{NeedsSearch, NeedsProof, NeedsAnswer}
 use Rattle.pc_afresh_laws.specs.Again.{StartsAgain}
 use Rattle.pc_judge.specs.AcceptedText.{IsAcceptedText}
-use Rattle.pc_theorem.specs.Certificates.{Claims}
+use Rattle.pc_replay.specs.Course.{usage_text}
+use Rattle.pc_theorem.specs.Certificates.{Claims, Assigns}
 
 -- A run whose devices tell their bytes: its words, what the shelf's files and the input had, what was printed, and how it ended.
 pub record Run : Type 0 where
@@ -51,10 +62,6 @@ pub record Run : Type 0 where
   pub input : List ℕ
   pub printed : List ℕ
   pub status : Status
-
--- the words ask for this, with this budget
-abbrev pub AskFor : Run → Mode → ℕ → Type 0
-AskFor run mode budget = (request : Request) × FitsWords run.words request × (request.mode ≡ mode) × (request.budget ≡ budget)
 
 -- the text begins so
 abbrev pub BeginsWith : List ℕ → List ℕ → Type 0
@@ -78,7 +85,7 @@ IsSo sheet repairs uses sets = AreTheMaximalSets sheet sets
 IsSo sheet (unimplied t) uses sets = AreTheMaximalSets sheet sets × (¬ IsImplied sheet t)
 IsSo sheet (against r) uses sets = (s : List Entry) × IsInOrder sheet.entries uses s × AreAgainst sheet r s
 
--- what the text claims of the sheet is so
+-- the text claims one thing, by the entries that it uses and the sets that it gives, and that is so
 pub record IsProved (sheet : Sheet) (text : List ℕ) : Type 0 where
   pub claim : Claim
   pub uses : List Entry
@@ -86,7 +93,7 @@ pub record IsProved (sheet : Sheet) (text : List ℕ) : Type 0 where
   pub claims : Claims sheet text claim uses sets
   pub worth : IsSo sheet claim uses sets
 
--- CHECKED. The file is a sheet and no other, the input is a certificate that is accepted for it, and what it claims is so.
+-- CHECKED. The file is a sheet and no other; the input is a certificate that is accepted for it, and what it claims is so.
 pub record IsChecked (files : Files) (file input printed : List ℕ) : Type 0 where
   pub bytes : List ℕ
   pub found : file_named file files ≡ Some bytes
@@ -107,10 +114,20 @@ pub record IsDeclined (files : Files) (file input printed : List ℕ) : Type 0 w
   pub refused : ¬ IsAcceptedText sheet input
   pub told : BeginsWith (codes "refused ") printed
 
--- with `check FILE`, by the status
-pub record IsCheckOf (run : Run) (file : List ℕ) : Type 0 where
-  pub accepted : run.status ≡ Done → IsChecked run.files file run.input run.printed
-  pub declined : run.status ≡ CertRefused → IsDeclined run.files file run.input run.printed
+-- the file is no sheet, and the first fault of its text is told
+pub record IsNoSheet (files : Files) (file printed : List ℕ) : Type 0 where
+  pub bytes : List ℕ
+  pub found : file_named file files ≡ Some bytes
+  pub none : (sheet : Sheet) → ¬ ReadsAs bytes sheet
+  pub why : SheetRefusal
+  pub fault : HasFault bytes why
+  pub told : printed ≡ sheet_refusal_text why
+
+-- with `check FILE`
+pub data EndsCheck (run : Run) (file : List ℕ) : Type 0 where
+  accepts : run.status ≡ Done → IsChecked run.files file run.input run.printed → EndsCheck run file
+  declines : run.status ≡ CertRefused → IsDeclined run.files file run.input run.printed → EndsCheck run file
+  finds_no_sheet : run.status ≡ SheetRefused → IsNoSheet run.files file run.printed → EndsCheck run file
 
 -- ---- journals
 
@@ -133,10 +150,10 @@ pub record HasNoMerge (files : Files) (file input printed : List ℕ) : Type 0 w
   pub none : (one other merged : List Post) → IsTextOf bytes one → IsTextOf input other → ¬ IsMerge one other merged
   pub told : BeginsWith (codes "journal refused ") printed
 
--- with `merge FILE`, by the status
-pub record IsMergeOf (run : Run) (file : List ℕ) : Type 0 where
-  pub merged : run.status ≡ Done → IsMerged run.files file run.input run.printed
-  pub declined : run.status ≡ SheetRefused → HasNoMerge run.files file run.input run.printed
+-- with `merge FILE`
+pub data EndsMerge (run : Run) (file : List ℕ) : Type 0 where
+  merges_both : run.status ≡ Done → IsMerged run.files file run.input run.printed → EndsMerge run file
+  finds_no_merge : run.status ≡ SheetRefused → HasNoMerge run.files file run.input run.printed → EndsMerge run file
 
 -- ---- pages
 
@@ -155,11 +172,19 @@ pub record IsListing (sheet : Sheet) (text : List ℕ) : Type 0 where
   pub told : text ≡ listing_text sheet.universe listing
   pub unions : (s : List Entry) → IsMaximalSet sheet s ↔ ((choices : List (List Entry)) × AllZip (λ part own. Contains part.sets own) listing choices × IsUnion sheet.entries choices s)
 
--- EXPLAINED. `not implied`, where no consistent entries entail the target; or a certificate that claims it by its least support, and that
--- `check` accepts for this sheet.
+-- a certificate that claims the target by these entries, gives an assignment that has them and makes every rule true, so that they are
+-- consistent, and is accepted by `check` for this sheet
+pub record CertifiesTarget (sheet : Sheet) (t : Target) (uses : List Entry) (text : List ℕ) : Type 0 where
+  pub claims : Claims sheet text (implied t) uses []
+  pub values : List Entry
+  pub assigns : Assigns sheet text values
+  pub shown : AreShown sheet (Fits sheet) uses values
+  pub accepted : IsAcceptedText sheet text
+
+-- EXPLAINED. `not implied`, where no consistent entries entail the target; or a certificate of it by its least support.
 pub data Explains (sheet : Sheet) (t : Target) (text : List ℕ) : Type 0 where
   not_implied : ¬ IsImplied sheet t → text ≡ ended (codes "not implied") → Explains sheet t text
-  by_support : (uses : List Entry) → IsLeastSupport sheet uses t → Claims sheet text (implied t) uses [] → IsAcceptedText sheet text → Explains sheet t text
+  by_support : (uses : List Entry) → IsLeastSupport sheet uses t → CertifiesTarget sheet t uses text → Explains sheet t text
 
 -- a certificate that claims this of the maximal sets, which are all that there are, and that `check` accepts for this sheet
 pub record ProvesBySets (sheet : Sheet) (claim : Claim) (text : List ℕ) : Type 0 where
@@ -179,191 +204,112 @@ pub data AnswersFormula (sheet : Sheet) (f : Statement) (text : List ℕ) : Type
   not_entailed : ¬ IsStatementImplied sheet f → text ≡ ended (codes "not implied") → AnswersFormula sheet f text
   by_least : (uses : List Entry) → IsLeastForStatement sheet uses f → Claims (asked sheet f) text (against (length sheet.rules)) uses [] → IsAcceptedText (asked sheet f) text → AnswersFormula sheet f text
 
+-- SHOWN: for `show` the display of the sheet, each cell with the values that some consistent entries entail and with the least such entries,
+-- and with what each of its own entries clashes with; `grid` and `json` give it in other forms. PROVED: for `prove repairs` and `whynot` a
+-- certificate by the maximal sets, or `implied` for a `whynot` of what is. AFRESH: for `dump` a text from which a run can start, whatever
+-- its budget, with this sheet and with no other.
+abbrev pub Tells : Sheet → PageKind → List ℕ → Type 0
+Tells sheet lines_page text = IsTheText IsShown sheet text
+Tells sheet grid_page text = IsTheText IsGrid sheet text
+Tells sheet json_page text = IsTheText IsJsonLine sheet text
+Tells sheet text_page text = StartsAgain text sheet
+Tells sheet (why_page t) text = Explains sheet t text
+Tells sheet repairs_page text = IsTheText IsListing sheet text
+Tells sheet proof_page text = ProvesBySets sheet repairs text
+Tells sheet (whynot_page t) text = Doubts sheet t text
+Tells sheet (ask_page made) text = (f : Statement) × (made ≡ asked sheet f) × AnswersFormula sheet f text
+
 -- ---- answers
 
--- the command line asks for this, names being looked up in the state's sheet
-abbrev pub LineAsks : State → List ℕ → Task → Type 0
-LineAsks state line task = IsTask state (line_text_of line) task
+-- a certificate that no assignment makes every rule of the sheet true, which `check` accepts for it
+pub record Refutes (sheet : Sheet) (text : List ℕ) : Type 0 where
+  pub claims : Claims sheet text inconsistent [] []
+  pub accepted : IsAcceptedText sheet text
 
--- What is printed where a task is done. SHOWN: for `show` the display of the sheet, each cell with the values that some consistent entries
--- entail and with the least such entries, and with what each of its own entries clashes with; `grid` and `json` give it in other forms.
--- PROVED: for `prove repairs` and `whynot` a certificate by the maximal sets, or `implied` for a `whynot` of what is. AFRESH: for `dump` a text
--- from which a run can start, whatever its budget, with this sheet and with no other.
-abbrev pub Tells : Sheet → Task → List ℕ → Type 0
-Tells sheet (shows lines_page) text = IsTheText IsShown sheet text
-Tells sheet (shows grid_page) text = IsTheText IsGrid sheet text
-Tells sheet (shows json_page) text = IsTheText IsJsonLine sheet text
-Tells sheet (shows text_page) text = StartsAgain text sheet
-Tells sheet (shows (why_page t)) text = Explains sheet t text
-Tells sheet (shows repairs_page) text = IsTheText IsListing sheet text
-Tells sheet (shows proof_page) text = ProvesBySets sheet repairs text
-Tells sheet (shows (whynot_page t)) text = Doubts sheet t text
-Tells sheet (shows (ask_page made)) text = (f : Statement) × (made ≡ asked sheet f) × AnswersFormula sheet f text
-Tells sheet edit text = text ≡ ended (codes "ok")
+-- enough for a certificate of so many maximal sets, by the sheet's pairs and nodes
+abbrev pub enough_to_prove : Sheet → ℕ → ℕ
+enough_to_prove sheet sets = variable_count sheet * (3 ^ (variable_count sheet + 1) + (sets + 1))
 
--- the task may want a search: an edit of the sheet, or a certificate that isn't kept
-abbrev pub MaySpend : Task → Type 0
-MaySpend (shows proof_page) = Unit {0}
-MaySpend (shows (whynot_page t)) = Unit {0}
-MaySpend (shows (ask_page made)) = Unit {0}
-MaySpend (shows kind) = ⊥
-MaySpend (budgets n) = ⊥
-MaySpend edit = Unit {0}
+-- The line asks for what needs a search: for an edit, for a certificate of the maximal sets, or whether a formula is implied. And the budget is
+-- less than is enough for it.
+pub data HasTooLittle (state : State) (line : List ℕ) : Type 0 where
+  to_edit : (a : Asked) (cell : Option CellId) (made : Sheet) → IsCommandReading line (asks a) → NeedsSearch state.sheet a cell made → state.budget < enough_for_all made → HasTooLittle state line
+  to_prove : (a : Asked) → IsCommandReading line (asks a) → NeedsProof state.sheet a → ((sets : List (List Entry)) → ListsExactly (List Entry) (IsMaximalSet state.sheet) sets → state.budget < enough_to_prove state.sheet (length sets)) → HasTooLittle state line
+  to_ask : (a : Asked) (f : Statement) → IsCommandReading line (asks a) → NeedsAnswer state.sheet a f → state.budget < enough_to_ask state.sheet f (length state.sheet.entries) → HasTooLittle state line
 
--- a search placed as many literals as the budget allows, and this tells it
-abbrev pub IsSpent : State → List ℕ → Type 0
-IsSpent state text = (counts : Counts) × (counts.placed ≡ state.budget) × (text ≡ refusal_text (Spent counts))
-
--- that no assignment makes every rule of the sheet true, and a certificate of it, which `check` accepts for this sheet
-pub record IsContradicted (sheet : Sheet) (text : List ℕ) : Type 0 where
-  pub certificate : List ℕ
-  pub is : text ≡ refusal_text Inconsistent ++ certificate
-  pub claims : Claims sheet certificate inconsistent [] []
-  pub accepted : IsAcceptedText sheet certificate
-
--- the line is refused for this, and this tells it
-abbrev pub IsRefusal : State → List ℕ → List ℕ → Type 0
-IsRefusal state line text = (why : Refusal) × IsRefused state (line_text_of line) why × (text ≡ refusal_text why)
-
--- What is printed for a line in a state. What it asks for is done, or its search is spent. REFUSED: a rule that leaves no assignment is refused
--- with a certificate of that, and what asks for nothing that can be done is refused with its cause.
-pub record Answers (state : State) (line text : List ℕ) : Type 0 where
-  pub quiet : AsksNothing (line_text_of line) → text ≡ []
-  pub tells : (task : Task) → LineAsks state line task → Tells state.sheet task text ⊎ (MaySpend task × IsSpent state text)
-  pub contradicted : (r : NamedStatement) → IsContradiction state (line_text_of line) r → IsContradicted (with_rule state.sheet r) text ⊎ IsSpent state text
-  pub otherwise : ¬ AsksNothing (line_text_of line) → ((task : Task) → ¬ LineAsks state line task) → ((r : NamedStatement) → ¬ IsContradiction state (line_text_of line) r) → IsRefusal state line text
-
--- the line asks nothing, or what it asks for is done
-abbrev pub IsFulfilled : State → List ℕ → List ℕ → Type 0
-IsFulfilled state line text = AsksNothing (line_text_of line) ⊎ ((task : Task) × LineAsks state line task × Tells state.sheet task text)
-
--- its search is spent, or it asks for a rule that leaves no assignment, or for nothing that can be done
-abbrev pub IsTurnedDown : State → List ℕ → List ℕ → Type 0
-IsTurnedDown state line text = IsSpent state text ⊎ (((r : NamedStatement) × IsContradiction state (line_text_of line) r × IsContradicted (with_rule state.sheet r) text) ⊎ IsRefusal state line text)
+-- What may answer a line in a state, and the state after it. Nothing is told where nothing is asked; `ok` of an edit that is done; and a page,
+-- which tells what the line asks of the sheet. REFUSED: what asks for nothing that can be done is refused with its cause; a rule that leaves
+-- no assignment with a certificate of that; what has too little budget with the literals that its search placed, which are all that the
+-- budget allows; and what may want memory for want of it. Then sheet and budget are as they were.
+pub data Answers (state : State) (line : List ℕ) : Answer → State → Type 0 where
+  nothing_asked : AsksNothing line → Answers state line silent state
+  edit_done : (edit : Task) → IsTask state line edit → IsEdit edit → Answers state line accepted (state_after state edit)
+  page_shown : (kind : PageKind) (text : List ℕ) → IsTask state line (shows kind) → Tells state.sheet kind text → Answers state line (shown text) state
+  not_doable : (why : Refusal) → IsRefused state line why → Answers state line (refused why []) state
+  contradicting : (r : NamedStatement) (certificate : List ℕ) → IsContradiction state line r → Refutes (with_rule state.sheet r) certificate → Answers state line (refused Inconsistent certificate) state
+  budget_spent : (counts : Counts) → HasTooLittle state line → counts.placed ≡ state.budget → Answers state line (refused (Spent counts) []) state
+  memory_lacking : ¬ TakesNoMemory line → Answers state line no_memory state
 
 -- ---- sessions
 
--- command lines, each with what was printed for it
-abbrev pub Course : Type 0
-Course = List (List ℕ × List ℕ)
+-- A text starts no session, and this is told behind the cause: the first fault of the text; a sheet that is too large, or whose rules leave no
+-- assignment, with a certificate of that; or a budget that is less than is enough for it, all of which was placed.
+pub data RefusesSheet (budget : ℕ) (text : List ℕ) : SheetRefusal → List ℕ → Type 0 where
+  for_fault : (why : SheetRefusal) → HasFault text why → RefusesSheet budget text why []
+  for_weight : IsTooLarge text → RefusesSheet budget text (of_whole TooLarge) []
+  for_rules : (sheet : Sheet) (certificate : List ℕ) → IsContradictory text sheet → Refutes sheet certificate → RefusesSheet budget text (of_whole Inconsistent) certificate
+  for_budget : (sheet : Sheet) (counts : Counts) → ReadsAs text sheet → IsLight sheet → budget < enough_for_all sheet → counts.placed ≡ budget → RefusesSheet budget text (of_whole (Spent counts)) []
 
--- the state after these edits, one after another
-abbrev pub state_after_all : State → List Task → State
-state_after_all state [] = state
-state_after_all state (edit ∷ more) = state_after_all (state_after state edit) more
+-- With `replay` the sheet's text is the front of the input, up to its line `begin`, and the command lines are those behind it. With `edit FILE` they
+-- are the file and the lines of the input; with `posts FILE` the file, and the texts of the posts of the input's journal, with a line
+-- `show` at last.
+abbrev pub IsSheetText : Run → Mode → List ℕ → Type 0
+IsSheetText run replays text = (rest : List ℕ) × (run.input ≡ text ++ rest) × IsSheetPart text (Some rest)
+IsSheetText run (edits file) text = file_named file run.files ≡ Some text
+IsSheetText run (posts file) text = file_named file run.files ≡ Some text
+IsSheetText run mode text = ⊥
 
--- The accepted edits of a course, oldest first: those of the lines for which `ok` was printed. A line that asks for no edit, or whose search
--- is spent, changes nothing.
-pub data AreAccepted : State → Course → List Task → Type 0 where
-  no_line : {state : State} → AreAccepted state [] []
-  an_edit : {state : State} {line text : List ℕ} {more : Course} {later : List Task} (edit : Task) → LineAsks state line edit → IsEdit edit → text ≡ ended (codes "ok") → AreAccepted (state_after state edit) more later → AreAccepted state ((line, text) ∷ more) (edit ∷ later)
-  no_edit : {state : State} {line text : List ℕ} {more : Course} {later : List Task} → ((edit : Task) → LineAsks state line edit → ¬ IsEdit edit) ⊎ IsSpent state text → AreAccepted state more later → AreAccepted state ((line, text) ∷ more) later
+abbrev pub AreCommands : Run → Mode → List ℕ → List (List ℕ) → Type 0
+AreCommands run replays text commands = (rest : List ℕ) × (run.input ≡ text ++ rest) × (commands ≡ lines_of rest)
+AreCommands run (edits file) text commands = commands ≡ lines_of run.input
+AreCommands run (posts file) text commands = (journal : List Post) × IsTextOf run.input journal × (commands ≡ lines_of_posts journal)
+AreCommands run mode text commands = ⊥
 
--- a line of a course, behind these
-pub record StandsBehind (course before : Course) (line text : List ℕ) : Type 0 where
-  pub more : Course
-  pub is : course ≡ before ++ (line, text) ∷ more
-
--- some line of the course was turned down
-pub record HasRefusal (start : State) (course : Course) : Type 0 where
-  pub before : Course
-  pub line : List ℕ
-  pub text : List ℕ
-  pub stands : StandsBehind course before line text
-  pub edits : List Task
-  pub accepted : AreAccepted start before edits
-  pub is : IsTurnedDown (state_after_all start edits) line text
-
--- The text is a sheet, and what was printed are the answers to the command lines, one by one. The edits that were accepted before a line
--- are one list, and it is answered by the sheet after them. The status says whether some line was turned down.
-pub record IsSession (budget : ℕ) (text : List ℕ) (commands : List (List ℕ)) (printed : List ℕ) (status : Status) : Type 0 where
+-- the command lines were answered one by one, from the sheet on, and that was printed; the status tells whether some was refused, and whether some
+-- wanted memory
+pub record IsSession (run : Run) (budget : ℕ) (text : List ℕ) (commands : List (List ℕ)) : Type 0 where
   pub start : State
   pub starts : Starts budget text start
-  pub course : Course
-  pub lines_are : map (λ p. p.0) course ≡ commands
-  pub texts_are : flat_map (λ p. p.1) course ≡ printed
-  pub accepted : (before : Course) (line text : List ℕ) → StandsBehind course before line text → (done : List Task) × AreAccepted start before done
-  pub one_list : (before : Course) (line text : List ℕ) (done other : List Task) → StandsBehind course before line text → AreAccepted start before done → AreAccepted start before other → other ≡ done
-  pub answered : (before : Course) (line text : List ℕ) (done : List Task) → StandsBehind course before line text → AreAccepted start before done → Answers (state_after_all start done) line text
-  pub fulfilled : status ≡ Done → (before : Course) (line text : List ℕ) (done : List Task) → StandsBehind course before line text → AreAccepted start before done → IsFulfilled (state_after_all start done) line text
-  pub refused : status ≡ SomeRefused → HasRefusal start course
+  pub transcript : Transcript
+  pub end : State
+  pub legal : Legal Answers start transcript end
+  pub lines_are : lines transcript ≡ commands
+  pub printed_are : run.printed ≡ output_of transcript
+  pub status_is : run.status ≡ status_of transcript
 
--- With `replay` the sheet is the front of the input, up to its line `begin`, and the lines behind it are the commands; with `edit FILE` the file
--- and the lines of the input; with `posts FILE` the file, and the texts of the posts of the input's journal, with a line `show` at last.
-abbrev pub IsGiven : Run → Mode → List ℕ → List (List ℕ) → Type 0
-IsGiven run replays text commands = (rest : List ℕ) × (run.input ≡ text ++ rest) × IsSheetPart text (Some rest) × (commands ≡ lines_of rest)
-IsGiven run (edits file) text commands = (file_named file run.files ≡ Some text) × (commands ≡ lines_of run.input)
-IsGiven run (posts file) text commands = (file_named file run.files ≡ Some text) × ((journal : List Post) × IsTextOf run.input journal × (commands ≡ lines_of_posts journal))
-IsGiven run mode text commands = ⊥
-
-pub record IsSessionOf (run : Run) (mode : Mode) (budget : ℕ) : Type 0 where
-  pub text : List ℕ
-  pub commands : List (List ℕ)
-  pub given : IsGiven run mode text commands
-  pub session : IsSession budget text commands run.printed run.status
-
-abbrev pub AnswersCommands : Mode → Type 0
-AnswersCommands replays = Unit {0}
-AnswersCommands (edits file) = Unit {0}
-AnswersCommands (posts file) = Unit {0}
-AnswersCommands mode = ⊥
-
--- all lines were answered, and none for want of memory
-abbrev pub EndedWell : Status → Type 0
-EndedWell status = (status ≡ Done) ⊎ (status ≡ SomeRefused)
-
--- ---- demonstrations
-
--- of each block, the entry of its third cell
-abbrev pub third_entries : ℕ → List Entry
-third_entries zero = []
-third_entries (suc k) = third_entries k ++ entry (4 * k + 2) (suc k * suc k % 3) ∷ []
-
--- the sheet that so many blocks generate, but for the entries of their first cells
-abbrev pub without_firsts : ℕ → Sheet
-without_firsts blocks = record { universe = (generated_sheet blocks).universe; rules = (generated_sheet blocks).rules; entries = third_entries blocks }
-
--- what a demonstration prints of an answer: of `ok` nothing, and all of any other
-pub data IsToldOf (answer : List ℕ) : List ℕ → Type 0 where
-  of_ok : answer ≡ ended (codes "ok") → IsToldOf answer []
-  of_other : answer ≢ ended (codes "ok") → IsToldOf answer answer
-
--- SUMMED UP. So many blocks generate the sheet. First its numbers were printed: how many cells and entries it has, how many of the entries
--- clash with others, and how many values some consistent entries entail. Then lines that clear each block's first cell were answered as in a
--- session, and of the answers what isn't `ok` was printed; and at last the numbers of the sheet after them. Where nothing was refused, that
--- is the generated sheet but for the entries of the first cells.
-pub record IsDemonstration (run : Run) (blocks budget : ℕ) : Type 0 where
-  pub answers : List ℕ
-  pub session : IsSession budget (generated_text blocks) (clear_lines blocks) answers run.status
-  pub generated : session.start.sheet ≡ generated_sheet blocks
-  pub edits : List Task
-  pub accepted : AreAccepted session.start session.course edits
-  pub loaded : List ℕ
-  pub told : List (List ℕ)
-  pub cleared : List ℕ
-  pub sums : SumsUp (codes "loaded") session.start.sheet loaded
-  pub told_are : AllZip (λ (p : List ℕ × List ℕ). IsToldOf p.1) session.course told
-  pub sums_after : SumsUp (codes "cleared") (state_after_all session.start edits).sheet cleared
-  pub printed_are : run.printed ≡ loaded ++ (flat_map (λ (piece : List ℕ). piece) told ++ cleared)
-  pub all_cleared : run.status ≡ Done → (state_after_all session.start edits).sheet ≡ without_firsts blocks
-
--- the load's search placed as many literals as the budget allows, and this tells it
-abbrev pub IsLoadSpent : ℕ → List ℕ → Type 0
-IsLoadSpent budget text = (counts : Counts) × (counts.placed ≡ budget) × (text ≡ sheet_refusal_text (record { refusal = Spent counts; line = None }))
-
--- with `demo N`, by the status
-pub record IsDemonstrationOf (run : Run) (blocks budget : ℕ) : Type 0 where
-  pub summed : EndedWell run.status → IsDemonstration run blocks budget
-  pub declined : run.status ≡ SheetRefused → IsLoadSpent budget run.printed
+-- with `replay`, `edit FILE` and `posts FILE`: all lines were answered; the sheet was refused; or the input is no journal
+pub data EndsSession (run : Run) (budget : ℕ) (mode : Mode) : Type 0 where
+  answers_all : (text : List ℕ) (commands : List (List ℕ)) → IsSheetText run mode text → AreCommands run mode text commands → IsSession run budget text commands → EndsSession run budget mode
+  refuses : (text : List ℕ) (why : SheetRefusal) (more : List ℕ) → run.status ≡ SheetRefused → IsSheetText run mode text → RefusesSheet budget text why more → run.printed ≡ sheet_refusal_text why ++ more → EndsSession run budget mode
+  finds_no_journal : (file : List ℕ) → run.status ≡ SheetRefused → mode ≡ posts file → ((journal : List Post) → ¬ IsTextOf run.input journal) → BeginsWith (codes "journal refused ") run.printed → EndsSession run budget mode
 
 -- ---- the theorem
 
--- what every run is worth
+-- what was asked for ends so; `demo N` has a page of its own
+abbrev pub Ends : Run → ℕ → Mode → Type 0
+Ends run budget (checks file) = EndsCheck run file
+Ends run budget (merges file) = EndsMerge run file
+Ends run budget (demonstrates blocks) = Unit {0}
+Ends run budget mode = EndsSession run budget mode
+
+-- memory was wanting before there was a line to answer, and that is all that was printed
+abbrev pub LacksMemory : Run → Type 0
+LacksMemory run = (run.status ≡ Memory) × ((run.printed ≡ memory_text) ⊎ (run.printed ≡ sheet_memory_text))
+
+-- what a run is worth
 pub record IsWorthIts (run : Run) : Type 0 where
-  pub check : (file : List ℕ) (budget : ℕ) → AskFor run (checks file) budget → IsCheckOf run file
-  pub merge : (file : List ℕ) (budget : ℕ) → AskFor run (merges file) budget → IsMergeOf run file
-  pub session : (mode : Mode) (budget : ℕ) → AskFor run mode budget → AnswersCommands mode → EndedWell run.status → IsSessionOf run mode budget
-  pub demo : (blocks budget : ℕ) → AskFor run (demonstrates blocks) budget → IsDemonstrationOf run blocks budget
+  pub asked_for : (request : Request) → FitsWords run.words request → Ends run request.budget request.mode ⊎ LacksMemory run
+  pub unfit : FitNothing run.words → (run.status ≡ Usage) × (run.printed ≡ usage_text)
 
 -- the devices tell their bytes, and this is the run
 pub record IsTold (words : List (List ℕ)) (status : Status) (before after : Outside) (run : Run) : Type 0 where
@@ -375,6 +321,13 @@ pub record IsTold (words : List (List ℕ)) (status : Status) (before after : Ou
   pub given_before : before.output ≡ Some earlier
   pub given_after : after.output ≡ Some (earlier ++ run.printed)
 
+-- a device failed, or something is longer than it may be
+abbrev pub IsCutOff : Status → Type 0
+IsCutOff ReadFault = Unit {0}
+IsCutOff WriteFault = Unit {0}
+IsCutOff TooLong = Unit {0}
+IsCutOff status = ⊥
+
 -- of its words, of its status, and of what was outside before it and after it
 abbrev pub KeepsItsWord : List (List ℕ) → Status → Outside → Outside → Type 0
-KeepsItsWord words status before after = (run : Run) → IsTold words status before after run → IsWorthIts run
+KeepsItsWord words status before after = (run : Run) → IsTold words status before after run → ¬ IsCutOff run.status → IsWorthIts run

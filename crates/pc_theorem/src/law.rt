@@ -1,11 +1,12 @@
 // The laws of the page, each the contract of a function that does nothing.
-ghost use Rattle.pc_theorem.specs.Examples.{BrokenWords, WorkedWords};
-ghost use Rattle.pc_theorem.specs.Laws.{ChecksAreWorthIt, DemonstrationsAreWorthIt, MergesAreWorthIt, RunsKeepTheirWord, SavedSheetsShowTheSame, SavedSheetsTakeCertificates, SessionsAreWorthIt};
+ghost use Rattle.pc_theorem.specs.Examples.{BrokenAnswers, BrokenWords, WorkedWords};
+ghost use Rattle.pc_theorem.specs.Laws.{RunsDemonstrate, RunsKeepTheirWord, SavedSheetsShowTheSame, SavedSheetsTakeCertificates};
 
 use pc_accept::certificates_are_sound;
 use pc_afresh_laws::{dumps_start_again, states_stay_open, transcripts_stay_open};
 use pc_cert_laws::texts_read_back;
 use pc_collab::journals_read_back;
+use pc_complete_laws::entries_say_what_is_enough;
 use pc_course_laws::events_add_up;
 use pc_display::sheet_has_one_display;
 use pc_elaborate::trees_have_one_outcome;
@@ -16,44 +17,33 @@ use pc_parts::{
     maximal_sets_are_unions, parts_are_a_division, parts_are_determined, parts_are_found,
 };
 use pc_reading_laws::{certificates_have_one_reading, what_is_read_is_for_the_sheet};
+use pc_run_laws::{
+    all_lines_are_answered, certificates_are_refused_in_checks, memory_is_told_where_wanted,
+    refused_sheets_are_told, usage_is_told_of_words,
+};
+use pc_sheet::cells_are_numbered_in_order;
 use pc_sortcheck::sheets_are_well_formed;
-use pc_spreadsheet::lines_have_one_verdict;
 use pc_syntax::one_reading;
 use pc_words::words_fit_one_request;
 
-/// Where `check FILE` accepts, what the certificate claims of the file's sheet is so; where it refuses, it isn't accepted.
-pub fn checks_are_worth_it()
-    ensures { ChecksAreWorthIt }
+/// Whatever a run was asked for, it keeps its word; and so does a demonstration.
+pub fn runs_keep_their_word()
+    ensures word { RunsKeepTheirWord }
+    ensures demo { RunsDemonstrate }
 {
     events_add_up();
-    sheets_are_well_formed();
-    certificates_are_sound();
-    told_accepted_is_accepts();
-    judgements_are_one();
-    texts_have_one_outcome();
-    certificates_have_one_reading();
-}
-
-/// Where `merge FILE` ends well, it printed the merge of two journals; where it refuses, they aren't journals that have one.
-pub fn merges_are_worth_it()
-    ensures { MergesAreWorthIt }
-{
-    events_add_up();
-    journals_read_back();
-}
-
-/// With `replay`, `edit FILE` and `posts FILE` each line is answered by the sheet after the edits that were accepted before it. With
-/// `demo N` the generated sheet is summed up, the first cells of its blocks are cleared as lines of a session, and it is summed up
-/// again; or its load spent the budget.
-pub fn lines_are_worth_it()
-    ensures sessions { SessionsAreWorthIt }
-    ensures demonstrations { DemonstrationsAreWorthIt }
-{
-    events_add_up();
-    lines_have_one_verdict();
-    one_reading();
+    words_fit_one_request();
+    all_lines_are_answered();
+    refused_sheets_are_told();
+    certificates_are_refused_in_checks();
+    memory_is_told_where_wanted();
+    usage_is_told_of_words();
     states_stay_open();
     transcripts_stay_open();
+    sheets_are_well_formed();
+    cells_are_numbered_in_order();
+    entries_say_what_is_enough();
+    one_reading();
     dumps_start_again();
     sheet_has_one_display();
     parts_are_found();
@@ -63,6 +53,10 @@ pub fn lines_are_worth_it()
     texts_read_back();
     certificates_have_one_reading();
     what_is_read_is_for_the_sheet();
+    certificates_are_sound();
+    told_accepted_is_accepts();
+    judgements_are_one();
+    journals_read_back();
     trees_have_one_outcome();
     texts_have_one_outcome();
     generated_texts_read_back();
@@ -79,24 +73,20 @@ pub fn saved_sheets_take_certificates()
     ensures { SavedSheetsTakeCertificates }
 {}
 
-/// Whatever a run was asked for, it keeps its word.
-pub fn runs_keep_their_word()
-    ensures { RunsKeepTheirWord }
-{
-    words_fit_one_request();
-    checks_are_worth_it();
-    merges_are_worth_it();
-    lines_are_worth_it();
-}
-
-/// A run that keeps its word.
+/// Runs that keep their word.
 pub fn worked_words()
     ensures { WorkedWords }
 {
     words_fit_one_request();
+    dumps_start_again();
+    sheet_has_one_display();
 }
 
-/// Runs that would not keep their word: the page says something.
+/// Runs that would not keep their word, and answers that no line may have: the page says something.
 pub fn broken_words()
-    ensures { BrokenWords }
-{}
+    ensures words { BrokenWords }
+    ensures answers { BrokenAnswers }
+{
+    one_reading();
+    dumps_start_again();
+}

@@ -8,8 +8,8 @@ mod law;
 mod top;
 
 pub use law::{
-    broken_words, checks_are_worth_it, lines_are_worth_it, merges_are_worth_it,
-    runs_keep_their_word, saved_sheets_show_the_same, saved_sheets_take_certificates, worked_words,
+    broken_words, runs_keep_their_word, saved_sheets_show_the_same, saved_sheets_take_certificates,
+    worked_words,
 };
 pub use pc_replay::{Spendings, Status};
 pub use top::run;
