@@ -26,7 +26,8 @@ use Rattle.pc_complete_laws.specs.Asking.{enough_to_ask, EnoughByEntries}
 use Rattle.pc_complete_laws.proofs.Spending.{too_little, proof_not_spent, ask_not_spent, search_formed, answer_formed}
 use Rattle.pc_complete_laws.proofs.Completing.{keeps_budget}
 use Rattle.pc_theorem.specs.Theorem as page
-use Rattle.pc_theorem.specs.Theorem.{Tells, Refutes, enough_to_prove, HasTooLittle, to_edit, to_prove, to_ask, Answers, nothing_asked, edit_done, page_shown, not_doable, contradicting, budget_spent, memory_lacking, RefusesSheet}
+use Rattle.pc_theorem.specs.Theorem.{TellsPage, IsRefutation, Answers, nothing_asked, edit_done, page_shown, not_doable, contradicting, budget_spent, memory_lacking, RefusesSheet}
+use Rattle.pc_theorem.specs.Budgets.{enough_to_prove, HasTooLittle, to_edit, to_prove, to_ask}
 use Rattle.pc_theorem.proofs.Pages.{contradicting_is_formed, search_placed, whole_placed, ask_placed}
 
 -- what is not enough is less
@@ -35,11 +36,11 @@ less n b never = omega (arith, never)
 
 -- a page that a line asks for tells what the page's definitions say
 abbrev pub PagesAreTold : Type 0
-PagesAreTold = (sheet : Sheet) (kind : PageKind) (a : Asked) (text : List ℕ) → IsOpen sheet → IsTaskOf sheet a (shows kind) → PageSays kind sheet text → Tells sheet kind text
+PagesAreTold = (sheet : Sheet) (kind : PageKind) (a : Asked) (text : List ℕ) → IsOpen sheet → IsTaskOf sheet a (shows kind) → PageSays kind sheet text → TellsPage sheet kind text
 
 -- and so does a certificate of a contradiction
 abbrev pub RefutationsAreTold : Type 0
-RefutationsAreTold = (sheet : Sheet) (text : List ℕ) → IsWellFormed sheet → IsCertificateAgainst sheet text → Refutes sheet text
+RefutationsAreTold = (sheet : Sheet) (text : List ℕ) → IsWellFormed sheet → IsCertificateAgainst sheet text → IsRefutation sheet text
 
 -- ---- less than enough
 

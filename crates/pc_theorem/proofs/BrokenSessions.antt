@@ -21,7 +21,7 @@ use Rattle.pc_words.specs.Words.{edits, IsNumber, IsFileName, usual_budget}
 use Rattle.pc_spreadsheet.specs.declared.summary.Summary.{Summary}
 use Rattle.pc_spreadsheet.specs.Tasks.{State, PageKind, shows, IsTaskOf, listing, IsEdit, Task}
 use Rattle.pc_demo.specs.Summing.{summary_text}
-use Rattle.pc_theorem.specs.Theorem.{Run, Tells, Answers, nothing_asked, edit_done, page_shown, not_doable, contradicting, budget_spent, memory_lacking, EndsSession, answers_all, refuses, finds_no_journal, LacksMemory, IsTold, IsCutOff}
+use Rattle.pc_theorem.specs.Theorem.{KnownRun, TellsPage, Answers, nothing_asked, edit_done, page_shown, not_doable, contradicting, budget_spent, memory_lacking, EndsSession, answers_all, refuses, LacksMemory, IsTold, IsCutOff}
 use Rattle.pc_theorem.specs.Demonstrations.{EndsDemonstration, demonstrates_all, has_too_little}
 use Rattle.pc_theorem.specs.Examples.{told_outside, edit_words, demo_words, Keeps, Demonstrated}
 use Rattle.pc_theorem.proofs.Clearing.{CommandsHaveOneReading, asked_same}
@@ -29,7 +29,7 @@ use Rattle.pc_theorem.proofs.OneWord.{one_word}
 
 -- ---- runs
 
-abbrev pub run_on : List (List ℕ) → Files → List ℕ → List ℕ → Status → Run
+abbrev pub run_on : List (List ℕ) → Files → List ℕ → List ℕ → Status → KnownRun
 run_on words files input printed status = record { words = words; files = files; input = input; printed = printed; status = status }
 
 pub told : (words : List (List ℕ)) (files : Files) (input printed : List ℕ) (status : Status) → IsTold words status (told_outside files input []) (told_outside files [] printed) (run_on words files input printed status)
@@ -43,7 +43,7 @@ pub is_file_name : IsFileName (codes "f")
 is_file_name = λ e. omega (arith, e)
 
 -- how a session ends that doesn't want memory
-pub session_ends : (words : List (List ℕ)) (run : Run) (budget : ℕ) → (run.status ≡ Memory → ⊥) → EndsSession run budget (edits (codes "f")) ⊎ LacksMemory run → EndsSession run budget (edits (codes "f"))
+pub session_ends : (words : List (List ℕ)) (run : KnownRun) (budget : ℕ) → (run.status ≡ Memory → ⊥) → EndsSession run budget (edits (codes "f")) ⊎ LacksMemory run → EndsSession run budget (edits (codes "f"))
 session_ends words run budget other (inl ends) = ends
 session_ends words run budget other (inr lacks) = absurd (other lacks.0)
 
@@ -63,7 +63,6 @@ nothing_is_done files printed status other (answers_all text commands sheet comm
     let none = no_lines s.transcript commands s.lines_are commands_are in
     (s.printed_are ∙ ap output_of none, s.status_is ∙ ap status_of none)
 nothing_is_done files printed status other (refuses text why more so sheet refusing told_so) = absurd (other so)
-nothing_is_done files printed status other (finds_no_journal file so mode none told_so) = absurd (other so)
 
 pub no_line : (files : Files) → ¬ Keeps edit_words files [] (ended (codes "ok")) Done
 no_line files keeps = absurd (cc (nothing_is_done files (ended (codes "ok")) Done (λ e. absurd (cc)) (edit_ends files [] (ended (codes "ok")) Done keeps (λ e. absurd (cc)) (λ c. c))).0)
@@ -85,7 +84,6 @@ never_refused false false is = absurd (cc)
 quiet_refusal : (files : Files) → EndsSession (run_on edit_words files [] [] SheetRefused) usual_budget (edits (codes "f")) → ⊥
 quiet_refusal files (answers_all text commands sheet commands_are s) = never_refused _ _ s.status_is
 quiet_refusal files (refuses text why more so sheet refusing told_so) = let bytes : 0 ≡ 115 = ap first_byte told_so in omega (arith, bytes)
-quiet_refusal files (finds_no_journal file so mode none told_so) = absurd (cc)
 
 pub quietly_refused : (files : Files) → ¬ Keeps edit_words files [] [] SheetRefused
 quietly_refused files keeps = quiet_refusal files (edit_ends files [] [] SheetRefused keeps (λ e. absurd (cc)) (λ c. c))
@@ -112,7 +110,7 @@ not_a_listing : (u : Universe) (ls : List ListedPart) → ended (codes "ok") ≡
 not_a_listing u [] e = let bytes : 111 ≡ 0 = ap first_byte e in omega (arith, bytes)
 not_a_listing u (l ∷ ls) e = let bytes : 111 ≡ 112 = ap first_byte e in omega (arith, bytes)
 
-no_ok : (sheet : Sheet) (kind : PageKind) (text : List ℕ) → IsTaskOf sheet asks_repairs (shows kind) → Tells sheet kind text → ended (codes "ok") ≡ text → ⊥
+no_ok : (sheet : Sheet) (kind : PageKind) (text : List ℕ) → IsTaskOf sheet asks_repairs (shows kind) → TellsPage sheet kind text → ended (codes "ok") ≡ text → ⊥
 no_ok sheet kind text listing tells same = not_a_listing sheet.universe tells.is.listing (same ∙ tells.is.told)
 
 no_edit : (sheet : Sheet) (edit : Task) → IsTaskOf sheet asks_repairs edit → ¬ IsEdit edit
@@ -148,7 +146,6 @@ ok_for_repairs read files keeps = by (edit_ends files listing_line (ended (codes
         let legal = subst (λ (t : Transcript). Legal Answers s.start t s.end) one.1 s.legal in
         never_ok read s.start legal.0 one.0 legal.1 (s.printed_are ∙ ap output_of one.1 ∙ append-nil (answer_text one.0)) (s.status_is ∙ ap status_of one.1)
     by (refuses text why more so sheet refusing told_so) = absurd (cc)
-    by (finds_no_journal file so mode none told_so) = absurd (cc)
 
 -- ---- a demonstration
 

@@ -21,7 +21,7 @@ use Rattle.pc_transcript.specs.Course.{events_of, IsSheetTaken}
 use Rattle.pc_journal.specs.Course.{answers_told}
 use Rattle.pc_journal.specs.PostLines.{lines_of_posts}
 use Rattle.pc_journal.specs.Told.{from_file, from_input, refused_text}
-use Rattle.pc_words.specs.Words.{Mode, replays, demonstrates}
+use Rattle.pc_words.specs.Words.{Mode, replays, merges, posts, demonstrates}
 use Rattle.pc_gen.specs.Text.{generated_text}
 use Rattle.pc_gen.specs.Sheet.{generated_sheet}
 use Rattle.pc_demo.specs.Demonstration as demo
@@ -33,7 +33,9 @@ use Rattle.pc_afresh_laws.specs.Afresh.{IsOpen, StartsAreOpen, AnswersKeepOpen}
 use Rattle.pc_run_laws.specs.Statuses as by_status
 use Rattle.pc_run_laws.specs.Statuses.{AnswersAll, of_input, on_file, of_posts, of_blocks}
 use Rattle.pc_theorem.specs.Theorem as page
-use Rattle.pc_theorem.specs.Theorem.{Run, BeginsWith, IsSheetText, IsSession, Ends, Answers, RefusesSheet}
+use Rattle.pc_theorem.specs.Journals as journals
+use Rattle.pc_theorem.specs.Journals.{EndsMerge, EndsPosts}
+use Rattle.pc_theorem.specs.Theorem.{KnownRun, BeginsWith, IsSheetText, IsSession, Ends, Answers, RefusesSheet}
 use Rattle.pc_theorem.proofs.Happenings.{split, taken_all, given_file, told-append}
 use Rattle.pc_theorem.specs.Demonstrations.{without_firsts, EndsDemonstration, demonstrates_all, has_too_little}
 use Rattle.pc_theorem.proofs.Quiet.{taken_is_quiet}
@@ -68,8 +70,10 @@ differing a b merged author number first merge =
 
 -- ---- demonstrations
 
--- what all modes end in, `demo` among them
-abbrev pub AllEnds : Run → ℕ → Mode → Type 0
+-- what all modes end in, those of other pages among them
+abbrev pub AllEnds : KnownRun → ℕ → Mode → Type 0
+AllEnds run budget (merges file) = EndsMerge run file
+AllEnds run budget (posts file) = EndsPosts run budget file
 AllEnds run budget (demonstrates blocks) = EndsDemonstration run budget blocks
 AllEnds run budget mode = Ends run budget mode
 
@@ -97,7 +101,7 @@ front_of input xs (Some r) first = (r, first)
 
 -- ---- a run
 
-module _ (sums : EventsAddUp) (run : page.Run) (before after : Outside) (kept : before.kept ≡ Some run.files) (known : before.input ≡ Some run.input) (events spare : List Event) (happened : Happened (events ++ spare) before after) (printed : run.printed ≡ told_in events) where
+module _ (sums : EventsAddUp) (run : page.KnownRun) (before after : Outside) (kept : before.kept ≡ Some run.files) (known : before.input ≡ Some run.input) (events spare : List Event) (happened : Happened (events ++ spare) before after) (printed : run.printed ≡ told_in events) where
   happened_so : (es : List Event) → events ≡ es → Happened (es ++ spare) before after
   happened_so es is = subst (λ (xs : List Event). Happened (xs ++ spare) before after) is happened
 
@@ -186,7 +190,7 @@ module _ (sums : EventsAddUp) (run : page.Run) (before after : Outside) (kept : 
         page.answers_all text (lines_of run.input) (file_is file text (events_of t ++ took_rest [] ∷ []) is) refl
         (session t text (lines_of run.input) start end status starts input.legal (input.all ∙ ap lines_of (sym (file_input file text t is))) (printed_so (gave file text ∷ (events_of t ++ took_rest [] ∷ [])) is ∙ told_by_lines t))
     answers_all mode t few_blocks status (of_posts file text journal a start end small starts few reads legal lines_are is) =
-        page.answers_all text (lines_of_posts a) (file_is file text (took_rest journal ∷ answers_told t) is) (a, subst (λ (i : List ℕ). IsTextOf i a) (sym (rest_is file text journal (answers_told t) is)) reads, refl)
+        journals.posts_answered text a (file_is file text (took_rest journal ∷ answers_told t) is) (subst (λ (i : List ℕ). IsTextOf i a) (sym (rest_is file text journal (answers_told t) is)) reads)
         (session t text (lines_of_posts a) start end status starts legal lines_are (printed_so (gave file text ∷ (took_rest journal ∷ answers_told t)) is ∙ told_of_answers t))
     answers_all mode t few_blocks status (of_blocks blocks start end loaded cleared loads answers sums_up is) =
         demonstrates_all (record {
@@ -234,7 +238,7 @@ module _ (sums : EventsAddUp) (run : page.Run) (before after : Outside) (kept : 
           page.refuses text why more status f.0 (refused budget text why more notes noted some refuses) (f.1 ∙ line_is)
       refuses_all mode few_blocks (by_status.refuses_to_post file text why more small refuses is line_is) =
           let f = refused_file file text is in
-          page.refuses text why more status f.0 (refused budget text why more notes noted some refuses) (f.1 ∙ line_is)
+          journals.posts_no_sheet text why more status f.0 (refused budget text why more notes noted some refuses) (f.1 ∙ line_is)
       refuses_all mode few_blocks (by_status.refuses_blocks blocks why more refuses is line_is) =
           let o = only_spent blocks few_blocks.0 few_blocks.1 budget why more notes noted some refuses in
           has_too_little o.counts status o.short o.placed_all
@@ -244,7 +248,7 @@ module _ (sums : EventsAddUp) (run : page.Run) (before after : Outside) (kept : 
           page.finds_no_sheet status (record { bytes = text; found = f.0; none = none; why = why; fault = has; told = f.1 ∙ line_is })
       refuses_all mode few_blocks (by_status.no_journal_of_file file text number fault small at is line_is same) =
           let f = refused_file file text is in
-          page.finds_no_merge status (record {
+          journals.finds_no_merge status (record {
             bytes = text;
             found = f.0;
             none = λ one other merged reads other_reads merge. back.sound text one number fault reads at;
@@ -255,12 +259,12 @@ module _ (sums : EventsAddUp) (run : page.Run) (before after : Outside) (kept : 
           let told_so : BeginsWith (codes "journal refused ") run.printed = subst (BeginsWith (codes "journal refused ")) (sym (f.2 ∙ line_is)) (fault_told from_input fault number) in
           let none : (j : List Post) → ¬ IsTextOf run.input j = λ j reads. back.sound journal j number fault (subst (λ (i : List ℕ). IsTextOf i j) f.1 reads) at in
           elim which [
-            | inl merging ↦ subst (AllEnds run budget) (sym merging) (page.finds_no_merge status (record { bytes = text; found = f.0; none = λ one other merged reads other_reads merge. none other other_reads; told = told_so }))
-            | inr posting ↦ subst (AllEnds run budget) (sym posting) (page.finds_no_journal file status refl none told_so)
+            | inl merging ↦ subst (AllEnds run budget) (sym merging) (journals.finds_no_merge status (record { bytes = text; found = f.0; none = λ one other merged reads other_reads merge. none other other_reads; told = told_so }))
+            | inr posting ↦ subst (AllEnds run budget) (sym posting) (journals.finds_no_journal status none told_so)
           ]
       refuses_all mode few_blocks (by_status.refuses_both file text journal a b author number reads other differ is line_is same) =
           let f = refused_both file text journal is in
-          page.finds_no_merge status (record {
+          journals.finds_no_merge status (record {
             bytes = text;
             found = f.0;
             none = λ x y merged read_x read_y merge.

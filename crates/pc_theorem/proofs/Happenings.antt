@@ -56,7 +56,7 @@ module _ (sums : EventsAddUp) where
       through input (taken_in xs) bytes two.0.input two.2.0.input (subst (λ i. Consumes i two.0.input (taken_in xs)) is (sums.taken xs a two.0 two.1)) two.2.1.1 two.2.1.2
 
   -- what was told is what was printed
-  pub printed_is : (words : List (List ℕ)) (status : Status) (a b : Outside) (run : page.Run) → IsTold words status a b run → (most : ℕ) (events spare : List Event) → IsSpare most events spare → Happened (events ++ spare) a b
+  pub printed_is : (words : List (List ℕ)) (status : Status) (a b : Outside) (run : page.KnownRun) → IsTold words status a b run → (most : ℕ) (events spare : List Event) → IsSpare most events spare → Happened (events ++ spare) a b
       → run.printed ≡ told_in events
   printed_is words status a b run is most events spare quiet h =
       let told_so : Appends a.output b.output (told_in events) = subst (Appends a.output b.output) (told_alone most events spare quiet) (sums.told (events ++ spare) a b h) in

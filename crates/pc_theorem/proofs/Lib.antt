@@ -19,3 +19,6 @@ mod BrokenAnswers
 mod Worked
 mod OtherDisplay
 mod Broken
+mod OneState
+mod EnoughDemonstrated
+mod Begun

@@ -13,7 +13,8 @@ use Rattle.pc_repairs.specs.Listed.{ListedPart, IsListedPart, listing_text}
 use Rattle.pc_repairs.specs.ListedSheet.{IsListed}
 use Rattle.pc_afresh_laws.specs.Afresh.{IsOpen}
 use Rattle.pc_afresh_laws.proofs.Listings.{listing_same}
-use Rattle.pc_theorem.specs.Theorem.{IsTheText, IsListing}
+use Rattle.pc_theorem.specs.Theorem.{IsTheText}
+use Rattle.pc_theorem.specs.Sets.{IsTheListing}
 
 -- ---- listed parts
 
@@ -45,10 +46,10 @@ module _ (sheet : Sheet) where
 
 -- what is listed is the sheet's listing, which has no other
 abbrev pub ListingsAreTold : Type 0
-ListingsAreTold = (sheet : Sheet) (text : List ℕ) → IsOpen sheet → IsListed sheet text → IsTheText IsListing sheet text
+ListingsAreTold = (sheet : Sheet) (text : List ℕ) → IsOpen sheet → IsListed sheet text → IsTheText IsTheListing sheet text
 
 module _ (found : PartsAreFound) (division : PartsAreADivision) (determined : PartsAreDetermined) (unions : MaximalSetsAreUnions) where
-  is_listing : (sheet : Sheet) (text : List ℕ) → IsOpen sheet → IsListed sheet text → IsListing sheet text
+  is_listing : (sheet : Sheet) (text : List ℕ) → IsOpen sheet → IsListed sheet text → IsTheListing sheet text
   is_listing sheet text is (listing, each, told) =
       let are = found sheet is.formed in
       let all = unions sheet (parts_of sheet) (division sheet (parts_of sheet) is.formed are) is.consistent is.formed.entries in
@@ -64,7 +65,7 @@ module _ (found : PartsAreFound) (division : PartsAreADivision) (determined : Pa
         );
       }
 
-  one_listing : (sheet : Sheet) (x y : List ℕ) → IsListing sheet x → IsListing sheet y → y ≡ x
+  one_listing : (sheet : Sheet) (x y : List ℕ) → IsTheListing sheet x → IsTheListing sheet y → y ≡ x
   one_listing sheet x y a b =
       let parts : b.parts ≡ a.parts = determined sheet b.parts a.parts b.are a.are in
       let each = subst (λ (ps : List Part). AllZip (IsListedPart sheet) (parts_with_entries sheet ps) b.listing) parts b.each in

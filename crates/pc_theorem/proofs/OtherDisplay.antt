@@ -11,7 +11,7 @@ use Rattle.pc_transcript.specs.Transcript.{Transcript, Legal, output_of, status_
 use Rattle.pc_words.specs.Words.{edits, usual_budget}
 use Rattle.pc_spreadsheet.specs.Tasks.{State, Starts, Task, shows, IsTaskOf, showing, IsEdit}
 use Rattle.pc_afresh_laws.specs.Afresh.{IsOpen, DumpsStartAgain}
-use Rattle.pc_theorem.specs.Theorem.{Answers, nothing_asked, edit_done, page_shown, not_doable, contradicting, budget_spent, memory_lacking, EndsSession, answers_all, refuses, finds_no_journal}
+use Rattle.pc_theorem.specs.Theorem.{Answers, nothing_asked, edit_done, page_shown, not_doable, contradicting, budget_spent, memory_lacking, EndsSession, answers_all, refuses}
 use Rattle.pc_theorem.specs.Examples.{edit_words, Keeps}
 use Rattle.pc_theorem.proofs.BrokenAnswers.{only_display, shown_is_display}
 use Rattle.pc_theorem.proofs.BrokenSessions.{run_on, edit_ends, one_answer}
@@ -51,7 +51,6 @@ module _ (read : CommandsHaveOneReading) where
         s.printed_are ∙ ap output_of one.1 ∙ append-nil (answer_text one.0)
         ∙ answer_is s.start legal.0 one.0 display (subst (λ x. IsShown x display) (sym same) is_shown) legal.1 (s.status_is ∙ ap status_of one.1)
     printed_is (refuses text why more so found refusing told_so) = absurd (cc)
-    printed_is (finds_no_journal file so mode none told_so) = absurd (cc)
 
   pub other_session : DumpsStartAgain → (sheet : Sheet) (display printed : List ℕ) → IsOpen sheet → IsShown sheet display → printed ≢ display → ¬ Keeps edit_words ((codes "f", sheet_text sheet) ∷ []) show_line printed Done
   other_session again sheet display printed is is_shown other keeps =

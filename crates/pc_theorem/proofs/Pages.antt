@@ -29,7 +29,9 @@ use Rattle.pc_asked_laws.specs.Asked.{ask_name, denial, asked}
 use Rattle.pc_spreadsheet.proofs.Rules.{formed_with}
 use Rattle.pc_afresh_laws.specs.Afresh.{IsOpen, DumpsStartAgain}
 use Rattle.pc_theorem.specs.Theorem as page
-use Rattle.pc_theorem.specs.Theorem.{Tells, IsTheText, Explains, by_support, ProvesBySets, Doubts, AnswersFormula, Refutes}
+use Rattle.pc_theorem.specs.Theorem.{TellsPage, IsTheText, Explains, by_support, IsRefutation}
+use Rattle.pc_theorem.specs.Sets.{ProvesBySets, Doubts, is_implied, by_sets}
+use Rattle.pc_theorem.specs.Formulas.{AnswersFormula, not_entailed, by_least}
 use Rattle.pc_theorem.specs.Certificates.{Claims, Assigns}
 use Rattle.pc_theorem.proofs.Claimed.{certificate_claims, certificate_assigns}
 use Rattle.pc_theorem.proofs.Listed.{ListingsAreTold}
@@ -149,21 +151,21 @@ module _ (back : CertificatesReadBack) (one_form : LinesHaveOneForm) (one_thing 
       }
 
   pub doubts : (sheet : Sheet) (t : Target) (text : List ℕ) → IsOpen sheet → t.holds ≡ true → IsWhyNot sheet t text → Doubts sheet t text
-  doubts sheet t text is holds (shown_unimplied never on) = page.by_sets never (proves_by_sets sheet (unimplied t) text is holds tt on)
-  doubts sheet t text is holds (is_so_implied is_so told) = page.is_implied is_so told
+  doubts sheet t text is holds (shown_unimplied never on) = by_sets never (proves_by_sets sheet (unimplied t) text is holds tt on)
+  doubts sheet t text is holds (is_so_implied is_so told) = is_implied is_so told
 
   -- ---- formulas
 
   answers_formula : (sheet : Sheet) (f : Statement) (text : List ℕ) → IsWellFormed (asked sheet f) → IsAnswered sheet f text → AnswersFormula sheet f text
-  answers_formula sheet f text formed (by_none never told) = page.not_entailed never told
+  answers_formula sheet f text formed (by_none never told) = not_entailed never told
   answers_formula sheet f text formed (by_least_support s c least is told) =
       let by = told_by (asked sheet f) c text formed is.accepted is.written (subst HasForm (sym is.claims) tt) told in
       let claims = subst (λ ss. Claims (asked sheet f) text c.claim c.uses ss) (by.none_against (length sheet.rules) is.claims) by.says in
-      page.by_least s least (subst (λ us. Claims (asked sheet f) text (against (length sheet.rules)) us []) is.uses (subst (λ x. Claims (asked sheet f) text x c.uses []) is.claims claims)) by.accepted
+      by_least s least (subst (λ us. Claims (asked sheet f) text (against (length sheet.rules)) us []) is.uses (subst (λ x. Claims (asked sheet f) text x c.uses []) is.claims claims)) by.accepted
 
   -- ---- contradictions
 
-  pub refutes : (sheet : Sheet) (text : List ℕ) → IsWellFormed sheet → IsCertificateAgainst sheet text → Refutes sheet text
+  pub refutes : (sheet : Sheet) (text : List ℕ) → IsWellFormed sheet → IsCertificateAgainst sheet text → IsRefutation sheet text
   refutes sheet text formed (c, refuting, told) =
       let by = told_by sheet c text formed refuting.accepted refuting.written (subst HasForm (sym refuting.claim) tt) told in
       let taken : AcceptsClaim sheet c inconsistent = subst (AcceptsClaim sheet c) refuting.claim refuting.accepted in
@@ -177,7 +179,7 @@ module _ (back : CertificatesReadBack) (one_form : LinesHaveOneForm) (one_thing 
 
   module _ (one_display : SheetHasOneDisplay) (again : DumpsStartAgain) (listings : ListingsAreTold) where
     -- what a page says is what is told
-    pub tells : (sheet : Sheet) (kind : PageKind) (a : Asked) (text : List ℕ) → IsOpen sheet → IsTaskOf sheet a (shows kind) → PageSays kind sheet text → Tells sheet kind text
+    pub tells : (sheet : Sheet) (kind : PageKind) (a : Asked) (text : List ℕ) → IsOpen sheet → IsTaskOf sheet a (shows kind) → PageSays kind sheet text → TellsPage sheet kind text
     tells sheet lines_page a text is asked_so says = the_text IsShown one_display.shown sheet text is says
     tells sheet grid_page a text is asked_so says = the_text IsGrid one_display.grid sheet text is says
     tells sheet json_page a text is asked_so says = the_json one_display.json sheet text is says

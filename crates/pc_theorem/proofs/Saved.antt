@@ -4,7 +4,7 @@ use Rattle.pc_sortcheck.specs.Declaring.{ReadsAs}
 use Rattle.pc_display.specs.Show.{IsShown}
 use Rattle.pc_judge.specs.AcceptedText.{IsAcceptedText}
 use Rattle.pc_refusals.specs.declared.status.Status.TheVariants.{CertRefused}
-use Rattle.pc_theorem.specs.Theorem.{Run, IsDeclined, EndsCheck, accepts, declines, finds_no_sheet}
+use Rattle.pc_theorem.specs.Theorem.{KnownRun, IsDeclined, EndsCheck, accepts, declines, finds_no_sheet}
 use Rattle.pc_theorem.specs.Laws.{SavedSheetsShowTheSame, SavedSheetsTakeCertificates}
 
 pub saved_sheets_show_the_same : SavedSheetsShowTheSame
@@ -15,7 +15,7 @@ bytes_same : (x y : List ℕ) → Some x ≡ Some y → x ≡ y
 bytes_same x y e = cc
 
 -- a check that refuses declined the certificate
-declined : (run : Run) (file : List ℕ) → EndsCheck run file → run.status ≡ CertRefused → IsDeclined run.files file run.input run.printed
+declined : (run : KnownRun) (file : List ℕ) → EndsCheck run file → run.status ≡ CertRefused → IsDeclined run.files file run.input run.printed
 declined run file (accepts done is) refused = absurd (cc (done, refused))
 declined run file (declines so is) refused = is
 declined run file (finds_no_sheet so is) refused = absurd (cc (so, refused))

@@ -29,8 +29,9 @@ use Rattle.pc_run_laws.specs.Statuses as by_status
 use Rattle.pc_run_laws.specs.Statuses.{DoneIsSo, SomeAreRefused, SheetsAreRefused}
 use Rattle.pc_run_laws.specs.ByStatus.{UsageIsOfWords, WordsAreTold, IsRefusedCertificate, CertificatesAreRefused, WantsMemory, at_words, at_sheet, at_certificate, at_journal, at_line, MemoryIsWanted}
 use Rattle.pc_theorem.specs.Theorem as page
-use Rattle.pc_theorem.specs.Theorem.{Run, IsProved, Answers, RefusesSheet, Ends, LacksMemory, IsWorthIts, IsTold, IsCutOff}
-use Rattle.pc_theorem.specs.Laws.{RunsKeepTheirWord, RunsDemonstrate}
+use Rattle.pc_theorem.specs.Journals.{EndsJournals, merges_both}
+use Rattle.pc_theorem.specs.Theorem.{KnownRun, IsProved, Answers, RefusesSheet, Ends, LacksMemory, IsWorthIts, IsTold, IsCutOff}
+use Rattle.pc_theorem.specs.Laws.{RunsKeepTheirWord, RunsKeepJournals, RunsDemonstrate}
 use Rattle.pc_theorem.proofs.Happenings.{front_cancels, printed_is, given_file, taken_all}
 use Rattle.pc_theorem.proofs.Quiet.{check_needs, course_needs}
 use Rattle.pc_theorem.proofs.Endings.{AllEnds, HasFewBlocks, FirstsAreCleared, OnlySpentIsTold, printed_last, file_is, rest_is, answers_all, refuses_all}
@@ -55,7 +56,7 @@ some_wanting true c want = refl
 -- ---- the whole
 
 -- what was asked for, and how it ended
-record Ended (words : List (List ℕ)) (run : Run) : Type 0 where
+record Ended (words : List (List ℕ)) (run : KnownRun) : Type 0 where
   request : Request
   fits : FitsWords words request
   ends : AllEnds run request.budget request.mode
@@ -73,14 +74,22 @@ few_blocks : (words : List (List ℕ)) (request : Request) → FitsWords words r
 few_blocks words request (inl fit) = of_mode words request.mode fit.0
 few_blocks words request (inr fit) = of_mode (fit.before ++ fit.after) request.mode fit.mode
 
--- what the page says of all modes but one
-page_ends : (run : Run) (budget : ℕ) (mode : Mode) → AllEnds run budget mode → Ends run budget mode
+-- what each page says of its modes
+page_ends : (run : KnownRun) (budget : ℕ) (mode : Mode) → AllEnds run budget mode → Ends run budget mode
 page_ends run budget replays ends = ends
 page_ends run budget (edits file) ends = ends
 page_ends run budget (checks file) ends = ends
-page_ends run budget (merges file) ends = ends
-page_ends run budget (posts file) ends = ends
+page_ends run budget (merges file) ends = tt
+page_ends run budget (posts file) ends = tt
 page_ends run budget (demonstrates blocks) ends = tt
+
+journals_end : (run : KnownRun) (budget : ℕ) (mode : Mode) → AllEnds run budget mode → EndsJournals run budget mode
+journals_end run budget replays ends = tt
+journals_end run budget (edits file) ends = tt
+journals_end run budget (checks file) ends = tt
+journals_end run budget (merges file) ends = ends
+journals_end run budget (posts file) ends = ends
+journals_end run budget (demonstrates blocks) ends = tt
 
 -- what lines are answered, and what sheets are refused for
 abbrev pub LinesAreAnswered : Type 0
@@ -95,7 +104,7 @@ AcceptedIsProved = (sheet : Sheet) (bytes text : List ℕ) → ReadsAs bytes she
 
 module _ (sums : EventsAddUp) (one : WordsFitOneRequest) (first : StartsAreOpen) (keep : AnswersKeepOpen) (formed : SheetsAreWellFormed) (back : JournalsReadBack) (one_outcome : TextsHaveOneOutcome) (accepts : AcceptedTextIsAccepts) (one_verdict : JudgementsAreOne) where
   module _ (answered : LinesAreAnswered) (refused : SheetsAreRefusedSo) (proved : AcceptedIsProved) (clears : FirstsAreCleared) (only_spent : OnlySpentIsTold) where
-    module _ (words : List (List ℕ)) (status : Status) (notes noted : Notes) (before after : Outside) (runs : Runs words status notes noted before after) (run : Run) (is : IsTold words status before after run) where
+    module _ (words : List (List ℕ)) (status : Status) (notes noted : Notes) (before after : Outside) (runs : Runs words status notes noted before after) (run : KnownRun) (is : IsTold words status before after run) where
       events : List Event
       events = runs.2.events
 
@@ -140,7 +149,7 @@ module _ (sums : EventsAddUp) (one : WordsFitOneRequest) (first : StartsAreOpen)
           record {
             request = request;
             fits = fits;
-            ends = subst (AllEnds run request.budget) (sym mode) (page.merges_both (is.status_is ∙ so) (record {
+            ends = subst (AllEnds run request.budget) (sym mode) (merges_both (is.status_is ∙ so) (record {
               bytes = text;
               found = found;
               one = a;
@@ -239,6 +248,13 @@ module _ (sums : EventsAddUp) (one : WordsFitOneRequest) (first : StartsAreOpen)
       pub runs_keep_their_word : RunsKeepTheirWord
       runs_keep_their_word words status notes noted before after runs run is whole =
           worth words status notes noted before after runs run is on_done on_some on_sheet on_certificate on_memory on_usage on_unfit whole
+
+      pub runs_keep_journals : RunsKeepJournals
+      runs_keep_journals words status notes noted before after runs run is whole request fits =
+          elim (all_ends words status notes noted before after runs run is on_done on_some on_sheet on_certificate on_memory on_usage on_unfit whole request fits) [
+            | inl e ↦ inl (journals_end run request.budget request.mode e)
+            | inr lacks ↦ inr lacks
+          ]
 
       pub runs_demonstrate : RunsDemonstrate
       runs_demonstrate words status notes noted before after runs run is whole blocks budget fits =

@@ -5,7 +5,9 @@ use Rattle.std.specs.Fmt.{decimal}
 use Rattle.std.proofs.lemmas.Fmt.{decimal_digit}
 use Rattle.pc_lemmas.proofs.Elements.{contains_none}
 use Rattle.pc_port.specs.Shelf.{Files}
+use Rattle.pc_lines.specs.Lines.{line_text_of}
 use Rattle.pc_sheet.specs.Sheet.{Sheet}
+use Rattle.pc_sheet.specs.declared.ids.Target.{Target}
 use Rattle.pc_formula.specs.Word.{name}
 use Rattle.pc_syntax.specs.Tree.{asks_show}
 use Rattle.pc_syntax.specs.Command.{IsCommandReading, asks}
@@ -22,11 +24,12 @@ use Rattle.pc_display.specs.OneDisplay.{SheetHasOneDisplay}
 use Rattle.pc_refusals.specs.declared.status.Status.{Status}
 use Rattle.pc_refusals.specs.declared.status.Status.TheVariants.{Done}
 use Rattle.pc_transcript.specs.Answer.{shown}
-use Rattle.pc_words.specs.Words.{edits, merges, Request, FitsWords, usual_budget}
+use Rattle.pc_words.specs.Words.{Mode, edits, merges, Request, FitsWords, usual_budget}
 use Rattle.pc_words.specs.Laws.{WordsFitOneRequest}
-use Rattle.pc_spreadsheet.specs.Tasks.{State, lines_page, showing}
+use Rattle.pc_spreadsheet.specs.Tasks.{State, shows, lines_page, why_page, showing, IsTask}
 use Rattle.pc_afresh_laws.specs.Afresh.{IsOpen, DumpsStartAgain}
-use Rattle.pc_theorem.specs.Theorem.{Run, IsMerged, merges_both, page_shown, IsSession, answers_all, Ends, IsTold, IsWorthIts, KeepsItsWord}
+use Rattle.pc_theorem.specs.Theorem.{KnownRun, Explains, page_shown, IsSession, answers_all, Ends, IsTold, IsWorthIts, KeepsItsWord}
+use Rattle.pc_theorem.specs.Journals.{IsMerged, merges_both, EndsJournals, KeepsJournals}
 use Rattle.pc_theorem.specs.Examples.{told_outside, merge_words, edit_words, WorkedWords}
 use Rattle.pc_theorem.proofs.BrokenSessions.{a_post, is_file_name}
 use Rattle.pc_theorem.proofs.OneWord.{one_word}
@@ -108,10 +111,13 @@ show_line = codes "show\n"
 
 -- such a run is worth what its one request ends in
 module _ (one : WordsFitOneRequest) (words : List (List ℕ)) (files : Files) (input printed : List ℕ) (status : Status) (request : Request) (fits : FitsWords words request) where
-  abbrev the_run : Run
+  the_request : (EndsSo : KnownRun → ℕ → Mode → Type 0) (run : KnownRun) (other : Request) → FitsWords words other → EndsSo run request.budget request.mode → EndsSo run other.budget other.mode
+  the_request EndsSo run other asked ends = subst (λ (q : Request). EndsSo run q.budget q.mode) (one words request other fits asked) ends
+
+  abbrev the_run : KnownRun
   the_run = record { words = words; files = files; input = input; printed = printed; status = status }
 
-  run_is : (run : Run) → IsTold words status (told_outside files input []) (told_outside files [] printed) run → the_run ≡ run
+  run_is : (run : KnownRun) → IsTold words status (told_outside files input []) (told_outside files [] printed) run → the_run ≡ run
   run_is run is =
       ap (λ (ws : List (List ℕ)). record { words = ws; files = files; input = input; printed = printed; status = status }) (sym is.words_are)
       ∙ ap (λ (fs : Files). record { words = run.words; files = fs; input = input; printed = printed; status = status }) (some_same files run.files is.files_are)
@@ -127,12 +133,16 @@ module _ (one : WordsFitOneRequest) (words : List (List ℕ)) (files : Files) (i
 
   worth : Ends the_run request.budget request.mode → IsWorthIts the_run
   worth ends = record {
-    asked_for = λ other asked. inl (subst (λ (q : Request). Ends the_run q.budget q.mode) (one words request other fits asked) ends);
+    asked_for = λ other asked. inl (the_request Ends the_run other asked ends);
     unfit = λ none. absurd (none request fits);
   }
 
   keeps : Ends the_run request.budget request.mode → KeepsItsWord words status (told_outside files input []) (told_outside files [] printed)
   keeps ends run is uncut = subst IsWorthIts (run_is run is) (worth ends)
+
+  keeps_journals : EndsJournals the_run request.budget request.mode → KeepsJournals words status (told_outside files input []) (told_outside files [] printed)
+  keeps_journals ends run is uncut other asked =
+      inl (the_request EndsJournals run other (subst (λ ws. FitsWords ws other) is.words_are asked) (subst (λ r. EndsJournals r request.budget request.mode) (run_is run is) ends))
 
 -- ---- a sheet that is shown
 
@@ -151,10 +161,31 @@ show_starts again one_display sheet display is is_shown =
       status_is = refl;
     }
 
+-- ---- and explained
+
+module _ (again : DumpsStartAgain) (one_display : SheetHasOneDisplay) (sheet : Sheet) (t : Target) (display text line input : List ℕ) (is : IsOpen sheet) (is_shown : IsShown sheet display) where
+  abbrev state : State
+  state = record { sheet = sheet; budget = usual_budget }
+
+  why_starts : IsTask state (line_text_of line) (shows (why_page t)) → Explains sheet t text → IsSession (record { words = edit_words; files = (codes "f", sheet_text sheet) ∷ []; input = input; printed = display ++ text; status = Done }) usual_budget (sheet_text sheet) (show_line ∷ line ∷ [])
+  why_starts asked explains = record {
+    start = state;
+    starts = (again sheet (sheet_text sheet) is refl).starts usual_budget;
+    transcript = (show_line, shown display) ∷ (line, shown text) ∷ [];
+    end = state;
+    legal = (state, page_shown lines_page display (asks_show, asks_to_show, showing) (the_text IsShown one_display.shown sheet display is is_shown), (state, page_shown (why_page t) text asked explains, refl));
+    lines_are = refl;
+    printed_are = ap (λ (xs : List ℕ). display ++ xs) (sym (append-nil text));
+    status_is = refl;
+  }
+
 pub worked_words : WordsFitOneRequest → DumpsStartAgain → SheetHasOneDisplay → WorkedWords
 worked_words one again one_display = record {
-  merged = keeps one merge_words the_files [] a_post Done (record { mode = merges (codes "f"); budget = usual_budget }) (inl ((refl, is_file_name), refl)) (merges_both refl merged);
+  merged = keeps_journals one merge_words the_files [] a_post Done (record { mode = merges (codes "f"); budget = usual_budget }) (inl ((refl, is_file_name), refl)) (merges_both refl merged);
   displayed = λ sheet display is is_shown.
       keeps one edit_words ((codes "f", sheet_text sheet) ∷ []) show_line display Done (record { mode = edits (codes "f"); budget = usual_budget }) (inl ((refl, is_file_name), refl))
       (answers_all (sheet_text sheet) (show_line ∷ []) refl refl (show_starts again one_display sheet display is is_shown));
+  explained = λ sheet t display text line input is is_shown asked explains lines_are.
+      keeps one edit_words ((codes "f", sheet_text sheet) ∷ []) input (display ++ text) Done (record { mode = edits (codes "f"); budget = usual_budget }) (inl ((refl, is_file_name), refl))
+      (answers_all (sheet_text sheet) (show_line ∷ line ∷ []) refl (sym lines_are) (why_starts again one_display sheet t display text line input is is_shown asked explains));
 }

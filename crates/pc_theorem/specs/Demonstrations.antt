@@ -17,7 +17,7 @@ use Rattle.pc_demo.specs.Demonstration.{told_in}
 use Rattle.pc_demo.specs.Summing.{clear_lines, SumsUp}
 use Rattle.pc_spreadsheet.specs.Judgement.{of_whole}
 use Rattle.pc_spreadsheet.specs.Tasks.{State, Starts}
-use Rattle.pc_theorem.specs.Theorem.{Run, Answers, LacksMemory, IsTold, IsCutOff}
+use Rattle.pc_theorem.specs.Theorem.{KnownRun, Answers, LacksMemory, IsTold, IsCutOff}
 
 -- of each block, the entry of its third cell
 abbrev pub third_entries : ℕ → List Entry
@@ -32,7 +32,7 @@ without_firsts blocks = record { universe = (generated_sheet blocks).universe; r
 -- clash with others, and how many values some consistent entries entail. Then lines that clear each block's first cell were answered as in a
 -- session, and of the answers what isn't `ok` was printed; and at last the numbers of the sheet after them. Where nothing was refused, that
 -- is the generated sheet but for the entries of the first cells.
-pub record IsDemonstration (run : Run) (budget blocks : ℕ) : Type 0 where
+pub record IsDemonstration (run : KnownRun) (budget blocks : ℕ) : Type 0 where
   pub start : State
   pub starts : Starts budget (generated_text blocks) start
   pub generated : start.sheet ≡ generated_sheet blocks
@@ -49,11 +49,11 @@ pub record IsDemonstration (run : Run) (budget blocks : ℕ) : Type 0 where
   pub all_cleared : run.status ≡ Done → end.sheet ≡ without_firsts blocks
 
 -- with `demo N`: that was done; or the budget is less than is enough for the sheet, all of it was placed, and this was told
-pub data EndsDemonstration (run : Run) (budget blocks : ℕ) : Type 0 where
+pub data EndsDemonstration (run : KnownRun) (budget blocks : ℕ) : Type 0 where
   demonstrates_all : IsDemonstration run budget blocks → EndsDemonstration run budget blocks
   has_too_little : (counts : Counts) → run.status ≡ SheetRefused → budget < enough_for_all (generated_sheet blocks) → counts.placed ≡ budget → run.printed ≡ sheet_refusal_text (of_whole (Spent counts)) → EndsDemonstration run budget blocks
 
 -- the same of the words, the status, and what was outside before and after
 abbrev pub Demonstrates : List (List ℕ) → Status → Outside → Outside → Type 0
 Demonstrates words status before after =
-    (run : Run) → IsTold words status before after run → ¬ IsCutOff run.status → (blocks budget : ℕ) → FitsWords run.words record { mode = demonstrates blocks; budget = budget } → EndsDemonstration run budget blocks ⊎ LacksMemory run
+    (run : KnownRun) → IsTold words status before after run → ¬ IsCutOff run.status → (blocks budget : ℕ) → FitsWords run.words record { mode = demonstrates blocks; budget = budget } → EndsDemonstration run budget blocks ⊎ LacksMemory run

@@ -1,23 +1,33 @@
--- That runs are worth what the page says; and that a saved sheet shows the same.
-use Rattle.std.specs.Prelude.{◌≡◌, ◌≢◌, ℕ, List, Some}
+-- That runs are worth what the pages say; that a saved sheet shows the same; that answers leave one state; and which demonstrations are done.
+use Rattle.std.specs.Prelude.{◌≡◌, ◌≢◌, ◌≤◌, ◌⊎◌, ℕ, List, Some}
 use Rattle.pc_port.specs.Shelf.{file_named}
 use Rattle.pc_sheet.specs.Sheet.{Sheet}
+use Rattle.pc_sheet.specs.WellFormed.{IsWellFormed}
+use Rattle.pc_enough_laws.specs.Enough.{enough_for_all}
+use Rattle.pc_gen.specs.Sheet.{generated_sheet}
 use Rattle.pc_refusals.specs.declared.status.Status.{Status}
 use Rattle.pc_refusals.specs.declared.status.Status.TheVariants.{CertRefused}
 use Rattle.pc_course.specs.Events.{Outside}
+use Rattle.pc_transcript.specs.Answer.{Answer}
+use Rattle.pc_transcript.specs.Transcript.{Transcript, Legal}
+use Rattle.pc_words.specs.Words.{demonstrates, FitsWords}
 use Rattle.pc_judge.specs.AcceptedText.{IsAcceptedText}
 use Rattle.pc_spreadsheet.specs.Allowed.{Notes}
 use Rattle.pc_spreadsheet.specs.Tasks.{State, Starts, lines_page, text_page}
 use Rattle.pc_replay.specs.Course.{Runs}
-use Rattle.pc_theorem.specs.Theorem.{Run, EndsCheck, Tells, KeepsItsWord}
-use Rattle.pc_theorem.specs.Demonstrations.{Demonstrates}
+use Rattle.pc_theorem.specs.Theorem.{KnownRun, EndsCheck, TellsPage, Answers, LacksMemory, IsTold, IsCutOff, KeepsItsWord}
+use Rattle.pc_theorem.specs.Journals.{KeepsJournals}
+use Rattle.pc_theorem.specs.Demonstrations.{IsDemonstration, Demonstrates}
 
 -- ---- all modes
 
 abbrev pub RunsKeepTheirWord : Type 0
 RunsKeepTheirWord = (words : List (List ℕ)) (status : Status) (notes noted : Notes) (before after : Outside) → Runs words status notes noted before after → KeepsItsWord words status before after
 
--- the same with `demo N`
+-- the same over journals, and with `demo N`
+abbrev pub RunsKeepJournals : Type 0
+RunsKeepJournals = (words : List (List ℕ)) (status : Status) (notes noted : Notes) (before after : Outside) → Runs words status notes noted before after → KeepsJournals words status before after
+
 abbrev pub RunsDemonstrate : Type 0
 RunsDemonstrate = (words : List (List ℕ)) (status : Status) (notes noted : Notes) (before after : Outside) → Runs words status notes noted before after → Demonstrates words status before after
 
@@ -26,9 +36,26 @@ RunsDemonstrate = (words : List (List ℕ)) (status : Status) (notes noted : Not
 -- What was told for `dump`, a later session may begin with. There `show` is answered, before any edit, as it would have been in place of the
 -- `dump`.
 abbrev pub SavedSheetsShowTheSame : Type 0
-SavedSheetsShowTheSame = (sheet : Sheet) (saved shown later : List ℕ) (budget : ℕ) (start : State) → Tells sheet text_page saved → Tells sheet lines_page shown → Starts budget saved start → Tells start.sheet lines_page later → later ≡ shown
+SavedSheetsShowTheSame = (sheet : Sheet) (saved shown later : List ℕ) (budget : ℕ) (start : State) → TellsPage sheet text_page saved → TellsPage sheet lines_page shown → Starts budget saved start → TellsPage start.sheet lines_page later → later ≡ shown
 
 -- What `check` accepts for a sheet, as the certificates that a session prints, isn't refused for a file that has what was told for `dump`.
 abbrev pub SavedSheetsTakeCertificates : Type 0
 SavedSheetsTakeCertificates =
-    (sheet : Sheet) (saved certificate : List ℕ) → Tells sheet text_page saved → IsAcceptedText sheet certificate → (run : Run) (file : List ℕ) → file_named file run.files ≡ Some saved → run.input ≡ certificate → EndsCheck run file → run.status ≢ CertRefused
+    (sheet : Sheet) (saved certificate : List ℕ) → TellsPage sheet text_page saved → IsAcceptedText sheet certificate → (run : KnownRun) (file : List ℕ) → file_named file run.files ≡ Some saved → run.input ≡ certificate → EndsCheck run file → run.status ≢ CertRefused
+
+-- ---- one state
+
+-- an answer to a line leaves one state, and so do answers to many lines
+abbrev pub AnswersLeaveOneState : Type 0
+AnswersLeaveOneState = (state next other : State) (line : List ℕ) (answer : Answer) → IsWellFormed state.sheet → Answers state line answer next → Answers state line answer other → other ≡ next
+
+abbrev pub TranscriptsLeaveOneState : Type 0
+TranscriptsLeaveOneState = (start end other : State) (transcript : Transcript) → IsWellFormed start.sheet → Legal Answers start transcript end → Legal Answers start transcript other → other ≡ end
+
+-- ---- enough
+
+-- a demonstration that isn't cut off, with a budget that is enough for its sheet, is done, or memory was wanting before it
+abbrev pub DemonstrationsOfEnoughAreDone : Type 0
+DemonstrationsOfEnoughAreDone =
+    (words : List (List ℕ)) (status : Status) (before after : Outside) → Demonstrates words status before after → (run : KnownRun) → IsTold words status before after run → ¬ IsCutOff run.status
+    → (blocks budget : ℕ) → FitsWords run.words (record { mode = demonstrates blocks; budget = budget }) → enough_for_all (generated_sheet blocks) ≤ budget → IsDemonstration run budget blocks ⊎ LacksMemory run

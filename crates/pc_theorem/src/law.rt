@@ -1,6 +1,6 @@
 // The laws of the page, each the contract of a function that does nothing.
 ghost use Rattle.pc_theorem.specs.Examples.{BrokenAnswers, BrokenWords, WorkedWords};
-ghost use Rattle.pc_theorem.specs.Laws.{RunsDemonstrate, RunsKeepTheirWord, SavedSheetsShowTheSame, SavedSheetsTakeCertificates};
+ghost use Rattle.pc_theorem.specs.Laws.{AnswersLeaveOneState, DemonstrationsOfEnoughAreDone, RunsDemonstrate, RunsKeepJournals, RunsKeepTheirWord, SavedSheetsShowTheSame, SavedSheetsTakeCertificates, TranscriptsLeaveOneState};
 
 use pc_accept::certificates_are_sound;
 use pc_afresh_laws::{dumps_start_again, states_stay_open, transcripts_stay_open};
@@ -23,12 +23,14 @@ use pc_run_laws::{
 };
 use pc_sheet::cells_are_numbered_in_order;
 use pc_sortcheck::sheets_are_well_formed;
+use pc_spreadsheet::{lines_have_one_verdict, states_are_well_formed};
 use pc_syntax::one_reading;
 use pc_words::words_fit_one_request;
 
-/// Whatever a run was asked for, it keeps its word; and so does a demonstration.
+/// Whatever a run was asked for, it keeps its word; and so does one over journals, and a demonstration.
 pub fn runs_keep_their_word()
     ensures word { RunsKeepTheirWord }
+    ensures journals { RunsKeepJournals }
     ensures demo { RunsDemonstrate }
 {
     events_add_up();
@@ -73,6 +75,20 @@ pub fn saved_sheets_take_certificates()
     ensures { SavedSheetsTakeCertificates }
 {}
 
+/// An answer leaves one state, and so do the answers to many lines.
+pub fn answers_leave_one_state()
+    ensures answer { AnswersLeaveOneState }
+    ensures transcript { TranscriptsLeaveOneState }
+{
+    lines_have_one_verdict();
+    states_are_well_formed();
+}
+
+/// A demonstration with a budget that is enough for its sheet is done, unless a device fails or memory is wanting.
+pub fn demonstrations_of_enough_are_done()
+    ensures { DemonstrationsOfEnoughAreDone }
+{}
+
 /// Runs that keep their word.
 pub fn worked_words()
     ensures { WorkedWords }
@@ -89,4 +105,6 @@ pub fn broken_words()
 {
     one_reading();
     dumps_start_again();
+    texts_have_one_outcome();
+    lines_have_one_verdict();
 }

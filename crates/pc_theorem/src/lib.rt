@@ -5,11 +5,13 @@
 #![tactic(auto)]
 
 mod law;
+mod starting;
 mod top;
 
 pub use law::{
-    broken_words, runs_keep_their_word, saved_sheets_show_the_same, saved_sheets_take_certificates,
-    worked_words,
+    answers_leave_one_state, broken_words, demonstrations_of_enough_are_done, runs_keep_their_word,
+    saved_sheets_show_the_same, saved_sheets_take_certificates, worked_words,
 };
 pub use pc_replay::{Spendings, Status};
+pub use starting::start;
 pub use top::run;

@@ -1,0 +1,52 @@
+-- What the program does with what came of reading its words.
+use Rattle.std.specs.Prelude.{◌≡◌, ◌⊎◌, ℕ, List, [], ◌∷◌, Result, Ok, Err}
+use Rattle.std.specs.declared.io.ErrorKind.{ErrorKind}
+use Rattle.std.specs.declared.io.ErrorKind.TheVariants.{OutOfMemory}
+use Rattle.pc_refusals.specs.Endings.{memory_text, TellsAtEnd}
+use Rattle.pc_refusals.specs.declared.status.Status.{Status}
+use Rattle.pc_refusals.specs.declared.status.Status.TheVariants.{Memory}
+use Rattle.pc_course.specs.Events.{Outside}
+use Rattle.pc_spreadsheet.specs.Allowed.{Notes}
+use Rattle.pc_replay.specs.Course.{Runs}
+use Rattle.pc_theorem.specs.Theorem.{KeepsItsWord}
+use Rattle.pc_theorem.specs.Journals.{KeepsJournals}
+use Rattle.pc_theorem.specs.Demonstrations.{Demonstrates}
+
+-- What came of it: the words, of which the first is the program's own name; that memory was wanting for them; or that they can't be read, as where
+-- one isn't UTF-8.
+pub data WordsRead : Type 0 where
+  read : List (List ℕ) → WordsRead
+  lacked_memory : WordsRead
+  unreadable : WordsRead
+
+abbrev pub of_error : ErrorKind → WordsRead
+of_error OutOfMemory = lacked_memory
+of_error kind = unreadable
+
+abbrev pub words_read : {A E : Type 0} → (A → List (List ℕ)) → (E → ErrorKind) → Result A E → WordsRead
+words_read words_of kind_of (Ok words) = read (words_of words)
+words_read words_of kind_of (Err e) = of_error (kind_of e)
+
+-- the words behind the program's own name
+abbrev pub behind_name : List (List ℕ) → List (List ℕ)
+behind_name [] = []
+behind_name (name ∷ words) = words
+
+-- a run with these words, and what it is worth
+pub record IsRunOf (words : List (List ℕ)) (status : Status) (notes noted : Notes) (before after : Outside) : Type 0 where
+  pub word : KeepsItsWord words status before after
+  pub journals : KeepsJournals words status before after
+  pub demo : Demonstrates words status before after
+  pub runs : Runs words status notes noted before after
+
+-- memory was wanting for the words: that was told at the end, and nothing else happened
+pub record LacksWords (status : Status) (notes noted : Notes) (before after : Outside) : Type 0 where
+  pub told : TellsAtEnd Memory memory_text status before.output after.output
+  pub else_same : after ≡ record before { output = after.output; output_faults = after.output_faults }
+  pub none_noted : noted ≡ notes
+
+-- The words behind the name are run, or memory was wanting for them. Where they can't be read it is a run without words.
+abbrev pub StartsSo : WordsRead → Status → Notes → Notes → Outside → Outside → Type 0
+StartsSo (read words) status notes noted before after = IsRunOf (behind_name words) status notes noted before after ⊎ LacksWords status notes noted before after
+StartsSo lacked_memory status notes noted before after = LacksWords status notes noted before after
+StartsSo unreadable status notes noted before after = IsRunOf [] status notes noted before after
