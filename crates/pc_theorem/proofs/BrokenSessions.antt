@@ -15,7 +15,7 @@ use Rattle.pc_writer.specs.SheetText.{ended}
 use Rattle.pc_repairs.specs.Listed.{ListedPart, listing_text}
 use Rattle.pc_refusals.specs.declared.status.Status.{Status}
 use Rattle.pc_refusals.specs.declared.status.Status.TheVariants.{Done, SomeRefused, SheetRefused, Memory}
-use Rattle.pc_transcript.specs.Answer.{Answer, refused, answer_text}
+use Rattle.pc_transcript.specs.Answer.{Answer, answer_text}
 use Rattle.pc_transcript.specs.Transcript.{Transcript, Legal, lines, output_of, worse_of, status_of}
 use Rattle.pc_words.specs.Words.{edits, IsNumber, IsFileName, usual_budget}
 use Rattle.pc_spreadsheet.specs.declared.summary.Summary.{Summary}

@@ -1,5 +1,5 @@
 -- A demonstration of enough is done.
-use Rattle.std.proofs.Common.{◌≡◌, ◌<◌, ◌≤◌, ◌⊎◌, ℕ, inl, inr, arith}
+use Rattle.std.proofs.Common.{ℕ, ◌<◌, ◌≤◌, inl, inr, arith}
 use Rattle.pc_enough_laws.specs.Enough.{enough_for_all}
 use Rattle.pc_gen.specs.Sheet.{generated_sheet}
 use Rattle.pc_theorem.specs.Theorem.{KnownRun}

@@ -3,7 +3,7 @@ use Rattle.std.proofs.Common.{◌≡◌, ◌⊎◌, ℕ, List, [], ◌∷◌, re
 use Rattle.pc_lines.specs.Lines.{line_text_of}
 use Rattle.pc_sheet.specs.WellFormed.{IsWellFormed}
 use Rattle.pc_transcript.specs.Answer.{Answer, accepted}
-use Rattle.pc_transcript.specs.Transcript.{Transcript, Legal}
+use Rattle.pc_transcript.specs.Transcript.{Legal}
 use Rattle.pc_spreadsheet.specs.Judgement.{does}
 use Rattle.pc_spreadsheet.specs.Laws.{LinesHaveOneVerdict, AnswersKeepForm}
 use Rattle.pc_spreadsheet.specs.Tasks.{State, Task, IsTask, IsEdit, state_after}
