@@ -1,14 +1,14 @@
 //! Which sign each own variable is decided with, and which are to be true next.
 //!
 //! Signs are those that the variables had last (Pipatsrisawat and Darwiche), false at first. Of the preferred variables a few
-//! that no answer has made true yet are decided true before others, so that few answers show many of them: `share` at first,
-//! twice as many after a call without trouble, half as many after one with more than a few conflicts. Where a call has met
-//! some conflicts, the signs are again those of the last answer. No contract rests on it.
+//! that no answer has made true yet are decided true before others, so that few answers show many of them: eight in the first
+//! call, twice as many after a call without trouble, half as many after one with more than a few conflicts. Where a call has
+//! met some conflicts, the signs are again those of the last answer. No contract rests on it.
 
 use std::alloc::{AllocError, Global};
 
-// How many variables are to be shown true at first.
-const FIRST_SHARE: usize = 4;
+// How many variables are to be shown true in the first call.
+const FIRST_SHARE: usize = 8;
 
 // A call with no more conflicts than this has shown without trouble what was to be shown.
 const FEW: u64 = 1;
@@ -39,6 +39,8 @@ pub struct Signs {
     // of how many of the first places that is tried, and of how many at once
     preferred: usize,
     share: usize,
+    // whether there was a call
+    has_begun: bool,
     // how many calls go by before something is tried again, and how many calls there were
     rest: u64,
     turn: usize,
@@ -62,6 +64,7 @@ impl Signs {
             next: 0,
             preferred: 0,
             share: FIRST_SHARE,
+            has_begun: false,
             rest: 0,
             turn: 0,
             met: 0,
@@ -74,6 +77,7 @@ impl Signs {
     /// Of the first `count` variables some are to be shown true.
     pub fn prefer_first(&mut self, count: usize) {
         self.preferred = count;
+        self.share = self.share.min(count);
     }
 
     /// The sign with which the variable at this place is decided.
@@ -95,7 +99,10 @@ impl Signs {
 
     /// A call begins: some variables that no answer has made true are to be so.
     pub fn begin(&mut self) {
-        self.fit_share();
+        if self.has_begun {
+            self.fit_share();
+        }
+        self.has_begun = true;
         self.met = 0;
         self.patience = PATIENCE;
         self.wanted = 0;
