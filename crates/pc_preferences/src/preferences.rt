@@ -18,8 +18,8 @@ const LARGEST_STEP: u64 = 281_474_976_710_656;
 // How many conflicts the shortest run has.
 const SHORTEST_RUN: u64 = 512;
 
-// The same where signs are kept.
-const KEPT_RUN: u64 = 32;
+// The same once an answer has come: then a search begins anew near the last one.
+const RUN_NEAR_ANSWER: u64 = 32;
 
 /// The activities of the own variables, and the length of runs.
 #[derive(Drop)]
@@ -190,8 +190,8 @@ impl Preferences {
         } else {
             self.length = self.length.saturating_mul(2);
         }
-        let unit = if self.signs.are_kept() {
-            KEPT_RUN
+        let unit = if self.signs.has_answer() {
+            RUN_NEAR_ANSWER
         } else {
             SHORTEST_RUN
         };

@@ -48,8 +48,9 @@ pub struct Signs {
     met: u64,
     patience: u64,
     is_due: bool,
-    // whether variables keep the signs that they had
+    // whether variables keep the signs that they had, and whether an answer has come
     keeps: bool,
+    has_answer: bool,
 }
 
 impl Signs {
@@ -71,6 +72,7 @@ impl Signs {
             patience: 0,
             is_due: false,
             keeps: false,
+            has_answer: false,
         })
     }
 
@@ -92,9 +94,9 @@ impl Signs {
         }
     }
 
-    /// Whether variables keep the signs that they had: once an answer has come, or a call is long.
-    pub fn are_kept(&self) -> bool {
-        self.keeps
+    /// Whether an answer has come.
+    pub fn has_answer(&self) -> bool {
+        self.has_answer
     }
 
     /// A call begins: some variables that no answer has made true are to be so.
@@ -186,6 +188,7 @@ impl Signs {
     /// An answer comes: no variable is known to be true in it yet.
     pub fn forget_last(&mut self) {
         self.keeps = true;
+        self.has_answer = true;
         for place in 0..self.last.len() {
             self.last[place] = false;
         }
