@@ -65,6 +65,11 @@ impl Preferences {
         self.signs.prefer_first(count);
     }
 
+    /// From now on no variable is to be shown true.
+    pub fn show_nothing(&mut self) {
+        self.signs.show_nothing();
+    }
+
     /// The place from which on to look for a variable that may be decided, where none goes by activity.
     pub fn next(&self) -> usize {
         self.next

@@ -39,7 +39,8 @@ pub struct Signs {
     // of how many of the first places that is tried, and of how many at once
     preferred: usize,
     share: usize,
-    // whether there was a call
+    // whether something is to be shown, and whether there was a call
+    shows: bool,
     has_begun: bool,
     // how many calls go by before something is tried again, and how many calls there were
     rest: u64,
@@ -65,6 +66,7 @@ impl Signs {
             next: 0,
             preferred: 0,
             share: FIRST_SHARE,
+            shows: true,
             has_begun: false,
             rest: 0,
             turn: 0,
@@ -80,6 +82,11 @@ impl Signs {
     pub fn prefer_first(&mut self, count: usize) {
         self.preferred = count;
         self.share = self.share.min(count);
+    }
+
+    /// From now on nothing is to be shown true.
+    pub fn show_nothing(&mut self) {
+        self.shows = false;
     }
 
     /// The sign with which the variable at this place is decided.
@@ -109,7 +116,7 @@ impl Signs {
         self.patience = PATIENCE;
         self.wanted = 0;
         self.next = 0;
-        if self.share > 0 {
+        if self.shows && self.share > 0 {
             self.want();
         }
     }

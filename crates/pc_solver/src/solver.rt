@@ -98,6 +98,14 @@ impl<'g> Solver<'g> {
         self.search.preferences.prefer_first(count);
     }
 
+    /// From now on no variable is decided true so that the answers show it. It is for a solver that isn't asked what can be true.
+    /// Nothing that it answers is less right for it.
+    pub fn show_nothing(&mut self)
+        ensures { self.new ≡ self.old }
+    {
+        self.search.preferences.show_nothing();
+    }
+
     /// Adds a clause of the solver's own. Without memory the solver stays as it is.
     pub fn add_block(&mut self, block: &[Lit]) -> Result<(), AllocError>
         requires { AreOwn self.old.problem.own block.now }
