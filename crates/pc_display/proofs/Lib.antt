@@ -12,4 +12,5 @@ pub mod SheetLemmas
 pub mod Signs
 pub mod Spaces
 pub mod Spelled
+pub mod NameLemmas
 pub mod Widths

@@ -15,6 +15,7 @@ use Rattle.pc_sheet.specs.WellFormed.{IsEntryOf, IsWellFormedFamily, IsWellForme
 use Rattle.pc_sheet.specs.WellSorted.{names_of_values}
 use Rattle.pc_sheet.specs.declared.ids.SortId.{SortId}
 use Rattle.pc_sheet.specs.declared.ids.CellId.{CellId}
+use Rattle.pc_sheet.specs.declared.ids.FamilyId.{FamilyId}
 use Rattle.pc_sheet.specs.declared.ids.ValueId.{ValueId}
 use Rattle.pc_sheet.specs.declared.ids.Entry.{Entry}
 use Rattle.pc_writer.specs.Spelling.{application_of, arguments_text, cell_text, entry_text, family_of, joined, name_of, sort_of, text_among, value_text, value_texts}
@@ -82,11 +83,11 @@ module _ (u : Universe) (formed : IsWellFormedUniverse u) where
   entered_utf8 s [] each = tt
   entered_utf8 s (e ∷ es) each = (value_utf8 s e.value (All-head (λ f. f.value.0 < size_of u s) e es each), entered_utf8 s es (All-tail (λ f. f.value.0 < size_of u s) e es each))
 
+  pub family_is_named : (f : FamilyId) → f.0 < length u.families → IsName (name_of (slice_get u.families f.0))
+  family_is_named f below = subst (λ found. IsName (name_of found)) (sym (slice_get-get_or u.families f.0 (record { name = []; sorts = []; result_sort = record { 0 = 0 } }) below)) (family_named u formed f below)
+
   pub cell_named : (c : CellId) → c.0 < length (cell_sizes u) → IsName (name_of (family_of u c))
-  cell_named c within =
-      let f = (application_of u c).family in
-      let below = family_within u c within in
-      subst (λ found. IsName (name_of found)) (sym (slice_get-get_or u.families f.0 (record { name = []; sorts = []; result_sort = record { 0 = 0 } }) below)) (family_named u formed f below)
+  cell_named c within = family_is_named (application_of u c).family (family_within u c within)
 
   pub cell_name_utf8 : (c : CellId) → c.0 < length (cell_sizes u) → IsUtf8 (name_of (family_of u c))
   cell_name_utf8 c within = name_utf8 (name_of (family_of u c)) (cell_named c within).characters

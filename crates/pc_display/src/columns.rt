@@ -2,7 +2,7 @@
 //
 // A text stands in no single slice. Its pieces are measured one by one, since a parenthesis or a comma ends each sequence
 // of characters that is not as wide as its parts.
-ghost use Rattle.std.specs.Prelude.{◌≡◌, ◌<◌, ◌≤◌, codes, length, map};
+ghost use Rattle.std.specs.Prelude.{◌≡◌, ◌<◌, ◌≤◌, IfSome, codes, length, map, slice_get};
 ghost use Rattle.std.specs.Fmt.{signed_decimal};
 ghost use Rattle.pc_sheet.specs.Cells.{cells};
 ghost use Rattle.pc_sheet.specs.Entailment.{cell_sizes};
@@ -14,11 +14,12 @@ ghost use Rattle.pc_writer.specs.Spelling.{application_of, arguments_text, cell_
 ghost use Rattle.pc_display.specs.Show.{cells_below, entered_text, entered_texts};
 ghost use Rattle.pc_display.specs.Grid.{columns, entry_column, widest};
 ghost use Rattle.pc_display.specs.inside.Entered.{HaveValuesOf};
+ghost use Rattle.pc_display.specs.inside.Names.{IsNamedSo, IsAsWide};
 
 use crate::cell_entries::entries_of;
 use itoa::Buffer;
 use pc_logic::Book;
-use pc_sheet::{CellId, Entry, SortId, ValueId};
+use pc_sheet::{CellId, Entry, FamilyId, SortId, ValueId};
 use pc_writer::sort_of;
 use unicode_width::UnicodeWidthStr;
 
@@ -83,15 +84,57 @@ fn arguments_columns(book: &Book, cell: CellId, sorts: &[SortId]) -> usize
     }
 }
 
-/// How many columns a cell's text takes.
-pub(crate) fn cell_columns(book: &Book, cell: CellId) -> usize
+/// A family, and how many columns its name takes.
+#[derive(Clone, Copy)]
+pub(crate) struct NameColumns {
+    pub(crate) family: FamilyId,
+    pub(crate) columns: usize,
+}
+
+// Measures the family's name.
+fn measured(book: &Book, family: FamilyId) -> NameColumns
+    requires formed { IsWellFormed book.now }
+    requires family { family.0 < length book.now.universe.families }
+    ensures family { result.family ≡ family }
+    ensures columns { IsNamedSo book.now.universe result }
+{
+    NameColumns {
+        family,
+        columns: book.family_name(family).width(),
+    }
+}
+
+/// How many columns the name of the cell's family takes. It is measured unless it was before, so a family's name is measured once
+/// where its cells come one after the other.
+pub(crate) fn name_columns(book: &Book, cell: CellId, before: Option<NameColumns>) -> NameColumns
     requires formed { IsWellFormed book.now }
     requires cell { cell.0 < length (cell_sizes book.now.universe) }
+    requires before { IfSome before (IsNamedSo book.now.universe) }
+    ensures family { IsAsWide (family_of book.now.universe cell) result.columns }
+    ensures columns { IsNamedSo book.now.universe result }
+{
+    let family = book.cell_family(cell);
+    match before {
+        None => measured(book, family),
+        Some(name) => {
+            if name.family.0 == family.0 {
+                name
+            } else {
+                measured(book, family)
+            }
+        }
+    }
+}
+
+/// How many columns a cell's text takes, where the name of its family takes so many.
+pub(crate) fn cell_columns(book: &Book, cell: CellId, name: usize) -> usize
+    requires formed { IsWellFormed book.now }
+    requires cell { cell.0 < length (cell_sizes book.now.universe) }
+    requires name { IsAsWide (family_of book.now.universe cell) name }
     ensures { result ≡ columns (cell_text book.now.universe cell) }
 {
     let family = book.cell_family(cell);
-    let name = book.family_name(family);
-    name.width() + arguments_columns(book, cell, book.family_sorts(family))
+    name + arguments_columns(book, cell, book.family_sorts(family))
 }
 
 /// The columns of the values of entries and the commas between them.
@@ -146,11 +189,14 @@ pub(crate) fn widths_of(book: &Book) -> Widths
     ensures entry { result.entry ≡ widest (map (entry_column book.now) (cells_below (length (cells book.now.universe)))) }
 {
     let mut widths = Widths { cell: 0, entry: 0 };
+    let mut before = None;
     for number in 0..book.cells() {
         let cell = CellId(number as u16);
         let entered = entry_columns(book, cell);
-        widths.cell = widths.cell.max(cell_columns(book, cell));
+        let name = name_columns(book, cell, before);
+        widths.cell = widths.cell.max(cell_columns(book, cell, name.columns));
         widths.entry = widths.entry.max(entered);
+        before = Some(name);
     }
     widths
 }

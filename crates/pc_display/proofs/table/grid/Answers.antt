@@ -25,12 +25,18 @@ same_widths sheet book reason cell_width entry_width same cell entry =
     (entry ∙ ap (λ s. widest (map (entry_column s) (cells_below (length (cells s.universe))))) same)
 
 pub loop-cell-init : goal.loop-cell-init
-loop-cell-init g c = λ reason is. Writes-nil g.O.Sink.given g.O.Sink.faults c.args.out.now tt
+loop-cell-init g c = record {
+  written = λ reason is. Writes-nil g.O.Sink.given g.O.Sink.faults c.args.out.now tt;
+  name = tt;
+}
 
 pub loop-cell-preserved : goal.loop-cell-preserved
-loop-cell-preserved g c = λ reason is.
-    one_more_written cells_below (λ n. record { 0 = n }) (λ n. refl) (grid_line (g.V.Supports.sheet c.args.view.now) reason c.widths_of-widths.result.cell c.widths_of-widths.result.entry) c.loop-cell.cell
-    (c.loop-cell.invariant reason is) (c.in_ok-write_grid_line.ensures reason is)
+loop-cell-preserved g c = record {
+  written = λ reason is.
+      one_more_written cells_below (λ n. record { 0 = n }) (λ n. refl) (grid_line (g.V.Supports.sheet c.args.view.now) reason c.widths_of-widths.result.cell c.widths_of-widths.result.entry) c.loop-cell.cell
+      (c.loop-cell.invariant.written reason is) (c.in_ok-write_grid_line.ensures reason is);
+  name = c.name_before-name.ensures.columns;
+}
 
 pub returns-in_err-write_grid_line : goal.returns-in_err-write_grid_line
 returns-in_err-write_grid_line g c = λ text shown.
@@ -38,7 +44,7 @@ returns-in_err-write_grid_line g c = λ text shown.
     let widths = c.widths_of-widths.result in
     let end = c.cells-cell-end.ensures.exact ∙ ap (λ s. length (cell_sizes s.universe)) c.book-2.ensures in
     Writes-same (same_widths sheet c.book.result.now shown.0 widths.cell widths.entry c.book.ensures c.widths_of-widths.ensures.cell c.widths_of-widths.ensures.entry ∙ sym shown.2)
-    (cut_within cells_below (λ n. record { 0 = n }) (λ n. refl) (grid_line sheet shown.0 widths.cell widths.entry) c.loop-cell.cell (c.loop-cell.invariant shown.0 shown.1)
+    (cut_within cells_below (λ n. record { 0 = n }) (λ n. refl) (grid_line sheet shown.0 widths.cell widths.entry) c.loop-cell.cell (c.loop-cell.invariant.written shown.0 shown.1)
     (length (cells sheet.universe)) c.from_residual.result (omega (arith, end, (cells_are_numbered sheet.universe).count)) c.from_residual.ensures.0 (c.in_err-write_grid_line.ensures shown.0 shown.1))
 
 pub returns : goal.returns
@@ -50,4 +56,4 @@ returns g c = λ text shown.
     Writes-same
     (ap (λ n. flat_map (grid_line sheet shown.0 widths.cell widths.entry) (cells_below n)) whole
     ∙ same_widths sheet c.book.result.now shown.0 widths.cell widths.entry c.book.ensures c.widths_of-widths.ensures.cell c.widths_of-widths.ensures.entry ∙ sym shown.2)
-    (c.loop-cell.invariant shown.0 shown.1)
+    (c.loop-cell.invariant.written shown.0 shown.1)

@@ -1,13 +1,14 @@
-use Rattle.std.proofs.Common.{◌≡◌, ℕ, List, [], ◌∷◌, ◌++◌, codes, ◌∙◌, append_assoc}
+use Rattle.std.proofs.Common.{◌≡◌, ℕ, List, [], ◌∷◌, ◌++◌, codes, ◌∙◌, append_assoc, subst, sym}
 use Rattle.pc_sheet.specs.Sheet.{Sheet}
 use Rattle.pc_sheet.specs.WellFormed.{entries_of}
 use Rattle.pc_sheet.specs.declared.ids.CellId.{CellId}
-use Rattle.pc_writer.specs.Spelling.{cell_text}
+use Rattle.pc_writer.specs.Spelling.{cell_text, family_of}
 use Rattle.pc_writer.proofs.InTurn.{Writes-then, Writes-cut, Writes-same}
 use Rattle.pc_display.specs.Supports.{Reasoning}
 use Rattle.pc_display.specs.Show.{have_conflict, listed_texts}
 use Rattle.pc_display.specs.Grid.{conflict_column, entry_column, grid_line, implied_texts, padded}
 use Rattle.pc_display.specs.inside.Columns.{front_text}
+use Rattle.pc_display.specs.inside.Names.{IsAsWide}
 use Rattle.pc_display.proofs.SheetLemmas.{book_values, own_few, own_fit, with_entries}
 use Rattle.pc_display.proofs.table.write_grid_line.Goals as goal
 
@@ -25,6 +26,9 @@ line_is sheet reason cell_width entry_width c =
 pub have_conflict-clashes-requires : goal.have_conflict-clashes-requires
 have_conflict-clashes-requires g c =
     own_fit (g.V.Supports.sheet c.args.view.now) c.book-book.result.now c.book-book.ensures c.entries_of-found.ensures.formed c.args.cell c.as_slice-entries.result.now (c.as_slice-entries.ensures ∙ c.entries_of-found.ensures.exact)
+
+pub write_front-requires-clause-name : goal.write_front-requires-clause-name
+write_front-requires-clause-name g c = subst (λ (s : Sheet). IsAsWide (family_of s.universe c.args.cell) c.args.name) (sym c.book-book.ensures) c.requires.name
 
 pub write_front-requires-clause-few : goal.write_front-requires-clause-few
 write_front-requires-clause-few g c =
