@@ -1,3 +1,4 @@
 pub mod StayOpen
 pub mod LoadAfresh
 pub mod Listings
+pub mod Saying

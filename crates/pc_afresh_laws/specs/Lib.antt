@@ -1,2 +1,3 @@
 pub mod Afresh
 pub mod Again
+pub mod Readers

@@ -8,10 +8,10 @@ use Rattle.pc_refusals.specs.declared.refusal.SheetRefusal.{SheetRefusal}
 use Rattle.pc_refusals.specs.declared.status.Status.{Status}
 use Rattle.pc_refusals.specs.declared.status.Status.TheVariants.{Done, SomeRefused, SheetRefused, ReadFault, WriteFault, Memory, TooLong}
 use Rattle.pc_refusals.specs.Endings.{memory_text}
-use Rattle.pc_course.specs.Events.{Outside, Event, took, took_rest, gave, Happened}
-use Rattle.pc_course.specs.Stages.{Stage, takes, needs, tells, ends_with, ends}
-use Rattle.pc_course.specs.Runs.{last_or, IsOutput, IsSpare, nothing, ahead, Comes, on_course, past_limit, without_memory, Run, ended, ended_with, read_failed, read_failed_at_file, write_failed, Ran}
-use Rattle.pc_course.proofs.EventLemmas.{last_or-append}
+use Rattle.pc_refusals.specs.Events.{Outside, Event, took, took_rest, gave, Happened}
+use Rattle.pc_refusals.specs.Stages.{Stage, takes, needs, tells, ends_with, ends}
+use Rattle.pc_refusals.specs.Runs.{last_or, IsOutput, IsSpare, nothing, ahead, Comes, on_course, past_limit, without_memory, Run, ended, ended_with, read_failed, read_failed_at_file, write_failed, Ran}
+use Rattle.pc_refusals.proofs.EventLemmas.{last_or-append}
 use Rattle.pc_course_laws.specs.Causes.{HasCauses}
 use Rattle.pc_course_laws.proofs.FlatLemmas.{happened-split}
 use Rattle.pc_course_laws.proofs.CauseLemmas.{has_causes, replay_calmly, edit_calmly}

@@ -7,9 +7,9 @@ use Rattle.pc_words.specs.Laws.{WordsFitOneRequest}
 use Rattle.pc_refusals.specs.declared.refusal.SheetRefusal.{SheetRefusal}
 use Rattle.pc_refusals.specs.declared.status.Status.{Status}
 use Rattle.pc_refusals.specs.declared.status.Status.TheVariants.{SheetRefused}
-use Rattle.pc_course.specs.Events.{Outside, Event, gave, told, Happened}
-use Rattle.pc_course.specs.Stages.{Stage, ends_with, ends}
-use Rattle.pc_course.specs.Runs.{Comes, on_course, past_limit, without_memory, Run, ended, ended_with, read_failed, read_failed_at_file, write_failed, Ran}
+use Rattle.pc_refusals.specs.Events.{Outside, Event, gave, told, Happened}
+use Rattle.pc_refusals.specs.Stages.{Stage, ends_with, ends}
+use Rattle.pc_refusals.specs.Runs.{Comes, on_course, past_limit, without_memory, Run, ended, ended_with, read_failed, read_failed_at_file, write_failed, Ran}
 use Rattle.pc_transcript.specs.Answer.{is_refused as was_refused, is_no_memory}
 use Rattle.pc_transcript.specs.Course as course
 use Rattle.pc_transcript.specs.Course.{AnswersLines, awaits_line, awaits_end, has_answer, has_all, FromSheet, is_refused, answers, Edit, awaits_file, has_file}

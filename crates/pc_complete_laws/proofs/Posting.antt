@@ -12,9 +12,9 @@ use Rattle.pc_words.specs.Laws.{WordsFitOneRequest}
 use Rattle.pc_refusals.specs.declared.refusal.SheetRefusal.{SheetRefusal}
 use Rattle.pc_refusals.specs.declared.status.Status.{Status}
 use Rattle.pc_refusals.specs.declared.status.Status.TheVariants.{SheetRefused}
-use Rattle.pc_course.specs.Events.{Outside, Event, took_rest, gave, Happened}
-use Rattle.pc_course.specs.Stages.{Stage}
-use Rattle.pc_course.specs.Runs.{Ran}
+use Rattle.pc_refusals.specs.Events.{Outside, Event, took_rest, gave, Happened}
+use Rattle.pc_refusals.specs.Stages.{Stage}
+use Rattle.pc_refusals.specs.Runs.{Ran}
 use Rattle.pc_course_laws.proofs.FlatLemmas.{happened-split, taken_together}
 use Rattle.pc_course_laws.proofs.CauseLemmas.{has_causes}
 use Rattle.pc_course_laws.proofs.JournalCauses.{posts_calmly}

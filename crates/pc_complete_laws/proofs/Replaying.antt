@@ -6,9 +6,9 @@ use Rattle.pc_words.specs.Laws.{WordsFitOneRequest}
 use Rattle.pc_refusals.specs.declared.refusal.SheetRefusal.{SheetRefusal}
 use Rattle.pc_refusals.specs.declared.status.Status.{Status}
 use Rattle.pc_refusals.specs.declared.status.Status.TheVariants.{SheetRefused}
-use Rattle.pc_course.specs.Events.{Outside, Event, Happened}
-use Rattle.pc_course.specs.Stages.{Stage}
-use Rattle.pc_course.specs.Runs.{Ran}
+use Rattle.pc_refusals.specs.Events.{Outside, Event, Happened}
+use Rattle.pc_refusals.specs.Stages.{Stage}
+use Rattle.pc_refusals.specs.Runs.{Ran}
 use Rattle.pc_course_laws.proofs.FlatLemmas.{happened-split}
 use Rattle.pc_transcript.specs.Course.{IsSheetTaken, FromInput, awaits_sheet, keeps_sheet, has_sheet, Replay, needs_room, from_input}
 use Rattle.pc_spreadsheet.specs.Tasks.{State, Starts}

@@ -4,9 +4,9 @@ use Rattle.pc_lines.specs.Lines as a_line
 use Rattle.pc_words.specs.Words.{Mode, replays, edits, checks, merges, posts, demonstrates, Request, FitsWords}
 use Rattle.pc_sheet.specs.WellFormed.{IsWellFormed}
 use Rattle.pc_refusals.specs.declared.status.Status.{Status}
-use Rattle.pc_course.specs.Events.{Outside, Event}
-use Rattle.pc_course.specs.Stages.{Stage, takes, needs, sheet_file}
-use Rattle.pc_course.specs.Runs.{Comes, on_course, past_limit, without_memory, Run, ended, ended_with, read_failed, read_failed_at_file, write_failed, Ran}
+use Rattle.pc_refusals.specs.Events.{Outside, Event}
+use Rattle.pc_refusals.specs.Stages.{Stage, takes, needs, sheet_file}
+use Rattle.pc_refusals.specs.Runs.{Comes, on_course, past_limit, without_memory, Run, ended, ended_with, read_failed, read_failed_at_file, write_failed, Ran}
 use Rattle.pc_transcript.specs.Transcript.{Transcript, Legal}
 use Rattle.pc_transcript.specs.Course as course
 use Rattle.pc_transcript.specs.Course.{AnswersLines, awaits_line, awaits_end, has_answer, has_all, FromSheet, is_refused, answers, FromInput, awaits_sheet, keeps_sheet, has_sheet, Replay, needs_room, from_input, Edit, awaits_file, has_file}

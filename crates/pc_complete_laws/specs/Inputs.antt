@@ -6,7 +6,7 @@ use Rattle.pc_collab.specs.Reading.{IsTextOf}
 use Rattle.pc_words.specs.Words.{replays, posts, FitsWords}
 use Rattle.pc_refusals.specs.declared.status.Status.{Status}
 use Rattle.pc_refusals.specs.declared.status.Status.TheVariants.{TooLong, SheetRefused}
-use Rattle.pc_course.specs.Events.{Outside}
+use Rattle.pc_refusals.specs.Events.{Outside}
 use Rattle.pc_transcript.specs.SheetPart.{IsSheetPart}
 use Rattle.pc_spreadsheet.specs.Tasks.{State, Starts}
 use Rattle.pc_spreadsheet.specs.Allowed.{Notes}

@@ -7,9 +7,9 @@ use Rattle.pc_words.specs.Words.{Mode, replays, edits, checks, merges, posts, de
 use Rattle.pc_refusals.specs.declared.status.Status.{Status}
 use Rattle.pc_refusals.specs.declared.status.Status.TheVariants.{Done, SomeRefused, SheetRefused, Memory, TooLong, Usage}
 use Rattle.pc_refusals.specs.Endings.{memory_text}
-use Rattle.pc_course.specs.Events.{Outside, Event}
-use Rattle.pc_course.specs.Stages.{Stage, needs, ends_with}
-use Rattle.pc_course.specs.Runs.{Ran}
+use Rattle.pc_refusals.specs.Events.{Outside, Event}
+use Rattle.pc_refusals.specs.Stages.{Stage, needs, ends_with}
+use Rattle.pc_refusals.specs.Runs.{Ran}
 use Rattle.pc_transcript.specs.Course.{Replay, Edit}
 use Rattle.pc_journal.specs.Course.{Posts}
 use Rattle.pc_spreadsheet.specs.Tasks.{State, Starts}

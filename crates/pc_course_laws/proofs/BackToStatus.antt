@@ -11,16 +11,16 @@ use Rattle.pc_refusals.specs.declared.status.Status.{Status}
 use Rattle.pc_refusals.specs.declared.status.Status.TheVariants.{ReadFault, WriteFault, Memory}
 use Rattle.pc_refusals.specs.declared.refusal.SheetRefusal.{SheetRefusal}
 use Rattle.pc_refusals.specs.Endings.{printed, sheet_memory_text, IsPrinted}
-use Rattle.pc_course.specs.Events.{Outside, Event, took, took_rest, gave, told, input_failed, shelf_failed, output_failed, Happened}
-use Rattle.pc_course.specs.Stages.{Intake, sheet_line, line_within, no_line_within, rest_within, sheet_file, Stage, takes, tells, ends, ends_with, CanBegin, PassesLimit}
-use Rattle.pc_course.specs.Runs.{HasTook, last_or, IsOutput, EndsTelling, IsSpare, nothing, ahead, Tells, goes_on, ends_so, Comes, on_course, past_limit, without_memory, Run, ended, ended_with, read_failed, read_failed_at_file, write_failed, Ran}
+use Rattle.pc_refusals.specs.Events.{Outside, Event, took, took_rest, gave, told, input_failed, shelf_failed, output_failed, Happened}
+use Rattle.pc_refusals.specs.Stages.{Intake, sheet_line, line_within, no_line_within, rest_within, sheet_file, Stage, takes, tells, ends, ends_with, CanBegin, PassesLimit}
+use Rattle.pc_refusals.specs.Runs.{HasTook, last_or, IsOutput, EndsTelling, IsSpare, nothing, ahead, Tells, goes_on, ends_so, Comes, on_course, past_limit, without_memory, Run, ended, ended_with, read_failed, read_failed_at_file, write_failed, Ran}
 use Rattle.pc_transcript.specs.declared.TheConstants.{LINE_LIMIT, MAX_LINES}
 use Rattle.pc_transcript.specs.Answer.{Answer, answer_text, is_refused as was_refused, is_no_memory}
 use Rattle.pc_transcript.specs.Transcript.{Transcript, Legal, lines, input_of, output_of, worse_of, IsCompleteLine}
 use Rattle.pc_transcript.specs.SheetPart.{joined_lines, IsEarlier}
 use Rattle.pc_transcript.specs.SheetTaking.{TakesSheet, IsSheetFront}
 use Rattle.pc_transcript.specs.Course.{events_of, IsLineTaken, IsSheetTaken, AnswersLines, awaits_line, awaits_end, has_answer, has_all, needs_memory, is_refused, answers, awaits_sheet, keeps_sheet, has_sheet, Replay, needs_room, from_input}
-use Rattle.pc_course.proofs.EventLemmas.{last_or-append}
+use Rattle.pc_refusals.proofs.EventLemmas.{last_or-append}
 use Rattle.pc_course_laws.specs.Flat.{taken_in, told_in, taken_of, told_of}
 use Rattle.pc_course_laws.specs.Moments.{moment}
 use Rattle.pc_course_laws.specs.Answered.{IsReadAhead, IsLineTooMuch}

@@ -5,9 +5,9 @@ use Rattle.pc_port.specs.Port.{Rose}
 use Rattle.pc_refusals.specs.declared.refusal.SheetRefusal.{SheetRefusal}
 use Rattle.pc_refusals.specs.declared.status.Status.{Status}
 use Rattle.pc_refusals.specs.declared.status.Status.TheVariants.{ReadFault, WriteFault}
-use Rattle.pc_course.specs.Events.{Outside, Event, took, took_rest, gave, told, input_failed, shelf_failed, output_failed, Does, Happened}
-use Rattle.pc_course.specs.Stages.{Intake, sheet_line, line_within, no_line_within, rest_within, sheet_file, Stage, takes, needs, ends, ends_with, PassesLimit}
-use Rattle.pc_course.specs.Runs.{IsSpare, nothing, ahead, Comes, on_course, past_limit, without_memory, Run, ended, ended_with, read_failed, read_failed_at_file, write_failed, Ran}
+use Rattle.pc_refusals.specs.Events.{Outside, Event, took, took_rest, gave, told, input_failed, shelf_failed, output_failed, Does, Happened}
+use Rattle.pc_refusals.specs.Stages.{Intake, sheet_line, line_within, no_line_within, rest_within, sheet_file, Stage, takes, needs, ends, ends_with, PassesLimit}
+use Rattle.pc_refusals.specs.Runs.{IsSpare, nothing, ahead, Comes, on_course, past_limit, without_memory, Run, ended, ended_with, read_failed, read_failed_at_file, write_failed, Ran}
 use Rattle.pc_transcript.specs.Answer.{Answer, is_refused as was_refused, is_no_memory}
 use Rattle.pc_transcript.specs.Transcript.{Transcript, worse_of}
 use Rattle.pc_transcript.specs.Course.{events_of, IsLineTaken, IsSheetTaken, AnswersLines, awaits_line, awaits_end, has_answer, has_all, FromSheet, needs_memory, is_refused, answers, FromInput, awaits_sheet, keeps_sheet, has_sheet, Replay, needs_room, from_input, Edit, awaits_file, has_file}

@@ -12,13 +12,13 @@ use Rattle.pc_refusals.specs.declared.refusal.SheetRefusal.{SheetRefusal}
 use Rattle.pc_refusals.specs.Endings.{Printing, printed, too_long_text, sheet_memory_text, IsPrinted}
 use Rattle.pc_lines.specs.Files.{AsksOnce, TakesFile}
 use Rattle.pc_refusals.specs.Files.{LacksMemoryForFile, HasLongFile}
-use Rattle.pc_course.specs.Events.{Outside, Event, took, took_rest, gave, told, input_failed, shelf_failed, output_failed, Does, Happened}
-use Rattle.pc_course.specs.Stages.{Intake, sheet_file, Stage, takes, tells, ends, ends_with, CanBegin, PassesLimit}
-use Rattle.pc_course.specs.Runs.{HasTook, last_or, IsOutput, IsSpare, nothing, ahead, Tells, goes_on, ends_so, Comes, on_course, past_limit, without_memory, Run, ended, ended_with, read_failed, read_failed_at_file, write_failed, Ran}
+use Rattle.pc_refusals.specs.Events.{Outside, Event, took, took_rest, gave, told, input_failed, shelf_failed, output_failed, Does, Happened}
+use Rattle.pc_refusals.specs.Stages.{Intake, sheet_file, Stage, takes, tells, ends, ends_with, CanBegin, PassesLimit}
+use Rattle.pc_refusals.specs.Runs.{HasTook, last_or, IsOutput, IsSpare, nothing, ahead, Tells, goes_on, ends_so, Comes, on_course, past_limit, without_memory, Run, ended, ended_with, read_failed, read_failed_at_file, write_failed, Ran}
 use Rattle.pc_transcript.specs.Answer.{Answer, answer_text, is_refused as was_refused, is_no_memory}
 use Rattle.pc_transcript.specs.Transcript.{Transcript, input_of, output_of, worse_of}
 use Rattle.pc_transcript.specs.Course.{events_of, IsLineTaken, has_answer, has_all, needs_memory, is_refused, answers, Edit, awaits_file, has_file}
-use Rattle.pc_course.proofs.EventLemmas.{last_or-append}
+use Rattle.pc_refusals.proofs.EventLemmas.{last_or-append}
 use Rattle.pc_course_laws.specs.Flat.{taken_in, told_in}
 use Rattle.pc_course_laws.specs.Moments.{moment}
 use Rattle.pc_course_laws.specs.Answered.{IsReadAhead, AnswersAll, AnswersTaken, StopsAtLimit, AnswersSome}

@@ -1,9 +1,9 @@
 -- After a fault nothing more happens, whatever the course.
 use Rattle.std.proofs.Common.{◌≡◌, List, [], ◌∷◌, ◌++◌, refl, sym, subst, take}
 use Rattle.pc_refusals.specs.declared.status.Status.{Status}
-use Rattle.pc_course.specs.Events.{Event, took, took_rest, gave, told, input_failed, shelf_failed, output_failed}
-use Rattle.pc_course.specs.Stages.{Stage, sheet_file, takes, ends, ends_with}
-use Rattle.pc_course.specs.Runs.{Run, ended, ended_with, read_failed, read_failed_at_file, write_failed}
+use Rattle.pc_refusals.specs.Events.{Event, took, took_rest, gave, told, input_failed, shelf_failed, output_failed}
+use Rattle.pc_refusals.specs.Stages.{Stage, sheet_file, takes, ends, ends_with}
+use Rattle.pc_refusals.specs.Runs.{Run, ended, ended_with, read_failed, read_failed_at_file, write_failed}
 use Rattle.pc_course_laws.specs.Causes.{IsFault, FaultsComeLast}
 use Rattle.pc_course_laws.proofs.CauseLemmas.{IsCalm, AreCalm, EndsFine, comes_calmly}
 

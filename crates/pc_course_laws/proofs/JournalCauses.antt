@@ -3,8 +3,8 @@ use Rattle.std.proofs.Common.{ℕ, List, [], ◌∷◌, sym, subst}
 use Rattle.std.specs.List.{list_any}
 use Rattle.pc_refusals.specs.declared.refusal.SheetRefusal.{SheetRefusal}
 use Rattle.pc_refusals.specs.declared.status.Status.TheVariants.{Done, SheetRefused}
-use Rattle.pc_course.specs.Events.{Event}
-use Rattle.pc_course.specs.Stages.{Stage}
+use Rattle.pc_refusals.specs.Events.{Event}
+use Rattle.pc_refusals.specs.Stages.{Stage}
 use Rattle.pc_transcript.specs.Answer.{Answer, is_refused as was_refused, is_no_memory}
 use Rattle.pc_transcript.specs.Transcript.{Transcript}
 use Rattle.pc_collab.specs.Journal.{Post}

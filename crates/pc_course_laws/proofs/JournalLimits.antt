@@ -4,8 +4,8 @@ use Rattle.std.specs.List.{list_any}
 use Rattle.pc_collab.specs.declared.TheConstants.{JOURNAL_LIMIT}
 use Rattle.pc_collab.specs.Journal.{Post}
 use Rattle.pc_refusals.specs.declared.refusal.SheetRefusal.{SheetRefusal}
-use Rattle.pc_course.specs.Events.{Event, took, took_rest, gave, told, input_failed, shelf_failed, output_failed}
-use Rattle.pc_course.specs.Stages.{Intake, rest_within, Stage, takes, PassesLimit}
+use Rattle.pc_refusals.specs.Events.{Event, took, took_rest, gave, told, input_failed, shelf_failed, output_failed}
+use Rattle.pc_refusals.specs.Stages.{Intake, rest_within, Stage, takes, PassesLimit}
 use Rattle.pc_transcript.specs.Answer.{Answer, is_refused as was_refused, is_no_memory}
 use Rattle.pc_journal.specs.Course as journal
 use Rattle.pc_journal.specs.Course.{AnswersHeld, MergeBoth, MergeText, Merge, PostText, Posts}

@@ -2,9 +2,9 @@
 use Rattle.std.proofs.Common.{◌≡◌, ◌≢◌, ℕ, List, [], ◌∷◌, ◌++◌, refl, sym, ◌∙◌, ap, subst, inl, inr, ◌⊎◌, drop, append_assoc}
 use Rattle.pc_refusals.specs.declared.status.Status.{Status}
 use Rattle.pc_refusals.specs.declared.status.Status.TheVariants.{ReadFault, WriteFault, TooLong}
-use Rattle.pc_course.specs.Events.{Event, told}
-use Rattle.pc_course.specs.Stages.{Intake, sheet_line, line_within, no_line_within, rest_within, sheet_file, Stage, takes, ends, ends_with, PassesLimit}
-use Rattle.pc_course.specs.Runs.{Comes, on_course, past_limit, without_memory, Run, ended, ended_with, read_failed, read_failed_at_file, write_failed}
+use Rattle.pc_refusals.specs.Events.{Event, told}
+use Rattle.pc_refusals.specs.Stages.{Intake, sheet_line, line_within, no_line_within, rest_within, sheet_file, Stage, takes, ends, ends_with, PassesLimit}
+use Rattle.pc_refusals.specs.Runs.{Comes, on_course, past_limit, without_memory, Run, ended, ended_with, read_failed, read_failed_at_file, write_failed}
 use Rattle.pc_course_laws.specs.Limits.{HasPassed, EndsTooLongExactly}
 
 -- ---- lists of which one member is looked at

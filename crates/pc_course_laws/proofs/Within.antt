@@ -8,8 +8,8 @@ use Rattle.pc_lines.proofs.Ends.{before_end-none, before_end-feed}
 use Rattle.pc_lines.specs.declared.TheConstants.{SHEET_LIMIT}
 use Rattle.pc_refusals.specs.declared.status.Status.TheVariants.{TooLong}
 use Rattle.pc_refusals.specs.declared.refusal.SheetRefusal.{SheetRefusal}
-use Rattle.pc_course.specs.Events.{Event, took, took_rest, gave}
-use Rattle.pc_course.specs.Stages.{Intake, sheet_file, Stage, takes, IsLine, PassesLimit}
+use Rattle.pc_refusals.specs.Events.{Event, took, took_rest, gave}
+use Rattle.pc_refusals.specs.Stages.{Intake, sheet_file, Stage, takes, IsLine, PassesLimit}
 use Rattle.pc_transcript.specs.declared.TheConstants.{LINE_LIMIT, MAX_LINES}
 use Rattle.pc_transcript.specs.Answer.{Answer, is_refused as was_refused, is_no_memory}
 use Rattle.pc_transcript.specs.Transcript.{Transcript, lines, worse_of}

@@ -7,9 +7,9 @@ use Rattle.pc_lines.specs.Lines.{HasNoEnd, IsWholeLine, IsLongStart}
 use Rattle.pc_refusals.specs.declared.refusal.Refusal.TheVariants.{NoRule}
 use Rattle.pc_refusals.specs.declared.status.Status.TheVariants.{SomeRefused, ReadFault, WriteFault, Memory, TooLong}
 use Rattle.pc_refusals.specs.Endings.{too_long_text}
-use Rattle.pc_course.specs.Events.{Event, took, took_rest, told, input_failed, output_failed}
-use Rattle.pc_course.specs.Stages.{Intake, line_within, takes, tells, IsLine, PassesLimit}
-use Rattle.pc_course.specs.Runs.{nothing, ahead, goes_on, on_course, past_limit, ended, ended_with, read_failed, write_failed, Ran}
+use Rattle.pc_refusals.specs.Events.{Event, took, took_rest, told, input_failed, output_failed}
+use Rattle.pc_refusals.specs.Stages.{Intake, line_within, takes, tells, IsLine, PassesLimit}
+use Rattle.pc_refusals.specs.Runs.{nothing, ahead, goes_on, on_course, past_limit, ended, ended_with, read_failed, write_failed, Ran}
 use Rattle.pc_transcript.specs.declared.TheConstants.{LINE_LIMIT, MAX_LINES}
 use Rattle.pc_transcript.specs.Answer.{accepted, refused, no_memory, answer_text}
 use Rattle.pc_transcript.specs.Transcript.{Transcript}

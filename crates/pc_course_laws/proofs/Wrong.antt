@@ -2,10 +2,10 @@
 use Rattle.std.proofs.Common.{◌≡◌, ◌≢◌, ℕ, ◌<◌, List, [], ◌∷◌, ◌++◌, length, refl, sym, ◌∙◌, ap, subst, codes, arith, take}
 use Rattle.pc_lines.specs.Lines.{line_text_of}
 use Rattle.pc_refusals.specs.declared.status.Status.{Status}
-use Rattle.pc_course.specs.Events.{Event, took, took_rest, told, input_failed, shelf_failed, output_failed}
-use Rattle.pc_course.specs.Stages.{Stage}
-use Rattle.pc_course.specs.Runs.{last_or, IsSpare, ahead, Tells, goes_on, ends_so, Comes, on_course, past_limit, without_memory, Run, ended, ended_with, read_failed, read_failed_at_file, write_failed}
-use Rattle.pc_course.proofs.EventLemmas.{last_or-append}
+use Rattle.pc_refusals.specs.Events.{Event, took, took_rest, told, input_failed, shelf_failed, output_failed}
+use Rattle.pc_refusals.specs.Stages.{Stage}
+use Rattle.pc_refusals.specs.Runs.{last_or, IsSpare, ahead, Tells, goes_on, ends_so, Comes, on_course, past_limit, without_memory, Run, ended, ended_with, read_failed, read_failed_at_file, write_failed}
+use Rattle.pc_refusals.proofs.EventLemmas.{last_or-append}
 use Rattle.pc_transcript.specs.Answer.{Answer, silent, accepted, shown, refused, no_memory}
 use Rattle.pc_transcript.specs.Transcript.{Transcript, Legal}
 use Rattle.pc_transcript.specs.Course.{events_of, AnswersLines, awaits_line, awaits_end, has_answer, has_all}

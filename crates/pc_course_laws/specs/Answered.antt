@@ -7,7 +7,7 @@ use Rattle.pc_lines.specs.Lines as a_line
 use Rattle.pc_port.specs.declared.TheConstants.{CHUNK}
 use Rattle.pc_refusals.specs.declared.status.Status.{Status}
 use Rattle.pc_refusals.specs.Endings.{Printing, printed, too_long_text}
-use Rattle.pc_course.specs.Stages.{IsLine}
+use Rattle.pc_refusals.specs.Stages.{IsLine}
 use Rattle.pc_transcript.specs.declared.TheConstants.{LINE_LIMIT, MAX_LINES}
 use Rattle.pc_transcript.specs.Answer.{Answer, answer_text}
 use Rattle.pc_transcript.specs.Transcript.{Transcript, Legal, lines, input_of, output_of, status_of, IsCompleteLine}

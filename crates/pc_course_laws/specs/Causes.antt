@@ -3,7 +3,7 @@ use Rattle.std.specs.Prelude.{◌≡◌, ◌≢◌, ◌⊎◌, List, [], ◌∷�
 use Rattle.pc_port.specs.Port.{Rose}
 use Rattle.pc_refusals.specs.declared.status.Status.{Status}
 use Rattle.pc_refusals.specs.declared.status.Status.TheVariants.{ReadFault, WriteFault}
-use Rattle.pc_course.specs.Events.{Outside, Event, input_failed, shelf_failed, output_failed}
+use Rattle.pc_refusals.specs.Events.{Outside, Event, input_failed, shelf_failed, output_failed}
 
 -- A read fault is told exactly where one of the two that are read was at fault, and the other one wasn't; a write fault exactly where the output was. What the shelf keeps stays.
 pub record HasCauses (status : Status) (a b : Outside) : Type 0 where

@@ -5,9 +5,9 @@ use Rattle.pc_lines.specs.Lines.{IsLongStart}
 use Rattle.pc_refusals.specs.declared.refusal.Refusal.TheVariants.{NoRule}
 use Rattle.pc_refusals.specs.declared.status.Status.{Status}
 use Rattle.pc_refusals.specs.declared.status.Status.TheVariants.{SomeRefused, ReadFault, WriteFault, Memory, TooLong}
-use Rattle.pc_course.specs.Events.{Outside, Event, took, told, input_failed, output_failed}
-use Rattle.pc_course.specs.Stages.{needs}
-use Rattle.pc_course.specs.Runs.{IsSpare, Run, Ran}
+use Rattle.pc_refusals.specs.Events.{Outside, Event, took, told, input_failed, output_failed}
+use Rattle.pc_refusals.specs.Stages.{needs}
+use Rattle.pc_refusals.specs.Runs.{IsSpare, Run, Ran}
 use Rattle.pc_transcript.specs.declared.TheConstants.{LINE_LIMIT}
 use Rattle.pc_transcript.specs.Answer.{Answer, silent, accepted, shown, refused, no_memory}
 use Rattle.pc_transcript.specs.Course.{AnswersLines}

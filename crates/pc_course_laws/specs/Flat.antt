@@ -2,7 +2,7 @@
 use Rattle.std.specs.Prelude.{ℕ, List, []}
 use Rattle.std.specs.List.{flat_map}
 use Rattle.std.specs.Io.KnownBytes.{Consumes, Appends}
-use Rattle.pc_course.specs.Events.{Outside, Event, took, took_rest, told, Happened}
+use Rattle.pc_refusals.specs.Events.{Outside, Event, took, took_rest, told, Happened}
 
 abbrev pub taken_of : Event → List ℕ
 taken_of (took bytes) = bytes

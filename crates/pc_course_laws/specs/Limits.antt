@@ -2,9 +2,9 @@
 use Rattle.std.specs.Prelude.{◌≡◌, ◌≢◌, ◌↔◌, List, ◌∷◌, ◌++◌}
 use Rattle.pc_refusals.specs.declared.status.Status.{Status}
 use Rattle.pc_refusals.specs.declared.status.Status.TheVariants.{ReadFault, WriteFault, TooLong}
-use Rattle.pc_course.specs.Events.{Event}
-use Rattle.pc_course.specs.Stages.{Intake, Stage, takes, PassesLimit}
-use Rattle.pc_course.specs.Runs.{Run}
+use Rattle.pc_refusals.specs.Events.{Event}
+use Rattle.pc_refusals.specs.Stages.{Intake, Stage, takes, PassesLimit}
+use Rattle.pc_refusals.specs.Runs.{Run}
 
 -- where something was to be taken in by the course, what came passes the limit of that
 pub record HasPassed {N : Type 0} (Course : List Event → Stage → N → Type 0) (events : List Event) : Type 0 where

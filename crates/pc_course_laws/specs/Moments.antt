@@ -1,5 +1,5 @@
 -- Where a run begins and ends.
-use Rattle.pc_course.specs.Events.{Outside}
+use Rattle.pc_refusals.specs.Events.{Outside}
 
 -- what is outside at a moment, and what is noted by then
 pub record Moment (N : Type 0) : Type 0 where

@@ -28,7 +28,7 @@ use Rattle.pc_components.proofs.OwnAlone.{has_symbol}
 use Rattle.pc_components.proofs.PartFor.{contains_slice, slice_map}
 use Rattle.pc_components.proofs.Symbols.{cell_there}
 use Rattle.pc_components.proofs.Way.{piece_rule}
-use Rattle.pc_counting_laws.specs.Clauses.{IsPlain}
+use Rattle.pc_enough_laws.specs.Clauses.{IsPlain}
 use Rattle.pc_solver.specs.Clauses.{used_clauses}
 
 -- a used axiom over own variables, with some literal, and with none together with its negation

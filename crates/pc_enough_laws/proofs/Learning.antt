@@ -8,8 +8,8 @@ use Rattle.pc_lits.specs.declared.literal.Var.{Var}
 use Rattle.pc_lits.specs.declared.literal.Lit.{Lit}
 use Rattle.pc_log.specs.Lines.{LogLine, AxiomLine, BlockLine, StepLine}
 use Rattle.pc_lemmas.proofs.Elements.{contains_cases, contains_none, all_from}
-use Rattle.pc_counting_laws.specs.Clauses.{IsWithin, IsPlain}
-use Rattle.pc_counting_laws.proofs.Counted.{new_clauses_few}
+use Rattle.pc_enough_laws.specs.Clauses.{IsWithin, IsPlain}
+use Rattle.pc_enough_laws.proofs.Counted.{new_clauses_few}
 use Rattle.pc_solver.specs.InLog.{is_marked, AreStepsOver}
 use Rattle.pc_solver.specs.New.{IsLearnedAt, AreNewClauses}
 use Rattle.pc_solver.specs.Solver.{clauses_used}

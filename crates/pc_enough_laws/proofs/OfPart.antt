@@ -14,7 +14,7 @@ use Rattle.pc_parts.specs.Components.{parts_of}
 use Rattle.pc_parts.specs.PartSheets.{sheet_of}
 use Rattle.pc_components.specs.PartAxioms.{AreAxiomsOf, AreVariablesOf}
 use Rattle.pc_components.specs.View.{Kept, AreComponentsOf, variable_number}
-use Rattle.pc_counting_laws.specs.Enough.{enough_of}
+use Rattle.pc_enough_laws.specs.Amounts.{enough_of}
 use Rattle.pc_problem.specs.Laws.{problem_of}
 use Rattle.pc_solver.specs.Spending.{marked}
 use Rattle.pc_theory.specs.Spendings.{IsPartSpending, IsSpentOn, placed_of}

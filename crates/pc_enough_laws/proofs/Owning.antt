@@ -8,7 +8,7 @@ use Rattle.pc_sheet.specs.Sheet.{Sheet}
 use Rattle.pc_sheet.specs.Entailment.{cell_sizes}
 use Rattle.pc_sheet.specs.declared.ids.CellId.{CellId}
 use Rattle.pc_laws.proofs.Different.{same_as_many}
-use Rattle.pc_counting_laws.specs.Enough.{Amounts, enough_of}
+use Rattle.pc_enough_laws.specs.Amounts.{Amounts, enough_of}
 use Rattle.pc_ground.specs.Ground.{clauses}
 use Rattle.pc_parts.specs.Parts.{Part}
 use Rattle.pc_parts.specs.Components.{parts_of}

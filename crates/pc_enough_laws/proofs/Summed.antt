@@ -7,7 +7,7 @@ use Rattle.pc_lits.specs.declared.literal.Var.{Var}
 use Rattle.pc_sheet.specs.Sheet.{Sheet}
 use Rattle.pc_sheet.specs.declared.ids.CellId.{CellId}
 use Rattle.pc_lemmas.proofs.Options.{same_some}
-use Rattle.pc_counting_laws.specs.Enough.{enough_of}
+use Rattle.pc_enough_laws.specs.Amounts.{enough_of}
 use Rattle.pc_parts.specs.Parts.{Part}
 use Rattle.pc_parts.specs.Components.{parts_of}
 use Rattle.pc_parts.proofs.Joining.{contains_among}

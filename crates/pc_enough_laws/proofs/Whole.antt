@@ -18,8 +18,8 @@ use Rattle.pc_sheet.specs.declared.ids.CellId.{CellId}
 use Rattle.pc_lemmas.proofs.Elements.{contains_first, contains_later, all_from, zip_made, zip_both}
 use Rattle.pc_laws.proofs.Counting.{pairs_append}
 use Rattle.pc_laws.proofs.Different.{fewer}
-use Rattle.pc_counting_laws.specs.Enough.{Amounts, enough, enough_of, entries_of, targets_of}
-use Rattle.pc_counting_laws.proofs.Adding.{adds_up, grows}
+use Rattle.pc_enough_laws.specs.Amounts.{Amounts, enough, enough_of, entries_of, targets_of}
+use Rattle.pc_enough_laws.proofs.Adding.{adds_up, grows}
 use Rattle.pc_ground.specs.Variables.{variable_count}
 use Rattle.pc_parts.specs.Parts.{Part, AreParts}
 use Rattle.pc_parts.specs.Components.{parts_of}

@@ -12,7 +12,7 @@ use Rattle.pc_parts.specs.Parts.{Part}
 use Rattle.pc_parts.specs.Components.{parts_of}
 use Rattle.pc_parts.specs.PartSheets.{sheet_of, is_among}
 use Rattle.pc_components.specs.View.{Kept}
-use Rattle.pc_counting_laws.specs.Enough.{Amounts, enough, enough_of}
+use Rattle.pc_enough_laws.specs.Amounts.{Amounts, enough, enough_of}
 use Rattle.pc_theory.specs.Spendings.{IsSetOf}
 use Rattle.pc_theory.specs.Targets.{target_count}
 use Rattle.pc_theory.specs.Theories.{rules_alone}

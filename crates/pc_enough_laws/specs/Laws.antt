@@ -15,8 +15,8 @@ use Rattle.pc_parts.specs.Parts.{Part}
 use Rattle.pc_parts.specs.Components.{parts_of}
 use Rattle.pc_parts.specs.PartSheets.{sheet_of}
 use Rattle.pc_components.specs.View.{Kept, AreComponentsOf}
-use Rattle.pc_counting_laws.specs.Clauses.{IsPlain}
-use Rattle.pc_counting_laws.specs.Enough.{enough_of}
+use Rattle.pc_enough_laws.specs.Clauses.{IsPlain}
+use Rattle.pc_enough_laws.specs.Amounts.{enough_of}
 use Rattle.pc_solver.specs.Solver.{Problem, IsLawfulLog, clauses_used}
 use Rattle.pc_solver.specs.Spending.{marked}
 use Rattle.pc_theory.specs.Spendings.{IsSetOf, AreFewCalls, IsSpentOn, IsSpendingOf, IsLawful, placed_of}

@@ -4,11 +4,11 @@ use Rattle.pc_port.specs.Port.{Rose}
 use Rattle.pc_refusals.specs.declared.status.Status.{Status}
 use Rattle.pc_refusals.specs.declared.status.Status.TheVariants.{ReadFault, WriteFault}
 use Rattle.pc_refusals.specs.Endings.{TellsAtEnd}
-use Rattle.pc_course.specs.Events.{Outside, Event, Happened, Streams, streams, around}
-use Rattle.pc_course.specs.Stages.{Stage, ends_with}
-use Rattle.pc_course.specs.Runs.{Comes}
-use Rattle.pc_course.proofs.EventLemmas.{happened-append}
-use Rattle.pc_course.proofs.RunLemmas.{tells_last, comes-more, run-more}
+use Rattle.pc_refusals.specs.Events.{Outside, Event, Happened, Streams, streams, around}
+use Rattle.pc_refusals.specs.Stages.{Stage, ends_with}
+use Rattle.pc_refusals.specs.Runs.{Comes}
+use Rattle.pc_refusals.proofs.EventLemmas.{happened-append}
+use Rattle.pc_refusals.proofs.RunLemmas.{tells_last, comes-more, run-more}
 use Rattle.pc_journal.specs.inside.Did.{Ends, Did}
 
 -- a line was told where the run came to it

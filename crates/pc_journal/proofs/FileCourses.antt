@@ -8,11 +8,11 @@ use Rattle.pc_refusals.specs.declared.status.Status.{Status}
 use Rattle.pc_refusals.specs.declared.status.Status.TheVariants.{ReadFault, WriteFault, Memory, TooLong}
 use Rattle.pc_lines.specs.Files.{TakesFile, TakesLongFile}
 use Rattle.pc_refusals.specs.Endings.{too_long_text, TellsAtEnd}
-use Rattle.pc_course.specs.Events.{Outside, Event, gave, shelf_failed, Does, Happened, Streams, streams, around, outside}
-use Rattle.pc_course.specs.Stages.{Stage, sheet_file, ends_with}
-use Rattle.pc_course.specs.Runs.{nothing, Comes, past_limit, without_memory, Run, read_failed_at_file, Ran}
-use Rattle.pc_course.proofs.EventLemmas.{happened-append}
-use Rattle.pc_course.proofs.RunLemmas.{tells_last, run-more}
+use Rattle.pc_refusals.specs.Events.{Outside, Event, gave, shelf_failed, Does, Happened, Streams, streams, around, outside}
+use Rattle.pc_refusals.specs.Stages.{Stage, sheet_file, ends_with}
+use Rattle.pc_refusals.specs.Runs.{nothing, Comes, past_limit, without_memory, Run, read_failed_at_file, Ran}
+use Rattle.pc_refusals.proofs.EventLemmas.{happened-append}
+use Rattle.pc_refusals.proofs.RunLemmas.{tells_last, run-more}
 use Rattle.pc_journal.specs.Course.{FromFile, needs_file_memory, awaits_file, has_file}
 use Rattle.pc_journal.specs.inside.Did.{Did}
 

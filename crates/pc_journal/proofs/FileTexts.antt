@@ -9,7 +9,7 @@ use Rattle.pc_refusals.specs.declared.status.Status.TheVariants.{SheetRefused}
 use Rattle.pc_refusals.specs.declared.status.Status.TheVariants as status
 use Rattle.pc_refusals.specs.Refusals.{sheet_refusal_text}
 use Rattle.pc_refusals.specs.Endings.{TellsAtEnd, memory_text, sheet_memory_text}
-use Rattle.pc_course.specs.Runs.{on_course, without_memory}
+use Rattle.pc_refusals.specs.Runs.{on_course, without_memory}
 use Rattle.pc_transcript.specs.declared.machine.LoadStop.{LoadStop}
 use Rattle.pc_transcript.specs.declared.machine.LoadStop.TheVariants as load_stop
 use Rattle.pc_transcript.specs.Answer.{Answer}

@@ -6,9 +6,9 @@ use Rattle.pc_port.specs.Port.{Rose}
 use Rattle.pc_lines.specs.Lines.{line_text_of}
 use Rattle.pc_refusals.specs.declared.status.Status.{Status}
 use Rattle.pc_refusals.specs.declared.status.Status.TheVariants.{WriteFault}
-use Rattle.pc_course.specs.Events.{Event, told, output_failed, Happened, streams, around}
-use Rattle.pc_course.specs.Runs.{goes_on, on_course, Run, ended, write_failed}
-use Rattle.pc_course.proofs.EventLemmas.{happened-append, happened-push, told_does, write_fails_does}
+use Rattle.pc_refusals.specs.Events.{Event, told, output_failed, Happened, streams, around}
+use Rattle.pc_refusals.specs.Runs.{goes_on, on_course, Run, ended, write_failed}
+use Rattle.pc_refusals.proofs.EventLemmas.{happened-append, happened-push, told_does, write_fails_does}
 use Rattle.pc_transcript.specs.declared.serve.Marks.{Marks}
 use Rattle.pc_transcript.specs.Answer.{Answer, Serves, ServesInPart, answer_text, is_refused, is_no_memory}
 use Rattle.pc_transcript.specs.Transcript.{lines, worse_of, status_of}

@@ -12,10 +12,10 @@ use Rattle.pc_refusals.specs.declared.status.Status.TheVariants.{ReadFault, Writ
 use Rattle.pc_refusals.specs.declared.status.Status.TheVariants as status
 use Rattle.pc_refusals.specs.Endings.{TellsAtEnd, memory_text, too_long_text}
 use Rattle.pc_refusals.specs.Inputs.{TakesAll, TakesSome}
-use Rattle.pc_course.specs.Events.{Outside, Event, took, took_rest, input_failed, Happened, streams, around}
-use Rattle.pc_course.specs.Stages.{rest_within, Stage, ends_with}
-use Rattle.pc_course.specs.Runs.{Comes, on_course, past_limit, without_memory, Run, read_failed}
-use Rattle.pc_course.proofs.EventLemmas.{took_does, took_rest_does, read_fails_does}
+use Rattle.pc_refusals.specs.Events.{Outside, Event, took, took_rest, input_failed, Happened, streams, around}
+use Rattle.pc_refusals.specs.Stages.{rest_within, Stage, ends_with}
+use Rattle.pc_refusals.specs.Runs.{Comes, on_course, past_limit, without_memory, Run, read_failed}
+use Rattle.pc_refusals.proofs.EventLemmas.{took_does, took_rest_does, read_fails_does}
 use Rattle.pc_journal.specs.Told.{from_input, refused_text}
 use Rattle.pc_journal.specs.Course.{FromInput, awaits_journal, needs_memory, is_refused, has_journal}
 use Rattle.pc_journal.specs.declared.taking.JournalStop.{JournalStop}

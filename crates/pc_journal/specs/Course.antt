@@ -12,8 +12,8 @@ use Rattle.pc_refusals.specs.declared.refusal.SheetRefusal.{SheetRefusal}
 use Rattle.pc_refusals.specs.declared.status.Status.TheVariants.{Done, SheetRefused}
 use Rattle.pc_refusals.specs.Refusals.{sheet_refusal_text}
 use Rattle.pc_refusals.specs.Endings.{memory_text, sheet_memory_text}
-use Rattle.pc_course.specs.Events.{Event, took, took_rest, gave, told}
-use Rattle.pc_course.specs.Stages.{rest_within, sheet_file, Stage, takes, needs, tells, ends_with, ends}
+use Rattle.pc_refusals.specs.Events.{Event, took, took_rest, gave, told}
+use Rattle.pc_refusals.specs.Stages.{rest_within, sheet_file, Stage, takes, needs, tells, ends_with, ends}
 use Rattle.pc_transcript.specs.Answer.{Answer, answer_text}
 use Rattle.pc_transcript.specs.Transcript.{Transcript, Legal, lines, status_of}
 use Rattle.pc_journal.specs.Told.{from_file, from_input, refused_text, differ_text}

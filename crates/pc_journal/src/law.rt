@@ -1,6 +1,6 @@
 //! Laws of the modes over journals. Each function is a law: its contract holds for every value, and it does nothing.
 ghost use Rattle.std.specs.Prelude.{List, [], ℕ};
-ghost use Rattle.pc_course.specs.Stages.{takes, sheet_file};
+ghost use Rattle.pc_refusals.specs.Stages.{takes, sheet_file};
 ghost use Rattle.pc_journal.specs.Course.{Merge};
 ghost use Rattle.pc_journal.specs.Examples.{LinesAreWorked};
 

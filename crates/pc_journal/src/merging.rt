@@ -5,8 +5,8 @@ ghost use Rattle.pc_collab.specs.Text.{journal_text};
 ghost use Rattle.pc_collab.specs.declared.TheConstants.{JOURNAL_LIMIT};
 ghost use Rattle.pc_refusals.specs.Endings.{TellsAtEnd};
 ghost use Rattle.pc_lines.specs.Files.{AsksOnce, FailsToRead};
-ghost use Rattle.pc_course.specs.Events.{outside, streams};
-ghost use Rattle.pc_course.specs.Runs.{Ran};
+ghost use Rattle.pc_refusals.specs.Events.{outside, streams};
+ghost use Rattle.pc_refusals.specs.Runs.{Ran};
 ghost use Rattle.pc_journal.specs.Course.{FromInput, Merge, MergeBoth, MergeText};
 ghost use Rattle.pc_journal.specs.inside.Did.{Did, Ends};
 

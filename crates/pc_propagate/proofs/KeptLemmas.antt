@@ -7,8 +7,8 @@ use Rattle.std.proofs.lemmas.List.Edits.{length-swap}
 use Rattle.pc_lits.specs.declared.literal.Lit.{Lit}
 use Rattle.pc_lits.specs.Literals.{negated}
 use Rattle.pc_lits.proofs.LitLemmas.{same_lit, lit_from_same, other_lit}
-use Rattle.pc_watches.specs.Watched.{no_literal}
-use Rattle.pc_watches.proofs.MoveLemmas.{swap_still, swap_first, swap_other}
+use Rattle.pc_propagate.specs.Listed.{no_literal}
+use Rattle.pc_propagate.proofs.ElementLemmas.{swap_still, swap_first, swap_other}
 use Rattle.pc_propagate.specs.declared.trail.TrailEntry.{TrailEntry}
 use Rattle.pc_propagate.specs.Entries.{falses, Differ}
 use Rattle.pc_propagate.specs.Levels.{IsBackTo}

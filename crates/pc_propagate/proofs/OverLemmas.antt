@@ -6,7 +6,7 @@ use Rattle.std.proofs.lemmas.List.Elements.{All-contains, All-push, Contains-app
 use Rattle.pc_lits.specs.declared.literal.Lit.{Lit}
 use Rattle.pc_lits.specs.Literals.{negated}
 use Rattle.pc_lits.specs.Steps.{IsLastOpen}
-use Rattle.pc_watches.specs.Watched.{IsAdded}
+use Rattle.pc_propagate.specs.Listed.{IsAdded}
 use Rattle.pc_propagate.specs.declared.trail.TrailEntry.{TrailEntry}
 use Rattle.pc_propagate.specs.declared.trail.Placed.{Placed}
 use Rattle.pc_propagate.specs.declared.trail.Placed.TheVariants.{Done, Spent}

@@ -5,7 +5,7 @@ use Rattle.std.proofs.lemmas.List.{length-set, get_or-set_same, get_or-set_other
 use Rattle.std.proofs.lemmas.List.Elements.{All-push}
 use Rattle.pc_lits.specs.declared.literal.Lit.{Lit}
 use Rattle.pc_lits.specs.declared.tally.Tally.{Tally}
-use Rattle.pc_watches.specs.Watched.{WatchedView}
+use Rattle.pc_propagate.specs.Listed.{WatchedView}
 use Rattle.pc_propagate.specs.declared.trail.TrailEntry.{TrailEntry}
 use Rattle.pc_propagate.specs.declared.propagation.Turn.{Turn}
 use Rattle.pc_propagate.specs.declared.propagation.Turn.TheVariants.{Settled, Moved, Conflict, Spent}

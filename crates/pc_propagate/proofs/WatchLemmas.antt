@@ -9,10 +9,10 @@ use Rattle.pc_lits.specs.declared.literal.Lit.{Lit}
 use Rattle.pc_lits.specs.Literals.{negated}
 use Rattle.pc_lits.specs.Steps.{AreFalse, IsLastOpen}
 use Rattle.pc_lits.proofs.LitLemmas.{same_lit, same_parts, lit_from_same, other_lit}
-use Rattle.pc_watches.specs.declared.lists.Watch.{Watch}
-use Rattle.pc_watches.specs.Bodies.{body_in}
-use Rattle.pc_watches.specs.Watched.{WatchedView, no_literal, code_of, literal_of, watchers, IsShifted}
-use Rattle.pc_watches.proofs.MoveLemmas.{size_left, swap_from, swap_still, get_set, get_set_other}
+use Rattle.pc_propagate.specs.declared.watch_lists.Watch.{Watch}
+use Rattle.pc_propagate.specs.Bodies.{body_in}
+use Rattle.pc_propagate.specs.Listed.{WatchedView, no_literal, code_of, literal_of, watchers, IsShifted}
+use Rattle.pc_propagate.proofs.ElementLemmas.{size_left, swap_from, swap_still, get_set, get_set_other}
 use Rattle.pc_propagate.specs.declared.clauses.ClauseRef.{ClauseRef}
 use Rattle.pc_propagate.specs.declared.clauses.ClauseRef.TheVariants.{Axiom}
 use Rattle.pc_propagate.specs.declared.trail.TrailEntry.{TrailEntry}

@@ -10,5 +10,8 @@ pub mod Propagation
 pub mod Laws
 pub mod Quiet
 pub mod Attached
+pub mod Lists
+pub mod Bodies
+pub mod Listed
 -- what only code and proofs of this crate cite
 pub mod inside

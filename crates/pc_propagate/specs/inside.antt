@@ -5,3 +5,4 @@ pub mod Turns
 pub mod Links
 pub mod Lists
 pub mod Steady
+pub mod Stored

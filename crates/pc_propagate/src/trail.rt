@@ -8,7 +8,7 @@ ghost use Rattle.std.specs.Bool.{OnTrue};
 ghost use Rattle.pc_lits.specs.declared.literal.Lit.{Lit};
 ghost use Rattle.pc_lits.specs.Literals.{negated};
 ghost use Rattle.pc_lits.specs.Steps.{IsLastOpen};
-ghost use Rattle.pc_watches.specs.Watched.{no_literal, code_of, literal_of, watchers, AreListedIn, IsAdded, IsKnown, IsShifted};
+ghost use Rattle.pc_propagate.specs.Listed.{no_literal, code_of, literal_of, watchers, AreListedIn, IsAdded, IsKnown, IsShifted};
 ghost use Rattle.pc_propagate.specs.Entries.{literals, falses, HasValue, starts_level, AreEntries};
 ghost use Rattle.pc_propagate.specs.Levels.{IsEntryOfVariable, IsLevelOf, IsReasonOf, IsBackTo, IsJustified};
 ghost use Rattle.pc_propagate.specs.Refs.{clause_at, IsRef};
@@ -24,8 +24,8 @@ ghost use Rattle.pc_propagate.specs.inside.Steady.{AreAllListed, IsBlocked, HasC
 
 use crate::clauses::ClauseRef;
 use crate::lists::Lists;
+use crate::{Watch, Watched};
 use pc_lits::{Left, Lit, Tally, Values, Var, left_of};
-use pc_watches::{Watch, Watched};
 use std::alloc::{AllocError, Global};
 use std::marker::Model;
 

@@ -1,1 +1,3 @@
 pub mod Taking
+pub mod EventLemmas
+pub mod RunLemmas

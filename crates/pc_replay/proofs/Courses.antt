@@ -6,10 +6,10 @@ use Rattle.pc_words.specs.Words.{Request, FitOnly, FitNothing}
 use Rattle.pc_refusals.specs.declared.status.Status.{Status}
 use Rattle.pc_refusals.specs.declared.status.Status.TheVariants.{WriteFault, Usage, Memory}
 use Rattle.pc_refusals.specs.Endings.{TellsAtEnd, memory_text}
-use Rattle.pc_course.specs.Events.{Outside, Event, Happened, streams, outside}
-use Rattle.pc_course.specs.Stages.{ends_with}
-use Rattle.pc_course.specs.Runs.{nothing, Comes, on_course, without_memory, Ran}
-use Rattle.pc_course.proofs.RunLemmas.{tells_last, run-more}
+use Rattle.pc_refusals.specs.Events.{Outside, Event, Happened, streams, outside}
+use Rattle.pc_refusals.specs.Stages.{ends_with}
+use Rattle.pc_refusals.specs.Runs.{nothing, Comes, on_course, without_memory, Ran}
+use Rattle.pc_refusals.proofs.RunLemmas.{tells_last, run-more}
 use Rattle.pc_judge.specs.Course.{CheckOf}
 use Rattle.pc_spreadsheet.specs.Allowed.{Notes}
 use Rattle.pc_words.specs.Words.{checks, merges}

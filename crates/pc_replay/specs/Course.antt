@@ -6,9 +6,9 @@ use Rattle.pc_refusals.specs.declared.status.Status.{Status}
 use Rattle.pc_refusals.specs.declared.status.Status.TheVariants.{Usage}
 use Rattle.pc_refusals.specs.Endings.{memory_text}
 use Rattle.pc_writer.specs.SheetText.{ended}
-use Rattle.pc_course.specs.Events.{Outside, Event}
-use Rattle.pc_course.specs.Stages.{Stage, needs, ends_with}
-use Rattle.pc_course.specs.Runs.{Ran}
+use Rattle.pc_refusals.specs.Events.{Outside, Event}
+use Rattle.pc_refusals.specs.Stages.{Stage, needs, ends_with}
+use Rattle.pc_refusals.specs.Runs.{Ran}
 use Rattle.pc_transcript.specs.Course.{Replay, Edit}
 use Rattle.pc_judge.specs.Course.{Check}
 use Rattle.pc_journal.specs.Course.{Merge, Posts}

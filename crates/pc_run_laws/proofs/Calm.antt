@@ -1,8 +1,8 @@
 -- No fault is on the courses of runs.
 use Rattle.std.proofs.Common.{ℕ, List, [], ◌∷◌, refl, sym, subst, map}
 use Rattle.pc_words.specs.Words.{Mode, replays, edits, checks, merges, posts, demonstrates}
-use Rattle.pc_course.specs.Events.{Event, told}
-use Rattle.pc_course.specs.Stages.{Stage, takes, needs, tells, ends_with, ends}
+use Rattle.pc_refusals.specs.Events.{Event, told}
+use Rattle.pc_refusals.specs.Stages.{Stage, takes, needs, tells, ends_with, ends}
 use Rattle.pc_transcript.specs.Transcript.{Transcript}
 use Rattle.pc_judge.specs.Course as check
 use Rattle.pc_judge.specs.Course.{Check}

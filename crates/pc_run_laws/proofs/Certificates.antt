@@ -9,9 +9,9 @@ use Rattle.pc_words.specs.Words.{Mode, replays, edits, checks, merges, posts, de
 use Rattle.pc_lines.specs.declared.TheConstants.{SHEET_LIMIT}
 use Rattle.pc_refusals.specs.declared.status.Status.{Status}
 use Rattle.pc_refusals.specs.declared.status.Status.TheVariants.{CertRefused}
-use Rattle.pc_course.specs.Events.{Outside, Event, took_rest, gave, told, Happened}
-use Rattle.pc_course.specs.Stages.{Stage, takes, needs, tells, ends_with, ends}
-use Rattle.pc_course.specs.Runs.{IsSpare, nothing, ahead, Comes, on_course, past_limit, without_memory, Run, ended, ended_with, read_failed, read_failed_at_file, write_failed}
+use Rattle.pc_refusals.specs.Events.{Outside, Event, took_rest, gave, told, Happened}
+use Rattle.pc_refusals.specs.Stages.{Stage, takes, needs, tells, ends_with, ends}
+use Rattle.pc_refusals.specs.Runs.{IsSpare, nothing, ahead, Comes, on_course, past_limit, without_memory, Run, ended, ended_with, read_failed, read_failed_at_file, write_failed}
 use Rattle.pc_judge.specs.declared.told.Told.{Told}
 use Rattle.pc_judge.specs.Judged.{IsJudged, judged_text, status_of_told}
 use Rattle.pc_judge.specs.Course as check

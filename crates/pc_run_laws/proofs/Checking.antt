@@ -9,10 +9,10 @@ use Rattle.pc_refusals.specs.declared.status.Status.{Status}
 use Rattle.pc_refusals.specs.declared.status.Status.TheVariants.{ReadFault, WriteFault}
 use Rattle.pc_refusals.specs.Endings.{Printing, printed}
 use Rattle.pc_lines.specs.Files.{AsksOnce, TakesFile}
-use Rattle.pc_course.specs.Events.{Outside, Event, took, took_rest, gave, told, input_failed, shelf_failed, output_failed, Does, Happened}
-use Rattle.pc_course.specs.Stages.{Intake, rest_within, sheet_file, takes, tells, ends_with, CanBegin, PassesLimit}
-use Rattle.pc_course.specs.Runs.{HasTook, last_or, IsOutput, EndsTelling, IsSpare, nothing, ahead, goes_on, ends_so, Comes, on_course, past_limit, without_memory, Run, ended, ended_with, read_failed, read_failed_at_file, write_failed, Ran}
-use Rattle.pc_course.proofs.EventLemmas.{last_or-append}
+use Rattle.pc_refusals.specs.Events.{Outside, Event, took, took_rest, gave, told, input_failed, shelf_failed, output_failed, Does, Happened}
+use Rattle.pc_refusals.specs.Stages.{Intake, rest_within, sheet_file, takes, tells, ends_with, CanBegin, PassesLimit}
+use Rattle.pc_refusals.specs.Runs.{HasTook, last_or, IsOutput, EndsTelling, IsSpare, nothing, ahead, goes_on, ends_so, Comes, on_course, past_limit, without_memory, Run, ended, ended_with, read_failed, read_failed_at_file, write_failed, Ran}
+use Rattle.pc_refusals.proofs.EventLemmas.{last_or-append}
 use Rattle.pc_course_laws.specs.Flat.{told_in}
 use Rattle.pc_course_laws.proofs.FlatLemmas.{told_together, happened-split}
 use Rattle.pc_course_laws.proofs.BackToStatus.{told-append, told_alone, cut_alone}

@@ -7,8 +7,8 @@ use Rattle.pc_checker.specs.declared.verdict.Verdict.TheVariants.{UseNotEntered,
 use Rattle.pc_refusals.specs.declared.refusal.SheetRefusal.{SheetRefusal}
 use Rattle.pc_refusals.specs.declared.status.Status.{Status}
 use Rattle.pc_refusals.specs.declared.status.Status.TheVariants.{Done, SomeRefused, SheetRefused, Memory, CertRefused}
-use Rattle.pc_course.specs.Events.{Event}
-use Rattle.pc_course.specs.Stages.{Stage, takes, needs, tells, ends_with, ends}
+use Rattle.pc_refusals.specs.Events.{Event}
+use Rattle.pc_refusals.specs.Stages.{Stage, takes, needs, tells, ends_with, ends}
 use Rattle.pc_transcript.specs.Answer.{Answer, is_refused as was_refused, is_no_memory}
 use Rattle.pc_transcript.specs.Transcript.{worse_of}
 use Rattle.pc_transcript.specs.Course as course

@@ -6,8 +6,8 @@ use Rattle.pc_cert.specs.declared.TheConstants.{CERT_LIMIT}
 use Rattle.pc_lines.specs.declared.TheConstants.{SHEET_LIMIT}
 use Rattle.pc_refusals.specs.declared.status.Status.{Status}
 use Rattle.pc_refusals.specs.declared.status.Status.TheVariants.{TooLong}
-use Rattle.pc_course.specs.Events.{Event, took, took_rest, gave}
-use Rattle.pc_course.specs.Stages.{Intake, rest_within, Stage, takes, needs, tells, ends_with, ends, PassesLimit}
+use Rattle.pc_refusals.specs.Events.{Event, took, took_rest, gave}
+use Rattle.pc_refusals.specs.Stages.{Intake, rest_within, Stage, takes, needs, tells, ends_with, ends, PassesLimit}
 use Rattle.pc_judge.specs.Course as check
 use Rattle.pc_judge.specs.Course.{Check, CheckOf}
 use Rattle.pc_demo.specs.Course.{Demo}

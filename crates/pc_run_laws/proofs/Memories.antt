@@ -4,9 +4,9 @@ use Rattle.pc_words.specs.Words.{Mode, replays, edits, checks, merges, posts, de
 use Rattle.pc_refusals.specs.declared.status.Status.{Status}
 use Rattle.pc_refusals.specs.declared.status.Status.TheVariants.{Memory}
 use Rattle.pc_refusals.specs.Endings.{memory_text, sheet_memory_text}
-use Rattle.pc_course.specs.Events.{Event, told}
-use Rattle.pc_course.specs.Stages.{Stage, takes, needs, tells, ends_with, ends}
-use Rattle.pc_course.specs.Runs.{Comes, on_course, past_limit, without_memory, Run, ended, ended_with, read_failed, read_failed_at_file, write_failed}
+use Rattle.pc_refusals.specs.Events.{Event, told}
+use Rattle.pc_refusals.specs.Stages.{Stage, takes, needs, tells, ends_with, ends}
+use Rattle.pc_refusals.specs.Runs.{Comes, on_course, past_limit, without_memory, Run, ended, ended_with, read_failed, read_failed_at_file, write_failed}
 use Rattle.pc_transcript.specs.Course as course
 use Rattle.pc_transcript.specs.Course.{AnswersLines, awaits_line, awaits_end, has_answer, has_all, FromSheet, is_refused, answers, FromInput, awaits_sheet, keeps_sheet, has_sheet, Replay, needs_room, from_input, Edit, awaits_file, has_file}
 use Rattle.pc_judge.specs.Course as check

@@ -14,8 +14,8 @@ use Rattle.pc_refusals.specs.declared.refusal.SheetRefusal.{SheetRefusal}
 use Rattle.pc_refusals.specs.declared.status.Status.{Status}
 use Rattle.pc_refusals.specs.declared.status.Status.TheVariants.{Done, SheetRefused}
 use Rattle.pc_refusals.specs.Refusals.{sheet_refusal_text}
-use Rattle.pc_course.specs.Events.{Event, took_rest, gave, told}
-use Rattle.pc_course.specs.Stages.{Intake, sheet_file, Stage, takes, needs, tells, ends_with, ends}
+use Rattle.pc_refusals.specs.Events.{Event, took_rest, gave, told}
+use Rattle.pc_refusals.specs.Stages.{Intake, sheet_file, Stage, takes, needs, tells, ends_with, ends}
 use Rattle.pc_transcript.specs.Transcript.{Transcript, status_of}
 use Rattle.pc_transcript.specs.Course as course
 use Rattle.pc_transcript.specs.Course.{events_of, IsSheetTaken, AnswersLines, awaits_line, awaits_end, has_answer, has_all, FromSheet, is_refused, answers, FromInput, awaits_sheet, keeps_sheet, has_sheet, Replay, needs_room, from_input, Edit, awaits_file, has_file}

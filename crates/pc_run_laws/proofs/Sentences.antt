@@ -7,9 +7,9 @@ use Rattle.pc_words.specs.Words.{Request, FitsWords}
 use Rattle.pc_refusals.specs.declared.status.Status.{Status}
 use Rattle.pc_refusals.specs.declared.status.Status.TheVariants.{Done, SomeRefused, Usage, SheetRefused, ReadFault, WriteFault, Memory, TooLong, CertRefused}
 use Rattle.pc_refusals.specs.Endings.{too_long_text}
-use Rattle.pc_course.specs.Events.{Event, took_rest, gave, told, shelf_failed}
-use Rattle.pc_course.specs.Stages.{Stage, takes, ends_with, ends, sheet_file}
-use Rattle.pc_course.specs.Runs.{Comes, on_course, past_limit, without_memory, Run, ended, ended_with, read_failed, read_failed_at_file, write_failed}
+use Rattle.pc_refusals.specs.Events.{Event, took_rest, gave, told, shelf_failed}
+use Rattle.pc_refusals.specs.Stages.{Stage, takes, ends_with, ends, sheet_file}
+use Rattle.pc_refusals.specs.Runs.{Comes, on_course, past_limit, without_memory, Run, ended, ended_with, read_failed, read_failed_at_file, write_failed}
 use Rattle.pc_transcript.specs.Answer.{is_refused, is_no_memory}
 use Rattle.pc_transcript.specs.Transcript.{Transcript, worse_of, status_of}
 use Rattle.pc_judge.specs.declared.told.Told.{Told}

@@ -3,9 +3,9 @@ use Rattle.std.proofs.Common.{◌≡◌, ◌≢◌, ◌⊎◌, ℕ, List, [], �
 use Rattle.pc_words.specs.Words.{Mode, FitNothing}
 use Rattle.pc_refusals.specs.declared.status.Status.{Status}
 use Rattle.pc_refusals.specs.declared.status.Status.TheVariants.{Usage, WriteFault}
-use Rattle.pc_course.specs.Events.{Outside, Event, told, Does, Happened}
-use Rattle.pc_course.specs.Stages.{Stage, takes, needs, tells, ends_with, ends, sheet_file}
-use Rattle.pc_course.specs.Runs.{HasTook, IsSpare, nothing, ahead, Comes, on_course, past_limit, without_memory, Run, ended, ended_with, read_failed, read_failed_at_file, write_failed}
+use Rattle.pc_refusals.specs.Events.{Outside, Event, told, Does, Happened}
+use Rattle.pc_refusals.specs.Stages.{Stage, takes, needs, tells, ends_with, ends, sheet_file}
+use Rattle.pc_refusals.specs.Runs.{HasTook, IsSpare, nothing, ahead, Comes, on_course, past_limit, without_memory, Run, ended, ended_with, read_failed, read_failed_at_file, write_failed}
 use Rattle.pc_spreadsheet.specs.Allowed.{Notes}
 use Rattle.pc_replay.specs.Course.{usage_text, CourseIn, Course, without_fit, needs_memory, as_asked}
 use Rattle.pc_run_laws.specs.ByStatus.{UsageIsOfWords, WordsAreTold}

@@ -9,8 +9,8 @@ use Rattle.pc_lines.specs.declared.TheConstants.{SHEET_LIMIT}
 use Rattle.pc_refusals.specs.declared.status.Status.{Status}
 use Rattle.pc_refusals.specs.declared.status.Status.TheVariants.{Usage, WriteFault, Memory, CertRefused}
 use Rattle.pc_refusals.specs.Endings.{memory_text, sheet_memory_text}
-use Rattle.pc_course.specs.Events.{Outside, Event, took_rest, gave, told, Happened}
-use Rattle.pc_course.specs.Stages.{needs}
+use Rattle.pc_refusals.specs.Events.{Outside, Event, took_rest, gave, told, Happened}
+use Rattle.pc_refusals.specs.Stages.{needs}
 use Rattle.pc_judge.specs.declared.told.Told.{Told}
 use Rattle.pc_judge.specs.Judged.{IsJudged, judged_text, status_of_told}
 use Rattle.pc_judge.specs.Course.{Check}

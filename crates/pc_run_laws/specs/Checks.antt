@@ -19,7 +19,7 @@ use Rattle.pc_refusals.specs.Endings.{Printing, printed, too_long_text, memory_t
 use Rattle.pc_lines.specs.Files.{AsksOnce, TakesFile}
 use Rattle.pc_refusals.specs.Files.{LacksFile, LacksMemoryForFile, HasLongFile}
 use Rattle.pc_refusals.specs.Inputs.{TakesAll, TakesSome, InputPassesLimit}
-use Rattle.pc_course.specs.Events.{Outside}
+use Rattle.pc_refusals.specs.Events.{Outside}
 use Rattle.pc_judge.specs.declared.told.Told.{Told}
 use Rattle.pc_judge.specs.Judged.{IsJudged, judged_text, status_of_told}
 use Rattle.pc_words.specs.Words.{checks, FitsWords}

@@ -6,7 +6,7 @@ use Rattle.pc_refusals.specs.declared.status.Status.{Status}
 use Rattle.pc_refusals.specs.declared.status.Status.TheVariants.{SheetRefused, WriteFault, Memory}
 use Rattle.pc_refusals.specs.Refusals.{sheet_refusal_text}
 use Rattle.pc_refusals.specs.Endings.{Printing, printed, sheet_memory_text, IsPrinted}
-use Rattle.pc_course.specs.Events.{Outside}
+use Rattle.pc_refusals.specs.Events.{Outside}
 use Rattle.pc_transcript.specs.Answer.{Answer}
 use Rattle.pc_transcript.specs.Transcript.{Transcript, status_of}
 use Rattle.pc_spreadsheet.specs.Tasks.{State}

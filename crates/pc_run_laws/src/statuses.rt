@@ -1,8 +1,8 @@
 //! Laws of what runs say by their status, each the contract of a function that does nothing.
 ghost use Rattle.std.specs.Prelude.{List, codes, ℕ};
 ghost use Rattle.pc_refusals.specs.declared.status.Status.{Status as AStatus};
-ghost use Rattle.pc_course.specs.Events.{Outside};
-ghost use Rattle.pc_course.specs.Runs.{Ran};
+ghost use Rattle.pc_refusals.specs.Events.{Outside};
+ghost use Rattle.pc_refusals.specs.Runs.{Ran};
 ghost use Rattle.pc_course_laws.specs.Causes.{FaultsComeLast, HasCauses};
 ghost use Rattle.pc_course_laws.specs.Limits.{EndsTooLongExactly};
 ghost use Rattle.pc_demo.specs.Course.{Demo};

@@ -6,7 +6,7 @@ use Rattle.pc_sheet.specs.declared.ids.CellId.{CellId}
 use Rattle.pc_sheet.specs.declared.ids.Entry.{Entry}
 use Rattle.pc_sheet.specs.declared.ids.Target.{Target}
 use Rattle.pc_components.specs.View.{number_of}
-use Rattle.pc_edit_laws.specs.Edits.{edited}
+use Rattle.pc_justify_laws.specs.Edits.{edited}
 use Rattle.pc_cache.specs.Rows.{TargetRow}
 use Rattle.pc_theory.specs.Targets.{AreAsked}
 use Rattle.pc_theory.specs.Theories.{rules_alone, TheoryView, IsTheory}

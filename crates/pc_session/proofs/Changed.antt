@@ -6,8 +6,8 @@ use Rattle.pc_sheet.specs.Entailment.{cell_sizes}
 use Rattle.pc_sheet.specs.WellFormed.{IsEntryOf, IsWellFormed}
 use Rattle.pc_sheet.specs.declared.ids.CellId.{CellId}
 use Rattle.pc_sheet.specs.declared.ids.Entry.{Entry}
-use Rattle.pc_edit_laws.specs.Edits.{IsTakenOf}
-use Rattle.pc_edit_laws.specs.Laws.{EachEntering}
+use Rattle.pc_justify_laws.specs.Edits.{IsTakenOf}
+use Rattle.pc_justify_laws.specs.EditLaws.{EachEntering}
 use Rattle.pc_logic.proofs.EntryLemmas.{entries_pushed, entries_stay}
 use Rattle.pc_theory.specs.Theories.{rules_alone}
 use Rattle.pc_cache.specs.Rows.{Cached}

@@ -9,7 +9,7 @@ use Rattle.pc_sheet.specs.declared.ids.Entry.{Entry}
 use Rattle.pc_sheet.specs.declared.ids.Target.{Target}
 use Rattle.pc_components.specs.View.{Kept, number_of, AreComponentsOf}
 use Rattle.pc_reason.specs.Reasons.{Justification}
-use Rattle.pc_edit_laws.specs.Edits.{edited, MayStay}
+use Rattle.pc_justify_laws.specs.Edits.{edited, MayStay}
 use Rattle.pc_cache.specs.Rows.{TargetRow, row_of}
 use Rattle.pc_search.specs.Found.{steps_in, IsFound}
 use Rattle.pc_theory.specs.Targets.{targets_on, AreAsked}

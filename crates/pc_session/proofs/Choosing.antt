@@ -17,8 +17,8 @@ use Rattle.pc_cache.specs.Rows.{TargetRow}
 use Rattle.pc_choices.specs.Choices.{AreCellsOf, AreSetsOf, IsChosen}
 use Rattle.pc_choices.specs.Chosen.{chosen_parts}
 use Rattle.pc_components.specs.View.{number_of}
-use Rattle.pc_edit_laws.specs.Edits.{IsEditOf, edited}
-use Rattle.pc_edit_laws.proofs.OtherParts.{same_entries}
+use Rattle.pc_justify_laws.specs.Edits.{IsEditOf, edited}
+use Rattle.pc_justify_laws.proofs.OtherParts.{same_entries}
 use Rattle.pc_theory.specs.Theories.{rules_alone, TheoryView, IsTheory, IsPartNumbered}
 use Rattle.pc_theory.proofs.Lists.{none_some, at_within, zip_at, zip_length}
 use Rattle.pc_theory.proofs.OfWhole.{all_searched}

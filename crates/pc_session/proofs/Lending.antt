@@ -10,7 +10,7 @@ use Rattle.pc_ground.specs.Naming.{names_of}
 use Rattle.pc_reason.specs.Reasons.{IsReasonFor, Justifies, justification_of}
 use Rattle.pc_reason.specs.Targets.{IsTargetIn}
 use Rattle.pc_reason.specs.declared.reason.Reason.{Reason}
-use Rattle.pc_edit_laws.specs.Reasons.{IsJustifying, IsRowFor}
+use Rattle.pc_justify_laws.specs.Reasons.{IsJustifying, IsRowFor}
 use Rattle.pc_cache.specs.Lent.{IsLentFor}
 use Rattle.pc_cache.specs.Rows.{TargetRow, row_of}
 use Rattle.pc_theory.specs.Theories.{rules_alone}

@@ -4,7 +4,7 @@ use Rattle.std.specs.List.{AllZip}
 use Rattle.pc_sheet.specs.Sheet.{Sheet}
 use Rattle.pc_sheet.specs.Weight.{weight}
 use Rattle.pc_sheet.specs.declared.ids.Target.{Target}
-use Rattle.pc_edit_laws.specs.Reasons.{IsRowFor, IsJustifying}
+use Rattle.pc_justify_laws.specs.Reasons.{IsRowFor, IsJustifying}
 use Rattle.pc_cache.specs.Rows.{AreEmpty, TargetRow, is_same_target, row_of, row_after}
 use Rattle.pc_lits.specs.declared.tally.Tally.{Tally}
 use Rattle.pc_parts.specs.Components.{parts_of}

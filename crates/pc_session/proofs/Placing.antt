@@ -11,10 +11,10 @@ use Rattle.pc_parts.specs.Parts.{Part}
 use Rattle.pc_parts.specs.PartSheets.{sheet_of}
 use Rattle.pc_parts.specs.Components.{parts_of}
 use Rattle.pc_components.specs.View.{number_of}
-use Rattle.pc_edit_laws.specs.Reasons.{IsRowFor, IsJustifying}
-use Rattle.pc_edit_laws.specs.Edits.{IsEditOf, edited}
-use Rattle.pc_edit_laws.specs.Laws.{EditedReasonsAreRight}
-use Rattle.pc_edit_laws.proofs.OtherParts.{same_entries}
+use Rattle.pc_justify_laws.specs.Reasons.{IsRowFor, IsJustifying}
+use Rattle.pc_justify_laws.specs.Edits.{IsEditOf, edited}
+use Rattle.pc_justify_laws.specs.EditLaws.{EditedReasonsAreRight}
+use Rattle.pc_justify_laws.proofs.OtherParts.{same_entries}
 use Rattle.pc_cache.specs.Rows.{TargetRow, HasRowOf, HaveTargets, row_of, target_of}
 use Rattle.pc_world_list.specs.Worlds.{WorldView, AreExact}
 use Rattle.pc_search.specs.Parts.{AreWorldsOf}

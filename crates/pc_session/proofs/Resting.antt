@@ -13,9 +13,9 @@ use Rattle.pc_parts.specs.Components.{parts_of}
 use Rattle.pc_components.specs.View.{number_of}
 use Rattle.pc_reason.specs.Reasons.{Justification}
 use Rattle.pc_reason.specs.Targets.{IsTargetIn}
-use Rattle.pc_edit_laws.specs.Reasons.{IsRowFor, IsJustifying}
-use Rattle.pc_edit_laws.specs.Edits.{IsTakenOf, MayStay}
-use Rattle.pc_edit_laws.specs.Laws.{OtherPartsStay}
+use Rattle.pc_justify_laws.specs.Reasons.{IsRowFor, IsJustifying}
+use Rattle.pc_justify_laws.specs.Edits.{IsTakenOf, MayStay}
+use Rattle.pc_justify_laws.specs.EditLaws.{OtherPartsStay}
 use Rattle.pc_cache.specs.Rows.{TargetRow, HasRowOf, row_of}
 use Rattle.pc_theory.specs.Targets.{targets_on}
 use Rattle.pc_theory.specs.Theories.{rules_alone, TheoryView, IsTheory, IsPartNumbered}

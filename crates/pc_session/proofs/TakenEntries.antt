@@ -14,7 +14,7 @@ use Rattle.pc_logic.specs.Edits.{also_entered, is_same_entry, is_rival, without_
 use Rattle.pc_logic.proofs.EntryLemmas.{entries_kept, is_same, pairs_head, pairs_tail, same_is}
 use Rattle.pc_parts.specs.Parts.{Part}
 use Rattle.pc_parts.specs.PartSheets.{is_on, sheet_of}
-use Rattle.pc_edit_laws.specs.Edits.{HasNone, edited, takes_none}
+use Rattle.pc_justify_laws.specs.Edits.{HasNone, edited, takes_none}
 use Rattle.pc_world_list.specs.Worlds.{AllFit, AreExact, WorldView}
 use Rattle.pc_search.specs.Parts.{AreWorldsOf}
 use Rattle.pc_lemmas.proofs.Elements.{all_from, contains_cases, contains_first, contains_later, contains_none, kept, kept_all, kept_is}

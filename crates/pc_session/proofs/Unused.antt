@@ -5,8 +5,8 @@ use Rattle.pc_sheet.specs.WellFormed.{IsWellFormed}
 use Rattle.pc_sheet.specs.declared.ids.CellId.{CellId}
 use Rattle.pc_sheet.specs.declared.ids.Entry.{Entry}
 use Rattle.pc_parts.specs.Parts.{Part}
-use Rattle.pc_edit_laws.specs.Edits.{edited, IsTakenOf}
-use Rattle.pc_edit_laws.specs.Laws.{EditedReasonsAreRight}
+use Rattle.pc_justify_laws.specs.Edits.{edited, IsTakenOf}
+use Rattle.pc_justify_laws.specs.EditLaws.{EditedReasonsAreRight}
 use Rattle.pc_cache.specs.Rows.{TargetRow}
 use Rattle.pc_world_list.specs.Worlds.{WorldView}
 use Rattle.pc_search.specs.Parts.{AreWorldsOf}

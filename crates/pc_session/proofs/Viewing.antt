@@ -5,7 +5,7 @@ use Rattle.pc_sheet.specs.Sheet.{Sheet}
 use Rattle.pc_sheet.specs.declared.ids.CellId.{CellId}
 use Rattle.pc_sheet.specs.declared.ids.Entry.{Entry}
 use Rattle.pc_sheet.specs.declared.ids.Target.{Target}
-use Rattle.pc_edit_laws.specs.Edits.{edited}
+use Rattle.pc_justify_laws.specs.Edits.{edited}
 use Rattle.pc_cache.specs.Rows.{Cached, TargetRow, bytes_of_rows, row_of}
 use Rattle.pc_theory.specs.Theories.{TheoryView}
 use Rattle.pc_session.specs.Answers.{IsUnchanged, OthersStay, Stay, Steps}

@@ -10,7 +10,7 @@ use Rattle.pc_sheet.specs.declared.ids.Target.{Target}
 use Rattle.pc_components.specs.View.{Kept}
 use Rattle.pc_reason.specs.Reasons.{Justification}
 use Rattle.pc_reason.specs.Targets.{IsTargetIn}
-use Rattle.pc_edit_laws.specs.Edits.{HasNone}
+use Rattle.pc_justify_laws.specs.Edits.{HasNone}
 use Rattle.pc_cache.specs.Rows.{TargetRow, row_of}
 use Rattle.pc_search.specs.Found.{steps_in}
 use Rattle.pc_session.specs.Arena.{IsLeft}

@@ -6,7 +6,7 @@ use Rattle.pc_sheet.specs.Weight.{weight}
 use Rattle.pc_sheet.specs.MaximalSets.{AreRulesConsistent}
 use Rattle.pc_sheet.specs.declared.ids.CellId.{CellId}
 use Rattle.pc_sheet.specs.declared.ids.Entry.{Entry}
-use Rattle.pc_edit_laws.specs.Edits.{HasNone}
+use Rattle.pc_justify_laws.specs.Edits.{HasNone}
 use Rattle.pc_theory.specs.Spendings.{IsLawful}
 use Rattle.pc_session.specs.declared.refused.LoadRefused.{LoadRefused}
 use Rattle.pc_session.specs.declared.refused.LoadRefused.TheVariants as load

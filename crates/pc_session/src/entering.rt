@@ -1,6 +1,6 @@
 //! Entering a value, in the place of the cell's others or beside them.
 ghost use Rattle.std.specs.Prelude.{◌≡◌, Contains, IfErr, Ok, OnErr, OnOk, Some};
-ghost use Rattle.pc_edit_laws.specs.Edits.{takes_none};
+ghost use Rattle.pc_justify_laws.specs.Edits.{takes_none};
 ghost use Rattle.pc_logic.specs.Edits.{also_entered, entered, is_rival};
 ghost use Rattle.pc_sheet.specs.WellFormed.{IsEntryOf};
 ghost use Rattle.pc_session.specs.Answers.{HasPlaceFor, StandsAlone};
@@ -15,7 +15,7 @@ use crate::refused::EditRefused;
 use crate::state::State;
 use crate::taken::{Taken, stands, takes_some};
 use crate::tallies::blank_tally;
-use pc_edit_laws::{adding_edits, entering_edits};
+use pc_justify_laws::{adding_edits, entering_edits};
 use pc_sheet::Entry;
 use std::alloc::Global;
 

@@ -1,6 +1,6 @@
 //! Taking entries of a cell away.
 ghost use Rattle.std.specs.Prelude.{◌≡◌, ◌↔◌, [], ◌<◌, Err, IfErr, IsTrue, Ok, OnErr, OnOk, Some, length};
-ghost use Rattle.pc_edit_laws.specs.Edits.{edited, HasNone, IsTakenOf};
+ghost use Rattle.pc_justify_laws.specs.Edits.{edited, HasNone, IsTakenOf};
 ghost use Rattle.pc_sheet.specs.Entailment.{cell_sizes};
 ghost use Rattle.pc_sheet.specs.WellFormed.{IsWellFormed};
 ghost use Rattle.pc_session.specs.Answers.{AreUnused};
@@ -19,7 +19,7 @@ use crate::stale::is_used;
 use crate::state::State;
 use crate::taken::{Taken, take_away, takes_some};
 use crate::tallies::blank_tally;
-use pc_edit_laws::{edited_reasons_are_right, other_parts_stay};
+use pc_justify_laws::{edited_reasons_are_right, other_parts_stay};
 use pc_sheet::CellId;
 use std::alloc::Global;
 

@@ -3,7 +3,7 @@ ghost use Rattle.std.specs.Prelude.{◌≡◌, ◌≤◌, ◌<◌, [], Contains,
 ghost use Rattle.pc_reason.specs.Fitting.{IsFitting};
 ghost use Rattle.pc_components.specs.View.{AreComponentsOf};
 ghost use Rattle.pc_cache.specs.Rows.{row_of};
-ghost use Rattle.pc_edit_laws.specs.Edits.{HasNone, takes_none};
+ghost use Rattle.pc_justify_laws.specs.Edits.{HasNone, takes_none};
 ghost use Rattle.pc_ground.specs.Grounded.{grounded};
 ghost use Rattle.pc_logic.specs.Edits.{also_entered, entered, is_rival, is_same_entry, without_cell, without_entry};
 ghost use Rattle.pc_reason.specs.Reasons.{IsReasonFor, justification_of};
@@ -32,8 +32,8 @@ use crate::taken::Taken;
 use crate::{entering, rules};
 use pc_choices::Choices;
 use pc_components::Components;
-use pc_edit_laws::{clearing_edits, removing_edits};
 use pc_ground::Ground;
+use pc_justify_laws::{clearing_edits, removing_edits};
 use pc_lits::Tally;
 use pc_logic::{Assignment, Book};
 use pc_reason::{Reason, Reasons};

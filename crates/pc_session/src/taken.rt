@@ -1,7 +1,7 @@
 //! What an edit takes away of a cell's entries.
 ghost use Rattle.std.specs.Prelude.{◌≡◌, ◌↔◌, [], Contains, IfNone, IfSome, IsTrue, true};
 ghost use Rattle.std.specs.List.{list_any};
-ghost use Rattle.pc_edit_laws.specs.Edits.{edited, HasNone};
+ghost use Rattle.pc_justify_laws.specs.Edits.{edited, HasNone};
 ghost use Rattle.pc_parts.specs.Parts.{Part};
 ghost use Rattle.pc_search.specs.Parts.{AreWorldsOf};
 ghost use Rattle.pc_session.specs.inside.Taken.{takes};

@@ -13,7 +13,7 @@ use Rattle.pc_sheet.specs.declared.ids.CellId.{CellId}
 use Rattle.pc_sheet.specs.declared.ids.Entry.{Entry}
 use Rattle.pc_logic.specs.Edits.{is_same_entry}
 use Rattle.pc_logic.proofs.EntryLemmas.{is_same, found_standing, not_found}
-use Rattle.pc_edit_laws.specs.Edits.{HasNone}
+use Rattle.pc_justify_laws.specs.Edits.{HasNone}
 use Rattle.pc_session.specs.RuleNames.{IsNewName, IsRuleAt}
 use Rattle.pc_spreadsheet.specs.Tasks.{HasEntryOf}
 

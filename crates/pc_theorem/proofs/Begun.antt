@@ -1,7 +1,7 @@
 -- A run of the words that were read.
 use Rattle.std.proofs.Common.{◌≡◌, ◌⊎◌, ℕ, List, subst, inl}
 use Rattle.pc_refusals.specs.declared.status.Status.{Status}
-use Rattle.pc_course.specs.Events.{Outside}
+use Rattle.pc_refusals.specs.Events.{Outside}
 use Rattle.pc_spreadsheet.specs.Allowed.{Notes}
 use Rattle.pc_theorem.specs.Starting.{IsRunOf, LacksWords}
 

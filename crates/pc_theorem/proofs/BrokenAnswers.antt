@@ -15,7 +15,7 @@ use Rattle.pc_sheet.specs.declared.ids.Target.{Target}
 use Rattle.std.specs.declared.option.Option.{Option}
 use Rattle.pc_laws.specs.Examples.{equal_cells, entry, red, green}
 use Rattle.pc_logic.specs.Edits.{without_cell}
-use Rattle.pc_counting_laws.specs.Enough.{enough}
+use Rattle.pc_enough_laws.specs.Amounts.{enough}
 use Rattle.pc_enough_laws.specs.Enough.{enough_for_all}
 use Rattle.pc_accept.specs.Accepts.{implied, value_of_entry}
 use Rattle.pc_cert.specs.Claims.{written_implied, written_inconsistent, written_repairs, written_unimplied, written_against}

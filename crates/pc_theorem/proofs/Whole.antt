@@ -10,8 +10,8 @@ use Rattle.pc_refusals.specs.declared.status.Status.{Status}
 use Rattle.pc_refusals.specs.declared.status.Status.TheVariants.{Done, SomeRefused, SheetRefused, Usage, ReadFault, WriteFault, Memory, TooLong, CertRefused}
 use Rattle.pc_refusals.specs.declared.refusal.SheetRefusal.{SheetRefusal}
 use Rattle.pc_refusals.specs.Endings.{memory_text, sheet_memory_text}
-use Rattle.pc_course.specs.Events.{Outside, Event, took_rest, gave, told, Happened}
-use Rattle.pc_course.specs.Runs.{nothing}
+use Rattle.pc_refusals.specs.Events.{Outside, Event, took_rest, gave, told, Happened}
+use Rattle.pc_refusals.specs.Runs.{nothing}
 use Rattle.pc_course_laws.specs.Flat.{told_in, EventsAddUp}
 use Rattle.pc_transcript.specs.Transcript.{Transcript, Legal, worse_of, status_of}
 use Rattle.pc_judge.specs.AcceptedText.{IsAcceptedText}

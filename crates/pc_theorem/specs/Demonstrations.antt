@@ -10,7 +10,7 @@ use Rattle.pc_refusals.specs.declared.refusal.Counts.{Counts}
 use Rattle.pc_refusals.specs.declared.refusal.Refusal.TheVariants.{Spent}
 use Rattle.pc_refusals.specs.declared.status.Status.{Status}
 use Rattle.pc_refusals.specs.declared.status.Status.TheVariants.{Done, SheetRefused}
-use Rattle.pc_course.specs.Events.{Outside}
+use Rattle.pc_refusals.specs.Events.{Outside}
 use Rattle.pc_transcript.specs.Transcript.{Transcript, Legal, lines, status_of}
 use Rattle.pc_words.specs.Words.{demonstrates, FitsWords}
 use Rattle.pc_demo.specs.Demonstration.{told_in}

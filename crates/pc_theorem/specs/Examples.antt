@@ -20,7 +20,7 @@ use Rattle.pc_refusals.specs.declared.refusal.Counts.{Counts}
 use Rattle.pc_refusals.specs.declared.refusal.Refusal.TheVariants.{Spent}
 use Rattle.pc_refusals.specs.declared.status.Status.{Status}
 use Rattle.pc_refusals.specs.declared.status.Status.TheVariants.{Done, SomeRefused, SheetRefused, CertRefused}
-use Rattle.pc_course.specs.Events.{Outside}
+use Rattle.pc_refusals.specs.Events.{Outside}
 use Rattle.pc_transcript.specs.Answer.{shown, refused, no_memory}
 use Rattle.pc_words.specs.Words.{usual_budget}
 use Rattle.pc_spreadsheet.specs.Tasks.{State, shows, why_page, IsTask}

@@ -1,5 +1,5 @@
 -- What a run over journals is worth: with `merge FILE` one with another, with `posts FILE` one as commands on a file's sheet. Who holds the same
--- posts sees one display: that is the law `readers_see_one_display` (`pc_reader_laws`).
+-- posts sees one display: that is the law `readers_see_one_display` (`pc_afresh_laws`).
 use Rattle.std.specs.Prelude.{◌≡◌, ◌⊎◌, ℕ, List, ◌++◌, codes, Some}
 use Rattle.pc_port.specs.Shelf.{Files, file_named}
 use Rattle.pc_collab.specs.Journal.{Post}
@@ -10,7 +10,7 @@ use Rattle.pc_refusals.specs.Refusals.{sheet_refusal_text}
 use Rattle.pc_refusals.specs.declared.refusal.SheetRefusal.{SheetRefusal}
 use Rattle.pc_refusals.specs.declared.status.Status.{Status}
 use Rattle.pc_refusals.specs.declared.status.Status.TheVariants.{Done, SheetRefused}
-use Rattle.pc_course.specs.Events.{Outside}
+use Rattle.pc_refusals.specs.Events.{Outside}
 use Rattle.pc_journal.specs.PostLines.{lines_of_posts}
 use Rattle.pc_words.specs.Words.{Mode, merges, posts, Request, FitsWords}
 use Rattle.pc_theorem.specs.Theorem.{KnownRun, BeginsWith, RefusesSheet, IsSession, LacksMemory, IsTold, IsCutOff}

@@ -7,7 +7,7 @@ use Rattle.pc_enough_laws.specs.Enough.{enough_for_all}
 use Rattle.pc_gen.specs.Sheet.{generated_sheet}
 use Rattle.pc_refusals.specs.declared.status.Status.{Status}
 use Rattle.pc_refusals.specs.declared.status.Status.TheVariants.{CertRefused}
-use Rattle.pc_course.specs.Events.{Outside}
+use Rattle.pc_refusals.specs.Events.{Outside}
 use Rattle.pc_transcript.specs.Answer.{Answer}
 use Rattle.pc_transcript.specs.Transcript.{Transcript, Legal}
 use Rattle.pc_words.specs.Words.{demonstrates, FitsWords}

@@ -2,7 +2,7 @@
 use Rattle.std.specs.Prelude.{ℕ, List}
 use Rattle.std.specs.declared.option.Option.{Option}
 use Rattle.pc_port.specs.Shelf.{Files}
-use Rattle.pc_course.specs.Events.{Outside}
+use Rattle.pc_refusals.specs.Events.{Outside}
 
 -- the files that a shelf keeps, the names that it was asked for and its faults; what an input has left, and its faults; what an output was given, and
 -- its faults

@@ -30,7 +30,7 @@ use Rattle.pc_refusals.specs.declared.refusal.Refusal.{Refusal}
 use Rattle.pc_refusals.specs.declared.refusal.Refusal.TheVariants.{TooLarge, Inconsistent, Spent}
 use Rattle.pc_refusals.specs.declared.status.Status.{Status}
 use Rattle.pc_refusals.specs.declared.status.Status.TheVariants.{Done, SheetRefused, Usage, ReadFault, WriteFault, Memory, TooLong, CertRefused}
-use Rattle.pc_course.specs.Events.{Outside}
+use Rattle.pc_refusals.specs.Events.{Outside}
 use Rattle.pc_transcript.specs.SheetPart.{IsSheetPart}
 use Rattle.pc_transcript.specs.Answer.{Answer, silent, accepted, shown, refused, no_memory}
 use Rattle.pc_transcript.specs.Transcript.{Transcript, Legal, lines, output_of, status_of}

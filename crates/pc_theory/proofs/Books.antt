@@ -25,7 +25,7 @@ use Rattle.pc_justify_laws.specs.Laws.{NamesAreOfTheirSheet}
 use Rattle.pc_reason.specs.Targets.{IsTargetIn}
 use Rattle.pc_log.specs.Spans.{lines_of_span}
 use Rattle.pc_reason.specs.Refutations.{certificate_against, RefutesRules}
-use Rattle.pc_edit_laws.specs.Reasons.{IsRowFor}
+use Rattle.pc_justify_laws.specs.Reasons.{IsRowFor}
 use Rattle.pc_cache.specs.Rows.{TargetRow, row_after}
 use Rattle.pc_world_list.specs.Worlds.{WorldView}
 use Rattle.pc_solver.specs.Solver.{SuspendedView}

@@ -7,7 +7,7 @@ use Rattle.pc_lemmas.proofs.Elements.{contains_cases, contains_first, contains_l
 use Rattle.pc_sheet.specs.Sheet.{Sheet}
 use Rattle.pc_sheet.specs.declared.ids.Target.{Target}
 use Rattle.pc_reason.specs.Reasons.{Justification}
-use Rattle.pc_edit_laws.specs.Reasons.{IsRowFor}
+use Rattle.pc_justify_laws.specs.Reasons.{IsRowFor}
 use Rattle.pc_cache.specs.Rows.{TargetRow, is_same_target, row_after}
 use Rattle.pc_search.specs.Found.{steps_in, IsFound}
 

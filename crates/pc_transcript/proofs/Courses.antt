@@ -10,12 +10,12 @@ use Rattle.pc_refusals.specs.declared.status.Status.TheVariants.{SheetRefused, R
 use Rattle.pc_refusals.specs.declared.refusal.SheetRefusal.{SheetRefusal}
 use Rattle.pc_refusals.specs.Refusals.{sheet_refusal_text}
 use Rattle.pc_refusals.specs.Endings.{too_long_text, TellsAtEnd, sheet_memory_text}
-use Rattle.pc_course.specs.Events.{Outside, Event, took, took_rest, input_failed, Happened, Streams, streams, around}
-use Rattle.pc_course.specs.Stages.{sheet_line, Stage, ends_with}
-use Rattle.pc_course.specs.Runs.{HasTook, nothing, Comes, on_course, past_limit, without_memory, Run, read_failed, Ran}
-use Rattle.pc_course.specs.Runs as runs
-use Rattle.pc_course.proofs.EventLemmas.{happened-append, happened-push, took_does, took_rest_does, read_fails_does, Consumes-split, has_took-left, has_took-right, ends-more}
-use Rattle.pc_course.proofs.RunLemmas.{tells_last, comes-more, run-more}
+use Rattle.pc_refusals.specs.Events.{Outside, Event, took, took_rest, input_failed, Happened, Streams, streams, around}
+use Rattle.pc_refusals.specs.Stages.{sheet_line, Stage, ends_with}
+use Rattle.pc_refusals.specs.Runs.{HasTook, nothing, Comes, on_course, past_limit, without_memory, Run, read_failed, Ran}
+use Rattle.pc_refusals.specs.Runs as runs
+use Rattle.pc_refusals.proofs.EventLemmas.{happened-append, happened-push, took_does, took_rest_does, read_fails_does, Consumes-split, has_took-left, has_took-right, ends-more}
+use Rattle.pc_refusals.proofs.RunLemmas.{tells_last, comes-more, run-more}
 use Rattle.pc_transcript.specs.declared.machine.LoadStop.{LoadStop}
 use Rattle.pc_transcript.specs.declared.machine.LoadStop.TheVariants as load_stop
 use Rattle.pc_transcript.specs.Answer.{Answer}

@@ -11,12 +11,12 @@ use Rattle.pc_refusals.specs.declared.status.Status.{Status}
 use Rattle.pc_refusals.specs.declared.status.Status.TheVariants.{ReadFault, WriteFault, Memory, TooLong}
 use Rattle.pc_lines.specs.Files.{TakesFile, TakesLongFile}
 use Rattle.pc_refusals.specs.Endings.{too_long_text, TellsAtEnd, sheet_memory_text}
-use Rattle.pc_course.specs.Events.{Outside, Event, took, gave, shelf_failed, Does, Happened, Streams, streams, around, outside}
-use Rattle.pc_course.specs.Stages.{sheet_file, ends_with}
-use Rattle.pc_course.specs.Runs.{nothing, Comes, past_limit, without_memory, Run, read_failed_at_file, Ran}
-use Rattle.pc_course.specs.Runs as runs
-use Rattle.pc_course.proofs.EventLemmas.{happened-append, happened-push, took_does}
-use Rattle.pc_course.proofs.RunLemmas.{tells_last, comes-more, run-more}
+use Rattle.pc_refusals.specs.Events.{Outside, Event, took, gave, shelf_failed, Does, Happened, Streams, streams, around, outside}
+use Rattle.pc_refusals.specs.Stages.{sheet_file, ends_with}
+use Rattle.pc_refusals.specs.Runs.{nothing, Comes, past_limit, without_memory, Run, read_failed_at_file, Ran}
+use Rattle.pc_refusals.specs.Runs as runs
+use Rattle.pc_refusals.proofs.EventLemmas.{happened-append, happened-push, took_does}
+use Rattle.pc_refusals.proofs.RunLemmas.{tells_last, comes-more, run-more}
 use Rattle.pc_transcript.specs.Answer.{Answer}
 use Rattle.pc_transcript.specs.Course.{FromSheet, Edit, awaits_file, has_file}
 use Rattle.pc_transcript.specs.Course as course

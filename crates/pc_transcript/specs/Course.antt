@@ -7,8 +7,8 @@ use Rattle.pc_refusals.specs.declared.refusal.SheetRefusal.{SheetRefusal}
 use Rattle.pc_refusals.specs.declared.status.Status.TheVariants.{SheetRefused}
 use Rattle.pc_refusals.specs.Refusals.{sheet_refusal_text}
 use Rattle.pc_refusals.specs.Endings.{sheet_memory_text}
-use Rattle.pc_course.specs.Events.{Event, took, took_rest, gave, told}
-use Rattle.pc_course.specs.Stages.{sheet_line, line_within, no_line_within, sheet_file, Stage, takes, needs, tells, ends_with, ends, IsLine}
+use Rattle.pc_refusals.specs.Events.{Event, took, took_rest, gave, told}
+use Rattle.pc_refusals.specs.Stages.{sheet_line, line_within, no_line_within, sheet_file, Stage, takes, needs, tells, ends_with, ends, IsLine}
 use Rattle.pc_transcript.specs.declared.TheConstants.{LINE_LIMIT, MAX_LINES}
 use Rattle.pc_transcript.specs.Answer.{Answer, answer_text}
 use Rattle.pc_transcript.specs.Transcript.{Transcript, Legal, lines, input_of, status_of}

@@ -3,8 +3,8 @@ ghost use Rattle.std.specs.Prelude.{◌≡◌, ◌≢◌, ◌≤◌, []};
 ghost use Rattle.pc_port.specs.Port.{Rose};
 ghost use Rattle.pc_lines.specs.Files.{AsksOnce, FailsToRead};
 ghost use Rattle.pc_port.specs.declared.TheConstants.{CHUNK};
-ghost use Rattle.pc_course.specs.Events.{outside, streams};
-ghost use Rattle.pc_course.specs.Runs.{Ran};
+ghost use Rattle.pc_refusals.specs.Events.{outside, streams};
+ghost use Rattle.pc_refusals.specs.Runs.{Ran};
 ghost use Rattle.pc_transcript.specs.Course.{Edit};
 
 use crate::LINE_LIMIT;

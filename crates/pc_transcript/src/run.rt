@@ -3,8 +3,8 @@ ghost use Rattle.std.specs.Prelude.{◌≡◌, ◌≢◌, ◌≤◌, length};
 ghost use Rattle.pc_port.specs.Port.{Rose};
 ghost use Rattle.pc_lines.specs.Reader.{coming};
 ghost use Rattle.pc_port.specs.declared.TheConstants.{CHUNK};
-ghost use Rattle.pc_course.specs.Events.{Outside, streams, around};
-ghost use Rattle.pc_course.specs.Runs.{Ran};
+ghost use Rattle.pc_refusals.specs.Events.{Outside, streams, around};
+ghost use Rattle.pc_refusals.specs.Runs.{Ran};
 ghost use Rattle.pc_transcript.specs.Course.{FromSheet, Replay};
 ghost use Rattle.pc_transcript.specs.inside.SoFar.{GoesOn};
 

@@ -5,7 +5,7 @@ use Rattle.std.proofs.lemmas.Option.{slice_get_within, get_or_from_slice_get}
 use Rattle.pc_lits.specs.declared.literal.Lit.{Lit}
 use Rattle.pc_lits.specs.declared.literal.Var.{Var}
 use Rattle.pc_lits.specs.Literals.{negated}
-use Rattle.pc_watches.specs.Watched.{code_of}
+use Rattle.pc_propagate.specs.Listed.{code_of}
 use Rattle.pc_propagate.specs.declared.trail.TrailEntry.{TrailEntry}
 use Rattle.pc_propagate.specs.Entries.{falses}
 use Rattle.pc_propagate.specs.declared.clauses.ClauseRef.{ClauseRef}

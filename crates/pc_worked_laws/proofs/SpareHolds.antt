@@ -19,7 +19,7 @@ use Rattle.pc_logic.proofs.EntryLemmas.{same_is, standing_found, found_standing}
 use Rattle.pc_reason.specs.Reasons.{Justification}
 use Rattle.pc_reason.specs.Targets.{IsTargetIn}
 use Rattle.pc_cache.specs.Rows.{TargetRow, is_same_target, row_of}
-use Rattle.pc_edit_laws.specs.Edits.{takes_none, HasNone}
+use Rattle.pc_justify_laws.specs.Edits.{takes_none, HasNone}
 use Rattle.pc_search.specs.Found.{steps_in}
 use Rattle.pc_session.specs.Views.{SessionView}
 use Rattle.pc_session.specs.Answers.{OthersStay, IsUnchanged, AreSpare, StandsAlone, HasPlaceFor}

@@ -12,7 +12,7 @@ use Rattle.pc_refusals.specs.declared.status.Status.{Status}
 use Rattle.pc_refusals.specs.declared.status.Status.TheVariants.{Done, SomeRefused}
 use Rattle.pc_transcript.specs.Answer.{Answer, silent, accepted, shown, refused, no_memory, answer_text}
 use Rattle.pc_refusals.specs.Endings.{Printing, printed}
-use Rattle.pc_course.specs.Stages.{IsLine}
+use Rattle.pc_refusals.specs.Stages.{IsLine}
 use Rattle.pc_transcript.specs.declared.TheConstants.{LINE_LIMIT}
 use Rattle.pc_transcript.specs.Transcript.{Transcript, Legal, lines, output_of, status_of}
 use Rattle.pc_course_laws.specs.Answered.{AnswersAll}

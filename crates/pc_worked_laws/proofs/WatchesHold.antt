@@ -4,10 +4,10 @@ use Rattle.std.proofs.lemmas.Bool.{false≢true}
 use Rattle.std.proofs.lemmas.List.Elements.{All-nil, All-cons, All-contains}
 use Rattle.std.proofs.lemmas.Option.{slice_get_within, get_or_from_slice_get}
 use Rattle.pc_lits.specs.declared.literal.Lit.{Lit}
-use Rattle.pc_watches.specs.declared.lists.Watch.{Watch}
-use Rattle.pc_watches.specs.Lists.{list_in}
-use Rattle.pc_watches.specs.Bodies.{body_in}
-use Rattle.pc_watches.specs.Watched.{code_of, literal_of, spare, IsKnown, HasPlace, AreListed, IsAdded}
+use Rattle.pc_propagate.specs.declared.watch_lists.Watch.{Watch}
+use Rattle.pc_propagate.specs.Lists.{list_in}
+use Rattle.pc_propagate.specs.Bodies.{body_in}
+use Rattle.pc_propagate.specs.Listed.{code_of, literal_of, spare, IsKnown, HasPlace, AreListed, IsAdded}
 use Rattle.pc_lemmas.proofs.Elements.{contains_cases, contains_none}
 use Rattle.pc_worked_laws.specs.Trails.{plus, minus}
 use Rattle.pc_worked_laws.specs.Watches.{watch, some_of_three, lists_of, with_room, with_lists, no_clauses, first_two, turned, last_two, WorkedKnownWatches, WorkedLists, WorkedAdditions, WorkedShifts}

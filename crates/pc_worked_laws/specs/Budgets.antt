@@ -2,7 +2,7 @@
 use Rattle.std.specs.Prelude.{◌≡◌, [], ◌∷◌, None, Some, codes}
 use Rattle.pc_sheet.specs.Sheet.{Sheet}
 use Rattle.pc_components.specs.View.{Kept}
-use Rattle.pc_counting_laws.specs.Enough.{enough}
+use Rattle.pc_enough_laws.specs.Amounts.{enough}
 use Rattle.pc_enough_laws.specs.Enough.{enough_for, enough_for_all}
 use Rattle.pc_laws.specs.Examples.{red, entry, colored, cells_and_rules}
 use Rattle.pc_worked_laws.specs.Several.{cell_of}

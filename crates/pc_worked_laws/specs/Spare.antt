@@ -12,7 +12,7 @@ use Rattle.pc_components.specs.View.{Kept}
 use Rattle.pc_reason.specs.Reasons.{Justification}
 use Rattle.pc_cache.specs.Rows.{TargetRow}
 use Rattle.pc_cache.specs.Targets.{target}
-use Rattle.pc_edit_laws.specs.Edits.{takes_none}
+use Rattle.pc_justify_laws.specs.Edits.{takes_none}
 use Rattle.pc_session.specs.Arena.{compacted}
 use Rattle.pc_session.specs.Views.{Counts, SessionView}
 use Rattle.pc_session.specs.Answers.{Steps, Stay, OthersStay, AreUnused, IsUnchanged, AreSpare, StandsAlone, HasPlaceFor}

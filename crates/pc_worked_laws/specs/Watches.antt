@@ -1,9 +1,9 @@
 -- A clause of three literals, its two watches, and how one of them comes to watch the third literal.
 use Rattle.std.specs.Prelude.{ℕ, List, [], ◌∷◌}
 use Rattle.pc_lits.specs.declared.literal.Lit.{Lit}
-use Rattle.pc_watches.specs.declared.lists.Watch.{Watch}
-use Rattle.pc_watches.specs.Lists.{WatchListsView}
-use Rattle.pc_watches.specs.Watched.{WatchedView, IsKnown, AreListed, IsShifted, IsAdded}
+use Rattle.pc_propagate.specs.declared.watch_lists.Watch.{Watch}
+use Rattle.pc_propagate.specs.Lists.{WatchListsView}
+use Rattle.pc_propagate.specs.Listed.{WatchedView, IsKnown, AreListed, IsShifted, IsAdded}
 use Rattle.pc_worked_laws.specs.Trails.{plus, minus}
 
 -- the place, and the literal that is looked at first

@@ -5,9 +5,9 @@ use Rattle.std.specs.List.{list_any}
 use Rattle.pc_refusals.specs.declared.status.Status.{Status}
 use Rattle.pc_refusals.specs.declared.status.Status.TheVariants.{ReadFault, WriteFault}
 use Rattle.pc_refusals.specs.Endings.{TellsAtEnd}
-use Rattle.pc_course.specs.Events.{Outside, Event, Happened, Streams, streams, around}
-use Rattle.pc_course.specs.Stages.{Stage, ends_with}
-use Rattle.pc_course.specs.Runs.{Comes, Run}
+use Rattle.pc_refusals.specs.Events.{Outside, Event, Happened, Streams, streams, around}
+use Rattle.pc_refusals.specs.Stages.{Stage, ends_with}
+use Rattle.pc_refusals.specs.Runs.{Comes, Run}
 use Rattle.pc_transcript.specs.declared.serve.Marks.{Marks}
 use Rattle.pc_transcript.specs.Answer.{Answer, is_refused, is_no_memory}
 use Rattle.pc_transcript.specs.Transcript.{Transcript, Legal, lines}

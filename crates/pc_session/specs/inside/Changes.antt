@@ -10,7 +10,7 @@ use Rattle.pc_sheet.specs.declared.ids.Entry.{Entry}
 use Rattle.pc_sheet.specs.declared.ids.Target.{Target}
 use Rattle.pc_parts.specs.Parts.{Part}
 use Rattle.pc_components.specs.View.{number_of}
-use Rattle.pc_edit_laws.specs.Edits.{edited, IsEditOf}
+use Rattle.pc_justify_laws.specs.Edits.{edited, IsEditOf}
 use Rattle.pc_search.specs.Found.{IsFound}
 use Rattle.pc_search.specs.Parts.{AreWorldsOf}
 use Rattle.pc_theory.specs.Theories.{rules_alone, IsPartNumbered}

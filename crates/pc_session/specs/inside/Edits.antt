@@ -7,8 +7,8 @@ use Rattle.pc_sheet.specs.declared.ids.Target.{Target}
 use Rattle.pc_parts.specs.Parts.{Part}
 use Rattle.pc_reason.specs.Reasons.{Justification}
 use Rattle.pc_reason.specs.Targets.{IsTargetIn}
-use Rattle.pc_edit_laws.specs.Reasons.{IsRowFor}
-use Rattle.pc_edit_laws.specs.Edits.{HasNone, edited, MayStay}
+use Rattle.pc_justify_laws.specs.Reasons.{IsRowFor}
+use Rattle.pc_justify_laws.specs.Edits.{HasNone, edited, MayStay}
 use Rattle.pc_cache.specs.Rows.{TargetRow, bytes_of_rows, row_of, row_after}
 use Rattle.pc_search.specs.Found.{steps_in}
 use Rattle.pc_search.specs.Parts.{AreWorldsOf}

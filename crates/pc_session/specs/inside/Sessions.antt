@@ -7,7 +7,7 @@ use Rattle.pc_sheet.specs.Weight.{weight}
 use Rattle.pc_sheet.specs.declared.ids.Target.{Target}
 use Rattle.pc_parts.specs.Components.{parts_of}
 use Rattle.pc_reason.specs.Targets.{IsTargetIn}
-use Rattle.pc_edit_laws.specs.Reasons.{IsJustifying}
+use Rattle.pc_justify_laws.specs.Reasons.{IsJustifying}
 use Rattle.pc_cache.specs.Rows.{TargetRow, HasRowOf, row_of}
 use Rattle.pc_world_list.specs.Worlds.{WorldView}
 use Rattle.pc_search.specs.Parts.{AreWorldsOf}

@@ -5,7 +5,7 @@ use Rattle.pc_sheet.specs.declared.ids.Entry.{Entry}
 use Rattle.pc_sheet.specs.declared.ids.Target.{Target}
 use Rattle.pc_reason.specs.Reasons.{Justification}
 use Rattle.pc_reason.specs.Targets.{IsTargetIn}
-use Rattle.pc_edit_laws.specs.Edits.{HasNone, MayStay}
+use Rattle.pc_justify_laws.specs.Edits.{HasNone, MayStay}
 use Rattle.pc_cache.specs.Rows.{TargetRow, row_of}
 
 -- what isn't searched may stay, what is searched is on these cells, and its support, if it had one, has an entry that is gone

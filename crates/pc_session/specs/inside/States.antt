@@ -4,7 +4,7 @@ use Rattle.pc_sheet.specs.Sheet.{Sheet}
 use Rattle.pc_sheet.specs.declared.ids.CellId.{CellId}
 use Rattle.pc_sheet.specs.declared.ids.Entry.{Entry}
 use Rattle.pc_sheet.specs.WellFormed.{IsWellFormed}
-use Rattle.pc_edit_laws.specs.Edits.{edited, IsEditOf}
+use Rattle.pc_justify_laws.specs.Edits.{edited, IsEditOf}
 use Rattle.pc_theory.specs.Theories.{rules_alone}
 use Rattle.pc_session.specs.Answers.{OthersStay, Stay, Steps}
 use Rattle.pc_session.specs.Arena.{IsBounded, IsLeft}

@@ -8,7 +8,7 @@ use Rattle.pc_parts.specs.Parts.{Part}
 use Rattle.pc_components.specs.View.{Kept}
 use Rattle.pc_reason.specs.Reasons.{Justification}
 use Rattle.pc_reason.specs.Targets.{IsTargetIn}
-use Rattle.pc_edit_laws.specs.Reasons.{IsRowFor}
+use Rattle.pc_justify_laws.specs.Reasons.{IsRowFor}
 use Rattle.pc_cache.specs.Rows.{TargetRow, row_after}
 use Rattle.pc_world_list.specs.Worlds.{WorldView}
 use Rattle.pc_search.specs.Found.{Finds, steps_in}

@@ -2,7 +2,7 @@ use Rattle.std.proofs.Common.{refl, []}
 use Rattle.pc_collab.specs.Text.{journal_text}
 use Rattle.pc_refusals.specs.declared.status.Status.TheVariants.{Done, SheetRefused, Memory}
 use Rattle.pc_refusals.specs.Endings.{memory_text}
-use Rattle.pc_course.specs.Runs.{on_course, without_memory}
+use Rattle.pc_refusals.specs.Runs.{on_course, without_memory}
 use Rattle.pc_journal.specs.Told.{differ_text}
 use Rattle.pc_journal.specs.Course.{MergeBoth, needs_memory_for_both, differs, is_merged}
 use Rattle.pc_journal.proofs.Dids.{ends_at}

@@ -1,5 +1,5 @@
 use Rattle.std.proofs.Common.{refl, []}
-use Rattle.pc_course.specs.Events.{streams}
+use Rattle.pc_refusals.specs.Events.{streams}
 use Rattle.pc_journal.specs.Course.{FromInput, MergeBoth, MergeText, text_is_journal}
 use Rattle.pc_journal.proofs.Dids.{ended, did_more}
 use Rattle.pc_journal.proofs.FileTexts.{text_faulty}

@@ -1,5 +1,5 @@
 use Rattle.std.proofs.Common.{◌<◌, [], inl, set, length, arith, refl, sym, subst}
-use Rattle.pc_edit_laws.specs.Edits.{edited}
+use Rattle.pc_justify_laws.specs.Edits.{edited}
 use Rattle.pc_search.specs.Parts.{AreWorldsOf}
 use Rattle.pc_session.specs.inside.Sessions.{IsSession}
 use Rattle.pc_session.specs.inside.Taken.{takes}

@@ -1,5 +1,5 @@
 use Rattle.std.proofs.Common.{◌≡◌, [], List, Contains, ap, sym, ◌∙◌, subst}
-use Rattle.pc_edit_laws.specs.Edits.{HasNone, edited}
+use Rattle.pc_justify_laws.specs.Edits.{HasNone, edited}
 use Rattle.pc_parts.specs.Parts.{Part}
 use Rattle.pc_search.specs.Parts.{AreWorldsOf}
 use Rattle.pc_sheet.specs.Sheet.{Sheet}

@@ -1,7 +1,7 @@
 use Rattle.std.proofs.Common.{ℕ, List, Option, subst}
 use Rattle.pc_port.specs.declared.TheConstants.{CHUNK}
-use Rattle.pc_course.specs.Events.{streams, around}
-use Rattle.pc_course.specs.Runs.{Ran}
+use Rattle.pc_refusals.specs.Events.{streams, around}
+use Rattle.pc_refusals.specs.Runs.{Ran}
 use Rattle.pc_transcript.specs.Course.{Replay}
 use Rattle.pc_transcript.proofs.Ends.{holds_nothing}
 use Rattle.pc_transcript.proofs.Courses.{finish, lacks_room}

@@ -1,5 +1,5 @@
 use Rattle.std.proofs.Common.{ℕ, ◌<◌, ◌≤◌, ◌≢◌, Contains, get_or}
-use Rattle.pc_watches.specs.Watched.{no_literal}
+use Rattle.pc_propagate.specs.Listed.{no_literal}
 use Rattle.pc_propagate.specs.Entries.{falses}
 use Rattle.pc_propagate.proofs.trail.Trail.open_beside.Given as goal
 

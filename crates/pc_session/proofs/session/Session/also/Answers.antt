@@ -4,7 +4,7 @@ use Rattle.pc_sheet.specs.WellFormed.{IsEntryOf}
 use Rattle.pc_sheet.specs.declared.ids.Entry.{Entry}
 use Rattle.pc_logic.specs.Edits.{also_entered}
 use Rattle.pc_components.specs.View.{Kept}
-use Rattle.pc_edit_laws.specs.Edits.{takes_none}
+use Rattle.pc_justify_laws.specs.Edits.{takes_none}
 use Rattle.pc_theory.specs.Theories.{TheoryView}
 use Rattle.pc_session.specs.Answers.{HasPlaceFor, OthersStay, Stay, Steps}
 use Rattle.pc_session.specs.Arena.{IsBounded}

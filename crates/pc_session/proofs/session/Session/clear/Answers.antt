@@ -4,7 +4,7 @@ use Rattle.pc_sheet.specs.WellFormed.{is_of_cell}
 use Rattle.pc_sheet.specs.declared.ids.Entry.{Entry}
 use Rattle.pc_logic.specs.Edits.{without_cell}
 use Rattle.pc_components.specs.View.{Kept}
-use Rattle.pc_edit_laws.specs.Edits.{HasNone, edited}
+use Rattle.pc_justify_laws.specs.Edits.{HasNone, edited}
 use Rattle.pc_theory.specs.Theories.{TheoryView}
 use Rattle.pc_session.specs.Answers.{AreSpare, AreUnused, OthersStay, Stay, Steps}
 use Rattle.pc_session.specs.Arena.{IsBounded}

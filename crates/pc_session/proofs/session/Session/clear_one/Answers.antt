@@ -4,7 +4,7 @@ use Rattle.pc_sheet.specs.declared.ids.Entry.{Entry}
 use Rattle.pc_logic.specs.Edits.{is_same_entry, without_entry}
 use Rattle.pc_logic.proofs.EntryLemmas.{is_same}
 use Rattle.pc_components.specs.View.{Kept}
-use Rattle.pc_edit_laws.specs.Edits.{edited}
+use Rattle.pc_justify_laws.specs.Edits.{edited}
 use Rattle.pc_theory.specs.Theories.{TheoryView}
 use Rattle.pc_session.specs.Answers.{AreSpare, AreUnused, OthersStay, Stay, Steps}
 use Rattle.pc_session.specs.Arena.{IsBounded}

@@ -1,9 +1,0 @@
-pub mod ListLemmas
-pub mod BodyLemmas
-pub mod MoveLemmas
-pub mod WatchedLemmas
-pub mod ShiftLemmas
-pub mod StepLemmas
-pub mod AddLemmas
-pub mod AddSteps
-pub mod GoneLemmas
