@@ -129,7 +129,8 @@ pub(crate) fn axioms_over(
     Ok(used)
 }
 
-/// A solver over the part's variables, which has no blocks and has derived nothing yet. The pairs are decided first.
+/// A solver over the part's variables, which has no blocks and has derived nothing yet. The pairs are decided first,
+/// and none is to be shown true.
 pub(crate) fn part_solver<'g>(
     alloc: Global,
     book: &Book,
@@ -153,5 +154,6 @@ pub(crate) fn part_solver<'g>(
         ground.variables(),
     )?;
     solver.prefer_first(count_pairs(book, part.cells));
+    solver.show_nothing();
     Ok(solver)
 }

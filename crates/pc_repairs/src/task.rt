@@ -91,7 +91,8 @@ impl Numbers {
 }
 
 impl<'g> Task<'g> {
-    /// A solver over all of the book, which has no blocks and has derived nothing yet. The pairs are decided first.
+    /// A solver over all of the book, which has no blocks and has derived nothing yet. The pairs are decided first,
+    /// and none is to be shown true.
     pub fn solver(self) -> Result<Solver<'g>, AllocError>
         requires { IsTask self.book.now self.ground.now self.axioms.now self.variables.now self.cells.now }
         ensures { IfOk result (λ s. IsAsked self.entry.book.now [] s []) }
@@ -105,6 +106,7 @@ impl<'g> Task<'g> {
             self.ground.variables(),
         )?;
         solver.prefer_first(count_pairs(self.book, self.cells));
+        solver.show_nothing();
         Ok(solver)
     }
 }

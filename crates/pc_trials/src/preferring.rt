@@ -59,6 +59,7 @@ impl Preferring {
             "put_all_back" => self.preferences.put_all_back(),
             "take" => self.preferences.drop_first(),
             "begin" => self.preferences.begin(),
+            "show_nothing" => self.preferences.show_nothing(),
             "drop_wanted" => self.preferences.drop_wanted(),
             "forget_last" => self.preferences.forget_last(),
             "see" => self.preferences.see(&self.own, lit.variable),

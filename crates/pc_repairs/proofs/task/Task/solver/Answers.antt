@@ -1,4 +1,4 @@
-use Rattle.std.proofs.Common.{[], sym, subst}
+use Rattle.std.proofs.Common.{◌∙◌, [], sym, subst}
 use Rattle.pc_solver.specs.Solver.{SolverView}
 use Rattle.pc_repairs.specs.inside.Asking.{IsAsked}
 use Rattle.pc_repairs.proofs.WholeSearch.{asked_new, asked_problem}
@@ -11,6 +11,6 @@ new-requires c =
 
 pub returns : goal.returns
 returns c =
-    subst (λ (s : SolverView). IsAsked c.args.self.book.now [] s []) (sym c.prefer_first.ensures)
+    subst (λ (s : SolverView). IsAsked c.args.self.book.now [] s []) (sym (c.show_nothing.ensures ∙ c.prefer_first.ensures))
     (asked_new c.args.self.book.now c.args.self.ground.now c.args.self.axioms.now c.args.self.variables.now c.args.self.cells.now c.requires
     c.store.result.now c.store.ensures _ c.in_ok-solver.ensures.problem c.in_ok-solver.ensures.blocks c.in_ok-solver.ensures.log)
