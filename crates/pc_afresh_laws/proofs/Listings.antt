@@ -5,7 +5,7 @@ use Rattle.pc_lemmas.proofs.Elements.{contains_first, contains_later, contains_c
 use Rattle.pc_sheet.specs.Sheet.{Sheet}
 use Rattle.pc_sheet.specs.declared.ids.Entry.{Entry}
 use Rattle.pc_parts.specs.Parts.{Part}
-use Rattle.pc_choices.specs.Chosen.{chosen_parts}
+use Rattle.pc_world_list.specs.Chosen.{chosen_parts}
 use Rattle.pc_repairs.specs.Listed.{ComesFirst, ListedPart, IsListedPart, listing_text}
 use Rattle.pc_afresh_laws.specs.Afresh.{ListingsAreOne}
 

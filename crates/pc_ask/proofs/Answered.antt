@@ -20,9 +20,9 @@ use Rattle.pc_ground.specs.Grounded.{grounded}
 use Rattle.pc_parts.specs.Parts.{Part}
 use Rattle.pc_parts.proofs.ByReads.{truth_is_by_reads}
 use Rattle.pc_parts.proofs.LeafReads.{leaves_read_the_cells}
-use Rattle.pc_choices.specs.Chosen.{chosen_parts}
+use Rattle.pc_world_list.specs.Chosen.{chosen_parts}
 use Rattle.pc_reason.specs.Fitting.{IsFitting}
-use Rattle.pc_asked_laws.specs.Asked.{IsLeastForStatement, asked}
+use Rattle.pc_accept.specs.Asked.{IsLeastForStatement, asked}
 use Rattle.pc_problem.specs.Laws.{PartsAreSearched}
 use Rattle.pc_solver.specs.Solver.{SolverView}
 use Rattle.pc_solver.specs.Spending.{SpendsIn}

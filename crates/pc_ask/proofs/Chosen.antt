@@ -27,7 +27,7 @@ use Rattle.pc_parts.proofs.Found.{parts_are_found}
 use Rattle.pc_parts.proofs.Joining.{among_contains, contains_among}
 use Rattle.pc_parts.proofs.LawsHold.{divisions_divide}
 use Rattle.pc_world_list.specs.Worlds.{WorldView, set_of}
-use Rattle.pc_choices.specs.Choices.{cell_number}
+use Rattle.pc_world_list.specs.Choices.{cell_number}
 use Rattle.pc_reason.specs.Fitting.{IsFitting}
 use Rattle.pc_repairs.specs.inside.Joining.{IsPartSets, all_laid, joined_by, laid_by_world, laid_over, many_sets}
 use Rattle.pc_repairs.specs.declared.part_sets.PartSets.{PartSets}

@@ -16,7 +16,7 @@ use Rattle.pc_sheet.specs.MaximalSets.{IsContained}
 use Rattle.pc_sheet.specs.WellFormed.{AreDifferent}
 use Rattle.pc_sheet.specs.declared.ids.ValueId.{ValueId}
 use Rattle.pc_sheet.specs.declared.ids.Entry.{Entry}
-use Rattle.pc_asked_laws.specs.Asked.{EntailsStatement, SupportsStatement, IsStatementImplied, IsLeastForStatement, denial, asked}
+use Rattle.pc_accept.specs.Asked.{EntailsStatement, SupportsStatement, IsStatementImplied, IsLeastForStatement, denial, asked}
 use Rattle.pc_repairs.specs.inside.Joining.{had_by, is_had}
 use Rattle.pc_ask.specs.inside.Narrowing.{left_of, LacksWitness, IsNarrowed}
 use Rattle.pc_ask.proofs.Lists.{there_any, any_there}

@@ -16,7 +16,7 @@ use Rattle.pc_parts.proofs.Consistent.{has_entry_still}
 use Rattle.pc_parts.proofs.Divided.{over, over_assigned, over_here, over_there, part_holds, same_part}
 use Rattle.pc_parts.proofs.PiecesHold.{fitting_is_by_pieces}
 use Rattle.pc_reason.specs.Fitting.{IsFitting}
-use Rattle.pc_asked_laws.specs.Asked.{asked}
+use Rattle.pc_accept.specs.Asked.{asked}
 use Rattle.pc_ask.specs.Asking.{IsAskedPart}
 use Rattle.pc_ask.proofs.Chosen.{shared}
 use Rattle.pc_ask.proofs.Reading.{pieces_pushed, last_is}

@@ -21,8 +21,8 @@ use Rattle.pc_accept.specs.Accepts.{FitsOthers}
 use Rattle.pc_accept.specs.Laws.{ShowsOthers}
 use Rattle.pc_accept.specs.Writable.{IsSetOf}
 use Rattle.pc_analyze.specs.Learning.{IsOverNegated}
-use Rattle.pc_asked_laws.specs.Asked.{denial, asked}
-use Rattle.pc_choices.specs.RuleCertificates.{GoesAgainst}
+use Rattle.pc_accept.specs.Asked.{denial, asked}
+use Rattle.pc_world_list.specs.RuleCertificates.{GoesAgainst}
 use Rattle.pc_components.specs.Pairs.{entry_literal}
 use Rattle.pc_ground.specs.Naming.{names_of}
 use Rattle.pc_justify_laws.specs.Found.{IsDerivedAt, IsOfEntries}

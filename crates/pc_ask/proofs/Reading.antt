@@ -29,10 +29,10 @@ use Rattle.pc_parts.proofs.Consistent.{has_entry_still, part_of}
 use Rattle.pc_parts.proofs.Divided.{same_part}
 use Rattle.pc_parts.proofs.Joining.{among_contains, contains_among, lacks_among, overlaid, overlaid_within, overlaid_here, overlaid_there}
 use Rattle.pc_world_list.specs.Worlds.{set_of}
-use Rattle.pc_choices.specs.Choices.{cell_number}
-use Rattle.pc_choices.specs.Chosen.{chosen_parts}
+use Rattle.pc_world_list.specs.Choices.{cell_number}
+use Rattle.pc_world_list.specs.Chosen.{chosen_parts}
 use Rattle.pc_reason.specs.Fitting.{IsFitting}
-use Rattle.pc_asked_laws.specs.Asked.{EntailsStatement, denial, asked}
+use Rattle.pc_accept.specs.Asked.{EntailsStatement, denial, asked}
 use Rattle.pc_repairs.specs.inside.Joining.{IsPartSets, joined_by, many_sets}
 use Rattle.pc_repairs.specs.declared.part_sets.PartSets.{PartSets}
 use Rattle.pc_ask.specs.Asking.{AreReadSizes, IsOnRead, Reads, ReadsPart}

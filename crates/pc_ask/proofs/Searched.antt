@@ -34,7 +34,7 @@ use Rattle.pc_components.specs.Used.{HasValues}
 use Rattle.pc_components.specs.View.{number_of, variable_number}
 use Rattle.pc_components.proofs.Assigned.{has_value, met_are_used, used_are_met}
 use Rattle.pc_reason.specs.Fitting.{IsFitting}
-use Rattle.pc_asked_laws.specs.Asked.{asked}
+use Rattle.pc_accept.specs.Asked.{asked}
 use Rattle.pc_problem.specs.Laws.{AreSearchedBy, PartsAreSearched, problem_of}
 use Rattle.pc_solver.specs.Answers.{Meets, truth_in}
 use Rattle.pc_solver.specs.Clauses.{IsOverOwn, used_clauses}

@@ -18,9 +18,9 @@ use Rattle.pc_parts.proofs.Divided.{same_part}
 use Rattle.pc_parts.proofs.Dividing.{parts_are_a_division}
 use Rattle.pc_parts.proofs.Found.{parts_are_found}
 use Rattle.pc_parts.proofs.Joining.{among_contains}
-use Rattle.pc_choices.specs.Choices.{cell_number}
-use Rattle.pc_choices.specs.Chosen.{chosen_parts}
-use Rattle.pc_asked_laws.specs.Asked.{asked}
+use Rattle.pc_world_list.specs.Choices.{cell_number}
+use Rattle.pc_world_list.specs.Chosen.{chosen_parts}
+use Rattle.pc_accept.specs.Asked.{asked}
 use Rattle.pc_repairs.specs.inside.Joining.{IsPartSets}
 use Rattle.pc_repairs.specs.declared.part_sets.PartSets.{PartSets}
 use Rattle.pc_ask.specs.Asking.{IsAskedPart}

@@ -22,7 +22,7 @@ use Rattle.pc_parts.proofs.Found.{parts_are_found}
 use Rattle.pc_parts.proofs.PartsCells.{parts_are_of_its_cells}
 use Rattle.pc_components.specs.PartAxioms.{AreAxiomsOf, AreVariablesOf}
 use Rattle.pc_components.specs.View.{Kept, AreComponentsOf, IsInPart, cells_of_part, number_of, variable_number}
-use Rattle.pc_asked_laws.specs.Asked.{asked}
+use Rattle.pc_accept.specs.Asked.{asked}
 use Rattle.pc_ask.specs.inside.Parts.{IsAskedOver, IsAskedAt}
 use Rattle.pc_ask.specs.inside.Reading.{AreLastReads}
 use Rattle.pc_ask.proofs.Reading.{at_last, last_is, pieces_pushed}

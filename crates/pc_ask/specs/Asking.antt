@@ -24,8 +24,8 @@ use Rattle.pc_components.specs.PartAxioms.{AreAxiomsOf, IsUsed}
 use Rattle.pc_components.specs.View.{variable_number}
 use Rattle.pc_solver.specs.InLog.{AreStepsOver, clause_on}
 use Rattle.pc_solver.specs.Spending.{SpendsIn}
-use Rattle.pc_choices.specs.Chosen.{chosen_parts}
-use Rattle.pc_asked_laws.specs.Asked.{IsStatementImplied, IsLeastForStatement, asked}
+use Rattle.pc_world_list.specs.Chosen.{chosen_parts}
+use Rattle.pc_accept.specs.Asked.{IsStatementImplied, IsLeastForStatement, asked}
 use Rattle.pc_ask.specs.declared.answer.Answer.{Answer}
 use Rattle.pc_ask.specs.declared.answer.AskStop.{AskStop}
 use Rattle.pc_ask.specs.declared.answer.AskStop.TheVariants.{TooLarge, Spent, Memory}

@@ -3,7 +3,7 @@ ghost use Rattle.std.specs.Prelude.{◌≡◌, ◌<◌, ◌≤◌, ◌+◌, ◌*
 ghost use Rattle.pc_sheet.specs.Sheet.{Statement};
 ghost use Rattle.pc_sheet.specs.Limits.{most_weight};
 ghost use Rattle.pc_sheet.specs.Weight.{weight};
-ghost use Rattle.pc_asked_laws.specs.Asked.{asked};
+ghost use Rattle.pc_accept.specs.Asked.{asked};
 ghost use Rattle.pc_ground.specs.Grounded.{grounded};
 ghost use Rattle.pc_repairs.specs.Searches.{IsWholeSearch};
 ghost use Rattle.pc_solver.specs.Spending.{StopSays};
@@ -16,7 +16,6 @@ use crate::candidates::{Candidates, find_candidates};
 use crate::finding::{Found, find};
 use crate::narrowing::Choosing;
 use crate::part::{Task, asked_part, axioms_over, part_solver};
-use pc_choices::Choices;
 use pc_components::find_components;
 use pc_ground::{Ground, ground_book};
 use pc_laws::different_sublists_are_ordered;
@@ -25,6 +24,7 @@ use pc_log::Log;
 use pc_logic::{Book, few_entries, well_formed};
 use pc_problem::laws::parts_are_searched;
 use pc_solver::Stop;
+use pc_world_list::Choices;
 use std::alloc::Global;
 
 // Searches the asked book by its ground for what is asked about: the part alone that has what is asked.

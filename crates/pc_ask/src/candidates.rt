@@ -1,17 +1,17 @@
 //! What is asked about: the entries on the parts that a formula reads, and these parts with their maximal sets.
 ghost use Rattle.std.specs.Prelude.{◌≡◌, ◌-◌, ◌<◌, filter, IfOk, length, slice_get, Some};
 ghost use Rattle.pc_accept.specs.Sets.{is_in, those_in};
-ghost use Rattle.pc_asked_laws.specs.Asked.{asked};
+ghost use Rattle.pc_accept.specs.Asked.{asked};
 ghost use Rattle.pc_ground.specs.Grounded.{grounded};
 ghost use Rattle.pc_parts.specs.PartSheets.{is_among};
 ghost use Rattle.pc_sheet.specs.Sheet.{Statement};
 ghost use Rattle.pc_ask.specs.inside.Reading.{are_read, AreCandidates, is_cell_of, is_on_some, is_read};
 
-use pc_choices::Choices;
 use pc_ground::Ground;
 use pc_logic::{Assignment, Book, well_formed};
 use pc_repairs::{PartSets, sets_by_part};
 use pc_sheet::{CellId, Entry};
+use pc_world_list::Choices;
 use std::alloc::{AllocError, Global};
 
 fn is_among(cells: &[usize], cell: CellId) -> bool

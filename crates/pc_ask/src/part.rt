@@ -2,7 +2,7 @@
 //! that the formula reads; no other part is searched.
 ghost use Rattle.std.specs.Prelude.{◌≡◌, ◌↔◌, ◌<◌, ◌^◌, [], ◌∷◌, ◌++◌, All, cond, IfOk, IsTrue, length, OnOk};
 ghost use Rattle.pc_sheet.specs.Sheet.{Sheet, Statement};
-ghost use Rattle.pc_asked_laws.specs.Asked.{asked};
+ghost use Rattle.pc_accept.specs.Asked.{asked};
 ghost use Rattle.pc_components.specs.View.{AreComponentsOf};
 ghost use Rattle.pc_ground.specs.Ground.{clauses};
 ghost use Rattle.pc_ground.specs.Grounded.{grounded};

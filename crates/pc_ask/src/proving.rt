@@ -1,8 +1,8 @@
 //! What a search derives against the last rule of the asked book, as what a certificate of it is made of.
 ghost use Rattle.std.specs.Prelude.{◌≡◌, ◌-◌, [], IfOk, length};
 ghost use Rattle.pc_sheet.specs.Sheet.{Sheet, Statement};
-ghost use Rattle.pc_asked_laws.specs.Asked.{asked};
-ghost use Rattle.pc_choices.specs.RuleCertificates.{GoesAgainst};
+ghost use Rattle.pc_accept.specs.Asked.{asked};
+ghost use Rattle.pc_world_list.specs.RuleCertificates.{GoesAgainst};
 ghost use Rattle.pc_ground.specs.Naming.{names_of};
 ghost use Rattle.pc_solver.specs.Solver.{IsLawfulLog};
 ghost use Rattle.pc_repairs.specs.Searches.{whole_problem};

@@ -19,3 +19,14 @@ mod Grown
 mod Gathered
 mod Taken
 mod Finished
+mod TestsDiffer
+pub mod ReadEntries
+mod ReadStanding
+mod Speaks
+mod ForTheSheet
+mod ReadTexts
+mod ReadParts
+mod Signs
+mod OneForm
+mod ReadNamed
+mod OneReading

@@ -15,4 +15,5 @@ pub mod KeysView
 pub mod Numbered
 pub mod Standing
 pub mod Gathered
+pub mod Readings
 pub mod inside

@@ -1,4 +1,5 @@
-//! Certificates, and the reading of their text.
+//! Certificates, the reading of their text, and laws of it: a text has one reading, and what it is read as is a certificate for
+//! the sheet.
 #![tactic(auto)]
 
 mod axiom;
@@ -14,6 +15,7 @@ mod lookup;
 mod node;
 mod number;
 mod numbering;
+mod one_reading;
 mod order;
 mod part;
 mod path;
@@ -26,6 +28,7 @@ mod tree;
 pub use cert::{Cert, CertFault, CertLine, CertPart, Claim, Said, SaidSet, Symbol};
 pub use law::worked_lines;
 pub use numbering::Numbering;
+pub use one_reading::{certificates_have_one_reading, what_is_read_is_for_the_sheet};
 pub use pc_axiom_names::AxiomName;
 pub use pc_lits::{Lit, Var};
 pub use pc_sheet::{CellId, Entry, NodePath, Target, ValueId};

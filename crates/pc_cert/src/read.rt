@@ -124,7 +124,7 @@ fn finish(order: &Order, draft: Draft, number: u32) -> Result<Cert, CertFault>
 
 /// Reads the text of a certificate for the book. A fault names the first line at fault; for a text without its `end` that is
 /// the line behind the last one. Where memory is there, each answer comes exactly where the text is so: by the law
-/// `certificates_have_one_reading` of `pc_reading_laws` a text is read as one thing at most.
+/// `certificates_have_one_reading` of `pc_cert` a text is read as one thing at most.
 pub fn read_cert(alloc: Global, book: &Book, bytes: &[u8]) -> Result<Cert, CertFault>
     requires small { length bytes.now ≤ CERT_LIMIT }
     ensures { IsCertTold book.now bytes.now result }

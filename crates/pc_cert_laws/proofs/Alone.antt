@@ -3,7 +3,7 @@ use Rattle.std.proofs.Common.{Ok, Err, subst}
 use Rattle.pc_cert.specs.declared.cert.CertFault.TheVariants as cert_fault
 use Rattle.pc_cert.specs.Text.{certificate, fault_at, syntax, unknown_name}
 use Rattle.pc_cert.specs.Views.{reading_of}
-use Rattle.pc_reading_laws.specs.Laws.{TextsHaveOneReading}
+use Rattle.pc_cert.specs.Readings.{TextsHaveOneReading}
 use Rattle.pc_cert_text.specs.CertificateText.{certificate_text}
 use Rattle.pc_cert_laws.specs.ReadBack.{IsReadAs, TextsReadBackAlone, ReadersReadBack}
 use Rattle.pc_cert_laws.proofs.Whole.{texts_read_back}

@@ -2,7 +2,7 @@
 ghost use Rattle.pc_cert_laws.specs.ReadBack.{ReadersReadBack, CertificatesReadBack, TextsReadBackAlone};
 ghost use Rattle.pc_cert_laws.specs.Said.{LinesSayCertificates};
 
-use pc_reading_laws::certificates_have_one_reading;
+use pc_cert::certificates_have_one_reading;
 
 /// What the lines of a certificate's text say stands in a legal order and is that certificate.
 pub fn lines_say_certificates()

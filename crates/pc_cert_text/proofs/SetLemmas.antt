@@ -8,7 +8,7 @@ use Rattle.pc_sheet.specs.declared.ids.ValueId.{ValueId}
 use Rattle.pc_sheet.specs.declared.ids.Entry.{Entry}
 use Rattle.pc_accept.specs.Sets.{GivenSet}
 use Rattle.pc_accept.specs.Writable.{AreLinesBeside, IsSetOf}
-use Rattle.pc_choices.specs.SetCertificates.{AreCertified, given_of, SetParts}
+use Rattle.pc_world_list.specs.SetCertificates.{AreCertified, given_of, SetParts}
 use Rattle.pc_log.specs.Lines.{LogLine}
 use Rattle.pc_log.specs.Spans.{lines_of_span}
 use Rattle.pc_log.specs.declared.trimming.Span.{Span}

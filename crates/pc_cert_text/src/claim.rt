@@ -2,17 +2,17 @@
 ghost use Rattle.std.specs.Prelude.{◌<◌, ◌++◌, length};
 ghost use Rattle.pc_accept.specs.Accepts.{implied, against};
 ghost use Rattle.pc_accept.specs.Writable.{IsTargetOf};
-ghost use Rattle.pc_choices.specs.SetCertificates.{claim_on_sets};
+ghost use Rattle.pc_world_list.specs.SetCertificates.{claim_on_sets};
 ghost use Rattle.pc_writer.specs.SheetText.{ended};
 ghost use Rattle.pc_writer.specs.Writes.{Writes};
 ghost use Rattle.pc_cert_text.specs.CertificateText.{claim_text, equality_text, target_text};
 ghost use Rattle.pc_cert_text.specs.inside.Claims.{CanBeClaimed};
 
 use crate::path::write_rule_name;
-use pc_choices::SetsClaim;
 use pc_logic::Book;
 use pc_port::{Failed, Sink};
 use pc_sheet::Target;
+use pc_world_list::SetsClaim;
 use pc_writer::{sort_of, write_cell, write_text, write_value};
 
 /// Writes the line of the claim that a target is implied.

@@ -2,7 +2,7 @@
 ghost use Rattle.std.specs.Prelude.{All, map};
 ghost use Rattle.pc_sheet.specs.WellFormed.{IsEntryOf};
 ghost use Rattle.pc_accept.specs.Writable.{IsSetOf};
-ghost use Rattle.pc_choices.specs.SetCertificates.{given_of};
+ghost use Rattle.pc_world_list.specs.SetCertificates.{given_of};
 ghost use Rattle.pc_reason.specs.Derivation.{entries_from};
 ghost use Rattle.pc_writer.specs.Writes.{Writes};
 ghost use Rattle.pc_cert_text.specs.CertificateText.{set_text, sets_text};

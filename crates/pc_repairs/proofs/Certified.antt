@@ -38,9 +38,9 @@ use Rattle.pc_justify_laws.proofs.Named.{literal_back, number_within}
 use Rattle.pc_solver.specs.Solver.{IsLawfulLog}
 use Rattle.pc_theory.specs.WholeSpendings.{all_variables, variable_of}
 use Rattle.pc_world_list.specs.Worlds.{WorldView, AreExact, set_of}
-use Rattle.pc_choices.specs.SetCertificates.{given_of, certificate_of_sets, CertifiesSets, claim_on_sets}
-use Rattle.pc_choices.specs.declared.set_proof.SetsClaim.{SetsClaim}
-use Rattle.pc_choices.specs.declared.set_proof.SetsClaim.TheVariants.{Repairs, Lacking}
+use Rattle.pc_world_list.specs.SetCertificates.{given_of, certificate_of_sets, CertifiesSets, claim_on_sets}
+use Rattle.pc_world_list.specs.declared.set_proof.SetsClaim.{SetsClaim}
+use Rattle.pc_world_list.specs.declared.set_proof.SetsClaim.TheVariants.{Repairs, Lacking}
 use Rattle.pc_repairs.specs.Blocks.{block_for, blocks_for}
 use Rattle.pc_repairs.specs.Claims.{IsRightOn}
 use Rattle.pc_repairs.specs.Searches.{IsRefutedAt, whole_problem}

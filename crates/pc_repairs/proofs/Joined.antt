@@ -31,10 +31,10 @@ use Rattle.pc_parts.proofs.LawsHold.{divisions_divide}
 use Rattle.pc_parts.proofs.PartsCells.{parts_are_of_its_cells}
 use Rattle.pc_parts.proofs.UnionsHold.{maximal_sets_are_unions}
 use Rattle.pc_world_list.specs.Worlds.{WorldView, set_of, AreExact}
-use Rattle.pc_choices.specs.Choices.{cell_number}
-use Rattle.pc_choices.specs.Chosen.{chosen_parts}
+use Rattle.pc_world_list.specs.Choices.{cell_number}
+use Rattle.pc_world_list.specs.Chosen.{chosen_parts}
 use Rattle.pc_reason.specs.Fitting.{IsFitting}
-use Rattle.pc_choices.specs.FewSets.{HasManySets}
+use Rattle.pc_world_list.specs.FewSets.{HasManySets}
 use Rattle.pc_repairs.specs.inside.Joining.{IsCapped, IsPartSets, IsSized, had_by, is_had, is_value, joined_by, laid_by_world, laid_over, many_sets, world_had}
 use Rattle.pc_repairs.specs.declared.part_sets.PartSets.{PartSets}
 use Rattle.pc_repairs.specs.Listed.{ComesFirst}

@@ -3,7 +3,7 @@ use Rattle.std.proofs.Common.{◌≡◌, ◌≢◌, ℕ, zero, suc, ◌+◌, ◌
 use Rattle.pc_sheet.specs.Entailment.{AreWithin}
 use Rattle.pc_sheet.specs.declared.ids.CellId.{CellId}
 use Rattle.pc_sheet.specs.declared.ids.ValueId.{ValueId}
-use Rattle.pc_choices.specs.Choices.{cell_number}
+use Rattle.pc_world_list.specs.Choices.{cell_number}
 use Rattle.pc_lemmas.proofs.Elements.{contains_first, contains_later, contains_cases, contains_none}
 use Rattle.pc_parts.proofs.Joining.{among_contains, contains_among}
 use Rattle.pc_parts.specs.PartSheets.{is_among}

@@ -20,8 +20,8 @@ use Rattle.pc_parts.proofs.Found.{parts_are_found}
 use Rattle.pc_parts.proofs.PartsCells.{parts_are_of_its_cells}
 use Rattle.pc_theory.proofs.Lists.{at_contained, at_within, zip_at, zip_length}
 use Rattle.pc_world_list.specs.Worlds.{set_of}
-use Rattle.pc_choices.specs.Choices.{cell_number, IsChosen}
-use Rattle.pc_choices.specs.Chosen.{chosen_parts}
+use Rattle.pc_world_list.specs.Choices.{cell_number, IsChosen}
+use Rattle.pc_world_list.specs.Chosen.{chosen_parts}
 use Rattle.pc_repairs.specs.Listed.{ComesFirst, IsListedPart, ListedPart}
 use Rattle.pc_repairs.specs.Listings.{aged_set}
 use Rattle.pc_repairs.specs.inside.Ages.{world_of}

@@ -6,7 +6,7 @@ use Rattle.pc_lemmas.proofs.Options.{same_some}
 use Rattle.pc_parts.specs.Parts.{Part}
 use Rattle.pc_parts.specs.PartSheets.{sheet_of}
 use Rattle.pc_world_list.specs.Worlds.{AreExact}
-use Rattle.pc_choices.specs.Choices.{AreCellsOf, AreSetsOf, IsChosen}
+use Rattle.pc_world_list.specs.Choices.{AreCellsOf, AreSetsOf, IsChosen}
 use Rattle.pc_repairs.specs.inside.Joining.{IsPartSets}
 use Rattle.pc_repairs.specs.declared.part_sets.PartSets.{PartSets}
 

@@ -2,8 +2,8 @@
 use Rattle.std.specs.Prelude.{List, All}
 use Rattle.pc_sheet.specs.Sheet.{Sheet}
 use Rattle.pc_sheet.specs.Entailment.{HasTarget}
-use Rattle.pc_choices.specs.declared.set_proof.SetsClaim.{SetsClaim}
-use Rattle.pc_choices.specs.declared.set_proof.SetsClaim.TheVariants.{Repairs, Lacking}
+use Rattle.pc_world_list.specs.declared.set_proof.SetsClaim.{SetsClaim}
+use Rattle.pc_world_list.specs.declared.set_proof.SetsClaim.TheVariants.{Repairs, Lacking}
 use Rattle.pc_reason.specs.Targets.{IsTargetIn}
 use Rattle.pc_world_list.specs.Worlds.{WorldView}
 

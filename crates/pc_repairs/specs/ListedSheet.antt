@@ -2,7 +2,7 @@
 use Rattle.std.specs.Prelude.{◌≡◌, ℕ, List}
 use Rattle.std.specs.List.{AllZip}
 use Rattle.pc_sheet.specs.Sheet.{Sheet}
-use Rattle.pc_choices.specs.Chosen.{chosen_parts}
+use Rattle.pc_world_list.specs.Chosen.{chosen_parts}
 use Rattle.pc_repairs.specs.Listed.{ListedPart, IsListedPart, listing_text}
 
 -- each part that has an entry on its cells, in the order of parts

@@ -2,7 +2,7 @@
 use Rattle.std.specs.Prelude.{◌≤◌, List, Option, None, Some, length, map, AllPairs}
 use Rattle.pc_sheet.specs.Sheet.{Sheet}
 use Rattle.pc_world_list.specs.Worlds.{WorldView, set_of, AreExact}
-use Rattle.pc_choices.specs.FewSets.{most_sets, HasManySets}
+use Rattle.pc_world_list.specs.FewSets.{most_sets, HasManySets}
 use Rattle.pc_repairs.specs.Listed.{ComesFirst}
 
 -- exactly the maximal sets in their order, each with an assignment that fits and has it

@@ -5,7 +5,7 @@ ghost use Rattle.pc_sheet.specs.Entailment.{cell_sizes};
 ghost use Rattle.pc_sheet.specs.WellFormed.{IsEntryOf};
 ghost use Rattle.pc_parts.specs.Parts.{Part};
 ghost use Rattle.pc_writer.specs.Writes.{Writes};
-ghost use Rattle.pc_choices.specs.Choices.{IsChosen};
+ghost use Rattle.pc_world_list.specs.Choices.{IsChosen};
 ghost use Rattle.pc_repairs.specs.Listed.{IsListedPart, keep_line, keep_text, listing_text, part_lines};
 ghost use Rattle.pc_repairs.specs.ListedSheet.{IsListed, IsListing};
 ghost use Rattle.pc_repairs.specs.Listings.{aged_set, listed_in, part_listed};
@@ -14,10 +14,10 @@ ghost use Rattle.pc_repairs.specs.declared.listing.ListFault.TheVariants.{Memory
 
 use crate::ordering::{Aged, in_order};
 use crate::part_sets::{PartSets, sets_by_part};
-use pc_choices::Choices;
 use pc_logic::{Book, well_formed};
 use pc_port::{Failed, Sink};
 use pc_sheet::{CellId, Entry};
+use pc_world_list::Choices;
 use pc_writer::{write_cell, write_entries, write_text};
 use std::alloc::{AllocError, Global};
 

@@ -1,12 +1,11 @@
 //! The maximal sets of each part that has entries, as they are lent.
 ghost use Rattle.std.specs.Prelude.{IfOk};
 ghost use Rattle.std.specs.List.{AllZip};
-ghost use Rattle.pc_choices.specs.Chosen.{chosen_parts};
+ghost use Rattle.pc_world_list.specs.Chosen.{chosen_parts};
 ghost use Rattle.pc_repairs.specs.inside.Joining.{IsPartSets};
 
-use pc_choices::Choices;
 use pc_sheet::CellId;
-use pc_world_list::Worlds;
+use pc_world_list::{Choices, Worlds};
 use std::alloc::{AllocError, Global};
 
 /// A part's cells and its maximal sets.

@@ -2,21 +2,20 @@
 
 ghost use Rattle.std.specs.Prelude.{◌≡◌, IfOk};
 ghost use Rattle.pc_ground.specs.Naming.{names_of};
-ghost use Rattle.pc_choices.specs.SetCertificates.{AreCertified};
+ghost use Rattle.pc_world_list.specs.SetCertificates.{AreCertified};
 ghost use Rattle.pc_solver.specs.Solver.{IsLawfulLog};
 ghost use Rattle.pc_world_list.specs.Worlds.{AreExact};
 ghost use Rattle.pc_repairs.specs.Blocks.{blocks_for};
 ghost use Rattle.pc_repairs.specs.Claims.{IsRightOn};
 ghost use Rattle.pc_repairs.specs.Searches.{IsRefutedAt, whole_problem};
 
-use pc_choices::{SetProof, SetsClaim};
 use pc_ground::laws::{pairs_are_variables, variables_have_their_places};
 use pc_justify_laws::{
     names_are_of_their_sheet, own_lines_are_named_beside, trimmed_lines_derive_beside,
 };
 use pc_log::{Log, StepId, trim};
 use pc_logic::{Book, well_formed};
-use pc_world_list::Worlds;
+use pc_world_list::{SetProof, SetsClaim, Worlds};
 use std::alloc::{AllocError, Global};
 
 /// The certificate of the book's maximal sets, from a log that derives the empty clause from their blocks in the order of the

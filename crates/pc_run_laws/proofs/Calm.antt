@@ -12,8 +12,8 @@ use Rattle.pc_demo.specs.Demonstration.{told_of}
 use Rattle.pc_spreadsheet.specs.Tasks.{Starts}
 use Rattle.pc_spreadsheet.specs.Allowed.{Notes, Allows, RefusesText}
 use Rattle.pc_replay.specs.Course.{CourseIn, Course, without_fit, needs_memory, as_asked}
-use Rattle.pc_course_laws.proofs.CauseLemmas.{AreCalm, IsFine, EndsFine, replay_calmly, edit_calmly}
-use Rattle.pc_course_laws.proofs.JournalCauses.{merge_calmly, posts_calmly}
+use Rattle.pc_run_laws.proofs.CauseLemmas.{AreCalm, IsFine, EndsFine, replay_calmly, edit_calmly}
+use Rattle.pc_run_laws.proofs.JournalCauses.{merge_calmly, posts_calmly}
 use Rattle.pc_run_laws.proofs.Ends.{EndsIn, mode_in}
 
 check_calm : (file : List ℕ) (events : List Event) (stage : Stage) → Check file events stage → AreCalm events

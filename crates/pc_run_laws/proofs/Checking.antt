@@ -13,10 +13,10 @@ use Rattle.pc_refusals.specs.Events.{Outside, Event, took, took_rest, gave, told
 use Rattle.pc_refusals.specs.Stages.{Intake, rest_within, sheet_file, takes, tells, ends_with, CanBegin, PassesLimit}
 use Rattle.pc_refusals.specs.Runs.{HasTook, last_or, IsOutput, EndsTelling, IsSpare, nothing, ahead, goes_on, ends_so, Comes, on_course, past_limit, without_memory, Run, ended, ended_with, read_failed, read_failed_at_file, write_failed, Ran}
 use Rattle.pc_refusals.proofs.EventLemmas.{last_or-append}
-use Rattle.pc_course_laws.specs.Flat.{told_in}
-use Rattle.pc_course_laws.proofs.FlatLemmas.{told_together, happened-split}
-use Rattle.pc_course_laws.proofs.BackToStatus.{told-append, told_alone, cut_alone}
-use Rattle.pc_course_laws.proofs.EditsToStatus.{asks_nothing, is_gave, gave_alone, has_took-split}
+use Rattle.pc_run_laws.specs.Flat.{told_in}
+use Rattle.pc_run_laws.proofs.FlatLemmas.{told_together, happened-split}
+use Rattle.pc_run_laws.proofs.BackToStatus.{told-append, told_alone, cut_alone}
+use Rattle.pc_run_laws.proofs.EditsToStatus.{asks_nothing, is_gave, gave_alone, has_took-split}
 use Rattle.pc_judge.specs.Course as check
 use Rattle.pc_judge.specs.Course.{CheckOf}
 use Rattle.pc_run_laws.specs.Checks.{Checks, lacks_file, lacks_memory_for_file, has_long_file, refuses_file, fails_in_certificate, lacks_memory_for_check, has_long_certificate, judges, Checked}

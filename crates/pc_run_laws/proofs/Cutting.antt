@@ -7,8 +7,8 @@ use Rattle.pc_refusals.specs.declared.status.Status.TheVariants.{WriteFault}
 use Rattle.pc_refusals.specs.Events.{Event, told, output_failed}
 use Rattle.pc_refusals.specs.Stages.{Stage, tells, ends_with, ends}
 use Rattle.pc_refusals.specs.Runs.{Tells, goes_on, ends_so, Comes, on_course, past_limit, without_memory, Run, ended, ended_with, read_failed, read_failed_at_file, write_failed}
-use Rattle.pc_course_laws.specs.Flat.{told_in}
-use Rattle.pc_course_laws.proofs.BackToStatus.{told-append, told_after, sheet_is_quiet}
+use Rattle.pc_run_laws.specs.Flat.{told_in}
+use Rattle.pc_run_laws.proofs.BackToStatus.{told-append, told_after, sheet_is_quiet}
 use Rattle.pc_lines.specs.Lines.{line_text_of}
 use Rattle.pc_transcript.specs.Answer.{Answer, answer_text}
 use Rattle.pc_transcript.specs.Transcript.{Transcript, Legal, output_of}

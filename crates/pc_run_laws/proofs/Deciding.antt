@@ -13,8 +13,8 @@ use Rattle.pc_refusals.specs.declared.status.Status.TheVariants.{ReadFault, Writ
 use Rattle.pc_refusals.specs.Events.{Outside, Event, took, gave, told, Does, Happened}
 use Rattle.pc_refusals.specs.Stages.{Intake, Stage, takes, ends_with, ends, PassesLimit}
 use Rattle.pc_refusals.specs.Runs.{Comes, on_course, past_limit, without_memory, Run, ended, ended_with, read_failed, read_failed_at_file, write_failed}
-use Rattle.pc_course_laws.proofs.FlatLemmas.{happened-split}
-use Rattle.pc_course_laws.proofs.EditsToStatus.{is_gave}
+use Rattle.pc_run_laws.proofs.FlatLemmas.{happened-split}
+use Rattle.pc_run_laws.proofs.EditsToStatus.{is_gave}
 use Rattle.pc_judge.specs.declared.told.Told.{Told}
 use Rattle.pc_judge.specs.Judged.{IsJudged, status_of_told}
 use Rattle.pc_judge.specs.Course as check

@@ -10,9 +10,9 @@ use Rattle.pc_refusals.specs.Stages.{Stage, ends_with}
 use Rattle.pc_refusals.specs.Runs.{IsOutput, HasTook, IsSpare, nothing, ahead, Tells, goes_on, ends_so, Comes, on_course, past_limit, without_memory, Run, ended, ended_with, read_failed, read_failed_at_file, write_failed, Ran}
 use Rattle.pc_transcript.specs.Answer.{is_refused as was_refused, is_no_memory}
 use Rattle.pc_transcript.specs.Transcript.{Transcript, worse_of}
-use Rattle.pc_course_laws.specs.Flat.{told_in}
-use Rattle.pc_course_laws.proofs.FlatLemmas.{told_together, happened-split}
-use Rattle.pc_course_laws.proofs.BackToStatus.{told-append}
+use Rattle.pc_run_laws.specs.Flat.{told_in}
+use Rattle.pc_run_laws.proofs.FlatLemmas.{told_together, happened-split}
+use Rattle.pc_run_laws.proofs.BackToStatus.{told-append}
 use Rattle.pc_spreadsheet.specs.Allowed.{Notes}
 use Rattle.pc_demo.specs.Course as demo
 use Rattle.pc_demo.specs.Course.{Demo}

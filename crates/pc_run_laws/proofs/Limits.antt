@@ -14,10 +14,10 @@ use Rattle.pc_demo.specs.Course.{Demo}
 use Rattle.pc_spreadsheet.specs.Tasks.{Starts}
 use Rattle.pc_spreadsheet.specs.Allowed.{Notes, Allows, RefusesText}
 use Rattle.pc_replay.specs.Course.{CourseIn, Course, without_fit, needs_memory, as_asked}
-use Rattle.pc_course_laws.specs.Limits.{EndsTooLongExactly}
-use Rattle.pc_course_laws.proofs.Limits.{nothing_there, first_is, EndsOtherwise, StaysWithin, exactly}
-use Rattle.pc_course_laws.proofs.Within.{not_too_long, replay_stays, edit_stays}
-use Rattle.pc_course_laws.proofs.JournalLimits.{rest_within_limit, whole_rest_within, merge_stays, posts_stay}
+use Rattle.pc_run_laws.specs.Limits.{EndsTooLongExactly}
+use Rattle.pc_run_laws.proofs.CourseLimits.{nothing_there, first_is, EndsOtherwise, StaysWithin, exactly}
+use Rattle.pc_run_laws.proofs.Within.{not_too_long, replay_stays, edit_stays}
+use Rattle.pc_run_laws.proofs.JournalLimits.{rest_within_limit, whole_rest_within, merge_stays, posts_stay}
 use Rattle.pc_run_laws.proofs.Ends.{EndsIn, mode_in}
 
 -- ---- in which statuses a course ends

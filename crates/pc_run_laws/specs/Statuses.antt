@@ -23,7 +23,7 @@ use Rattle.pc_refusals.specs.Endings.{too_long_text}
 use Rattle.pc_refusals.specs.Events.{Outside, Event, took, took_rest, gave, told, input_failed, shelf_failed, output_failed}
 use Rattle.pc_refusals.specs.Stages.{Intake, sheet_line, line_within, no_line_within, rest_within, sheet_file, takes, ends_with, IsLine, CanBegin, PassesLimit}
 use Rattle.pc_refusals.specs.Runs.{Comes}
-use Rattle.pc_course_laws.specs.Flat.{told_in}
+use Rattle.pc_run_laws.specs.Flat.{told_in}
 use Rattle.pc_transcript.specs.declared.TheConstants.{LINE_LIMIT, MAX_LINES}
 use Rattle.pc_transcript.specs.Answer.{Answer, answer_text, is_refused, is_no_memory}
 use Rattle.pc_transcript.specs.Transcript.{Transcript, Legal, lines, input_of}

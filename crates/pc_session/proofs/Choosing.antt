@@ -14,8 +14,8 @@ use Rattle.pc_parts.specs.PartSheets.{is_on}
 use Rattle.pc_parts.specs.Unions.{are_some, has_entries}
 use Rattle.pc_parts.proofs.Joining.{contains_among, lacks_among}
 use Rattle.pc_cache.specs.Rows.{TargetRow}
-use Rattle.pc_choices.specs.Choices.{AreCellsOf, AreSetsOf, IsChosen}
-use Rattle.pc_choices.specs.Chosen.{chosen_parts}
+use Rattle.pc_world_list.specs.Choices.{AreCellsOf, AreSetsOf, IsChosen}
+use Rattle.pc_world_list.specs.Chosen.{chosen_parts}
 use Rattle.pc_components.specs.View.{number_of}
 use Rattle.pc_justify_laws.specs.Edits.{IsEditOf, edited}
 use Rattle.pc_justify_laws.proofs.OtherParts.{same_entries}

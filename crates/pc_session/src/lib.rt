@@ -23,9 +23,9 @@ mod state;
 mod taken;
 mod tallies;
 
-pub use pc_choices::Choices;
 pub use pc_reason::{Reason, Reasons, Refutation};
 pub use pc_theory::{PartSpending, Spending};
+pub use pc_world_list::Choices;
 pub use refused::{EditRefused, LoadRefused};
 pub use session::Session;
 pub use spendings::Spendings;

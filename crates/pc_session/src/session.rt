@@ -30,7 +30,6 @@ use crate::removing::remove;
 use crate::state::State;
 use crate::taken::Taken;
 use crate::{entering, rules};
-use pc_choices::Choices;
 use pc_components::Components;
 use pc_ground::Ground;
 use pc_justify_laws::{clearing_edits, removing_edits};
@@ -38,7 +37,7 @@ use pc_lits::Tally;
 use pc_logic::{Assignment, Book};
 use pc_reason::{Reason, Reasons};
 use pc_sheet::{CellId, Entry, Rule, Target, ValueId};
-use pc_world_list::Worlds;
+use pc_world_list::{Choices, Worlds};
 use std::alloc::Global;
 use std::marker::Model;
 

@@ -8,11 +8,11 @@ ghost use Rattle.pc_propagate.specs.Over.{IsOver, AreInRange};
 ghost use Rattle.pc_solver.specs.Clauses.{IsOverOwn, KeepsProblem};
 ghost use Rattle.pc_solver.specs.inside.Search.{IsSearch, KnowsAll, AssumesFirst, AreAssumed, IsStartOf, HasNoDecision, KeepsLogs};
 
+use crate::Preferences;
 use crate::clauses::Clauses;
 use crate::decisions::{note_answer, put_back};
 use crate::search::Search;
 use pc_lits::{Lit, Var};
-use pc_preferences::Preferences;
 use pc_propagate::Trail;
 use pc_propagate::laws::quiet_is_kept;
 use std::alloc::AllocError;

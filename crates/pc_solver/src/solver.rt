@@ -11,6 +11,7 @@ ghost use Rattle.pc_solver.specs.Answers.{truth_in};
 ghost use Rattle.pc_solver.specs.New.{ContainNone};
 ghost use Rattle.pc_solver.specs.Solver.{SolverView, IsProblem, AreOwn, HasLog, SuspendedHasLog, AnswerSays, Spends};
 
+use crate::Preferences;
 use crate::clauses::Clauses;
 use crate::decisions::note_answer;
 use crate::outcome::Outcome;
@@ -18,7 +19,6 @@ use crate::search::Search;
 use pc_lits::{ClauseStore, Lit, Tally, Var};
 use pc_log::Log;
 use pc_log::laws::derivations_are_sound;
-use pc_preferences::Preferences;
 use pc_propagate::{ClauseRef, Trail};
 use std::alloc::{AllocError, Global};
 use std::marker::Model;

@@ -20,9 +20,9 @@ use Rattle.pc_sheet.specs.WellFormed.{IsWellFormed}
 use Rattle.pc_sheet.specs.WellSorted.{IsWellSorted}
 use Rattle.pc_sheet.specs.Limits.{most_weight}
 use Rattle.pc_sheet.specs.Weight.{weight}
-use Rattle.pc_asked_laws.specs.Asked.{ask_name, denial, asked}
+use Rattle.pc_accept.specs.Asked.{ask_name, denial, asked}
 use Rattle.pc_accept.specs.Accepts.{Certificate}
-use Rattle.pc_choices.specs.RuleCertificates.{GoesAgainst, IsAgainstRule}
+use Rattle.pc_world_list.specs.RuleCertificates.{GoesAgainst, IsAgainstRule}
 use Rattle.pc_cert_text.specs.CertificateText.{certificate_text}
 use Rattle.pc_ground.specs.Naming.{names_of}
 use Rattle.pc_axiom_names.specs.Listed.{NameLists}

@@ -7,7 +7,7 @@ use Rattle.pc_logic.specs.Edits.{added_to, entered_to, without_one, cleared, is_
 use Rattle.pc_logic.proofs.BookLemmas.{with_entries}
 use Rattle.pc_logic.proofs.EditLemmas.{rules_stay}
 use Rattle.pc_logic.proofs.EntryLemmas.{entries_stay, entries_beside, entries_kept}
-use Rattle.pc_reading_laws.proofs.Entries.{is_an_entry}
+use Rattle.pc_cert.proofs.ReadEntries.{is_an_entry}
 use Rattle.pc_transcript.specs.Answer.{silent, accepted, shown, refused, no_memory}
 use Rattle.pc_sortcheck.specs.Laws.{SheetsAreWellFormed}
 use Rattle.pc_spreadsheet.specs.Tasks.{State, Task, entering, entering_beside, clearing, removing, adding, dropping, budgeting, asking, showing, showing_grid, showing_json, dumping, listing, proving, doubting, inquiring, IsTaskOf, IsEdit, state_after}

@@ -15,9 +15,9 @@ use Rattle.pc_sheet.specs.declared.ids.Target.{Target}
 use Rattle.pc_laws.proofs.Different.{exact_as_long}
 use Rattle.pc_elaborate.specs.Elaboration.{IsEntryNamed}
 use Rattle.pc_world_list.specs.Worlds.{WorldView, set_of}
-use Rattle.pc_choices.specs.FewSets.{AreMaximalSets, HasFewSets, HasManySets}
+use Rattle.pc_world_list.specs.FewSets.{AreMaximalSets, HasFewSets, HasManySets}
 use Rattle.pc_accept.specs.Accepts.{Claim, Certificate}
-use Rattle.pc_choices.specs.SetCertificates.{given_of, IsOnSets}
+use Rattle.pc_world_list.specs.SetCertificates.{given_of, IsOnSets}
 use Rattle.pc_cert_text.specs.CertificateText.{certificate_text}
 use Rattle.pc_spreadsheet.specs.Pages.{uses_of, IsCertificateOnSets}
 use Rattle.pc_theory.specs.WholeSpendings.{IsWholeLog, IsSpentWhole}

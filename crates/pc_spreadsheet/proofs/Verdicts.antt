@@ -4,10 +4,10 @@ use Rattle.pc_syntax.specs.Fault.{Fault, not_utf8, too_deep, syntax, wrong_versi
 use Rattle.pc_syntax.specs.Tree.{Cell, Value, Formula, Asked, enter, also, asks_enter, asks_also, asks_clear, asks_clear_one, asks_rule, asks_drop, asks_budget, asks_show, asks_grid, asks_json, asks_why, asks_dump, asks_repairs, asks_prove_repairs, asks_whynot, asks_ask, not}
 use Rattle.pc_syntax.specs.Command.{CommandReading, no_command, asks, at_fault, IsCommandReading}
 use Rattle.pc_sheet.specs.Sheet.{Sheet, Statement, some_of, no_statements, negation, NamedStatement, with_rule}
-use Rattle.pc_asked_laws.specs.Asked.{ask_name, denial, asked}
+use Rattle.pc_accept.specs.Asked.{ask_name, denial, asked}
 use Rattle.pc_sheet.specs.MaximalSets.{AreRulesConsistent}
 use Rattle.pc_laws.proofs.Different.{exact_as_long}
-use Rattle.pc_choices.specs.FewSets.{HasFewSets, HasManySets}
+use Rattle.pc_world_list.specs.FewSets.{HasFewSets, HasManySets}
 use Rattle.pc_sheet.specs.Weight.{weight}
 use Rattle.pc_sheet.specs.WellFormed.{IsWellFormed}
 use Rattle.pc_sheet.specs.declared.ids.CellId.{CellId}

@@ -3,7 +3,7 @@ use Rattle.std.specs.Prelude.{◌≡◌, ℕ, ◌+◌, ◌*◌, ◌≤◌, true,
 use Rattle.pc_syntax.specs.Tree.{Asked, asks_enter, asks_also, asks_clear, asks_clear_one, asks_rule, asks_drop, asks_prove_repairs, asks_whynot, asks_ask, Cell, Value, Formula}
 use Rattle.pc_syntax.specs.Command.{IsCommandReading, asks, TakesNoMemory}
 use Rattle.pc_sheet.specs.Sheet.{Sheet, Statement, NamedStatement, with_rule}
-use Rattle.pc_asked_laws.specs.Asked.{asked}
+use Rattle.pc_accept.specs.Asked.{asked}
 use Rattle.pc_ask.specs.Asking.{AreReadSizes}
 use Rattle.pc_sheet.specs.Entailment.{IsImplied}
 use Rattle.pc_sheet.specs.WellFormed.{is_of_cell}
@@ -15,7 +15,7 @@ use Rattle.pc_elaborate.specs.Elaboration.{IsEntryNamed, IsCellNamed}
 use Rattle.pc_sortcheck.specs.Declaring.{ReadsAs}
 use Rattle.pc_lits.specs.declared.tally.Tally.{Tally}
 use Rattle.pc_log.specs.Lines.{LogLine}
-use Rattle.pc_choices.specs.FewSets.{AreMaximalSets, HasFewSets}
+use Rattle.pc_world_list.specs.FewSets.{AreMaximalSets, HasFewSets}
 use Rattle.pc_theory.specs.Spendings.{IsLawful}
 use Rattle.pc_theory.specs.WholeSpendings.{IsSpentWhole}
 use Rattle.pc_theory.specs.declared.spending.Spending.{Spending}

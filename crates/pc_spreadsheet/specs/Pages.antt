@@ -10,14 +10,14 @@ use Rattle.pc_accept.specs.Sets.{GivenSet}
 use Rattle.pc_sheet.specs.declared.ids.Entry.{Entry}
 use Rattle.pc_ground.specs.Naming.{names_of}
 use Rattle.pc_world_list.specs.Worlds.{set_of}
-use Rattle.pc_choices.specs.FewSets.{AreMaximalSets}
-use Rattle.pc_choices.specs.RuleCertificates.{GoesAgainst, IsAgainstRule}
-use Rattle.pc_choices.specs.SetCertificates.{IsOnSets, SetParts, AreCertified}
-use Rattle.pc_choices.specs.declared.set_proof.SetsClaim.{SetsClaim}
-use Rattle.pc_choices.specs.declared.set_proof.SetsClaim.TheVariants.{Repairs, Lacking}
+use Rattle.pc_world_list.specs.FewSets.{AreMaximalSets}
+use Rattle.pc_world_list.specs.RuleCertificates.{GoesAgainst, IsAgainstRule}
+use Rattle.pc_world_list.specs.SetCertificates.{IsOnSets, SetParts, AreCertified}
+use Rattle.pc_world_list.specs.declared.set_proof.SetsClaim.{SetsClaim}
+use Rattle.pc_world_list.specs.declared.set_proof.SetsClaim.TheVariants.{Repairs, Lacking}
 use Rattle.pc_repairs.specs.Listed.{ComesFirst}
 use Rattle.pc_repairs.specs.ListedSheet.{IsListed}
-use Rattle.pc_asked_laws.specs.Asked.{IsStatementImplied, IsLeastForStatement, asked}
+use Rattle.pc_accept.specs.Asked.{IsStatementImplied, IsLeastForStatement, asked}
 use Rattle.pc_writer.specs.SheetText.{sheet_text, ended}
 use Rattle.pc_display.specs.Show.{IsShown}
 use Rattle.pc_display.specs.Grid.{IsGrid}

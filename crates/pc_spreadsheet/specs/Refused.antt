@@ -5,7 +5,7 @@ use Rattle.pc_syntax.specs.Fault.{not_utf8, too_deep, syntax}
 use Rattle.pc_syntax.specs.Command.{IsCommandReading, asks, at_fault}
 use Rattle.pc_sheet.specs.Limits.{most_weight}
 use Rattle.pc_sheet.specs.Sheet.{Sheet, Statement, NamedStatement, with_rule}
-use Rattle.pc_asked_laws.specs.Asked.{ask_name, asked}
+use Rattle.pc_accept.specs.Asked.{ask_name, asked}
 use Rattle.pc_sheet.specs.MaximalSets.{AreRulesConsistent}
 use Rattle.pc_sheet.specs.Weight.{weight}
 use Rattle.pc_sheet.specs.declared.ids.CellId.{CellId}
@@ -16,7 +16,7 @@ use Rattle.pc_sheet.specs.declared.limits.Limited.TheVariants as limited
 use Rattle.pc_elaborate.specs.Elaboration.{IsEntryNamed, IsCellNamed}
 use Rattle.pc_elaborate.specs.FormulaFaults.{IsCellFault}
 use Rattle.pc_elaborate.specs.Tests.{no_test, test}
-use Rattle.pc_choices.specs.FewSets.{HasManySets}
+use Rattle.pc_world_list.specs.FewSets.{HasManySets}
 use Rattle.pc_sortcheck.specs.DeclarationFaults.{IsDeclarationFault, IsRuleFault}
 use Rattle.pc_session.specs.RuleNames.{IsNewName}
 use Rattle.pc_refusals.specs.declared.refusal.Refusal.{Refusal}

@@ -4,7 +4,7 @@ use Rattle.pc_syntax.specs.Tree.{Asked, asks_enter, asks_also, asks_clear, asks_
 use Rattle.pc_syntax.specs.Command.{IsCommandReading, no_command, asks}
 use Rattle.pc_sheet.specs.Limits.{most_rules, most_weight}
 use Rattle.pc_sheet.specs.Sheet.{Sheet, Statement, NamedStatement, with_rule}
-use Rattle.pc_asked_laws.specs.Asked.{ask_name, denial, asked}
+use Rattle.pc_accept.specs.Asked.{ask_name, denial, asked}
 use Rattle.pc_sheet.specs.MaximalSets.{AreRulesConsistent}
 use Rattle.pc_sheet.specs.Weight.{weight}
 use Rattle.pc_sheet.specs.WellFormed.{IsWellFormedRule}
@@ -14,7 +14,7 @@ use Rattle.pc_sheet.specs.declared.ids.Target.{Target}
 use Rattle.pc_logic.specs.Edits.{entered, also_entered, without_cell, without_rule}
 use Rattle.pc_logic.specs.Edits as edits
 use Rattle.pc_elaborate.specs.Elaboration.{IsEntryNamed, IsCellNamed, IsStatement}
-use Rattle.pc_choices.specs.FewSets.{HasFewSets}
+use Rattle.pc_world_list.specs.FewSets.{HasFewSets}
 use Rattle.pc_sortcheck.specs.Declaring.{ReadsAs}
 use Rattle.pc_sortcheck.specs.DeclarationFaults.{HasRoomForEntry}
 use Rattle.pc_session.specs.RuleNames.{IsNewName, IsRuleAt}

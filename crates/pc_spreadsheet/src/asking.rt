@@ -1,6 +1,6 @@
 //! Whether the entries imply a closed formula, and a certificate of that.
 ghost use Rattle.std.specs.Prelude.{◌≡◌, ◌≤◌, [], IfErr, IfOk, MatchResult};
-ghost use Rattle.pc_asked_laws.specs.Asked.{asked, denial};
+ghost use Rattle.pc_accept.specs.Asked.{asked, denial};
 ghost use Rattle.pc_elaborate.specs.Tests.{no_test};
 ghost use Rattle.pc_elaborate.specs.Told.{IsFaultOf};
 ghost use Rattle.pc_formula.specs.Nesting as written;

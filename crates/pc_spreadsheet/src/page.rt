@@ -1,10 +1,10 @@
 //! What a spreadsheet can be shown as.
 
 use pc_axiom_names::Names;
-use pc_choices::SetProof;
 use pc_log::{Log, Span};
 use pc_logic::{Assignment, Book};
 use pc_sheet::{Entry, Target};
+use pc_world_list::SetProof;
 
 /// Why a formula is implied: what a certificate against the last rule of the asked book is made of.
 #[derive(Drop)]

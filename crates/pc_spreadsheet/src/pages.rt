@@ -3,13 +3,13 @@ ghost use Rattle.std.specs.Prelude.{◌≡◌, ℕ, ◌<◌, ◌-◌, AllPairs, 
 ghost use Rattle.pc_ground.specs.Naming.{names_of};
 ghost use Rattle.pc_repairs.specs.Listed.{ComesFirst};
 ghost use Rattle.pc_world_list.specs.Worlds.{set_of};
-ghost use Rattle.pc_choices.specs.FewSets.{AreMaximalSets};
-ghost use Rattle.pc_choices.specs.RuleCertificates.{GoesAgainst, IsAgainstRule};
+ghost use Rattle.pc_world_list.specs.FewSets.{AreMaximalSets};
+ghost use Rattle.pc_world_list.specs.RuleCertificates.{GoesAgainst, IsAgainstRule};
 ghost use Rattle.pc_accept.specs.Accepts.{Certificate, repairs};
 ghost use Rattle.pc_cert_text.specs.CertificateText.{certificate_text};
 ghost use Rattle.pc_sheet.specs.Sheet.{Statement};
-ghost use Rattle.pc_choices.specs.SetCertificates.{AreCertified, claim_on_sets};
-ghost use Rattle.pc_choices.specs.declared.set_proof.SetsClaim.TheVariants.{Lacking, Repairs};
+ghost use Rattle.pc_world_list.specs.SetCertificates.{AreCertified, claim_on_sets};
+ghost use Rattle.pc_world_list.specs.declared.set_proof.SetsClaim.TheVariants.{Lacking, Repairs};
 ghost use Rattle.pc_sheet.specs.Entailment.{IsImplied};
 ghost use Rattle.pc_reason.specs.Targets.{IsTargetIn};
 ghost use Rattle.pc_writer.specs.Writes.{Writes};
@@ -22,13 +22,13 @@ ghost use Rattle.pc_display.specs.Json.{IsJson};
 
 use crate::page::{AskProof, Page};
 use pc_cert_text::{write_against, write_refutation, write_sets, write_why};
-use pc_choices::SetProof;
 use pc_display::{grid, sheet_has_one_display, show};
 use pc_logic::{Book, well_formed};
 use pc_port::{Failed, Sink};
 use pc_reason::{Proof, Reasons, Refutation};
 use pc_session::Session;
 use pc_sheet::Target;
+use pc_world_list::SetProof;
 use pc_writer::{write_sheet, write_text};
 
 /// A book has a display, a table and a display as JSON. Nothing is done.

@@ -1,6 +1,6 @@
 //! What could be kept together, and certificates of that.
 ghost use Rattle.std.specs.Prelude.{◌≡◌, ◌∷◌, [], length, true};
-ghost use Rattle.pc_choices.specs.declared.set_proof.SetsClaim.TheVariants.{Lacking};
+ghost use Rattle.pc_world_list.specs.declared.set_proof.SetsClaim.TheVariants.{Lacking};
 ghost use Rattle.pc_ground.specs.Grounded.{grounded};
 ghost use Rattle.pc_reason.specs.Targets.{IsTargetIn};
 ghost use Rattle.pc_repairs.specs.Claims.{IsRightOn};
@@ -14,7 +14,6 @@ use crate::page::Page;
 use crate::refusal::refuse;
 use crate::spending::{Told, note_whole};
 use crate::text::Text;
-use pc_choices::SetsClaim;
 use pc_ground::Ground;
 use pc_lits::Tally;
 use pc_log::Log;
@@ -28,7 +27,7 @@ use pc_solver::Stop;
 use pc_sortcheck::find_entry;
 use pc_syntax::{CellTree, ValueTree};
 use pc_transcript::Reply;
-use pc_world_list::Worlds;
+use pc_world_list::{SetsClaim, Worlds};
 use std::alloc::{AllocError, Global};
 
 /// Lists which entries could be kept together, part by part. The text is made here.

@@ -10,7 +10,7 @@ use Rattle.pc_sheet.specs.declared.ids.Entry.{Entry}
 use Rattle.std.specs.declared.option.Option.{Option}
 use Rattle.std.specs.declared.option.Option.TheVariants.{None}
 use Rattle.pc_enough_laws.specs.Enough.{enough_for_all}
-use Rattle.pc_choices.specs.FewSets.{AreMaximalSets}
+use Rattle.pc_world_list.specs.FewSets.{AreMaximalSets}
 use Rattle.pc_sortcheck.specs.Laws.{SheetsAreWellFormed}
 use Rattle.pc_refusals.specs.declared.refusal.Counts.{Counts}
 use Rattle.pc_refusals.specs.declared.refusal.SheetRefusal.{SheetRefusal}
@@ -22,9 +22,9 @@ use Rattle.pc_spreadsheet.specs.Tasks.{State, PageKind, shows, IsTaskOf}
 use Rattle.pc_spreadsheet.specs.Pages.{PageSays, IsCertificateAgainst}
 use Rattle.pc_spreadsheet.specs.Allowed.{Notes, IsLawfullySpent, IsWholeSpent, IsAskSpent, Allows, NeedsSearch, NeedsAnswer, RefusesLine, as_judged, as_contradiction, as_spent, as_proof_spent, as_ask_spent, RefusesText, for_fault, for_weight, for_rules, for_search}
 use Rattle.pc_afresh_laws.specs.Afresh.{IsOpen, AnswersKeepOpen}
-use Rattle.pc_complete_laws.specs.Asking.{enough_to_ask, EnoughByEntries}
-use Rattle.pc_complete_laws.proofs.Spending.{too_little, proof_not_spent, ask_not_spent, search_formed, answer_formed}
-use Rattle.pc_complete_laws.proofs.Completing.{keeps_budget}
+use Rattle.pc_run_laws.specs.Asking.{enough_to_ask, EnoughByEntries}
+use Rattle.pc_run_laws.proofs.Spending.{too_little, proof_not_spent, ask_not_spent, search_formed, answer_formed}
+use Rattle.pc_run_laws.proofs.Completing.{keeps_budget}
 use Rattle.pc_theorem.specs.Theorem as page
 use Rattle.pc_theorem.specs.Theorem.{TellsPage, IsRefutation, Answers, nothing_asked, edit_done, page_shown, not_doable, contradicting, budget_spent, memory_lacking, RefusesSheet}
 use Rattle.pc_theorem.specs.Budgets.{enough_to_prove, HasTooLittle, to_edit, to_prove, to_ask}

@@ -29,7 +29,7 @@ use Rattle.pc_spreadsheet.specs.Judgement.{does, refuses}
 use Rattle.pc_spreadsheet.specs.Laws.{LinesHaveOneVerdict}
 use Rattle.pc_spreadsheet.specs.Allowed.{NeedsSearch, to_clear, NeedsProof, NeedsAnswer}
 use Rattle.pc_spreadsheet.specs.Tasks.{State, PageKind, lines_page, why_page, shows, IsTaskOf, showing, IsTask}
-use Rattle.pc_complete_laws.proofs.Worked.{no_verdict_spent}
+use Rattle.pc_run_laws.proofs.WorkedBudgets.{no_verdict_spent}
 use Rattle.pc_theorem.specs.Certificates.{IsClaimLine, IsValueLine, Assigns}
 use Rattle.pc_theorem.specs.Theorem.{TellsPage, Explains, not_implied, by_support, Answers, nothing_asked, edit_done, page_shown, not_doable, contradicting, budget_spent, memory_lacking}
 use Rattle.pc_theorem.specs.Budgets.{HasTooLittle, to_edit, to_prove, to_ask}

@@ -5,7 +5,7 @@ use Rattle.pc_accept.specs.Laws.{CertificatesAreSound}
 use Rattle.pc_sortcheck.specs.Declaring.{ReadsAs}
 use Rattle.pc_sortcheck.specs.Laws.{SheetsAreWellFormed}
 use Rattle.pc_cert.specs.Text.{certificate_read}
-use Rattle.pc_reading_laws.specs.Laws.{LinesHaveOneForm, FormsSayOneThing}
+use Rattle.pc_cert.specs.Readings.{LinesHaveOneForm, FormsSayOneThing}
 use Rattle.pc_refusals.specs.declared.status.Status.TheVariants.{Done, CertRefused}
 use Rattle.pc_checker.specs.declared.verdict.Verdict.TheVariants as verdict
 use Rattle.pc_load.specs.Laws.{TextsHaveOneOutcome}

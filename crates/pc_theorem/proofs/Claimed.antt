@@ -14,7 +14,7 @@ use Rattle.pc_cert.specs.Line.{IsCertificateLine}
 use Rattle.pc_cert.specs.Order.{LineKind, kind_of, kind_of_claim, kind_of_written, kind_of_written_claim, is_claim, is_heading, has, lacks, sets_in, may_stand}
 use Rattle.pc_cert.specs.Meaning.{IsSaidLine}
 use Rattle.pc_cert.specs.Text.{SetReading, CertificateReading, certificate, IsTextReading, whole, AllSay, SaysOfSheet, in_front, uses_from, values_from, sets_from, claim_in, entry_said, set_read, certificate_read}
-use Rattle.pc_reading_laws.specs.Laws.{LinesHaveOneForm, FormsSayOneThing}
+use Rattle.pc_cert.specs.Readings.{LinesHaveOneForm, FormsSayOneThing}
 use Rattle.pc_spreadsheet.specs.Pages.{uses_of}
 use Rattle.pc_theorem.specs.Certificates.{IsUseLine, IsValueLine, Assigns, IsClaimLine, IsSetLine, ArePartedAtSets, none_left, other_line, set_line, AreUsedBy, Claims}
 

@@ -14,7 +14,7 @@ use Rattle.pc_refusals.specs.declared.status.Status.TheVariants.{Done, SheetRefu
 use Rattle.pc_refusals.specs.declared.refusal.SheetRefusal.{SheetRefusal}
 use Rattle.pc_refusals.specs.Refusals.{sheet_refusal_text}
 use Rattle.pc_refusals.specs.Events.{Outside, Event, took_rest, gave, told, Happened}
-use Rattle.pc_course_laws.specs.Flat.{taken_in, told_in, taken_of, EventsAddUp}
+use Rattle.pc_run_laws.specs.Flat.{taken_in, told_in, taken_of, EventsAddUp}
 use Rattle.pc_transcript.specs.Answer.{answer_text}
 use Rattle.pc_transcript.specs.Transcript.{Transcript, Legal, lines, input_of, output_of, status_of}
 use Rattle.pc_transcript.specs.Course.{events_of, IsSheetTaken}

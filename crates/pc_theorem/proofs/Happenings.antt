@@ -6,7 +6,7 @@ use Rattle.pc_port.specs.Shelf.{Files, file_named}
 use Rattle.pc_refusals.specs.declared.status.Status.{Status}
 use Rattle.pc_refusals.specs.Events.{Outside, Event, took_rest, gave, Happened}
 use Rattle.pc_refusals.specs.Runs.{IsSpare, nothing, ahead}
-use Rattle.pc_course_laws.specs.Flat.{taken_in, told_in, told_of, EventsAddUp}
+use Rattle.pc_run_laws.specs.Flat.{taken_in, told_in, told_of, EventsAddUp}
 use Rattle.pc_theorem.specs.Theorem as page
 use Rattle.pc_theorem.specs.Theorem.{IsTold}
 

@@ -18,14 +18,14 @@ use Rattle.pc_display.specs.Show.{IsShown}
 use Rattle.pc_display.specs.Grid.{IsGrid}
 use Rattle.pc_display.specs.Json.{IsJson, IsJsonLine}
 use Rattle.pc_display.specs.OneDisplay.{HasOneText, SheetHasOneDisplay}
-use Rattle.pc_reading_laws.specs.Laws.{LinesHaveOneForm, FormsSayOneThing, WhatIsReadIsBare}
+use Rattle.pc_cert.specs.Readings.{LinesHaveOneForm, FormsSayOneThing, WhatIsReadIsBare}
 use Rattle.pc_refusals.specs.declared.refusal.Counts.{Counts}
 use Rattle.pc_judge.specs.AcceptedText.{IsAcceptedText}
 use Rattle.pc_spreadsheet.specs.Refused.{MakesContradiction, contradicting}
 use Rattle.pc_spreadsheet.specs.Tasks.{PageKind, lines_page, grid_page, json_page, text_page, why_page, repairs_page, proof_page, whynot_page, ask_page, shows, IsTaskOf, doubting, inquiring}
 use Rattle.pc_spreadsheet.specs.Pages.{IsWhy, certified, not_implied, uses_of, IsCertificateOnSets, IsWhyNot, shown_unimplied, implied as is_so_implied, IsAnswered, by_support as by_least_support, by_none, PageSays, IsCertificateAgainst}
 use Rattle.pc_spreadsheet.specs.Allowed.{Notes, IsLawfullySpent, IsWholeSpent, IsAskSpent}
-use Rattle.pc_asked_laws.specs.Asked.{ask_name, denial, asked}
+use Rattle.pc_accept.specs.Asked.{ask_name, denial, asked}
 use Rattle.pc_spreadsheet.proofs.Rules.{formed_with}
 use Rattle.pc_afresh_laws.specs.Afresh.{IsOpen, DumpsStartAgain}
 use Rattle.pc_theorem.specs.Theorem as page

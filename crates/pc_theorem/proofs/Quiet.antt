@@ -4,7 +4,7 @@ use Rattle.std.proofs.lemmas.List.Concat.{flat_map-append}
 use Rattle.pc_collab.specs.Journal.{Post}
 use Rattle.pc_refusals.specs.Events.{Event, took_rest, gave}
 use Rattle.pc_refusals.specs.Stages.{Stage, takes, needs, tells, ends_with, ends}
-use Rattle.pc_course_laws.specs.Flat.{told_in, told_of}
+use Rattle.pc_run_laws.specs.Flat.{told_in, told_of}
 use Rattle.pc_transcript.specs.Course as course
 use Rattle.pc_transcript.specs.Course.{IsSheetTaken, AnswersLines, FromSheet, Replay, Edit}
 use Rattle.pc_judge.specs.Course as check

@@ -12,7 +12,7 @@ use Rattle.pc_refusals.specs.declared.refusal.SheetRefusal.{SheetRefusal}
 use Rattle.pc_refusals.specs.Endings.{memory_text, sheet_memory_text}
 use Rattle.pc_refusals.specs.Events.{Outside, Event, took_rest, gave, told, Happened}
 use Rattle.pc_refusals.specs.Runs.{nothing}
-use Rattle.pc_course_laws.specs.Flat.{told_in, EventsAddUp}
+use Rattle.pc_run_laws.specs.Flat.{told_in, EventsAddUp}
 use Rattle.pc_transcript.specs.Transcript.{Transcript, Legal, worse_of, status_of}
 use Rattle.pc_judge.specs.AcceptedText.{IsAcceptedText}
 use Rattle.pc_judge.specs.Judged.{judged_text}
@@ -24,7 +24,7 @@ use Rattle.pc_spreadsheet.specs.Tasks.{State}
 use Rattle.pc_spreadsheet.specs.Allowed.{Notes, Allows, RefusesText}
 use Rattle.pc_afresh_laws.specs.Afresh.{IsOpen, StartsAreOpen, AnswersKeepOpen}
 use Rattle.pc_replay.specs.Course.{usage_text, Runs}
-use Rattle.pc_complete_laws.proofs.Running.{some_budget}
+use Rattle.pc_run_laws.proofs.Running.{some_budget}
 use Rattle.pc_run_laws.specs.Statuses as by_status
 use Rattle.pc_run_laws.specs.Statuses.{DoneIsSo, SomeAreRefused, SheetsAreRefused}
 use Rattle.pc_run_laws.specs.ByStatus.{UsageIsOfWords, WordsAreTold, IsRefusedCertificate, CertificatesAreRefused, WantsMemory, at_words, at_sheet, at_certificate, at_journal, at_line, MemoryIsWanted}

@@ -4,13 +4,13 @@ use Rattle.pc_accept.specs.Laws.{CertificatesAreSound}
 use Rattle.pc_afresh_laws.specs.Afresh.{StartsAreOpen, AnswersKeepOpen, TranscriptsKeepOpen, DumpsStartAgain}
 use Rattle.pc_cert_laws.specs.ReadBack.{CertificatesReadBack}
 use Rattle.pc_collab.specs.ReadBack.{JournalsReadBack}
-use Rattle.pc_complete_laws.specs.Asking.{EnoughByEntries}
-use Rattle.pc_course_laws.specs.Flat.{EventsAddUp}
+use Rattle.pc_run_laws.specs.Asking.{EnoughByEntries}
+use Rattle.pc_run_laws.specs.Flat.{EventsAddUp}
 use Rattle.pc_display.specs.OneDisplay.{SheetHasOneDisplay}
 use Rattle.pc_gen.specs.Laws.{GeneratedTextsReadBack, GeneratedSheetsWeigh}
 use Rattle.pc_judge.specs.Laws.{AcceptedTextIsAccepts, JudgementsAreOne}
 use Rattle.pc_load.specs.Laws.{TextsHaveOneOutcome}
-use Rattle.pc_reading_laws.specs.Laws.{LinesHaveOneForm, FormsSayOneThing, WhatIsReadIsBare}
+use Rattle.pc_cert.specs.Readings.{LinesHaveOneForm, FormsSayOneThing, WhatIsReadIsBare}
 use Rattle.pc_run_laws.specs.Statuses.{DoneIsSo, SomeAreRefused, SheetsAreRefused}
 use Rattle.pc_run_laws.specs.ByStatus.{UsageIsOfWords, WordsAreTold, CertificatesAreRefused, MemoryIsWanted}
 use Rattle.pc_sheet.specs.Cells.{CellsAreNumberedInOrder}

@@ -1,5 +1,5 @@
 -- Where a budget is too little for what a line asks, and so may be spent. What is enough is never spent: `enough_is_never_spent` and
--- `enough_is_never_spent_whole` (`pc_enough_laws`), and for a formula `entries_say_what_is_enough` (`pc_complete_laws`).
+-- `enough_is_never_spent_whole` (`pc_enough_laws`), and for a formula `entries_say_what_is_enough` (`pc_run_laws`).
 use Rattle.std.specs.Prelude.{ℕ, ◌+◌, ◌*◌, ◌^◌, ◌<◌, List, length, Option}
 use Rattle.pc_sheet.specs.Sheet.{Sheet, Statement}
 use Rattle.pc_sheet.specs.MaximalSets.{ListsExactly, IsMaximalSet}
@@ -9,7 +9,7 @@ use Rattle.pc_syntax.specs.Tree.{Asked}
 use Rattle.pc_syntax.specs.Command.{IsCommandReading, asks}
 use Rattle.pc_ground.specs.Variables.{variable_count}
 use Rattle.pc_enough_laws.specs.Enough.{enough_for_all}
-use Rattle.pc_complete_laws.specs.Asking.{enough_to_ask}
+use Rattle.pc_run_laws.specs.Asking.{enough_to_ask}
 use Rattle.pc_spreadsheet.specs.Tasks.{State}
 use Rattle.pc_spreadsheet.specs.Allowed.{NeedsSearch, NeedsProof, NeedsAnswer}
 

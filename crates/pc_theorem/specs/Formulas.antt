@@ -3,7 +3,7 @@ use Rattle.std.specs.Prelude.{◌≡◌, ℕ, List, [], length, codes}
 use Rattle.pc_sheet.specs.Sheet.{Sheet, Statement}
 use Rattle.pc_sheet.specs.declared.ids.Entry.{Entry}
 use Rattle.pc_accept.specs.Accepts.{against}
-use Rattle.pc_asked_laws.specs.Asked.{IsStatementImplied, IsLeastForStatement, asked}
+use Rattle.pc_accept.specs.Asked.{IsStatementImplied, IsLeastForStatement, asked}
 use Rattle.pc_writer.specs.SheetText.{ended}
 use Rattle.pc_judge.specs.AcceptedText.{IsAcceptedText}
 use Rattle.pc_theorem.specs.Certificates.{Claims}

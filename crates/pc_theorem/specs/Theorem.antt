@@ -15,7 +15,7 @@ use Rattle.pc_syntax.specs.Command.{TakesNoMemory}
 use Rattle.pc_enough_laws.specs.Enough.{enough_for_all}
 use Rattle.pc_accept.specs.Accepts.{Claim, implied, inconsistent, repairs, unimplied, against, AreShown}
 use Rattle.pc_accept.specs.Laws.{IsInOrder, AreAgainst}
-use Rattle.pc_asked_laws.specs.Asked.{asked}
+use Rattle.pc_accept.specs.Asked.{asked}
 use Rattle.pc_writer.specs.SheetText.{ended}
 use Rattle.pc_display.specs.Show.{IsShown}
 use Rattle.pc_display.specs.Grid.{IsGrid}

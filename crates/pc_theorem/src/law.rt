@@ -4,10 +4,9 @@ ghost use Rattle.pc_theorem.specs.Laws.{AnswersLeaveOneState, DemonstrationsOfEn
 
 use pc_accept::certificates_are_sound;
 use pc_afresh_laws::{dumps_start_again, states_stay_open, transcripts_stay_open};
+use pc_cert::{certificates_have_one_reading, what_is_read_is_for_the_sheet};
 use pc_cert_laws::texts_read_back;
 use pc_collab::journals_read_back;
-use pc_complete_laws::entries_say_what_is_enough;
-use pc_course_laws::events_add_up;
 use pc_display::sheet_has_one_display;
 use pc_elaborate::trees_have_one_outcome;
 use pc_gen::{generated_sheets_weigh, generated_texts_read_back};
@@ -16,10 +15,9 @@ use pc_load::texts_have_one_outcome;
 use pc_parts::{
     maximal_sets_are_unions, parts_are_a_division, parts_are_determined, parts_are_found,
 };
-use pc_reading_laws::{certificates_have_one_reading, what_is_read_is_for_the_sheet};
 use pc_run_laws::{
-    all_lines_are_answered, certificates_are_refused_in_checks, memory_is_told_where_wanted,
-    refused_sheets_are_told, usage_is_told_of_words,
+    all_lines_are_answered, certificates_are_refused_in_checks, entries_say_what_is_enough,
+    events_add_up, memory_is_told_where_wanted, refused_sheets_are_told, usage_is_told_of_words,
 };
 use pc_sheet::cells_are_numbered_in_order;
 use pc_sortcheck::sheets_are_well_formed;

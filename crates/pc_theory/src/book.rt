@@ -30,7 +30,7 @@ use pc_kept::laws::none_of_the_used_is_contained;
 use pc_log::{Log, Span};
 use pc_logic::{Assignment, Book, few_cells, well_formed};
 use pc_parts::{divisions_divide, parts_are_a_division, parts_are_found};
-use pc_reuse::SpareTrails;
+use pc_solver::SpareTrails;
 use pc_world_list::Worlds;
 use std::alloc::{AllocError, Global};
 use std::collections::VecDeque;

@@ -18,8 +18,7 @@ use pc_lits::Tally;
 use pc_log::{Log, Span, StepId, trim};
 use pc_logic::Assignment;
 use pc_problem::count_pairs;
-use pc_reuse::SpareTrails;
-use pc_solver::{Outcome, Solver, Suspended};
+use pc_solver::{Outcome, Solver, SpareTrails, Suspended};
 use std::alloc::{AllocError, Global};
 
 // A log, and a span of it.

@@ -4,7 +4,7 @@ use crate::literals::{literal, literals};
 use crate::rows::{Machine, judge_rows, no_command, number, parted};
 use crate::texts::{number_text, truth_text};
 use pc_lits::{Lit, Var};
-use pc_preferences::Preferences;
+use pc_solver::Preferences;
 use std::alloc::{AllocError, Global};
 
 /// Preferences among own variables.

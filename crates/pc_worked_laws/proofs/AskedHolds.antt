@@ -14,7 +14,7 @@ use Rattle.pc_laws.proofs.Order.{irreflexive, transitive}
 use Rattle.pc_laws.specs.Examples.{red, green, entry, equals, chain}
 use Rattle.pc_lemmas.proofs.Elements.{contains_first, contains_cases, contains_none, all_left, all_right}
 use Rattle.pc_accept.specs.SetExamples.{two_ends}
-use Rattle.pc_asked_laws.specs.Asked.{EntailsStatement, SupportsStatement, IsStatementImplied, IsLeastForStatement, denial, asked}
+use Rattle.pc_accept.specs.Asked.{EntailsStatement, SupportsStatement, IsStatementImplied, IsLeastForStatement, denial, asked}
 use Rattle.pc_worked_laws.specs.Asked.{a, b, causes, WorkedFormulas, WorkedClashes}
 use Rattle.pc_worked_laws.proofs.Computing.{is_among, among_decides, has, lacks, is_list, other_list, is_sublist, sublist, passes, passed, both, either, consistent, consistent_decides, list_is}
 

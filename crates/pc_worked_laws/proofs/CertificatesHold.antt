@@ -24,7 +24,7 @@ use Rattle.pc_accept.proofs.SetsSound.{in_one}
 use Rattle.pc_accept.proofs.Soundness.{has_same}
 use Rattle.pc_accept.proofs.WorkedHold.{worked_refutation}
 use Rattle.pc_accept.proofs.Worth.{worth}
-use Rattle.pc_asked_laws.specs.Asked.{asked}
+use Rattle.pc_accept.specs.Asked.{asked}
 use Rattle.pc_worked_laws.specs.Certificates.{of_rule, ends, ends_denied, first_equal, last_equal, answering, WorkedAgainst, WorkedOpposed, WorkedFewSets, WorkedWithin}
 use Rattle.pc_worked_laws.proofs.AxiomsHold.{red_not_green, value_at, cells_differ, one_differs, two_differ, entries_of, other_reads}
 use Rattle.pc_worked_laws.proofs.Computing.{has, lacks, is_consistent}

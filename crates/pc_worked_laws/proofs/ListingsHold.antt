@@ -12,7 +12,7 @@ use Rattle.pc_lemmas.proofs.Elements.{contains_first}
 use Rattle.pc_parts.specs.Parts.{Part}
 use Rattle.pc_parts.specs.PartSheets.{sheet_of}
 use Rattle.pc_accept.specs.SetExamples.{two_ends}
-use Rattle.pc_choices.specs.Chosen.{chosen_parts}
+use Rattle.pc_world_list.specs.Chosen.{chosen_parts}
 use Rattle.pc_repairs.specs.Listed.{ComesFirst, IsListedPart}
 use Rattle.pc_repairs.specs.ListedSheet.{IsListed}
 use Rattle.pc_worked_laws.specs.PartSheets.{unnamed, first_pair, second_pair}

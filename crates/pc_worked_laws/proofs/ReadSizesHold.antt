@@ -12,7 +12,7 @@ use Rattle.pc_laws.proofs.Different.{exact_as_long}
 use Rattle.pc_parts.specs.Pieces.{looked_up_under}
 use Rattle.pc_parts.specs.Parts.{Part, IsFiltered}
 use Rattle.pc_parts.specs.PartSheets.{sheet_of}
-use Rattle.pc_choices.specs.Chosen.{chosen_parts}
+use Rattle.pc_world_list.specs.Chosen.{chosen_parts}
 use Rattle.pc_ask.specs.Asking.{ReadsPart, IsOnRead, AreReadSizes}
 use Rattle.pc_lemmas.proofs.Elements.{contains_first, contains_later, contains_cases, contains_none}
 use Rattle.pc_worked_laws.specs.PartSheets.{one_is_two}

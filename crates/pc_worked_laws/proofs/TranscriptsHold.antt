@@ -15,7 +15,7 @@ use Rattle.pc_refusals.specs.Endings.{Printing, printed}
 use Rattle.pc_refusals.specs.Stages.{IsLine}
 use Rattle.pc_transcript.specs.declared.TheConstants.{LINE_LIMIT}
 use Rattle.pc_transcript.specs.Transcript.{Transcript, Legal, lines, output_of, status_of}
-use Rattle.pc_course_laws.specs.Answered.{AnswersAll}
+use Rattle.pc_run_laws.specs.Answered.{AnswersAll}
 use Rattle.pc_worked_laws.specs.Transcripts.{told, CountsUp, count_line, show_line, WorkedTranscripts, WorkedAnswers}
 
 abbrev code_at : ℕ → List ℕ → ℕ

@@ -5,7 +5,7 @@ use Rattle.pc_sheet.specs.declared.ids.Entry.{Entry}
 use Rattle.pc_laws.specs.Examples.{red, green, entry, is_color, equals, chain, effect_of_two}
 use Rattle.pc_laws.specs.Weights.{both, either}
 use Rattle.pc_accept.specs.SetExamples.{two_ends}
-use Rattle.pc_asked_laws.specs.Asked.{EntailsStatement, SupportsStatement, IsStatementImplied, IsLeastForStatement}
+use Rattle.pc_accept.specs.Asked.{EntailsStatement, SupportsStatement, IsStatementImplied, IsLeastForStatement}
 
 abbrev pub a : Entry
 a = entry 0 red

@@ -8,7 +8,7 @@ use Rattle.pc_accept.specs.SetExamples.{two_ends, red_set, green_set, of_sets}
 use Rattle.pc_accept.specs.Sets.{GivenSet}
 use Rattle.pc_accept.specs.Laws.{AreAgainst}
 use Rattle.pc_accept.specs.Worked.{never, refuting}
-use Rattle.pc_asked_laws.specs.Asked.{asked}
+use Rattle.pc_accept.specs.Asked.{asked}
 
 -- against the rule of that number
 abbrev pub of_rule : ℕ → List Entry → List Entry → List Line → Certificate

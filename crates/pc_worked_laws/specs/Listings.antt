@@ -4,7 +4,7 @@ use Rattle.pc_sheet.specs.declared.ids.Entry.{Entry}
 use Rattle.pc_laws.specs.Examples.{red, green, entry, chain, two_pairs, never_red}
 use Rattle.pc_parts.specs.Parts.{Part}
 use Rattle.pc_accept.specs.SetExamples.{two_ends}
-use Rattle.pc_choices.specs.Chosen.{chosen_parts}
+use Rattle.pc_world_list.specs.Chosen.{chosen_parts}
 use Rattle.pc_repairs.specs.Listed.{ComesFirst, ListedPart, IsListedPart}
 use Rattle.pc_repairs.specs.ListedSheet.{IsListed}
 use Rattle.pc_worked_laws.specs.Several.{cell_of}

@@ -7,7 +7,7 @@ use Rattle.pc_transcript.specs.Answer.{Answer, silent, accepted, shown, refused,
 use Rattle.pc_refusals.specs.Endings.{printed}
 use Rattle.pc_writer.specs.SheetText.{ended}
 use Rattle.pc_transcript.specs.Transcript.{Legal, status_of, output_of}
-use Rattle.pc_course_laws.specs.Answered.{AnswersAll}
+use Rattle.pc_run_laws.specs.Answered.{AnswersAll}
 
 -- what is shown
 abbrev pub told : ℕ → List ℕ

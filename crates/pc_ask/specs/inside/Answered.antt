@@ -4,7 +4,7 @@ use Rattle.pc_lits.specs.declared.tally.Tally.{Tally}
 use Rattle.pc_log.specs.Lines.{LogLine}
 use Rattle.pc_sheet.specs.Sheet.{Sheet, Statement}
 use Rattle.pc_sheet.specs.Entailment.{Shows}
-use Rattle.pc_asked_laws.specs.Asked.{IsStatementImplied, IsLeastForStatement, asked}
+use Rattle.pc_accept.specs.Asked.{IsStatementImplied, IsLeastForStatement, asked}
 use Rattle.pc_repairs.specs.Searches.{IsWholeSearch}
 use Rattle.pc_ask.specs.Asking.{AreReadSizes, IsDeniedAt, IsPartSearch}
 use Rattle.pc_ask.specs.declared.finding.Found.{Found}

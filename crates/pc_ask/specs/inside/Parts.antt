@@ -18,7 +18,7 @@ use Rattle.pc_components.specs.Pairs.{IsValueOfCell}
 use Rattle.pc_components.specs.PartAxioms.{AreAxiomsOf, AreVariablesOf}
 use Rattle.pc_components.specs.View.{number_of, variable_number}
 use Rattle.pc_reason.specs.Fitting.{IsFitting}
-use Rattle.pc_asked_laws.specs.Asked.{asked}
+use Rattle.pc_accept.specs.Asked.{asked}
 use Rattle.pc_problem.specs.Laws.{problem_of}
 use Rattle.pc_solver.specs.Clauses.{IsOverOwn}
 use Rattle.pc_solver.specs.Solver.{SolverView, HasLog}

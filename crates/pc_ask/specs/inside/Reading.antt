@@ -8,7 +8,7 @@ use Rattle.pc_sheet.specs.declared.ids.ValueId.{ValueId}
 use Rattle.pc_parts.specs.Leaves.{cells_of}
 use Rattle.pc_parts.specs.PartSheets.{is_among}
 use Rattle.pc_parts.specs.Pieces.{pieces}
-use Rattle.pc_choices.specs.Chosen.{chosen_parts}
+use Rattle.pc_world_list.specs.Chosen.{chosen_parts}
 use Rattle.pc_reason.specs.Fitting.{IsFitting}
 use Rattle.pc_repairs.specs.inside.Joining.{IsPartSets}
 use Rattle.pc_repairs.specs.declared.part_sets.PartSets.{PartSets}

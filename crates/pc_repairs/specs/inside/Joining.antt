@@ -7,7 +7,7 @@ use Rattle.pc_sheet.specs.declared.ids.Entry.{Entry}
 use Rattle.pc_parts.specs.Parts.{Part}
 use Rattle.pc_parts.specs.PartSheets.{sheet_of}
 use Rattle.pc_world_list.specs.Worlds.{WorldView, AreExact}
-use Rattle.pc_choices.specs.Choices.{cell_number}
+use Rattle.pc_world_list.specs.Choices.{cell_number}
 use Rattle.pc_repairs.specs.declared.part_sets.PartSets.{PartSets}
 
 -- the part's cells, and its maximal sets with assignments that make each of its pieces true

@@ -4,7 +4,7 @@ use Rattle.std.specs.declared.option.Option.TheVariants.{None}
 use Rattle.pc_sheet.specs.Sheet.{Sheet, Statement}
 use Rattle.pc_sheet.specs.Limits.{most_weight}
 use Rattle.pc_sheet.specs.Weight.{weight}
-use Rattle.pc_asked_laws.specs.Asked.{IsStatementImplied, asked}
+use Rattle.pc_accept.specs.Asked.{IsStatementImplied, asked}
 use Rattle.pc_refusals.specs.declared.refusal.Counts.{Counts}
 use Rattle.pc_refusals.specs.declared.refusal.Refusal.TheVariants.{TooLarge, Spent}
 use Rattle.pc_transcript.specs.declared.machine.Reply.TheVariants.{Shown, Refused, Memory}

@@ -7,7 +7,7 @@ use Rattle.pc_log.specs.Lines.{LogLine}
 use Rattle.pc_sheet.specs.Sheet.{Sheet}
 use Rattle.pc_sheet.specs.Entailment.{IsImplied}
 use Rattle.pc_sheet.specs.declared.ids.Target.{Target}
-use Rattle.pc_choices.specs.SetCertificates.{SetParts}
+use Rattle.pc_world_list.specs.SetCertificates.{SetParts}
 use Rattle.pc_theory.specs.Spendings.{LearnsWithin}
 use Rattle.pc_theory.specs.WholeSpendings.{IsWholeSpending}
 use Rattle.pc_repairs.specs.ListedSheet.{IsListed}
@@ -15,7 +15,7 @@ use Rattle.pc_session.specs.Views as session
 use Rattle.pc_refusals.specs.declared.refusal.Counts.{Counts}
 use Rattle.pc_refusals.specs.declared.refusal.Refusal.TheVariants.{Spent}
 use Rattle.pc_transcript.specs.declared.machine.Reply.TheVariants.{Shown, Refused, Memory}
-use Rattle.pc_choices.specs.declared.set_proof.SetsClaim.TheVariants.{Repairs, Lacking}
+use Rattle.pc_world_list.specs.declared.set_proof.SetsClaim.TheVariants.{Repairs, Lacking}
 use Rattle.pc_spreadsheet.specs.Pages.{Certifies}
 use Rattle.pc_spreadsheet.specs.Allowed.{Notes, told_counts_of, IsWholeSpent}
 use Rattle.pc_spreadsheet.specs.Commands.{Told}

@@ -1,5 +1,5 @@
 use Rattle.std.proofs.Common.{refl}
-use Rattle.pc_choices.specs.RuleCertificates.{certificate_against_rule}
+use Rattle.pc_world_list.specs.RuleCertificates.{certificate_against_rule}
 use Rattle.pc_log.specs.Spans.{lines_of_span}
 use Rattle.pc_cert_text.proofs.certificate.write_against.Goals as goal
 

@@ -1,6 +1,6 @@
 use Rattle.std.proofs.Common.{◌++◌, List, codes, map, All, sym, ap, subst}
 use Rattle.pc_accept.specs.Writable.{IsSetOf}
-use Rattle.pc_choices.specs.SetCertificates.{claim_on_sets, given_of}
+use Rattle.pc_world_list.specs.SetCertificates.{claim_on_sets, given_of}
 use Rattle.pc_log.specs.Spans.{lines_of_span}
 use Rattle.pc_reason.specs.Derivation.{line_named}
 use Rattle.pc_world_list.specs.Worlds.{WorldView}

@@ -1,5 +1,5 @@
 use Rattle.std.proofs.Common.{refl}
-use Rattle.pc_choices.specs.SetCertificates.{certificate_of_sets, claim_on_sets}
+use Rattle.pc_world_list.specs.SetCertificates.{certificate_of_sets, claim_on_sets}
 use Rattle.pc_log.specs.Spans.{lines_of_span}
 use Rattle.pc_cert_text.proofs.certificate.write_sets.Goals as goal
 

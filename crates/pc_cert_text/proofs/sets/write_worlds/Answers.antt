@@ -1,6 +1,6 @@
 use Rattle.std.proofs.Common.{◌∙◌, map, arith}
 use Rattle.std.proofs.lemmas.List.{length-map}
-use Rattle.pc_choices.specs.SetCertificates.{given_of}
+use Rattle.pc_world_list.specs.SetCertificates.{given_of}
 use Rattle.pc_writer.proofs.InPieces.{cut_in_piece, one_more_piece, all_pieces}
 use Rattle.pc_cert_text.specs.CertificateText.{set_text}
 use Rattle.pc_cert_text.proofs.SetLemmas.{given_at, set_can_be_written}

@@ -1,6 +1,6 @@
 use Rattle.std.proofs.Common.{take, Ok, map}
 use Rattle.std.specs.List.{flat_map}
-use Rattle.pc_choices.specs.SetCertificates.{given_of}
+use Rattle.pc_world_list.specs.SetCertificates.{given_of}
 use Rattle.pc_port.specs.declared.source.Failed.{Failed}
 use Rattle.pc_writer.specs.Writes.{Writes}
 use Rattle.pc_cert_text.specs.CertificateText.{set_text}

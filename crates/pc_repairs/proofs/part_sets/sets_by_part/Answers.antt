@@ -1,6 +1,6 @@
 use Rattle.std.proofs.Common.{◌+◌, List, take, sym, subst}
 use Rattle.std.specs.List.{AllZip}
-use Rattle.pc_choices.specs.Chosen.{chosen_parts}
+use Rattle.pc_world_list.specs.Chosen.{chosen_parts}
 use Rattle.pc_repairs.specs.inside.Joining.{IsPartSets}
 use Rattle.pc_repairs.specs.declared.part_sets.PartSets.{PartSets}
 use Rattle.pc_repairs.proofs.PartSetsMade.{lent_part}

@@ -1,6 +1,6 @@
 use Rattle.std.proofs.Common.{take}
 use Rattle.std.specs.List.{AllZip}
-use Rattle.pc_choices.specs.Chosen.{chosen_parts}
+use Rattle.pc_world_list.specs.Chosen.{chosen_parts}
 use Rattle.pc_repairs.specs.inside.Joining.{IsPartSets}
 use Rattle.pc_repairs.proofs.part_sets.sets_by_part.Given as goal
 

@@ -1,6 +1,6 @@
 use Rattle.std.proofs.Common.{arith, sym, subst}
 use Rattle.pc_ground.specs.Naming.{names_of}
-use Rattle.pc_choices.specs.SetCertificates.{SetParts, AreCertified}
+use Rattle.pc_world_list.specs.SetCertificates.{SetParts, AreCertified}
 use Rattle.pc_repairs.proofs.Certified.{certified}
 use Rattle.pc_repairs.proofs.proving.prove.Goals as goal
 

@@ -2,8 +2,8 @@ use Rattle.pc_judge.specs.Course.{CheckOf}
 use Rattle.pc_words.specs.Words.{checks, demonstrates}
 use Rattle.pc_demo.specs.Course.{Demo}
 use Rattle.pc_replay.specs.Course.{Course}
-use Rattle.pc_course_laws.proofs.CauseLemmas.{has_causes}
-use Rattle.pc_course_laws.proofs.FaultLemmas.{faults_come_last}
+use Rattle.pc_run_laws.proofs.CauseLemmas.{has_causes}
+use Rattle.pc_run_laws.proofs.FaultLemmas.{faults_come_last}
 use Rattle.pc_run_laws.proofs.Calm.{check_calmly, mode_calmly, course_calmly}
 use Rattle.pc_run_laws.proofs.statuses.faults_end_runs.Goals as goal
 

@@ -1,6 +1,6 @@
 use Rattle.pc_judge.specs.Course.{CheckOf}
 use Rattle.pc_demo.specs.Course.{Demo}
-use Rattle.pc_course_laws.proofs.Limits.{exactly}
+use Rattle.pc_run_laws.proofs.CourseLimits.{exactly}
 use Rattle.pc_run_laws.proofs.Sentences.{too_long}
 use Rattle.pc_run_laws.proofs.Limits.{check_stays, demo_stays, runs_exactly}
 use Rattle.pc_run_laws.proofs.statuses.limits_are_passed.Goals as goal

@@ -1,6 +1,6 @@
 use Rattle.std.proofs.Common.{ℕ, List, sym, subst}
 use Rattle.pc_sheet.specs.declared.ids.Entry.{Entry}
-use Rattle.pc_choices.specs.RuleCertificates.{GoesAgainst, IsAgainstRule}
+use Rattle.pc_world_list.specs.RuleCertificates.{GoesAgainst, IsAgainstRule}
 use Rattle.pc_spreadsheet.proofs.pages.write_asked.Goals as goal
 
 pub write_against-requires : goal.write_against-requires

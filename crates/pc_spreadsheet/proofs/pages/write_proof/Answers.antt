@@ -2,8 +2,8 @@ use Rattle.std.proofs.Common.{sym, subst, map}
 use Rattle.std.specs.Prelude.{AllPairs}
 use Rattle.pc_sheet.specs.Sheet.{Sheet}
 use Rattle.pc_world_list.specs.Worlds.{set_of}
-use Rattle.pc_choices.specs.FewSets.{AreMaximalSets}
-use Rattle.pc_choices.specs.SetCertificates.{claim_on_sets}
+use Rattle.pc_world_list.specs.FewSets.{AreMaximalSets}
+use Rattle.pc_world_list.specs.SetCertificates.{claim_on_sets}
 use Rattle.pc_repairs.specs.Listed.{ComesFirst}
 use Rattle.pc_cert_text.specs.CertificateText.{certificate_text}
 use Rattle.pc_spreadsheet.specs.Pages.{IsCertificateOnSets}

@@ -1,6 +1,6 @@
 use Rattle.std.proofs.Common.{ap, subst}
 use Rattle.pc_accept.specs.Accepts.{Claim}
-use Rattle.pc_choices.specs.SetCertificates.{claim_on_sets}
+use Rattle.pc_world_list.specs.SetCertificates.{claim_on_sets}
 use Rattle.pc_spreadsheet.specs.Pages.{IsCertificateOnSets}
 use Rattle.pc_spreadsheet.proofs.pages.write_repairs.Goals as goal
 

@@ -5,8 +5,8 @@ use Rattle.std.proofs.lemmas.Option.{slice_get-get_or}
 use Rattle.pc_sheet.specs.Sheet.{Sheet}
 use Rattle.pc_parts.specs.Parts.{Part}
 use Rattle.pc_theory.proofs.Lists.{zip_length}
-use Rattle.pc_choices.specs.Choices.{IsChosen}
-use Rattle.pc_choices.specs.Chosen.{chosen_parts}
+use Rattle.pc_world_list.specs.Choices.{IsChosen}
+use Rattle.pc_world_list.specs.Chosen.{chosen_parts}
 use Rattle.pc_repairs.specs.Listed.{IsListedPart}
 use Rattle.pc_repairs.specs.Listings.{part_listed}
 use Rattle.pc_repairs.specs.inside.Joining.{IsPartSets}

@@ -1,6 +1,6 @@
 use Rattle.std.proofs.Common.{map, take}
 use Rattle.std.specs.List.{AllZip}
-use Rattle.pc_choices.specs.Chosen.{chosen_parts}
+use Rattle.pc_world_list.specs.Chosen.{chosen_parts}
 use Rattle.pc_repairs.specs.Listed.{IsListedPart}
 use Rattle.pc_repairs.specs.Listings.{part_listed}
 use Rattle.pc_repairs.proofs.listing.Listing.new.Given as goal

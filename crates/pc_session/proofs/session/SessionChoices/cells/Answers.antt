@@ -1,6 +1,6 @@
 use Rattle.std.proofs.Common.{◌<◌, length, sym, subst}
-use Rattle.pc_choices.specs.Choices.{AreCellsOf}
-use Rattle.pc_choices.specs.Chosen.{chosen_parts}
+use Rattle.pc_world_list.specs.Choices.{AreCellsOf}
+use Rattle.pc_world_list.specs.Chosen.{chosen_parts}
 use Rattle.pc_session.specs.Views.{SessionView}
 use Rattle.pc_session.proofs.Choosing.{cells_lent, part_kept, place_within}
 use Rattle.pc_session.proofs.session.SessionChoices.cells.Goals as goal

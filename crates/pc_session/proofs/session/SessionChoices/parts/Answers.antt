@@ -1,5 +1,5 @@
 use Rattle.std.proofs.Common.{◌≡◌, length, ◌∙◌, subst}
-use Rattle.pc_choices.specs.Chosen.{chosen_parts}
+use Rattle.pc_world_list.specs.Chosen.{chosen_parts}
 use Rattle.pc_session.specs.Views.{SessionView}
 use Rattle.pc_session.proofs.Choosing.{many_chosen}
 use Rattle.pc_session.proofs.session.SessionChoices.parts.Goals as goal

@@ -1,6 +1,6 @@
 use Rattle.std.proofs.Common.{◌<◌, length, arith, sym, subst}
-use Rattle.pc_choices.specs.Choices.{AreSetsOf}
-use Rattle.pc_choices.specs.Chosen.{chosen_parts}
+use Rattle.pc_world_list.specs.Choices.{AreSetsOf}
+use Rattle.pc_world_list.specs.Chosen.{chosen_parts}
 use Rattle.pc_session.specs.Views.{SessionView}
 use Rattle.pc_session.proofs.Choosing.{place_within, sets_lent, worlds_kept}
 use Rattle.pc_session.proofs.session.SessionChoices.sets.Goals as goal

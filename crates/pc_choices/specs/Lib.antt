@@ -1,5 +1,0 @@
-pub mod Choices
-pub mod Chosen
-pub mod FewSets
-pub mod RuleCertificates
-pub mod SetCertificates

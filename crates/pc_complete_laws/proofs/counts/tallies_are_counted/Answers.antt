@@ -1,5 +1,0 @@
-use Rattle.pc_complete_laws.proofs.Counting.{tallies_counted}
-use Rattle.pc_complete_laws.proofs.counts.tallies_are_counted.Goals as goal
-
-pub returns : goal.returns
-returns c = tallies_counted

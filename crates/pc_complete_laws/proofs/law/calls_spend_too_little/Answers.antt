@@ -1,5 +1,0 @@
-use Rattle.pc_complete_laws.proofs.Spending.{calls_spend}
-use Rattle.pc_complete_laws.proofs.law.calls_spend_too_little.Goals as goal
-
-pub returns : goal.returns
-returns c = calls_spend
