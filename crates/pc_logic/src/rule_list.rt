@@ -1,0 +1,73 @@
+//! The rules of a book.
+ghost use Rattle.std.specs.Prelude.{◌≡◌, ◌<◌, ◌++◌, ◌∷◌, [], OnErr, OnOk, length, map};
+ghost use Rattle.std.specs.List.{remove};
+ghost use Rattle.pc_sheet.specs.Views.{rule_of};
+
+use crate::copies::copy_rules;
+use pc_sheet::Rule;
+use std::alloc::{AllocError, Global};
+use std::marker::Model;
+
+/// RuleList in the order in which they were added. A clause sees them as a sheet has them.
+#[derive(Drop)]
+pub(crate) struct RuleList {
+    list: Vec<Rule>,
+}
+
+impl Model for RuleList {
+    ghost use Rattle.std.specs.Prelude.{List, map};
+    ghost use Rattle.pc_sheet.specs.Sheet.{NamedStatement};
+    ghost use Rattle.pc_sheet.specs.Views.{rule_of};
+    ghost use Rattle.std.specs.Coded.{coded_list};
+    ghost use Rattle.pc_sheet.specs.Codes.{coded_rule};
+
+    ghost Value = { List NamedStatement };
+
+    ghost coded = { coded_list coded_rule };
+
+    ghost view = { λ r. map rule_of r.list.items };
+}
+
+impl Clone for RuleList {
+    ghost is_clone = { λ rules copy. copy ≡ rules };
+
+    fn clone(&self) -> Result<RuleList, AllocError> {
+        let list = copy_rules(*self.list.allocator(), &self.list)?;
+        Ok(RuleList { list })
+    }
+}
+
+impl RuleList {
+    /// No rules.
+    pub(crate) fn new(alloc: Global) -> RuleList
+        ensures { result ≡ [] }
+    {
+        RuleList {
+            list: Vec::new(alloc),
+        }
+    }
+
+    /// The rules, in their order.
+    pub(crate) fn as_slice(&self) -> &[Rule]
+        ensures { map rule_of result.now ≡ self.now }
+    {
+        self.list.as_slice()
+    }
+
+    /// Adds a rule as the last one.
+    pub(crate) fn push(&mut self, rule: Rule) -> Result<(), AllocError>
+        ensures ok { OnOk result (self.new ≡ self.old ++ (rule_of rule) ∷ []) }
+        ensures err { OnErr result (self.new ≡ self.old) }
+    {
+        self.list.push(rule)?;
+        Ok(())
+    }
+
+    /// Removes the rule at that place.
+    pub(crate) fn remove(&mut self, place: usize)
+        requires { place < length self.old }
+        ensures { self.new ≡ remove self.old place }
+    {
+        self.list.remove(place);
+    }
+}
