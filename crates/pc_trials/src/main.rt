@@ -23,6 +23,7 @@ use std::io;
 const TABLES: &str = "\
 books.rows
 counts.rows
+edits.rows
 preferences.rows
 sessions.rows
 solver.rows

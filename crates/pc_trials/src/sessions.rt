@@ -6,7 +6,7 @@ use crate::books::{book_of, parts_text};
 use crate::reasons::tried_text;
 use crate::rows::{Machine, judge_rows, not_tried, note, number, parted};
 use crate::targets::{cell_in, entry_in};
-use crate::texts::number_text;
+use crate::texts::{number_text, tally_text};
 use pc_lits::Tally;
 use pc_logic::Book;
 use pc_session::{EditRefused, LoadRefused, Reasons, Session};
@@ -155,6 +155,7 @@ impl Machine for Session {
             "calls" => within_text(alloc, self.tally().calls, rest),
             "learned" => within_text(alloc, self.tally().learned, rest),
             "arena" => within_text(alloc, self.arena_bytes(), rest),
+            "spent" => tally_text(alloc, &self.tally()),
             _ => told(alloc, self, command),
         }
     }
