@@ -6,10 +6,8 @@ use Rattle.pc_sheet.specs.MaximalSets.{IsContained}
 use Rattle.pc_sheet.specs.declared.ids.Entry.{Entry}
 use Rattle.pc_lits.specs.declared.literal.Var.{Var}
 use Rattle.pc_solver.specs.Solver.{clauses_used}
-use Rattle.pc_support.specs.declared.asking.Inquiry.{Inquiry}
 use Rattle.pc_support.specs.inside.Places.{chosen}
 use Rattle.pc_solver.specs.Spending.{basis_of}
-use Rattle.pc_support.specs.inside.Inquiries.{IsAskable}
 use Rattle.pc_support.specs.inside.Narrowing.{IsNarrowed}
 use Rattle.pc_components.specs.Pairs.{entry_literal, target_literal}
 use Rattle.pc_support.specs.Parts.{DerivesFrom}
@@ -37,7 +35,7 @@ narrow-requires-clause-askable c =
 pub index-requires : goal.index-requires
 index-requires c =
     let q = c.args.begun.now.narrowing.inquiry.question in
-    let n = at_some (IsNarrowed (basis_of c.args.solver.now) q.literals.items q.goal c.narrow.new.log c.args.begun.now.narrowing.sets c.narrow.new.self.left.items 0) c.in_ok-found.found c.in-Some.witness c.in-Some.is c.in_ok-found.ensures.some in
+    let n = at_some (IsNarrowed (basis_of c.args.solver.now) q.literals.items q.goal c.narrow.new.log c.args.begun.now.narrowing.sets c.narrow.new.self.left 0) c.in_ok-found.found c.in-Some.witness c.in-Some.is c.in_ok-found.ensures.some in
     let below = slice_get_within c.args.begun.now.narrowing.sets c.in-Some.witness.world n.witness.set n.witness.at in
     let many : length c.args.begun.now.narrowing.sets ≡ length c.args.begun.now.numbers.items = c.requires.live.many in
     omega (arith, below, many)
@@ -53,34 +51,34 @@ returns-in-None-clause-implied c sheet cells h = (
 
 pub returns-in_ok-support-in-Some-clause-least : goal.returns-in_ok-support-in-Some-clause-least
 returns-in_ok-support-in-Some-clause-least c sheet cells h =
-    let n = narrowed_here (basis_of c.args.solver.now) c.args.begun.now.narrowing.inquiry.question c.args.begun.now.narrowing.inquiry.question (map (entry_literal c.args.self.ground.now.sizes) c.args.self.entries.now) (target_literal c.args.self.ground.now.sizes c.args.target) c.narrow.new.log c.args.begun.now.narrowing.sets c.args.begun.now.narrowing.sets c.narrow.new.self.left.items c.in-Some.witness
+    let n = narrowed_here (basis_of c.args.solver.now) c.args.begun.now.narrowing.inquiry.question c.args.begun.now.narrowing.inquiry.question (map (entry_literal c.args.self.ground.now.sizes) c.args.self.entries.now) (target_literal c.args.self.ground.now.sizes c.args.target) c.narrow.new.log c.args.begun.now.narrowing.sets c.args.begun.now.narrowing.sets c.narrow.new.self.left c.in-Some.witness
     refl c.requires.begun.literals c.requires.begun.goal refl
-    (at_some (IsNarrowed (basis_of c.args.solver.now) c.args.begun.now.narrowing.inquiry.question.literals.items c.args.begun.now.narrowing.inquiry.question.goal c.narrow.new.log c.args.begun.now.narrowing.sets c.narrow.new.self.left.items 0) c.in_ok-found.found c.in-Some.witness c.in-Some.is c.in_ok-found.ensures.some) in
-    let items : c.in_ok-support-in-Some.support.items ≡ chosen c.narrow.new.self.left.items c.args.self.entries.now = c.in_ok-support-in-Some.ensures ∙ ap (λ l. chosen l c.args.self.entries.now) c.deref.ensures.value in
-    subst (λ (s : List Entry). IsLeastSupport sheet s c.args.target) (sym items) (least_support sheet cells c.args.self.ground.now.sizes c.args.self.entries.now (basis_of c.args.solver.now) c.args.self.worlds.now c.args.target h c.consistent_is_in_maximal.ensures c.different_sublists_are_ordered.ensures (record { sets = c.args.begun.now.narrowing.sets; numbers = c.args.begun.now.numbers }) c.requires.live c.narrow.new.log c.narrow.new.self.left.items c.in-Some.witness n)
+    (at_some (IsNarrowed (basis_of c.args.solver.now) c.args.begun.now.narrowing.inquiry.question.literals.items c.args.begun.now.narrowing.inquiry.question.goal c.narrow.new.log c.args.begun.now.narrowing.sets c.narrow.new.self.left 0) c.in_ok-found.found c.in-Some.witness c.in-Some.is c.in_ok-found.ensures.some) in
+    let items : c.in_ok-support-in-Some.support.items ≡ chosen c.narrow.new.self.left c.args.self.entries.now = c.in_ok-support-in-Some.ensures in
+    subst (λ (s : List Entry). IsLeastSupport sheet s c.args.target) (sym items) (least_support sheet cells c.args.self.ground.now.sizes c.args.self.entries.now (basis_of c.args.solver.now) c.args.self.worlds.now c.args.target h c.consistent_is_in_maximal.ensures c.different_sublists_are_ordered.ensures (record { sets = c.args.begun.now.narrowing.sets; numbers = c.args.begun.now.numbers }) c.requires.live c.narrow.new.log c.narrow.new.self.left c.in-Some.witness n)
 
 pub returns-in_ok-support-in-Some-clause-implied : goal.returns-in_ok-support-in-Some-clause-implied
 returns-in_ok-support-in-Some-clause-implied c sheet cells h =
-    let n = narrowed_here (basis_of c.args.solver.now) c.args.begun.now.narrowing.inquiry.question c.args.begun.now.narrowing.inquiry.question (map (entry_literal c.args.self.ground.now.sizes) c.args.self.entries.now) (target_literal c.args.self.ground.now.sizes c.args.target) c.narrow.new.log c.args.begun.now.narrowing.sets c.args.begun.now.narrowing.sets c.narrow.new.self.left.items c.in-Some.witness
+    let n = narrowed_here (basis_of c.args.solver.now) c.args.begun.now.narrowing.inquiry.question c.args.begun.now.narrowing.inquiry.question (map (entry_literal c.args.self.ground.now.sizes) c.args.self.entries.now) (target_literal c.args.self.ground.now.sizes c.args.target) c.narrow.new.log c.args.begun.now.narrowing.sets c.args.begun.now.narrowing.sets c.narrow.new.self.left c.in-Some.witness
     refl c.requires.begun.literals c.requires.begun.goal refl
-    (at_some (IsNarrowed (basis_of c.args.solver.now) c.args.begun.now.narrowing.inquiry.question.literals.items c.args.begun.now.narrowing.inquiry.question.goal c.narrow.new.log c.args.begun.now.narrowing.sets c.narrow.new.self.left.items 0) c.in_ok-found.found c.in-Some.witness c.in-Some.is c.in_ok-found.ensures.some) in
-    (λ e. implied_by sheet cells c.args.self.ground.now.sizes c.args.self.entries.now (basis_of c.args.solver.now) c.args.self.worlds.now c.args.target h c.consistent_is_in_maximal.ensures c.different_sublists_are_ordered.ensures (record { sets = c.args.begun.now.narrowing.sets; numbers = c.args.begun.now.numbers }) c.requires.live c.narrow.new.log c.narrow.new.self.left.items c.in-Some.witness n, λ implied. refl)
+    (at_some (IsNarrowed (basis_of c.args.solver.now) c.args.begun.now.narrowing.inquiry.question.literals.items c.args.begun.now.narrowing.inquiry.question.goal c.narrow.new.log c.args.begun.now.narrowing.sets c.narrow.new.self.left 0) c.in_ok-found.found c.in-Some.witness c.in-Some.is c.in_ok-found.ensures.some) in
+    (λ e. implied_by sheet cells c.args.self.ground.now.sizes c.args.self.entries.now (basis_of c.args.solver.now) c.args.self.worlds.now c.args.target h c.consistent_is_in_maximal.ensures c.different_sublists_are_ordered.ensures (record { sets = c.args.begun.now.narrowing.sets; numbers = c.args.begun.now.numbers }) c.requires.live c.narrow.new.log c.narrow.new.self.left c.in-Some.witness n, λ implied. refl)
 
 pub returns-in_ok-support-in-Some-clause-world : goal.returns-in_ok-support-in-Some-clause-world
 returns-in_ok-support-in-Some-clause-world c =
-    let n = narrowed_here (basis_of c.args.solver.now) c.args.begun.now.narrowing.inquiry.question c.args.begun.now.narrowing.inquiry.question (map (entry_literal c.args.self.ground.now.sizes) c.args.self.entries.now) (target_literal c.args.self.ground.now.sizes c.args.target) c.narrow.new.log c.args.begun.now.narrowing.sets c.args.begun.now.narrowing.sets c.narrow.new.self.left.items c.in-Some.witness
+    let n = narrowed_here (basis_of c.args.solver.now) c.args.begun.now.narrowing.inquiry.question c.args.begun.now.narrowing.inquiry.question (map (entry_literal c.args.self.ground.now.sizes) c.args.self.entries.now) (target_literal c.args.self.ground.now.sizes c.args.target) c.narrow.new.log c.args.begun.now.narrowing.sets c.args.begun.now.narrowing.sets c.narrow.new.self.left c.in-Some.witness
     refl c.requires.begun.literals c.requires.begun.goal refl
-    (at_some (IsNarrowed (basis_of c.args.solver.now) c.args.begun.now.narrowing.inquiry.question.literals.items c.args.begun.now.narrowing.inquiry.question.goal c.narrow.new.log c.args.begun.now.narrowing.sets c.narrow.new.self.left.items 0) c.in_ok-found.found c.in-Some.witness c.in-Some.is c.in_ok-found.ensures.some) in
-    let items : c.in_ok-support-in-Some.support.items ≡ chosen c.narrow.new.self.left.items c.args.self.entries.now = c.in_ok-support-in-Some.ensures ∙ ap (λ l. chosen l c.args.self.entries.now) c.deref.ensures.value in
-    subst (λ (s : List Entry). IsSomeAnd (slice_get c.args.self.worlds.now c.index.result.now) (λ w. IsContained s w.entries)) (sym items) (world_has c.requires.asked.0 c.requires.asked.1 c.args.self.ground.now.sizes c.args.self.entries.now (basis_of c.args.solver.now) c.args.self.worlds.now c.args.target c.requires.asked.2 c.consistent_is_in_maximal.ensures c.different_sublists_are_ordered.ensures (record { sets = c.args.begun.now.narrowing.sets; numbers = c.args.begun.now.numbers }) c.requires.live c.narrow.new.log c.narrow.new.self.left.items c.in-Some.witness n c.index.result.now (slice_get_read c.args.begun.now.numbers.items (length c.args.begun.now.numbers.items) c.in-Some.witness.world c.index.result.now refl (let below = slice_get_within c.args.begun.now.narrowing.sets c.in-Some.witness.world n.witness.set n.witness.at in let many : length c.args.begun.now.narrowing.sets ≡ length c.args.begun.now.numbers.items = c.requires.live.many in omega (arith, below, many)) c.index.ensures))
+    (at_some (IsNarrowed (basis_of c.args.solver.now) c.args.begun.now.narrowing.inquiry.question.literals.items c.args.begun.now.narrowing.inquiry.question.goal c.narrow.new.log c.args.begun.now.narrowing.sets c.narrow.new.self.left 0) c.in_ok-found.found c.in-Some.witness c.in-Some.is c.in_ok-found.ensures.some) in
+    let items : c.in_ok-support-in-Some.support.items ≡ chosen c.narrow.new.self.left c.args.self.entries.now = c.in_ok-support-in-Some.ensures in
+    subst (λ (s : List Entry). IsSomeAnd (slice_get c.args.self.worlds.now c.index.result.now) (λ w. IsContained s w.entries)) (sym items) (world_has c.requires.asked.0 c.requires.asked.1 c.args.self.ground.now.sizes c.args.self.entries.now (basis_of c.args.solver.now) c.args.self.worlds.now c.args.target c.requires.asked.2 c.consistent_is_in_maximal.ensures c.different_sublists_are_ordered.ensures (record { sets = c.args.begun.now.narrowing.sets; numbers = c.args.begun.now.numbers }) c.requires.live c.narrow.new.log c.narrow.new.self.left c.in-Some.witness n c.index.result.now (slice_get_read c.args.begun.now.numbers.items (length c.args.begun.now.numbers.items) c.in-Some.witness.world c.index.result.now refl (let below = slice_get_within c.args.begun.now.narrowing.sets c.in-Some.witness.world n.witness.set n.witness.at in let many : length c.args.begun.now.narrowing.sets ≡ length c.args.begun.now.numbers.items = c.requires.live.many in omega (arith, below, many)) c.index.ensures))
 
 pub returns-in_ok-support-in-Some-clause-derived : goal.returns-in_ok-support-in-Some-clause-derived
 returns-in_ok-support-in-Some-clause-derived c =
-    let n = narrowed_here (basis_of c.args.solver.now) c.args.begun.now.narrowing.inquiry.question c.args.begun.now.narrowing.inquiry.question (map (entry_literal c.args.self.ground.now.sizes) c.args.self.entries.now) (target_literal c.args.self.ground.now.sizes c.args.target) c.narrow.new.log c.args.begun.now.narrowing.sets c.args.begun.now.narrowing.sets c.narrow.new.self.left.items c.in-Some.witness
+    let n = narrowed_here (basis_of c.args.solver.now) c.args.begun.now.narrowing.inquiry.question c.args.begun.now.narrowing.inquiry.question (map (entry_literal c.args.self.ground.now.sizes) c.args.self.entries.now) (target_literal c.args.self.ground.now.sizes c.args.target) c.narrow.new.log c.args.begun.now.narrowing.sets c.args.begun.now.narrowing.sets c.narrow.new.self.left c.in-Some.witness
     refl c.requires.begun.literals c.requires.begun.goal refl
-    (at_some (IsNarrowed (basis_of c.args.solver.now) c.args.begun.now.narrowing.inquiry.question.literals.items c.args.begun.now.narrowing.inquiry.question.goal c.narrow.new.log c.args.begun.now.narrowing.sets c.narrow.new.self.left.items 0) c.in_ok-found.found c.in-Some.witness c.in-Some.is c.in_ok-found.ensures.some) in
-    let items : c.in_ok-support-in-Some.support.items ≡ chosen c.narrow.new.self.left.items c.args.self.entries.now = c.in_ok-support-in-Some.ensures ∙ ap (λ l. chosen l c.args.self.entries.now) c.deref.ensures.value in
-    subst (λ (s : List Entry). DerivesFrom c.args.self.ground.now.sizes s c.args.target c.args.solver.now.problem.axioms c.narrow.new.log c.in-Some.witness.line) (sym items) (derives c.requires.asked.0 c.requires.asked.1 c.args.self.ground.now.sizes c.args.self.entries.now (basis_of c.args.solver.now) c.args.self.worlds.now c.args.target c.requires.asked.2 c.consistent_is_in_maximal.ensures c.different_sublists_are_ordered.ensures (record { sets = c.args.begun.now.narrowing.sets; numbers = c.args.begun.now.numbers }) c.requires.live c.narrow.new.log c.narrow.new.self.left.items c.in-Some.witness n)
+    (at_some (IsNarrowed (basis_of c.args.solver.now) c.args.begun.now.narrowing.inquiry.question.literals.items c.args.begun.now.narrowing.inquiry.question.goal c.narrow.new.log c.args.begun.now.narrowing.sets c.narrow.new.self.left 0) c.in_ok-found.found c.in-Some.witness c.in-Some.is c.in_ok-found.ensures.some) in
+    let items : c.in_ok-support-in-Some.support.items ≡ chosen c.narrow.new.self.left c.args.self.entries.now = c.in_ok-support-in-Some.ensures in
+    subst (λ (s : List Entry). DerivesFrom c.args.self.ground.now.sizes s c.args.target c.args.solver.now.problem.axioms c.narrow.new.log c.in-Some.witness.line) (sym items) (derives c.requires.asked.0 c.requires.asked.1 c.args.self.ground.now.sizes c.args.self.entries.now (basis_of c.args.solver.now) c.args.self.worlds.now c.args.target c.requires.asked.2 c.consistent_is_in_maximal.ensures c.different_sublists_are_ordered.ensures (record { sets = c.args.begun.now.narrowing.sets; numbers = c.args.begun.now.numbers }) c.requires.live c.narrow.new.log c.narrow.new.self.left c.in-Some.witness n)
 
 pub returns-in_err-append-clause-seen : goal.returns-in_err-append-clause-seen
 returns-in_err-append-clause-seen c =
