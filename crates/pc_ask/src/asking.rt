@@ -16,7 +16,6 @@ use crate::candidates::{Candidates, find_candidates};
 use crate::finding::{Found, find};
 use crate::narrowing::Choosing;
 use crate::part::{Task, asked_part, axioms_over, part_solver};
-use pc_components::find_components;
 use pc_ground::{Ground, ground_book};
 use pc_laws::different_sublists_are_ordered;
 use pc_lits::Tally;
@@ -55,16 +54,15 @@ fn search_book<'a, 'b, C: Choices>(
     well_formed(book);
     few_entries(book);
     ground.few_axioms();
-    let components = find_components(alloc, book, ground)?;
-    let part = asked_part(book, ground, &components);
-    let axioms = axioms_over(alloc, book, ground, part)?;
-    let mut solver = part_solver(alloc, book, ground, part, &axioms)?;
+    let part = asked_part(alloc, book, ground)?;
+    let axioms = axioms_over(alloc, book, ground, &part)?;
+    let mut solver = part_solver(alloc, book, ground, &part, &axioms)?;
     let choosing = Choosing {
         task: Task {
             alloc,
             book,
             ground,
-            variables: part.variables,
+            variables: &part.variables,
         },
         entries: &chosen.entries,
         fitting: chosen.fitting,

@@ -3,19 +3,16 @@
 ghost use Rattle.std.specs.Prelude.{◌≡◌, ◌↔◌, ◌<◌, ◌^◌, [], ◌∷◌, ◌++◌, All, cond, IfOk, IsTrue, length, OnOk};
 ghost use Rattle.pc_sheet.specs.Sheet.{Sheet, Statement};
 ghost use Rattle.pc_accept.specs.Asked.{asked};
-ghost use Rattle.pc_components.specs.View.{AreComponentsOf};
 ghost use Rattle.pc_ground.specs.Ground.{clauses};
 ghost use Rattle.pc_ground.specs.Grounded.{grounded};
-ghost use Rattle.pc_ask.specs.inside.Parts.{AreAxiomsOver, AreMarked, AreMarkedBelow, IsAsked, IsAskedAt, IsAskedOver, IsMarkedClause};
+ghost use Rattle.pc_ask.specs.inside.Parts.{AreAxiomsOver, AreMarked, AreMarkedBelow, IsAsked, IsAskedOver, IsMarkedClause};
 
-use crate::candidates::last_reads;
-use pc_components::{Components, Part};
+use pc_components::{PartOfPiece, find_part_of_piece};
 use pc_ground::Ground;
 use pc_lits::{ClauseStore, Lit, Values, Var};
-use pc_logic::{Book, few_cells, well_formed};
+use pc_logic::{Book, well_formed};
 use pc_problem::count_pairs;
 use pc_problem::laws::parts_are_searched;
-use pc_sheet::CellId;
 use pc_solver::Solver;
 use std::alloc::{AllocError, Global};
 
@@ -28,31 +25,18 @@ pub(crate) struct Task<'g> {
     pub(crate) variables: &'g [Var],
 }
 
-// The number of the part that has what is asked: that of a cell that it reads, and where it reads none the part without cells,
-// which is the last.
-fn number_of_asked(book: &Book, ground: &Ground, components: &Components) -> usize
+/// The part that has what is asked: that of the last piece of the rules. An error is want of memory.
+pub(crate) fn asked_part(
+    alloc: Global,
+    book: &Book,
+    ground: &Ground,
+) -> Result<PartOfPiece, AllocError>
     requires ground { ground.now ≡ grounded book.now }
     requires asked { (sheet : Sheet) × (f : Statement) × (book.now ≡ asked sheet f) }
-    requires components { AreComponentsOf book.now components.now }
-    ensures { IsAskedAt book.now result }
+    ensures { IfOk result (λ part. IsAskedOver book.now part.cells.items part.variables.items) }
 {
-    well_formed(book);
-    few_cells(book);
-    let reads = last_reads(ground);
-    if reads.is_empty() {
-        return components.len() - 1;
-    }
-    components.of(CellId(reads[0] as u16))
-}
-
-/// The part that has what is asked.
-pub(crate) fn asked_part<'c>(book: &Book, ground: &Ground, components: &'c Components) -> Part<'c>
-    requires ground { ground.now ≡ grounded book.now }
-    requires asked { (sheet : Sheet) × (f : Statement) × (book.now ≡ asked sheet f) }
-    requires components { AreComponentsOf book.now components.now }
-    ensures { IsAskedOver book.now result.cells.now result.variables.now }
-{
-    components.part(number_of_asked(book, ground, components))
+    let last = ground.reads().len() - 1;
+    find_part_of_piece(alloc, book, ground, last)
 }
 
 // Marks for these variables.
@@ -114,17 +98,17 @@ pub(crate) fn axioms_over(
     alloc: Global,
     book: &Book,
     ground: &Ground,
-    part: Part<'_>,
+    part: &PartOfPiece,
 ) -> Result<Vec<u32>, AllocError>
     requires ground { ground.now ≡ grounded book.now }
     requires literals { All (All (λ l. l.variable.0 < ground.now.variables)) ground.now.clauses }
-    requires part { IsAskedOver book.now part.cells.now part.variables.now }
-    ensures { IfOk result (λ used. AreAxiomsOver (clauses book.now) part.entry.variables.now used.items) }
+    requires part { IsAskedOver book.now part.now.cells.items part.now.variables.items }
+    ensures { IfOk result (λ used. AreAxiomsOver (clauses book.now) part.now.variables.items used.items) }
 {
     well_formed(book);
     ground.few_axioms();
     parts_are_searched();
-    let marks = marks_of(alloc, ground.variables(), part.variables)?;
+    let marks = marks_of(alloc, ground.variables(), &part.variables)?;
     let used = marked_clauses(alloc, ground.store(), &marks)?;
     Ok(used)
 }
@@ -135,13 +119,13 @@ pub(crate) fn part_solver<'g>(
     alloc: Global,
     book: &Book,
     ground: &'g Ground,
-    part: Part<'g>,
+    part: &'g PartOfPiece,
     axioms: &'g [u32],
 ) -> Result<Solver<'g>, AllocError>
     requires ground { ground.now ≡ grounded book.now }
-    requires part { IsAskedOver book.now part.cells.now part.variables.now }
-    requires axioms { AreAxiomsOver (clauses book.now) part.variables.now axioms.now }
-    ensures { IfOk result (λ s. IsAsked book.now part.entry.variables.now s []) }
+    requires part { IsAskedOver book.now part.now.cells.items part.now.variables.items }
+    requires axioms { AreAxiomsOver (clauses book.now) part.now.variables.items axioms.now }
+    ensures { IfOk result (λ s. IsAsked book.now part.now.variables.items s []) }
 {
     well_formed(book);
     ground.few_axioms();
@@ -150,10 +134,10 @@ pub(crate) fn part_solver<'g>(
         alloc,
         ground.store(),
         axioms,
-        part.variables,
+        &part.variables,
         ground.variables(),
     )?;
-    solver.prefer_first(count_pairs(book, part.cells));
+    solver.prefer_first(count_pairs(book, &part.cells));
     solver.show_nothing();
     Ok(solver)
 }

@@ -39,24 +39,24 @@ use Rattle.pc_components.proofs.TurnedMeans.{places_are, are_places, in_order}
 
 -- ---- lists by their places
 
-place_of : {X : Type 0} (xs : List X) (x : X) → Contains xs x → (k : ℕ) × (slice_get xs k ≡ Some x)
+pub place_of : {X : Type 0} (xs : List X) (x : X) → Contains xs x → (k : ℕ) × (slice_get xs k ≡ Some x)
 place_of [] x h = absurd (contains_none x h)
 place_of (y ∷ ys) x h = elim (contains_cases y ys x h) [
   | inl same ↦ (0, ap Some same)
   | inr later ↦ let found = place_of ys x later in (suc found.0, found.1)
 ]
 
-within : {X : Type 0} (xs : List X) (k : ℕ) (x : X) → slice_get xs k ≡ Some x → k < length xs
+pub within : {X : Type 0} (xs : List X) (k : ℕ) (x : X) → slice_get xs k ≡ Some x → k < length xs
 within [] k x h = absurd (cc)
 within (y ∷ ys) zero x h = omega arith
 within (y ∷ ys) (suc k) x h = let l = within ys k x h in omega (arith, l)
 
-item : {X : Type 0} (xs : List X) (k : ℕ) → k < length xs → (x : X) × (slice_get xs k ≡ Some x)
+pub item : {X : Type 0} (xs : List X) (k : ℕ) → k < length xs → (x : X) × (slice_get xs k ≡ Some x)
 item [] k l = absurd (omega (arith, l))
 item (y ∷ ys) zero l = (y, refl)
 item (y ∷ ys) (suc k) l = item ys k (omega (arith, l))
 
-mapped : {X Y : Type 0} (f : X → Y) (xs : List X) (k : ℕ) (x : X) → slice_get xs k ≡ Some x → slice_get (map f xs) k ≡ Some (f x)
+pub mapped : {X Y : Type 0} (f : X → Y) (xs : List X) (k : ℕ) (x : X) → slice_get xs k ≡ Some x → slice_get (map f xs) k ≡ Some (f x)
 mapped f [] k x h = absurd (cc)
 mapped f (y ∷ ys) zero x h = let same : y ≡ x = same_some h in ap (λ z. Some (f z)) same
 mapped f (y ∷ ys) (suc k) x h = mapped f ys k x h
@@ -177,7 +177,7 @@ parts_are_in_their_ground sheet part used own axs vars = (
   λ x h. used_below sheet used x ((vars.exact x).0 h),
 )
 
-variables_right : (sheet : Sheet) (axs : List (List ℕ)) (bound i : ℕ) (used : List ℕ) → bound ≡ variable_count sheet → slice_get axs i ≡ Some used
+pub variables_right : (sheet : Sheet) (axs : List (List ℕ)) (bound i : ℕ) (used : List ℕ) → bound ≡ variable_count sheet → slice_get axs i ≡ Some used
     → AreVariablesOf (clauses sheet) used (places_from 0 (turned bound (map (variables_in (clauses sheet)) axs)) i)
 variables_right sheet axs bound i used bound_is at =
     let store = clauses sheet in
@@ -257,7 +257,7 @@ module _ (sheet : Sheet) (formed : IsWellFormed sheet) where
     many : length (map alone cells_by) ≡ cell_count u
     many = length-map cells_by alone ∙ ap length are ∙ length-map (all_cells u) (cell_number_by u labels) ∙ length-range_with_len 0 (cell_count u)
 
-    part_of_number : (i : ℕ) (part : Part) → slice_get (parts_of sheet) i ≡ Some part → places_from 0 (map alone cells_by) i ≡ part.cells
+    pub part_of_number : (i : ℕ) (part : Part) → slice_get (parts_of sheet) i ≡ Some part → places_from 0 (map alone cells_by) i ≡ part.cells
     part_of_number i part at =
         let rows = map alone cells_by in
         let cells = part_cells i part at in
@@ -282,7 +282,7 @@ module _ (sheet : Sheet) (formed : IsWellFormed sheet) where
         let at = cell_part sheet formed c l in
         (i, number_there c l, (part, at, (cells_at sheet formed c l i part at).0 refl))
 
-  axioms_right : (i : ℕ) (part : Part) → slice_get (parts_of sheet) i ≡ Some part → AreAxiomsOf sheet part (places_from 0 (owners_by sheet labels) i)
+  pub axioms_right : (i : ℕ) (part : Part) → slice_get (parts_of sheet) i ≡ Some part → AreAxiomsOf sheet part (places_from 0 (owners_by sheet labels) i)
   axioms_right i part at =
       let os = owners_by sheet labels in
       let IsOwned : GroundAxiom → List ℕ → Type 0 = λ g row. (j : ℕ) (p : Part) → slice_get (parts_of sheet) j ≡ Some p → Contains row j ↔ IsAxiomOfPart p g.name in

@@ -21,3 +21,5 @@ pub mod KeptRight
 pub mod TraversalRight
 pub mod NumbersRight
 pub mod Solvable
+pub mod MarksRight
+pub mod PieceRight

@@ -136,7 +136,7 @@ module _ (sheet : Sheet) (formed : IsWellFormed sheet) where
       subst (λ (x : Part). Contains x.pieces p) same h
 
   -- the pieces of the part of that number
-  pieces_at : (p : Piece) → Contains (pieces sheet) p → (i : ℕ) (part : Part) → slice_get (parts_of sheet) i ≡ Some part → (number_by u labels (cells_of u p) ≡ i) ↔ Contains part.pieces p
+  pub pieces_at : (p : Piece) → Contains (pieces sheet) p → (i : ℕ) (part : Part) → slice_get (parts_of sheet) i ≡ Some part → (number_by u labels (cells_of u p) ≡ i) ↔ Contains part.pieces p
   pieces_at p there i part at = by (cells_of u p) refl
     where
       by : (cs : List ℕ) → cells_of u p ≡ cs → (number_by u labels (cells_of u p) ≡ i) ↔ Contains part.pieces p

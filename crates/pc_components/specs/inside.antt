@@ -5,3 +5,4 @@ pub mod Numbers
 pub mod Turned
 pub mod Spans
 pub mod ClauseVariables
+pub mod Marks

@@ -11,6 +11,7 @@ ghost use Rattle.pc_components.specs.Traversal.{IsTraversal, Nothing, is_open, r
 ghost use Rattle.pc_components.specs.inside.Turned.{turned};
 ghost use Rattle.pc_components.specs.inside.Within.{AreBelow, AreAllBelow};
 
+use crate::marks::no_marks;
 use crate::turned::turn;
 use pc_lits::Rows;
 use std::alloc::{AllocError, Global};
@@ -51,17 +52,6 @@ fn no_labels(alloc: Global, count: usize) -> Result<Vec<usize>, AllocError>
     Ok(labels)
 }
 
-/// So many rows that weren't visited.
-fn none_visited(alloc: Global, count: usize) -> Result<Vec<bool>, AllocError>
-    ensures { IfOk result (λ visited. visited.items ≡ replicate count false) }
-{
-    let mut visited = Vec::new(alloc);
-    for _ in 0..count {
-        visited.push(false)?;
-    }
-    Ok(visited)
-}
-
 impl Traversal {
     /// Before the search.
     fn new(alloc: Global, cells: usize, rows: usize) -> Result<Traversal, AllocError>
@@ -70,7 +60,7 @@ impl Traversal {
         Ok(Traversal {
             labels: no_labels(alloc, cells)?,
             frontier: Vec::new(alloc),
-            visited: none_visited(alloc, rows)?,
+            visited: no_marks(alloc, rows)?,
         })
     }
 

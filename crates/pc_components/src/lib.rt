@@ -4,9 +4,11 @@
 mod components;
 mod labels;
 mod laws;
+mod marks;
 mod narrow;
 mod numbers;
 mod part_numbers;
+mod piece_part;
 mod turned;
 mod variables;
 
@@ -16,3 +18,4 @@ pub use laws::{
     part_axioms_are_for_their_parts, parts_are_in_their_ground, parts_are_solvable,
     parts_have_their_own_variables,
 };
+pub use piece_part::{PartOfPiece, find_part_of_piece};

@@ -46,7 +46,7 @@ fn variable_of(number: usize) -> Var
     Var(number as u32)
 }
 
-fn cells_of(alloc: Global, row: &[usize]) -> Result<Vec<CellId>, AllocError>
+pub(crate) fn cells_of(alloc: Global, row: &[usize]) -> Result<Vec<CellId>, AllocError>
     requires { AreBelow (2 ^ 16) row.now }
     ensures { IfOk result (λ cells. map number_of cells.items ≡ row.now) }
 {
@@ -92,7 +92,7 @@ pub(crate) fn rows_of_axioms(alloc: Global, rows: &Rows<usize>) -> Result<Rows<u
     Ok(axioms)
 }
 
-fn variables_of(alloc: Global, row: &[usize]) -> Result<Vec<Var>, AllocError>
+pub(crate) fn variables_of(alloc: Global, row: &[usize]) -> Result<Vec<Var>, AllocError>
     requires { AreBelow (2 ^ 32) row.now }
     ensures { IfOk result (λ variables. map variable_number variables.items ≡ row.now) }
 {

@@ -1,5 +1,5 @@
 -- The part of an asked sheet that has what is asked, as what a solver searches.
-use Rattle.std.specs.Prelude.{◌≡◌, ◌↔◌, ℕ, ◌<◌, ◌^◌, true, List, [], Option, Bool, None, Some, All, Contains, length, map, slice_get, slice_index_or}
+use Rattle.std.specs.Prelude.{◌≡◌, ◌↔◌, ℕ, ◌<◌, ◌^◌, true, List, [], Option, Bool, None, Some, All, Contains, length, map, slice_index_or}
 use Rattle.pc_lits.specs.declared.literal.Var.{Var}
 use Rattle.pc_lits.specs.declared.literal.Lit.{Lit}
 use Rattle.pc_log.specs.Lines.{LogLine}
@@ -13,7 +13,6 @@ use Rattle.pc_ground.specs.Ground.{clauses}
 use Rattle.pc_ground.specs.GroundView.{Grounded}
 use Rattle.pc_ground.specs.Grounded.{grounded}
 use Rattle.pc_parts.specs.Parts.{Part}
-use Rattle.pc_parts.specs.Components.{parts_of}
 use Rattle.pc_components.specs.Pairs.{IsValueOfCell}
 use Rattle.pc_components.specs.PartAxioms.{AreAxiomsOf, AreVariablesOf}
 use Rattle.pc_components.specs.View.{number_of, variable_number}
@@ -43,12 +42,6 @@ abbrev pub AreAxiomsOver : List (List Lit) → List Var → List ℕ → Type 0
 AreAxiomsOver store own used = (k : ℕ) → Contains used k ↔ ((k < length store) × IsOverOwn own (slice_index_or store k []))
 
 -- ---- the part
-
--- the part of that number has what is asked
-pub record IsAskedAt (book : Sheet) (i : ℕ) : Type 0 where
-  pub part : Part
-  pub at : slice_get (parts_of book) i ≡ Some part
-  pub is : IsAskedPart book part
 
 -- the cells of the part that has what is asked, and the variables that its axioms name
 pub record IsAskedOver (book : Sheet) (cells : List CellId) (own : List Var) : Type 0 where
