@@ -1,11 +1,12 @@
 #!/usr/bin/env python3
 """Of a sheet that is refused as `13 inconsistent`, finds rules that can't stand together, none of which can be left out.
 
-    python3 extras/clash.py SHEET [--program ./predicalc] [--budget K]
+    python3 extras/clash.py SHEET [--line 'rule five : ..'] [--program ./predicalc] [--budget K]
 
 It has the program load the sheet without its entries, which don't count here, and then again and again with fewer rules: first
 those that the certificate of the refusal uses, then one less each time, as long as they contradict one another. So it asks as
 often as the certificate uses rules, and once more. A rule without which the search spends its budget stays, and is told.
+With --line that rule is one of the sheet's, as where it was typed and refused.
 
 The status is 0 where rules that clash were found, 1 where the rules don't contradict one another, 3 where the sheet is
 refused for something else, 4 where a file can't be read or the program isn't there.
@@ -18,6 +19,20 @@ import check
 from common import Program, bytes_of, lines_of_table, many, run, sheet_of, words_of
 
 INCONSISTENT = 'sheet refused 13 '
+
+
+def with_rule(data, rule):
+    """The text with the rule before its `begin`, and in the version that takes every rule."""
+    lines = check.lines_of(data)
+    said = [place for place, line in enumerate(lines) if line.strip() and not line.lstrip().startswith(b';')]
+    lines[said[0]] = b'sheet 2'
+    return b'\n'.join([*lines[:said[-1]], rule.encode(), *lines[said[-1]:], b''])
+
+
+def number_of(trial, name, typed):
+    """What a rule is told by: its line's number, or that it was typed."""
+    text = trial.lines[trial.rules[name] - 1].decode()
+    return 'typed' if text == typed else f'line {trial.rules[name]}'
 
 
 class Trial:
@@ -64,18 +79,28 @@ class Trial:
 def main():
     parser = words_of(__doc__)
     parser.add_argument('sheet', metavar='SHEET')
+    parser.add_argument('--line', metavar='RULE', help='a rule that the sheet is to have besides')
     parser.add_argument('--program', default='predicalc', help='the command that runs the program (predicalc)')
     parser.add_argument('--budget', metavar='K', type=int, help='its budget for each search')
     words = parser.parse_args()
+    data = bytes_of(words.sheet)
     sheet_of(words.sheet)
-    trial = Trial(bytes_of(words.sheet), Program(words.program, words.budget))
+    if words.line:
+        data = with_rule(data, words.line)
+        try:
+            check.load(data)
+        except check.Refused as refused:
+            print(str(refused).replace('sheet refused', 'with the line the sheet is refused'))
+            return 3
+    trial = Trial(data, Program(words.program, words.budget))
     told, used = trial.refusal(list(trial.rules))
     if not told.startswith(INCONSISTENT):
         print(told or 'The rules don\'t contradict one another.')
         return 3 if told else 1
     rules, unsure = trial.smallest(used)
-    print(f'{many(len(rules), "rule")} of {len(trial.rules)} can\'t stand together, and none of them can be left out:')
-    rows = [[f'line {trial.rules[name]}', trial.lines[trial.rules[name] - 1].decode().strip()] for name in rules]
+    print(f'{many(len(rules), "rule")} of {len(trial.rules)} can\'t stand together, and none of them can be left out:'
+          if len(rules) > 1 else f'No plan obeys this rule, one of {len(trial.rules)}:')
+    rows = [[number_of(trial, name, words.line), trial.lines[trial.rules[name] - 1].decode().strip()] for name in rules]
     print('\n'.join(lines_of_table(rows, '><')))
     for name in unsure:
         print(f'Without {name} the search spent its budget, so it may be dispensable.')
