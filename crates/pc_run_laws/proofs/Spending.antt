@@ -18,7 +18,7 @@ use Rattle.pc_sheet.specs.declared.ids.CellId.{CellId}
 use Rattle.pc_sheet.specs.declared.ids.Entry.{Entry}
 use Rattle.pc_logic.specs.Edits.{is_same_entry, entered_to, added_to, without_one, cleared, entered, also_entered, without_entry, without_cell, without_rule}
 use Rattle.pc_logic.proofs.BookLemmas.{with_entries}
-use Rattle.pc_logic.proofs.EditLemmas.{rules_stay}
+use Rattle.pc_logic.proofs.EditLemmas.{sheet_stays}
 use Rattle.pc_logic.proofs.EntryLemmas.{entries_stay, entries_beside, entries_kept}
 use Rattle.pc_cert.proofs.ReadEntries.{is_an_entry}
 use Rattle.pc_theory.specs.Spendings.{IsLawful}
@@ -126,7 +126,7 @@ formed_without : (sheet : Sheet) (e : Entry) → IsWellFormed sheet → IsWellFo
 formed_without sheet e formed = with_entries sheet (without_one e sheet.entries) formed (entries_kept sheet.universe (λ f. not (is_same_entry e f)) sheet.entries formed.entries)
 
 formed_dropped : (sheet : Sheet) (name : List ℕ) (k : ℕ) → IsWellFormed sheet → IsRuleAt sheet.rules name k → IsWellFormed (without_rule sheet k)
-formed_dropped sheet name k formed at = record { universe = formed.universe; rules = rules_stay sheet.universe sheet.rules k at.0 formed.rules; entries = formed.entries }
+formed_dropped sheet name k formed at = sheet_stays sheet k at.0 formed
 
 -- a search's sheet is well formed
 pub search_formed : CellsAreNumberedInOrder → (sheet : Sheet) (a : Asked) (cell : Option CellId) (made : Sheet) → IsWellFormed sheet → NeedsSearch sheet a cell made → IsWellFormed made

@@ -5,7 +5,7 @@ use Rattle.pc_sheet.specs.Cells.{CellsAreNumberedInOrder}
 use Rattle.pc_sheet.specs.WellFormed.{IsWellFormed, is_of_cell}
 use Rattle.pc_logic.specs.Edits.{added_to, entered_to, without_one, cleared, is_same_entry}
 use Rattle.pc_logic.proofs.BookLemmas.{with_entries}
-use Rattle.pc_logic.proofs.EditLemmas.{rules_stay}
+use Rattle.pc_logic.proofs.EditLemmas.{sheet_stays}
 use Rattle.pc_logic.proofs.EntryLemmas.{entries_stay, entries_beside, entries_kept}
 use Rattle.pc_cert.proofs.ReadEntries.{is_an_entry}
 use Rattle.pc_transcript.specs.Answer.{silent, accepted, shown, refused, no_memory}
@@ -33,7 +33,7 @@ module _ (ordered : CellsAreNumberedInOrder) where
   edit_keeps state asked task formed (removing e named stands) edit = with_entries state.sheet (without_one e state.sheet.entries) formed (entries_kept state.sheet.universe (λ f. not (is_same_entry e f)) state.sheet.entries formed.entries)
   edit_keeps state asked task formed (clearing k named has) edit = with_entries state.sheet (cleared state.sheet.entries k) formed (entries_kept state.sheet.universe (λ e. not (is_of_cell k e)) state.sheet.entries formed.entries)
   edit_keeps state asked task formed (adding {n = n} {f = f} r new light consistent) edit = formed_with state.sheet n f r formed new
-  edit_keeps state asked task formed (dropping place at) edit = record { universe = formed.universe; rules = rules_stay state.sheet.universe state.sheet.rules place at.0 formed.rules; entries = formed.entries }
+  edit_keeps state asked task formed (dropping place at) edit = sheet_stays state.sheet place at.0 formed
   edit_keeps state asked task formed (budgeting within) edit = formed
   edit_keeps state asked task formed (asking t named holds) edit = absurd edit
   edit_keeps state asked task formed showing edit = absurd edit
