@@ -15,6 +15,7 @@ mod Words
 mod Saved
 mod OneWord
 mod BrokenSessions
+mod BrokenVerdicts
 mod BrokenAnswers
 mod Worked
 mod OtherDisplay

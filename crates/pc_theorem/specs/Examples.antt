@@ -5,7 +5,7 @@ use Rattle.pc_port.specs.Shelf.{Files}
 use Rattle.pc_lines.specs.Lines.{lines_of, line_text_of}
 use Rattle.pc_token.specs.Line.{IsOneName}
 use Rattle.pc_syntax.specs.Tree.{asks_clear, asks_show, Cell}
-use Rattle.pc_syntax.specs.Command.{IsCommandReading, asks}
+use Rattle.pc_syntax.specs.Command.{IsCommandReading, asks, TakesNoMemory}
 use Rattle.pc_sheet.specs.Sheet.{Sheet}
 use Rattle.pc_sheet.specs.Entailment.{cell_sizes, IsImplied}
 use Rattle.pc_sheet.specs.MaximalSets.{AreRulesConsistent}
@@ -17,13 +17,15 @@ use Rattle.pc_sortcheck.specs.Declaring.{ReadsAs}
 use Rattle.pc_writer.specs.SheetText.{sheet_text, ended}
 use Rattle.pc_display.specs.Show.{IsShown}
 use Rattle.pc_refusals.specs.declared.refusal.Counts.{Counts}
+use Rattle.pc_refusals.specs.declared.refusal.Refusal.{Refusal}
 use Rattle.pc_refusals.specs.declared.refusal.Refusal.TheVariants.{Spent}
 use Rattle.pc_refusals.specs.declared.status.Status.{Status}
 use Rattle.pc_refusals.specs.declared.status.Status.TheVariants.{Done, SomeRefused, SheetRefused, CertRefused}
 use Rattle.pc_refusals.specs.Events.{Outside}
-use Rattle.pc_transcript.specs.Answer.{shown, refused, no_memory}
+use Rattle.pc_transcript.specs.Answer.{silent, accepted, shown, refused, no_memory}
 use Rattle.pc_words.specs.Words.{usual_budget}
-use Rattle.pc_spreadsheet.specs.Tasks.{State, shows, why_page, IsTask}
+use Rattle.pc_spreadsheet.specs.Refused.{IsRefused}
+use Rattle.pc_spreadsheet.specs.Tasks.{State, Task, shows, why_page, IsTask, state_after}
 use Rattle.pc_afresh_laws.specs.Afresh.{IsOpen}
 use Rattle.pc_theorem.specs.Certificates.{IsValueLine}
 use Rattle.pc_theorem.specs.Theorem.{Explains, Answers, KeepsItsWord}
@@ -105,3 +107,24 @@ pub record BrokenAnswers : Type 0 where
       → ((e : Entry) → ¬ Any (λ line. IsValueLine state.sheet line e) (lines text)) → ¬ Answers state line (shown text) next
   -- the usual budget is spent at once where one of two cells is cleared
   pub spent_at_once : (next : State) (line more : List ℕ) (c : Cell) (counts : Counts) → IsCommandReading line (asks (asks_clear c)) → ¬ Answers (record { sheet = equal_cells; budget = usual_budget }) line (refused (Spent counts) more) next
+
+-- By the verdicts of lines, of which each has one.
+pub record BrokenVerdicts : Type 0 where
+  -- nothing is told where something is asked
+  pub silent_of_task : (state next : State) (line : List ℕ) (task : Task) → IsWellFormed state.sheet → IsTask state line task → ¬ Answers state line silent next
+  -- an edit is answered by `ok`, and another state follows than that after it
+  pub edit_undone : (state next : State) (line : List ℕ) (edit : Task) → IsWellFormed state.sheet → IsTask state line edit → next ≢ state_after state edit → ¬ Answers state line accepted next
+  -- what can't be done is answered by `ok`
+  pub done_though_refused : (state next : State) (line : List ℕ) (why : Refusal) → IsWellFormed state.sheet → IsRefused state line why → ¬ Answers state line accepted next
+  -- what can be done is refused, but not for the budget
+  pub doable_refused : (state next : State) (line more : List ℕ) (task : Task) (why : Refusal) → IsWellFormed state.sheet → IsTask state line task → ((counts : Counts) → why ≢ Spent counts) → ¬ Answers state line (refused why more) next
+  -- what can't be done is refused for another cause than its own
+  pub other_cause : (state next : State) (line more : List ℕ) (why other : Refusal) → IsWellFormed state.sheet → IsRefused state line why → other ≢ why → ((counts : Counts) → other ≢ Spent counts) → ¬ Answers state line (refused other more) next
+  -- fewer literals are placed than the budget allows, or more
+  pub spent_early : (state next : State) (line more : List ℕ) (counts : Counts) → counts.placed ≢ state.budget → ¬ Answers state line (refused (Spent counts) more) next
+  -- memory is wanting for a line that takes none
+  pub want_of_none : (state next : State) (line : List ℕ) → TakesNoMemory line → ¬ Answers state line no_memory next
+  -- a page, a refusal or want of memory changes the state
+  pub changed_by_page : (state next : State) (line text : List ℕ) → next ≢ state → ¬ Answers state line (shown text) next
+  pub changed_by_refusal : (state next : State) (line more : List ℕ) (why : Refusal) → next ≢ state → ¬ Answers state line (refused why more) next
+  pub changed_by_want : (state next : State) (line : List ℕ) → next ≢ state → ¬ Answers state line no_memory next

@@ -1,5 +1,5 @@
 // The laws of the page, each the contract of a function that does nothing.
-ghost use Rattle.pc_theorem.specs.Examples.{BrokenAnswers, BrokenWords, WorkedWords};
+ghost use Rattle.pc_theorem.specs.Examples.{BrokenAnswers, BrokenVerdicts, BrokenWords, WorkedWords};
 ghost use Rattle.pc_theorem.specs.Laws.{AnswersLeaveOneState, DemonstrationsOfEnoughAreDone, RunsDemonstrate, RunsKeepJournals, RunsKeepTheirWord, SavedSheetsShowTheSame, SavedSheetsTakeCertificates, TranscriptsLeaveOneState};
 
 use pc_accept::certificates_are_sound;
@@ -100,6 +100,7 @@ pub fn worked_words()
 pub fn broken_words()
     ensures words { BrokenWords }
     ensures answers { BrokenAnswers }
+    ensures verdicts { BrokenVerdicts }
 {
     one_reading();
     dumps_start_again();
