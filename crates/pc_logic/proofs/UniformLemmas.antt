@@ -22,7 +22,7 @@ use Rattle.pc_sheet.specs.declared.ids.ValueId.{ValueId}
 use Rattle.pc_sheet.specs.declared.meaning.Meaning.{Meaning}
 use Rattle.pc_sheet.specs.declared.meaning.Meaning.TheVariants.{Whole, Value}
 use Rattle.pc_logic.specs.Cut.{cut}
-use Rattle.pc_logic.specs.inside.Uniform.{IsConstant, AreConstant, IsFixed, AreFixed, AllFixed, IsFixedSum, IsUniform, AreUniform}
+use Rattle.pc_logic.specs.inside.Uniform.{IsConstantItem, AreConstant, IsFixed, AreFixed, AllFixed, IsFixedSum, IsUniform, AreUniform}
 use Rattle.pc_logic.proofs.WeightLemmas.{sum_flat, sum_values}
 
 -- ---- readings that look up the same cells
@@ -138,7 +138,7 @@ uniform_bodies u scope sort body first start times each result h many one is =
 
 -- ---- as the code has them
 
-pub constant_from_each : (ts : List Term) → ((k : ℕ) (d : Term) → k < length ts → IsConstant (item_of (get_or ts k d))) → AreConstant (items_of (map item_of ts))
+pub constant_from_each : (ts : List Term) → ((k : ℕ) (d : Term) → k < length ts → IsConstantItem (item_of (get_or ts k d))) → AreConstant (items_of (map item_of ts))
 constant_from_each [] h = tt
 constant_from_each (t ∷ ts) h = (h 0 t (omega arith), constant_from_each ts (λ k d l. h (suc k) d (omega arith)))
 

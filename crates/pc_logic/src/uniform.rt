@@ -1,13 +1,13 @@
 //! Formulas that look up the same cells whatever values the variables have: these weigh the same under each.
 ghost use Rattle.std.specs.Prelude.{IsTrue, map};
 ghost use Rattle.pc_sheet.specs.Views.{added_of, item_of, items_of, statement_of, statements_of, sum_of};
-ghost use Rattle.pc_logic.specs.inside.Uniform.{IsConstant, AreConstant, IsFixed, AreFixed, AllFixed, IsFixedSum, IsUniform, AreUniform};
+ghost use Rattle.pc_logic.specs.inside.Uniform.{IsConstantItem, AreConstant, IsFixed, AreFixed, AllFixed, IsFixedSum, IsUniform, AreUniform};
 
 use pc_sheet::{Formula, Side, Sign, Term};
 
 /// Whether the term is a value or a number.
 fn is_constant(term: &Term) -> bool
-    ensures { IsTrue result → IsConstant (item_of term.now) }
+    ensures { IsTrue result → IsConstantItem (item_of term.now) }
 {
     match term {
         Term::Variable(_) => false,

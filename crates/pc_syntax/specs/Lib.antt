@@ -1,7 +1,6 @@
 pub mod Clause
 pub mod Command
 pub mod Fault
-pub mod Keyword
 pub mod Line
 pub mod Part
 pub mod Sheet
@@ -9,3 +8,4 @@ pub mod Sized
 pub mod Spelling
 pub mod Told
 pub mod Tree
+pub mod inside

@@ -4,7 +4,7 @@ ghost use Rattle.pc_name.specs.Names.{most_name_bytes};
 ghost use Rattle.pc_token.specs.Line.{IsOneName};
 ghost use Rattle.pc_syntax.specs.Tree.{Asked, asked_of};
 ghost use Rattle.pc_syntax.specs.Command.{command_keyword, FollowsCommand, IsCommand, IsDeepAsk, Asks, IsAlone, CommandReading, IsCommandReading, TakesNoMemory};
-ghost use Rattle.pc_syntax.specs.Keyword.{text_of};
+ghost use Rattle.pc_syntax.specs.inside.Keyword.{keyword_text};
 ghost use Rattle.pc_syntax.specs.Told.{reading_of, IsCommandTold, TellsCommand, IsAskedTold, IsLone};
 ghost use Rattle.pc_syntax.specs.Sized.{IsSizedReading, IsNestedReading};
 
@@ -120,7 +120,7 @@ enum Keyword {
 
 // The word that the text is, where that starts a command of several words.
 fn keyword_of(start: &str) -> Option<Keyword>
-    ensures { MatchOption result ((a : Asked) → command_keyword a ≡ start.now → IsAlone a) (λ k. text_of k ≡ start.now) }
+    ensures { MatchOption result ((a : Asked) → command_keyword a ≡ start.now → IsAlone a) (λ k. keyword_text k ≡ start.now) }
 {
     if is_word(start, "enter") {
         return Some(Keyword::Enter);
@@ -176,8 +176,8 @@ fn command_behind(
     keyword: Keyword,
     words: &mut Words<'_>,
 ) -> Result<Command, Refusal>
-    ensures told { IfOk result (λ c. Asks (text_of keyword) (asked_of c) words.old) }
-    ensures none { result ≡ Err Refusal.Syntax → (a : Asked) → Asks (text_of keyword) a words.old → ⊥ }
+    ensures told { IfOk result (λ c. Asks (keyword_text keyword) (asked_of c) words.old) }
+    ensures none { result ≡ Err Refusal.Syntax → (a : Asked) → Asks (keyword_text keyword) a words.old → ⊥ }
 {
     match keyword {
         Keyword::Enter => entering(alloc, words),

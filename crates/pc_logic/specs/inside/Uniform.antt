@@ -4,15 +4,15 @@ use Rattle.pc_name.specs.declared.sign.Sign.{Sign}
 use Rattle.pc_sheet.specs.Sheet.{Item, variable, constant, number, cell, Items, no_items, item, Sum, Statement, compare, in_table, negation, all_of, some_of, implies, iff, for_all, exists, counts, Statements, no_statements, statement}
 
 -- a value or a number
-abbrev pub IsConstant : Item → Type 0
-IsConstant (variable k) = ⊥
-IsConstant (constant s v) = Unit {0}
-IsConstant (number z) = Unit {0}
-IsConstant (cell f xs) = ⊥
+abbrev pub IsConstantItem : Item → Type 0
+IsConstantItem (variable k) = ⊥
+IsConstantItem (constant s v) = Unit {0}
+IsConstantItem (number z) = Unit {0}
+IsConstantItem (cell f xs) = ⊥
 
 abbrev pub AreConstant : Items → Type 0
 AreConstant no_items = Unit {0}
-AreConstant (item x xs) = IsConstant x × AreConstant xs
+AreConstant (item x xs) = IsConstantItem x × AreConstant xs
 
 -- without a cell, or a cell at values and numbers
 abbrev pub IsFixed : Item → Type 0
@@ -25,10 +25,12 @@ abbrev pub AreFixed : Items → Type 0
 AreFixed no_items = Unit {0}
 AreFixed (item x xs) = IsFixed x × AreFixed xs
 
+-- of added items
 abbrev pub AllFixed : List (Sign × Item) → Type 0
 AllFixed [] = Unit {0}
 AllFixed (x ∷ xs) = IsFixed x.1 × AllFixed xs
 
+-- of a side
 abbrev pub IsFixedSum : Sum → Type 0
 IsFixedSum s = IsFixed s.first × AllFixed s.rest
 
