@@ -21,7 +21,7 @@ use Rattle.pc_solver.specs.Spending.{StopSays}
 use Rattle.pc_solver.specs.declared.stop.Stop.{Stop}
 use Rattle.pc_solver.specs.declared.stop.Stop.TheVariants as stop
 use Rattle.pc_session.specs.Causes.{IsEntryCause, IsRemovalCause}
-use Rattle.pc_session.specs.inside.Changes.{adds_one, made_of, more, IsAskedFor, IsFoundOf}
+use Rattle.pc_session.specs.inside.Changes.{adds_one, made_of, as_list, IsAskedFor, IsFoundOf}
 use Rattle.pc_session.specs.inside.Edits.{AreChanges, IsMade}
 use Rattle.pc_session.specs.inside.Refusals.{IsStopTold}
 use Rattle.pc_session.specs.inside.States.{IsState}
@@ -72,7 +72,7 @@ module _ (sheet : Sheet) (theory : TheoryView) (c : CellId) (known : IsTheory (r
 
 -- ---- what that is for the sheet before the edit
 
-none_more : (o : Option Entry) → adds_one o ≡ false → more o ≡ []
+none_more : (o : Option Entry) → adds_one o ≡ false → as_list o ≡ []
 none_more None none = refl
 none_more (Some e) none = absurd (cc)
 
@@ -88,9 +88,9 @@ module _ (old : State) (change : Change) (a : Asked) (is : IsAskedFor old change
   numbered_old p at = subst (λ x. IsPartNumbered (rules_alone x) a.part p) is_new at
 
   pub asked_new : AreAsked (cell_sizes new.universe) old.theory.components a.part a.targets.items
-  asked_new = asked old.book old.theory old.cache.rows state.known (takes change.taken) (adds_one change.added) (more change.added) (none_more change.added) a.part is.cells is.at a.targets.items is.targets new is_new
+  asked_new = asked old.book old.theory old.cache.rows state.known (takes change.taken) (adds_one change.added) (as_list change.added) (none_more change.added) a.part is.cells is.at a.targets.items is.targets new is_new
 
-  pub made : (limit : ℕ) (found : Edit) → IsFoundOf new change.cell a.part a.targets.items limit found → IsMade old.book old.cache.rows change.cell (takes change.taken) (more change.added) limit found
+  pub made : (limit : ℕ) (found : Edit) → IsFoundOf new change.cell a.part a.targets.items limit found → IsMade old.book old.cache.rows change.cell (takes change.taken) (as_list change.added) limit found
   made limit found h = record {
     part = is.part;
     numbered = subst (λ i. IsPartNumbered (rules_alone old.book) i is.part) (sym h.part) is.numbered;
@@ -111,7 +111,7 @@ module _ (old : State) (change : Change) (a : Asked) (is : IsAskedFor old change
       gone = takes change.taken
 
       added : List Entry
-      added = more change.added
+      added = as_list change.added
 
       most : ℕ
       most = found.spending.tally.learned + found.spending.tally.calls

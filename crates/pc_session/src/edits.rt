@@ -8,7 +8,7 @@ ghost use Rattle.pc_cache.specs.Rows.{bytes_of_rows};
 ghost use Rattle.pc_sheet.specs.WellFormed.{IsWellFormed};
 ghost use Rattle.pc_session.specs.Arena.{compacted};
 ghost use Rattle.pc_session.specs.Causes.{IsEntryCause};
-ghost use Rattle.pc_session.specs.inside.Changes.{made_of, more, IsAskedFor, IsChangeOf};
+ghost use Rattle.pc_session.specs.inside.Changes.{made_of, as_list, IsAskedFor, IsChangeOf};
 ghost use Rattle.pc_session.specs.inside.Chosen.{AreChosen};
 ghost use Rattle.pc_session.specs.inside.States.{IsEdited, IsSame, IsSameBeside, IsState};
 ghost use Rattle.pc_session.specs.inside.Taken.{takes};
@@ -35,7 +35,7 @@ fn make_searched(
     requires chosen { AreChosen state.old.book state.old.chosen }
     requires change { IsChangeOf state.old.book change }
     requires asked { IsAskedFor state.old change asked }
-    ensures done { OnOk result (IsEdited state.old change.cell (takes change.taken) (more change.added) budget state.new) }
+    ensures done { OnOk result (IsEdited state.old change.cell (takes change.taken) (as_list change.added) budget state.new) }
     ensures theory { state.new.theory ≡ state.old.theory }
     ensures chosen { OnOk result (AreChosen state.new.book state.new.chosen) }
     ensures bytes { OnOk result (state.new.cache.bytes ≤ state.old.cache.bytes + bytes_of_rows state.new.cache.rows) }
@@ -59,7 +59,7 @@ pub(crate) fn edit(
     requires formed { IsWellFormed state.old.book }
     requires chosen { AreChosen state.old.book state.old.chosen }
     requires change { IsChangeOf state.old.book change }
-    ensures done { OnOk result (IsEdited state.old change.cell (takes change.taken) (more change.added) budget state.new) }
+    ensures done { OnOk result (IsEdited state.old change.cell (takes change.taken) (as_list change.added) budget state.new) }
     ensures theory { state.new.theory ≡ state.old.theory }
     ensures chosen { OnOk result (AreChosen state.new.book state.new.chosen) }
     ensures bytes { OnOk result (state.new.cache.bytes ≤ compacted state.old.cache.rows state.old.cache.bytes + bytes_of_rows state.new.cache.rows) }

@@ -23,23 +23,23 @@ use Rattle.pc_session.specs.declared.searching.Asked.{Asked}
 use Rattle.pc_session.specs.declared.state.State.{State}
 
 -- what is added, as a list
-abbrev pub more : Option Entry → List Entry
-more None = []
-more (Some e) = e ∷ []
+abbrev pub as_list : Option Entry → List Entry
+as_list None = []
+as_list (Some e) = e ∷ []
 
--- whether something is
+-- whether an entry is added
 abbrev pub adds_one : Option Entry → Bool
 adds_one None = false
 adds_one (Some e) = true
 
 -- the sheet that the edit makes
 abbrev pub made_of : Sheet → Change → Sheet
-made_of sheet change = edited sheet (takes change.taken) (more change.added)
+made_of sheet change = edited sheet (takes change.taken) (as_list change.added)
 
 -- an edit of a cell of the sheet that leaves it well formed
 pub record IsChangeOf (sheet : Sheet) (change : Change) : Type 0 where
   pub cell : change.cell.0 < length (cell_sizes sheet.universe)
-  pub is_edit : IsEditOf change.cell (takes change.taken) (more change.added)
+  pub is_edit : IsEditOf change.cell (takes change.taken) (as_list change.added)
   pub formed : IsWellFormed (made_of sheet change)
 
 -- The part of that number has the cell, these are its worlds before the edit, and the targets are those on its cells that the edit can change.

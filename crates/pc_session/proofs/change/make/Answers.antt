@@ -4,7 +4,7 @@ use Rattle.pc_justify_laws.specs.Edits.{edited}
 use Rattle.pc_logic.specs.Edits.{also_entered}
 use Rattle.pc_sheet.specs.Sheet.{Sheet}
 use Rattle.pc_sheet.specs.WellFormed.{IsWellFormed}
-use Rattle.pc_session.specs.inside.Changes.{more}
+use Rattle.pc_session.specs.inside.Changes.{as_list}
 use Rattle.pc_session.specs.inside.Taken.{takes}
 use Rattle.pc_session.proofs.TakenEntries.{added_last}
 use Rattle.pc_session.proofs.change.make.Goals as goal
@@ -14,7 +14,7 @@ also_entry-requires c =
     let a = c.args in
     let gone = takes a.change.taken in
     let e = c.in-Some.entry in
-    let formed : IsWellFormed (edited a.book.now gone (e ∷ [])) = subst (λ o. IsWellFormed (edited a.book.now gone (more o))) c.in-Some.is c.requires.formed in
+    let formed : IsWellFormed (edited a.book.now gone (e ∷ [])) = subst (λ o. IsWellFormed (edited a.book.now gone (as_list o))) c.in-Some.is c.requires.formed in
     subst IsWellFormed (sym (ap (λ (b : Sheet). also_entered b e) c.take_away.ensures.book ∙ added_last a.book.now gone e formed.entries.distinct)) formed
 
 pub returns-in-Some-clause-book : goal.returns-in-Some-clause-book
@@ -22,7 +22,7 @@ returns-in-Some-clause-book c =
     let a = c.args in
     let gone = takes a.change.taken in
     let e = c.in-Some.entry in
-    let formed : IsWellFormed (edited a.book.now gone (e ∷ [])) = subst (λ o. IsWellFormed (edited a.book.now gone (more o))) c.in-Some.is c.requires.formed in
+    let formed : IsWellFormed (edited a.book.now gone (e ∷ [])) = subst (λ o. IsWellFormed (edited a.book.now gone (as_list o))) c.in-Some.is c.requires.formed in
     on_ok_weaker c.also_entry.result
-    (λ is. is ∙ (ap (λ (b : Sheet). also_entered b e) c.take_away.ensures.book ∙ (added_last a.book.now gone e formed.entries.distinct ∙ sym (ap (λ o. edited a.book.now gone (more o)) c.in-Some.is))))
+    (λ is. is ∙ (ap (λ (b : Sheet). also_entered b e) c.take_away.ensures.book ∙ (added_last a.book.now gone e formed.entries.distinct ∙ sym (ap (λ o. edited a.book.now gone (as_list o)) c.in-Some.is))))
     c.also_entry.ensures.ok

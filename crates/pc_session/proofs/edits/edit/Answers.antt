@@ -3,7 +3,7 @@ use Rattle.std.proofs.lemmas.Result.{IfErr-at_err, IfOk-at_ok}
 use Rattle.pc_sheet.specs.WellFormed.{IsWellFormed}
 use Rattle.pc_cache.specs.Rows.{bytes_of_rows}
 use Rattle.pc_session.specs.Causes.{IsEntryCause}
-use Rattle.pc_session.specs.inside.Changes.{made_of, more}
+use Rattle.pc_session.specs.inside.Changes.{made_of, as_list}
 use Rattle.pc_session.specs.inside.Sessions.{IsSession}
 use Rattle.pc_session.specs.inside.States.{IsEdited, IsSameBeside}
 use Rattle.pc_session.specs.inside.Taken.{takes}
@@ -33,8 +33,8 @@ returns-in_err-before-clause-kept c = on_err c.from_residual-in_err-before.resul
 pub returns-in-Ok-clause-done : goal.returns-in-Ok-clause-done
 returns-in-Ok-clause-done c =
     let a = c.args in
-    edited_compacted a.state.now c.compact_if_due.new.cache a.change.cell (takes a.change.taken) (more a.change.added) a.budget c.make_searched.new.state c.in_ok-compact_if_due.ensures.rows
-    (IfOk-at_ok (λ _. IsEdited (record a.state.now { cache = c.compact_if_due.new.cache }) a.change.cell (takes a.change.taken) (more a.change.added) a.budget c.make_searched.new.state) c.in-Ok.is c.make_searched.ensures.done)
+    edited_compacted a.state.now c.compact_if_due.new.cache a.change.cell (takes a.change.taken) (as_list a.change.added) a.budget c.make_searched.new.state c.in_ok-compact_if_due.ensures.rows
+    (IfOk-at_ok (λ _. IsEdited (record a.state.now { cache = c.compact_if_due.new.cache }) a.change.cell (takes a.change.taken) (as_list a.change.added) a.budget c.make_searched.new.state) c.in-Ok.is c.make_searched.ensures.done)
 
 pub returns-in-Ok-clause-bytes : goal.returns-in-Ok-clause-bytes
 returns-in-Ok-clause-bytes c =

@@ -1,5 +1,5 @@
 use Rattle.std.proofs.Common.{refl, sym, subst}
-use Rattle.pc_session.specs.inside.Changes.{more}
+use Rattle.pc_session.specs.inside.Changes.{as_list}
 use Rattle.pc_session.specs.inside.States.{IsSameBeside}
 use Rattle.pc_session.specs.inside.Taken.{takes}
 use Rattle.pc_session.proofs.Making.{asked_new, known_new, made, numbered_new, numbered_old}
@@ -31,7 +31,7 @@ put_in_place-requires c =
       s.book,
       a.change.cell,
       takes a.change.taken,
-      more a.change.added,
+      as_list a.change.added,
       a.budget,
       record { formed = c.requires.formed; session = c.requires.state; chosen = c.requires.chosen; is_edit = c.requires.change.is_edit; book = c.in_ok-make.ensures.book },
       made s a.change a.asked c.requires.asked c.requires.state c.make.new.book c.in_ok-make.ensures.book a.budget c.in_ok-edit.edit c.in_ok-edit.ensures.edit,
@@ -41,7 +41,7 @@ pub returns-clause-done : goal.returns-clause-done
 returns-clause-done c =
     let a = c.args in
     let s = a.state.now in
-    c.in_ok-put_in_place.ensures.done s.book a.change.cell (takes a.change.taken) (more a.change.added) a.budget
+    c.in_ok-put_in_place.ensures.done s.book a.change.cell (takes a.change.taken) (as_list a.change.added) a.budget
     (record { formed = c.requires.formed; session = c.requires.state; chosen = c.requires.chosen; is_edit = c.requires.change.is_edit; book = c.in_ok-make.ensures.book })
     (made s a.change a.asked c.requires.asked c.requires.state c.make.new.book c.in_ok-make.ensures.book a.budget c.in_ok-edit.edit c.in_ok-edit.ensures.edit)
 
