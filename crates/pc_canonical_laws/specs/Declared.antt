@@ -45,6 +45,6 @@ EntriesAreDeclared =
 abbrev pub DeclarationsGiveTheSheet : Type 0
 DeclarationsGiveTheSheet = (s : Sheet) → IsWellFormed s → (ds : List (ℕ × Declared)) → map declared_in ds ≡ declarations_of s → IsSheetOf ds s
 
--- the canonical text of each book reads as that book
+-- the canonical text of each sheet reads as that sheet
 abbrev pub TextsReadBack : Type 0
 TextsReadBack = (s : Sheet) → IsWellFormed s → ReadsAs (sheet_text s) s

@@ -17,7 +17,7 @@ use Rattle.pc_sheet.specs.declared.limits.Limited.TheVariants.{Count, Depth}
 use Rattle.pc_elaborate.specs.Outcome.{HasUniqueNames, HasOneOutcome}
 use Rattle.pc_elaborate.specs.inside.Scope.{IsScope}
 use Rattle.pc_elaborate.specs.Elaboration.{IsSortNamed, IsStatement, AreStatements, AreArguments}
-use Rattle.pc_elaborate.specs.FormulaFaults.{IsDeclared, IsBound, IsSomeSort, IsSortNameFault, HasSort, IsSortedFormula, IsCount, IsQuantifierFault, IsFormulaFault, AreFormulasFault}
+use Rattle.pc_elaborate.specs.FormulaFaults.{IsDeclared, IsAround, IsSomeSort, IsSortNameFault, HasSort, IsSortedFormula, IsSmallCount, IsQuantifierFault, IsFormulaFault, AreFormulasFault}
 use Rattle.pc_elaborate.proofs.Testing.{IsOne, IsNever, none_one, none_never, test_one, test_one_if, test_never, part_one, part_never}
 use Rattle.pc_elaborate.proofs.Values.{some_at, both_at, get_below, sort_one, table_one, name_fault_one, name_fault_never}
 use Rattle.pc_elaborate.proofs.Shapes.{shape, parts_shape}
@@ -35,7 +35,7 @@ last_or_before (z ∷ xs) x y (suc k) h = elim (last_or_before xs x y k h) [ inl
 pub no_scope : (u : Universe) → IsScope u []
 no_scope u = record { different = λ n j k s t h. absurd (cc); undeclared = λ n k s h. absurd (cc); sorts = λ n k s h. absurd (cc); depth = omega arith }
 
-module _ (u : Universe) (vs : Variables) (scope : IsScope u vs) (n : List ℕ) (s : SortId) (free : ¬ (IsDeclared u n ⊎ IsBound vs n)) (room : length vs < 16) (sort : s.0 < length u.sorts) where
+module _ (u : Universe) (vs : Variables) (scope : IsScope u vs) (n : List ℕ) (s : SortId) (free : ¬ (IsDeclared u n ⊎ IsAround vs n)) (room : length vs < 16) (sort : s.0 < length u.sorts) where
   new_name : (m : List ℕ) (r : SortId) → ◌≡◌ {A = List ℕ × SortId} (n, s) (m, r) → n ≡ m
   new_name m r e = ap (λ p. p.0) e
 
@@ -44,10 +44,10 @@ module _ (u : Universe) (vs : Variables) (scope : IsScope u vs) (n : List ℕ) (
     different = λ m j k r t h g. elim (last_or_before vs (n, s) (m, r) j h) [
       | inl a ↦ elim (last_or_before vs (n, s) (m, t) k g) [
         | inl b ↦ scope.different m j k r t a b
-        | inr b ↦ absurd (free (inr (subst (IsBound vs) (sym (new_name m t b.1)) (bound_at vs j m r a))))
+        | inr b ↦ absurd (free (inr (subst (IsAround vs) (sym (new_name m t b.1)) (bound_at vs j m r a))))
       ]
       | inr a ↦ elim (last_or_before vs (n, s) (m, t) k g) [
-        | inl b ↦ absurd (free (inr (subst (IsBound vs) (sym (new_name m r a.1)) (bound_at vs k m t b))))
+        | inl b ↦ absurd (free (inr (subst (IsAround vs) (sym (new_name m r a.1)) (bound_at vs k m t b))))
         | inr b ↦ a.0 ∙ sym b.0
       ]
     ];
@@ -144,7 +144,7 @@ module _ (u : Universe) (unique : HasUniqueNames u) where
 
   quantifier_never : (vs : Variables) (n sort : List ℕ) (s : SortId) (Body : SortId → SortFault → Type 0) → IsSortNamed u sort s → IsNewVariable u vs n s → IsNever (Body s) → IsNever (IsQuantifierFault u vs n sort Body)
   quantifier_never vs n sort s Body is new never =
-      test_never (length vs < 16) (Limit Depth) _ new.depth (test_never (¬ (IsDeclared u n ⊎ IsBound vs n)) DuplicateName _ (λ h. elim h [ inl a ↦ new.undeclared a | inr b ↦ new.unbound b ])
+      test_never (length vs < 16) (Limit Depth) _ new.depth (test_never (¬ (IsDeclared u n ⊎ IsAround vs n)) DuplicateName _ (λ h. elim h [ inl a ↦ new.undeclared a | inr b ↦ new.unbound b ])
       (part_never (IsSomeSort u sort) (IsSortNameFault u sort) (HasSort u sort Body) (name_fault_never u sort (IsSomeSort u sort) (name_is_declared u sort (names.Sort s) is) (s, is)) (has_sort_never sort s Body is never)))
 
   mutual
@@ -160,7 +160,7 @@ module _ (u : Universe) (unique : HasUniqueNames u) where
     formula_never (counting m z n sort f) vs scope s h sorted =
         let p = shape u vs (counting m z n sort f) s h in
         let inside : IsWellSorted u vs (plain.counts (counting_of m p.0) n p.1 p.2) = subst (IsWellSorted u vs) p.4 sorted in
-        test_never (IsCount m z) (Limit Count) (IsQuantifierFault u vs n sort (λ r. IsFormulaFault u (vs ++ (n, r) ∷ []) f)) (p.0, p.3, inside.0)
+        test_never (IsSmallCount m z) (Limit Count) (IsQuantifierFault u vs n sort (λ r. IsFormulaFault u (vs ++ (n, r) ∷ []) f)) (p.0, p.3, inside.0)
         (quantifier_never vs n sort p.1 (λ r. IsFormulaFault u (vs ++ (n, r) ∷ []) f) p.5 inside.1 (formula_never f (vs ++ (n, p.1) ∷ []) (new_scope vs scope n p.1 inside.1) p.2 p.6 inside.2))
     formula_never (iff f g) vs scope s h sorted =
         let p = shape u vs (iff f g) s h in
@@ -206,7 +206,7 @@ module _ (u : Universe) (unique : HasUniqueNames u) where
 
   quantifier_one : (vs : Variables) → IsScope u vs → (n sort : List ℕ) (Body : SortId → SortFault → Type 0) → ((s : SortId) → IsScope u (vs ++ (n, s) ∷ []) → IsOne (Body s)) → IsOne (IsQuantifierFault u vs n sort Body)
   quantifier_one vs scope n sort Body one =
-      test_one_if (length vs < 16) (Limit Depth) _ (λ room. test_one_if (¬ (IsDeclared u n ⊎ IsBound vs n)) DuplicateName _ (λ free.
+      test_one_if (length vs < 16) (Limit Depth) _ (λ room. test_one_if (¬ (IsDeclared u n ⊎ IsAround vs n)) DuplicateName _ (λ free.
       part_one (IsSomeSort u sort) (IsSortNameFault u sort) (HasSort u sort Body) (λ h. name_fault_never u sort (IsSomeSort u sort) (name_is_declared u sort (names.Sort h.0) h.1) h) (name_fault_one u sort (IsSomeSort u sort))
       (λ e f h k. one h.0 (inner_scope u vs scope n h.0 free room (sort_below u sort h.0 h.1)) e f h.2 (subst (λ r. Body r f) (sort_one u unique sort k.0 h.0 k.1 h.1) k.2))))
 
@@ -215,7 +215,7 @@ module _ (u : Universe) (unique : HasUniqueNames u) where
     formula_fault_one (for_all n sort f) vs scope = quantifier_one vs scope n sort (λ r. IsFormulaFault u (vs ++ (n, r) ∷ []) f) (λ s inner. formula_fault_one f (vs ++ (n, s) ∷ []) inner)
     formula_fault_one (exists n sort f) vs scope = quantifier_one vs scope n sort (λ r. IsFormulaFault u (vs ++ (n, r) ∷ []) f) (λ s inner. formula_fault_one f (vs ++ (n, s) ∷ []) inner)
     formula_fault_one (counting m z n sort f) vs scope =
-        test_one (IsCount m z) (Limit Count) (IsQuantifierFault u vs n sort (λ r. IsFormulaFault u (vs ++ (n, r) ∷ []) f))
+        test_one (IsSmallCount m z) (Limit Count) (IsQuantifierFault u vs n sort (λ r. IsFormulaFault u (vs ++ (n, r) ∷ []) f))
         (quantifier_one vs scope n sort (λ r. IsFormulaFault u (vs ++ (n, r) ∷ []) f) (λ s inner. formula_fault_one f (vs ++ (n, s) ∷ []) inner))
     formula_fault_one (iff f g) vs scope = part_one (IsSortedFormula u vs f) (IsFormulaFault u vs f) (IsFormulaFault u vs g) (λ h. formula_never f vs scope h.0 h.1 h.2) (formula_fault_one f vs scope) (formula_fault_one g vs scope)
     formula_fault_one (implies f g) vs scope = part_one (IsSortedFormula u vs f) (IsFormulaFault u vs f) (IsFormulaFault u vs g) (λ h. formula_never f vs scope h.0 h.1 h.2) (formula_fault_one f vs scope) (formula_fault_one g vs scope)

@@ -24,7 +24,7 @@ use Rattle.pc_elaborate.specs.Tests.{no_test}
 use Rattle.pc_elaborate.specs.Outcome.{HasUniqueNames, IsFoundOrFault}
 use Rattle.pc_elaborate.specs.inside.Scope.{IsScope}
 use Rattle.pc_elaborate.specs.Elaboration.{IsSortNamed, IsStatement, is_negation, is_conjunction, is_disjunction, is_implication, is_equivalence, is_universal, is_existential, is_counting, AreStatements, no_statements_left, one_statement}
-use Rattle.pc_elaborate.specs.FormulaFaults.{IsDeclared, IsBound, IsSortNameFault, IsQuantifierFault, IsFormulaFault, AreFormulasFault}
+use Rattle.pc_elaborate.specs.FormulaFaults.{IsDeclared, IsAround, IsSortNameFault, IsQuantifierFault, IsFormulaFault, AreFormulasFault}
 use Rattle.pc_elaborate.specs.Told.{IsFaultOf, IsFormulaTold, IsBoxedTold, IsCountTold, IsVariableTold, IsQuantifiedTold, AreFormulasTold, TellsStatement, TellsFault}
 use Rattle.pc_elaborate.proofs.Shapes.{parts_shape}
 use Rattle.pc_elaborate.proofs.FormulaLaws.{formula_outcome, sort_below, inner_scope, no_scope}
@@ -185,10 +185,10 @@ module _ (u : Universe) (vs : Variables) where
     pub deep_fails : length vs ≡ 16 → IsVariableTold u vs n sort (Err (Limit Depth))
     deep_fails deep = inl ((λ room. omega (arith, deep, room)), refl)
 
-    pub taken_fails : length vs < 16 → IsDeclared u n ⊎ IsBound vs n → IsVariableTold u vs n sort (Err DuplicateName)
+    pub taken_fails : length vs < 16 → IsDeclared u n ⊎ IsAround vs n → IsVariableTold u vs n sort (Err DuplicateName)
     taken_fails room taken = inr (room, inl ((λ free. free taken), refl))
 
-    pub sort_told : IsName n → length vs < 16 → ¬ IsDeclared u n → ¬ IsBound vs n → (r : Result SortId SortFault) → IsFoundOrFault (IsSortNamed u sort) (IsSortNameFault u sort) r → IsVariableTold u vs n sort r
+    pub sort_told : IsName n → length vs < 16 → ¬ IsDeclared u n → ¬ IsAround vs n → (r : Result SortId SortFault) → IsFoundOrFault (IsSortNamed u sort) (IsSortNameFault u sort) r → IsVariableTold u vs n sort r
     sort_told name room undeclared unbound (Ok s) h = (h, record { named = name; undeclared = undeclared; unbound = unbound; sort = sort_below u sort s h; depth = room })
     sort_told name room undeclared unbound (Err e) h = inr (room, inr ((λ t. elim t [ inl a ↦ undeclared a | inr b ↦ unbound b ]), inl h))
 
@@ -206,7 +206,7 @@ module _ (u : Universe) (vs : Variables) where
       variable_fails e h = fault_of (IsQuantifierFault u vs n sort Body) e (opening e h)
 
       module _ (s : SortId) (told : IsVariableTold u vs n sort (Ok s)) where
-        free : ¬ (IsDeclared u n ⊎ IsBound vs n)
+        free : ¬ (IsDeclared u n ⊎ IsAround vs n)
         free t = elim t [ inl a ↦ told.1.undeclared a | inr b ↦ told.1.unbound b ]
 
         pub scope_inside : IsScope u vs → (ws : Variables) → ws ≡ vs ++ (n, s) ∷ [] → IsScope u ws

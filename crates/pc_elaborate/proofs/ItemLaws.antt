@@ -17,7 +17,7 @@ use Rattle.pc_elaborate.specs.Tests.{no_test, test}
 use Rattle.pc_elaborate.specs.Outcome.{HasUniqueNames}
 use Rattle.pc_elaborate.specs.inside.Scope.{IsScope}
 use Rattle.pc_elaborate.specs.Elaboration.{IsFamilyNamed, TakesArguments, IsItem, IsArgument, AreArguments}
-use Rattle.pc_elaborate.specs.FormulaFaults.{IsDeclared, IsSomeSort, IsSomeTable, IsSomeFamily, IsBound, IsSortedItem, IsSortedArgument, count_items, IsNamedFault, IsArgumentFault, AreArgumentsFault, IsItemFault}
+use Rattle.pc_elaborate.specs.FormulaFaults.{IsDeclared, IsSomeSort, IsSomeTable, IsSomeFamily, IsAround, IsSortedItem, IsSortedArgument, count_items, IsNamedFault, IsArgumentFault, AreArgumentsFault, IsItemFault}
 use Rattle.pc_elaborate.proofs.Testing.{IsOne, IsNever, none_one, none_never, test_one, test_never, part_one, part_never}
 use Rattle.pc_elaborate.proofs.Values.{both_at, value_is_named, integer_one, family_one, value_fault_one, value_fault_never, has_family_one, has_family_never}
 use Rattle.pc_elaborate.proofs.Shapes.{IsVariableItem, IsValueItem, IsApplicationItem, ItemShape, item_shape, argument_shape, arguments_shape}
@@ -26,7 +26,7 @@ pub never_both_kinds : (vs : Values) → IsListed vs → IsRange vs → ⊥
 never_both_kinds (listed ns) h k = k
 never_both_kinds (range low high) h k = h
 
-pub bound_at : (vs : Variables) (k : ℕ) (n : List ℕ) (s : SortId) → slice_get vs k ≡ Some (n, s) → IsBound vs n
+pub bound_at : (vs : Variables) (k : ℕ) (n : List ℕ) (s : SortId) → slice_get vs k ≡ Some (n, s) → IsAround vs n
 bound_at [] k n s h = cc
 bound_at (v ∷ vs) zero n s h = let e : v ≡ (n, s) = cc in (0, omega arith, ap (λ p. p.0) e)
 bound_at (v ∷ vs) (suc k) n s h = let r = bound_at vs k n s h in (suc r.0, omega (arith, r.1), r.2)
@@ -139,7 +139,7 @@ module _ (u : Universe) (unique : HasUniqueNames u) (vs : Variables) (scope : Is
   takes_nothing : (f : FamilyId) (ss : List SortId) (xs : plain.Items) → TakesArguments u f ss → AreArguments u vs ss no_item xs → TakesArguments u f []
   takes_nothing f ss xs takes h = subst (TakesArguments u f) (arguments_shape u vs ss no_item xs h).0 takes
 
-  bare_passes : (n : List ℕ) (x : plain.Item) → ItemShape u vs (named n no_item) x → (IsBound vs n ⊎ IsDeclared u n) × (¬ (IsSomeSort u n ⊎ IsSomeTable u n)) × (IsSomeFamily u n → (f : FamilyId) × IsFamilyNamed u n f × TakesArguments u f [])
+  bare_passes : (n : List ℕ) (x : plain.Item) → ItemShape u vs (named n no_item) x → (IsAround vs n ⊎ IsDeclared u n) × (¬ (IsSomeSort u n ⊎ IsSomeTable u n)) × (IsSomeFamily u n → (f : FamilyId) × IsFamilyNamed u n f × TakesArguments u f [])
   bare_passes n x (inl h) = (
     inl (bound_at vs h.0 n h.1 h.3),
     (λ k. elim k [ inl a ↦ variable_alone n x (names.Sort a.0) h a.1 | inr b ↦ variable_alone n x (names.Table b.0) h b.1 ]),

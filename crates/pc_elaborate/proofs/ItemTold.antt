@@ -30,7 +30,7 @@ use Rattle.pc_elaborate.specs.Tests.{test}
 use Rattle.pc_elaborate.specs.Outcome.{HasUniqueNames}
 use Rattle.pc_elaborate.specs.inside.Scope.{IsScope}
 use Rattle.pc_elaborate.specs.Elaboration.{IsFamilyNamed, TakesArguments, StandsForValue, IsItem, is_variable, is_value, is_application, IsArgument, is_integer, is_item, AreArguments, no_arguments, one_argument}
-use Rattle.pc_elaborate.specs.FormulaFaults.{IsDeclared, IsBound, IsSomeSort, IsSomeTable, IsSomeFamily, IsSortedArgument, count_items, IsItemFault, IsArgumentFault, AreArgumentsFault}
+use Rattle.pc_elaborate.specs.FormulaFaults.{IsDeclared, IsAround, IsSomeSort, IsSomeTable, IsSomeFamily, IsSortedArgument, count_items, IsItemFault, IsArgumentFault, AreArgumentsFault}
 use Rattle.pc_elaborate.specs.Told.{IsFaultOf, IsItemTold, IsArgumentTold, AreArgumentsTold, IsAppliedTold}
 use Rattle.pc_elaborate.proofs.Values.{some_at, both_at, get_below, value_named, value_below, name_of_list, family_one}
 use Rattle.pc_elaborate.proofs.Shapes.{argument_shape}
@@ -157,7 +157,7 @@ module _ (u : Universe) (unique : HasUniqueNames u) (vs : Variables) where
   pub other_applied : (n : List ℕ) (k : Named) → IsNameOf u n k → ((f : FamilyId) → k ≡ names.Family f → ⊥) → IsAppliedTold u vs n (Err WrongSort)
   other_applied n k is other = inr (inr (name_is_declared u n k is), inl ((λ h. other h.0 (unique n k (names.Family h.0) is h.1)), refl))
 
-  pub bound_applied : (n : List ℕ) → IsBound vs n → ¬ IsDeclared u n → IsAppliedTold u vs n (Err WrongSort)
+  pub bound_applied : (n : List ℕ) → IsAround vs n → ¬ IsDeclared u n → IsAppliedTold u vs n (Err WrongSort)
   bound_applied n bound undeclared = inr (inl bound, inl ((λ h. undeclared (name_is_declared u n (names.Family h.0) h.1)), refl))
 
   pub bound_name : (n : List ℕ) (k : ℕ) (s : SortId) → IsScope u vs → slice_get vs k ≡ Some (n, s) → IsAppliedTold u vs n (Err WrongSort)

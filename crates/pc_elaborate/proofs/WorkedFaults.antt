@@ -1,7 +1,7 @@
 -- Worked faults of small formulas.
 use Rattle.std.proofs.Common.{◌≡◌, ℕ, zero, suc, true, false, pos, ◌≤ℤ◌, List, [], ◌∷◌, get_or, ap, arith, refl, inl, inr}
 use Rattle.std.proofs.lemmas.Int.{ints}
-use Rattle.pc_elaborate.specs.FormulaFaults.{IsDeclared, IsBound, IsCount}
+use Rattle.pc_elaborate.specs.FormulaFaults.{IsDeclared, IsAround, IsSmallCount}
 use Rattle.pc_elaborate.specs.Examples.{c, p, z, colours, AreWorkedFaults}
 
 -- two names of one byte are different
@@ -15,7 +15,7 @@ no_z (suc (suc zero), l, e) = apart 103 122 (λ h. omega arith) e
 no_z (suc (suc (suc zero)), l, e) = apart 112 122 (λ h. omega arith) e
 no_z (suc (suc (suc (suc k))), l, e) = omega arith
 
-not_bound : (n : List ℕ) → ¬ IsBound [] n
+not_bound : (n : List ℕ) → ¬ IsAround [] n
 not_bound n (k, l, e) = omega arith
 
 declares_c : IsDeclared colours c
@@ -27,10 +27,10 @@ declares_p = (3, omega arith, refl)
 too_large : pos 1000001 ≤ℤ pos 1000000 → ⊥
 too_large h = omega (arith, ints, h)
 
-no_more_than_255 : ¬ IsCount true (pos 256)
+no_more_than_255 : ¬ IsSmallCount true (pos 256)
 no_more_than_255 h = omega (arith, ints, h.1, h.2)
 
-no_fewer_than_1 : ¬ IsCount false (pos 0)
+no_fewer_than_1 : ¬ IsSmallCount false (pos 0)
 no_fewer_than_1 h = omega (arith, ints, h.1, h.2.0)
 
 pub worked_faults : AreWorkedFaults

@@ -71,8 +71,9 @@ IsCellFault u c =
 
 -- ---- items
 
-abbrev pub IsBound : Variables → List ℕ → Type 0
-IsBound vs n = Contains (map variable_name vs) n
+-- an enclosing variable has the name
+abbrev pub IsAround : Variables → List ℕ → Type 0
+IsAround vs n = Contains (map variable_name vs) n
 
 -- the item stands for something of some sort
 abbrev pub IsSortedItem : Universe → Variables → tree.Item → Type 0
@@ -89,11 +90,11 @@ count_items (one_item a items) = 1 + count_items items
 -- the tests of a name with these items behind it, whose faults are given
 abbrev pub IsNamedFault : Universe → Variables → List ℕ → tree.Items → (List SortId → SortFault → Type 0) → SortFault → Type 0
 IsNamedFault u vs n no_item Items =
-    test (IsBound vs n ⊎ IsDeclared u n) UnknownName
+    test (IsAround vs n ⊎ IsDeclared u n) UnknownName
     (test (¬ (IsSomeSort u n ⊎ IsSomeTable u n)) WrongSort
     (test (IsSomeFamily u n → (f : FamilyId) × IsFamilyNamed u n f × TakesArguments u f []) WrongArity no_test))
 IsNamedFault u vs n (one_item a items) Items =
-    test (IsBound vs n ⊎ IsDeclared u n) UnknownName
+    test (IsAround vs n ⊎ IsDeclared u n) UnknownName
     (test (IsSomeFamily u n) WrongSort
     (HasFamily u n (λ ss. test (count_items (one_item a items) ≡ length ss) WrongArity (Items ss))))
 
@@ -195,14 +196,14 @@ abbrev pub HasSort : Universe → List ℕ → (SortId → SortFault → Type 0)
 HasSort u n Fails e = (s : SortId) × IsSortNamed u n s × Fails s e
 
 -- the number is one that a counting quantifier may have: neither none nor out of reach
-abbrev pub IsCount : Bool → ℤ → Type 0
-IsCount at_most z = (k : ℕ) × (z ≡ pos k) × sorted.IsBound (counting_of at_most k)
+abbrev pub IsSmallCount : Bool → ℤ → Type 0
+IsSmallCount at_most z = (k : ℕ) × (z ≡ pos k) × sorted.IsBound (counting_of at_most k)
 
 -- the tests of a quantifier before its body
 abbrev pub IsQuantifierFault : Universe → Variables → List ℕ → List ℕ → (SortId → SortFault → Type 0) → SortFault → Type 0
 IsQuantifierFault u vs n sort Body =
     test (length vs < most_depth) (Limit Depth)
-    (test (¬ (IsDeclared u n ⊎ IsBound vs n)) DuplicateName
+    (test (¬ (IsDeclared u n ⊎ IsAround vs n)) DuplicateName
     (part (IsSomeSort u sort) (IsSortNameFault u sort) (HasSort u sort Body)))
 
 abbrev mutual
@@ -216,7 +217,7 @@ abbrev mutual
   IsFormulaFault u vs (iff f g) = part (IsSortedFormula u vs f) (IsFormulaFault u vs f) (IsFormulaFault u vs g)
   IsFormulaFault u vs (for_all n sort f) = IsQuantifierFault u vs n sort (λ s. IsFormulaFault u (vs ++ (n, s) ∷ []) f)
   IsFormulaFault u vs (exists n sort f) = IsQuantifierFault u vs n sort (λ s. IsFormulaFault u (vs ++ (n, s) ∷ []) f)
-  IsFormulaFault u vs (counting m z n sort f) = test (IsCount m z) (Limit Count) (IsQuantifierFault u vs n sort (λ s. IsFormulaFault u (vs ++ (n, s) ∷ []) f))
+  IsFormulaFault u vs (counting m z n sort f) = test (IsSmallCount m z) (Limit Count) (IsQuantifierFault u vs n sort (λ s. IsFormulaFault u (vs ++ (n, s) ∷ []) f))
 
   pub AreFormulasFault : Universe → Variables → tree.Formulas → SortFault → Type 0
   AreFormulasFault u vs no_part = no_test

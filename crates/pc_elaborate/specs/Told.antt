@@ -25,7 +25,7 @@ use Rattle.pc_elaborate.specs.declared.sides.Kind.{Kind}
 use Rattle.pc_elaborate.specs.declared.sides.Kind.TheVariants.{Integer, Listed}
 use Rattle.pc_elaborate.specs.Tests.{no_test, test}
 use Rattle.pc_elaborate.specs.Elaboration.{IsSortNamed, IsFamilyNamed, IsItem, IsArgument, AreArguments, AreAdded, IsSum, IsStatement, AreStatements}
-use Rattle.pc_elaborate.specs.FormulaFaults.{IsDeclared, IsBound, IsSomeFamily, IsItemFault, IsArgumentFault, AreArgumentsFault, IsSideItem, IsSideItemFault, AreAddedFault, AreAddedItems, IsSide, IsSideFault, IsCount, IsQuantifierFault, IsFormulaFault, AreFormulasFault}
+use Rattle.pc_elaborate.specs.FormulaFaults.{IsDeclared, IsAround, IsSomeFamily, IsItemFault, IsArgumentFault, AreArgumentsFault, IsSideItem, IsSideItemFault, AreAddedFault, AreAddedItems, IsSide, IsSideFault, IsSmallCount, IsQuantifierFault, IsFormulaFault, AreFormulasFault}
 
 -- it is one of these faults, unless memory ran out
 abbrev pub IsFaultOf : (SortFault → Type 0) → SortFault → Type 0
@@ -87,7 +87,7 @@ AreArgumentsTold u vs ss items (Err e) = IsFaultOf (AreArgumentsFault u vs ss it
 -- a family's name is asked for, in front of arguments
 abbrev pub IsAppliedTold : Universe → Variables → List ℕ → Result FamilyId SortFault → Type 0
 IsAppliedTold u vs n (Ok f) = IsFamilyNamed u n f
-IsAppliedTold u vs n (Err e) = test (IsBound vs n ⊎ IsDeclared u n) UnknownName (test (IsSomeFamily u n) WrongSort no_test) e
+IsAppliedTold u vs n (Err e) = test (IsAround vs n ⊎ IsDeclared u n) UnknownName (test (IsSomeFamily u n) WrongSort no_test) e
 
 -- ---- sides
 
@@ -134,7 +134,7 @@ MayCompare (Listed s) op (Listed t) = IsEquality op × (s ≡ t)
 -- the number of a counting quantifier is one that it may have, or that is at fault
 abbrev pub IsCountTold : Bool → ℤ → Result ℕ SortFault → Type 0
 IsCountTold m z (Ok k) = (z ≡ pos k) × sorted.IsBound (counting_of m k)
-IsCountTold m z (Err e) = test (IsCount m z) (Limit Count) no_test e
+IsCountTold m z (Err e) = test (IsSmallCount m z) (Limit Count) no_test e
 
 -- the variable of a quantifier is new and of a declared sort, or a fault comes before the body
 abbrev pub IsVariableTold : Universe → Variables → List ℕ → List ℕ → Result SortId SortFault → Type 0

@@ -1,7 +1,7 @@
 //! The variables around a place.
 ghost use Rattle.std.specs.Prelude.{◌≡◌, ◌≤◌, ◌∷◌, ◌++◌, [], IfOk, IfSome, IfNone, Some, length, map, slice_get};
 ghost use Rattle.pc_sheet.specs.Limits.{most_depth};
-ghost use Rattle.pc_elaborate.specs.FormulaFaults.{IsBound};
+ghost use Rattle.pc_elaborate.specs.FormulaFaults.{IsAround};
 ghost use Rattle.pc_elaborate.specs.Told.{variable_of, variables_of};
 
 use pc_logic::{Name, SortId};
@@ -18,7 +18,7 @@ pub(crate) struct Variable<'a> {
 pub(crate) fn variable_named(variables: &[Variable], name: &Name) -> Option<(u8, SortId)>
     requires { length variables.now ≤ most_depth }
     ensures some { IfSome result (λ found. slice_get (variables_of variables.now) found.0 ≡ Some (name.now, found.1)) }
-    ensures none { IfNone result (¬ IsBound (variables_of variables.now) name.now) }
+    ensures none { IfNone result (¬ IsAround (variables_of variables.now) name.now) }
 {
     for (k, variable) in variables.iter().enumerate() {
         if variable.name == name {

@@ -19,6 +19,7 @@ pub record IsNumber (digits most : ℕ) (word : List ℕ) (n : ℕ) : Type 0 whe
 
 -- ---- modes
 
+-- what a run is for
 pub data Mode : Type 0 where
   replays : Mode
   edits : List ℕ → Mode
@@ -44,7 +45,7 @@ TakesBudget mode = Unit {0}
 
 -- ---- the option
 
--- the propagations of a search where the words don't say
+-- how many literals a search may place where the words don't say
 abbrev pub usual_budget : ℕ
 usual_budget = 100000000
 
