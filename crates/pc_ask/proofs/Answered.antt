@@ -36,7 +36,7 @@ use Rattle.pc_ask.specs.Asking.{AreReadSizes, IsAskedPart, IsDeniedAt, Reads}
 use Rattle.pc_ask.specs.declared.finding.Found.{Found}
 use Rattle.pc_ask.specs.declared.narrowing.Choosing.{Choosing}
 use Rattle.pc_ask.specs.inside.Answered.{IsSearchOf, SearchSays}
-use Rattle.pc_ask.specs.inside.Choices.{all_of, IsChoosing, tried_of}
+use Rattle.pc_ask.specs.inside.Choices.{ways_of, IsChoosing, tried_of}
 use Rattle.pc_ask.specs.inside.Finding.{FindSays}
 use Rattle.pc_ask.specs.inside.Narrowing.{LacksWitness, IsNarrowed}
 use Rattle.pc_ask.specs.inside.Parts.{IsAskable, IsAsked, IsTask}
@@ -101,18 +101,18 @@ module _ (sheet : Sheet) (formed : IsWellFormed sheet) (f : Statement) (book : S
   entries_same : book.entries ≡ sheet.entries
   entries_same = ap (λ (s : Sheet). s.entries) book_is
 
-  module _ (c : Choosing) (book_at : c.task.book.now ≡ book) (entries_at : c.entries.now ≡ entries) (all_at : all_of c ≡ joined_by fitting chosen) where
+  module _ (c : Choosing) (book_at : c.task.book.now ≡ book) (entries_at : c.entries.now ≡ entries) (all_at : ways_of c ≡ joined_by fitting chosen) where
     on_are : c.entries.now ≡ on
     on_are = entries_at ∙ (k.entries_are ∙ ap (filter (is_on_some sets)) entries_same)
 
-    all_are : all_of c ≡ all
+    all_are : ways_of c ≡ all
     all_are = all_at ∙ ap (joined_by fitting) k.parts_are
 
-    none_found : LacksWitness c.task.book.now c.entries.now (all_of c) (length c.entries.now) [] → LacksWitness book on all (length on) []
-    none_found h = subst (λ es. LacksWitness book es all (length es) []) on_are (subst (λ l. LacksWitness book c.entries.now l (length c.entries.now) []) all_are (subst (λ s. LacksWitness s c.entries.now (all_of c) (length c.entries.now) []) book_at h))
+    none_found : LacksWitness c.task.book.now c.entries.now (ways_of c) (length c.entries.now) [] → LacksWitness book on all (length on) []
+    none_found h = subst (λ es. LacksWitness book es all (length es) []) on_are (subst (λ l. LacksWitness book c.entries.now l (length c.entries.now) []) all_are (subst (λ s. LacksWitness s c.entries.now (ways_of c) (length c.entries.now) []) book_at h))
 
-    narrowed_found : (set : List Entry) → IsNarrowed c.task.book.now c.entries.now (all_of c) 0 set → IsNarrowed book on all 0 set
-    narrowed_found set h = subst (λ es. IsNarrowed book es all 0 set) on_are (subst (λ l. IsNarrowed book c.entries.now l 0 set) all_are (subst (λ s. IsNarrowed s c.entries.now (all_of c) 0 set) book_at h))
+    narrowed_found : (set : List Entry) → IsNarrowed c.task.book.now c.entries.now (ways_of c) 0 set → IsNarrowed book on all 0 set
+    narrowed_found set h = subst (λ es. IsNarrowed book es all 0 set) on_are (subst (λ l. IsNarrowed book c.entries.now l 0 set) all_are (subst (λ s. IsNarrowed s c.entries.now (ways_of c) 0 set) book_at h))
 
     pub found_says : DifferentSublistsAreOrdered → (log : List LogLine) (o : Option Found) → FindSays c log o → SearchSays sheet f log o
     found_says ordered log None h =
@@ -133,7 +133,7 @@ module _ (sheet : Sheet) (formed : IsWellFormed sheet) (f : Statement) (book : S
     calls_within : (n many : ℕ) → AreReadSizes sheet f n many → tried_of c * (length c.entries.now + 1) + 1 ≤ many * (n + 2) + 1
     calls_within n many h =
         let es : length c.entries.now ≡ n = ap length on_are ∙ sym (many_entries sheet formed fitting k.fit f k.reads reads_are k.qs k.zip n many h) in
-        let ms : length (all_of c) ≡ many = ap length all_are ∙ sym (many_choices sheet formed fitting k.fit f k.reads reads_are k.qs k.zip n many h) in
+        let ms : length (ways_of c) ≡ many = ap length all_are ∙ sym (many_choices sheet formed fitting k.fit f k.reads reads_are k.qs k.zip n many h) in
         by (tried_of c) many (length c.entries.now) n (subst (λ m. tried_of c ≤ m) ms (omega arith)) es
       where
         by : (tried m e n : ℕ) → tried ≤ m → e ≡ n → tried * (e + 1) + 1 ≤ m * (n + 2) + 1
@@ -154,7 +154,7 @@ nothing_asked sheet book t log none = record {
 
 -- by what is asked of the candidates
 pub all_asked : PartsAreSearched → (sheet : Sheet) → IsWellFormed sheet → (book : Sheet) → IsWellFormed book → (entries : List Entry) (fitting : List ValueId) (chosen : List PartSets) → AreCandidates sheet book entries fitting chosen
-    → (c : Choosing) → IsTask c.task.book.now c.task.ground.now → c.task.book.now ≡ book → c.entries.now ≡ entries → all_of c ≡ joined_by fitting chosen
+    → (c : Choosing) → IsTask c.task.book.now c.task.ground.now → c.task.book.now ≡ book → c.entries.now ≡ entries → ways_of c ≡ joined_by fitting chosen
     → (before after : Tally) (s : SolverView) (log grown : List LogLine) → log ≡ [] → IsAsked c.task.book.now c.task.variables.now s grown
     → SpendsIn (length c.task.variables.now) (tried_of c * (length c.entries.now + 1) + 1) before after log grown → IsSearchOf sheet book before after grown
 all_asked parts sheet formed book book_formed entries fitting chosen k c task book_at entries_at all_at before after s log grown none is_asked spends =

@@ -4,7 +4,7 @@ ghost use Rattle.pc_repairs.specs.inside.Joining.{IsSized};
 ghost use Rattle.pc_sheet.specs.Entailment.{HasAll};
 ghost use Rattle.pc_sheet.specs.MaximalSets.{IsContained};
 ghost use Rattle.pc_solver.specs.Spending.{SpendsIn, StopSays};
-ghost use Rattle.pc_ask.specs.inside.Choices.{all_of, AreNarrowed, IsChoosing, tried_of};
+ghost use Rattle.pc_ask.specs.inside.Choices.{ways_of, AreNarrowed, IsChoosing, tried_of};
 ghost use Rattle.pc_ask.specs.inside.Finding.{FindSays, IsExplained};
 ghost use Rattle.pc_ask.specs.inside.Parts.{IsAsked};
 
@@ -30,7 +30,7 @@ pub(crate) struct Found {
 // The assignment of the first way that has the entries. It is found before numbers come to an end.
 fn first_with(choosing: Choosing<'_, '_>, set: &[Entry]) -> Result<Assignment, AllocError>
     requires { All (IsSized (length choosing.fitting.now)) choosing.parts.now }
-    ensures there { IfOk result (Contains (all_of choosing.entry)) }
+    ensures there { IfOk result (Contains (ways_of choosing.entry)) }
     ensures has { IfOk result (λ a. HasAll a set.now) }
 {
     for number in 0..count_ways(choosing.parts) {

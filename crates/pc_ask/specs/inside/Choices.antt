@@ -9,12 +9,12 @@ use Rattle.pc_repairs.specs.inside.Joining.{IsSized, joined_by}
 use Rattle.pc_sheet.specs.declared.ids.ValueId.{ValueId}
 
 -- an assignment for each way to choose one maximal set of each part
-abbrev pub all_of : Choosing → List (List ValueId)
-all_of c = joined_by c.fitting.now c.parts.now
+abbrev pub ways_of : Choosing → List (List ValueId)
+ways_of c = joined_by c.fitting.now c.parts.now
 
 -- how many of them are gone over
 abbrev pub tried_of : Choosing → ℕ
-tried_of c = min (length (all_of c)) most_tried
+tried_of c = min (length (ways_of c)) most_tried
 
 -- an asked book is searched, and these are few entries on cells of the part that has what is asked; the parts are of the assignment's cells
 pub record IsChoosing (c : Choosing) : Type 0 where
@@ -27,15 +27,15 @@ abbrev pub AreAmong : Choosing → List Entry → Type 0
 AreAmong c kept = All (Contains c.entries.now) kept
 
 abbrev pub OneSays : Choosing → ℕ → List Entry → List ValueId → Bool → Type 0
-OneSays c k kept a true = IsWitness c.task.book.now c.entries.now (all_of c) k kept a
-OneSays c k kept a false = ¬ IsWitness c.task.book.now c.entries.now (all_of c) k kept a
+OneSays c k kept a true = IsWitness c.task.book.now c.entries.now (ways_of c) k kept a
+OneSays c k kept a false = ¬ IsWitness c.task.book.now c.entries.now (ways_of c) k kept a
 
 abbrev pub SomeSays : Choosing → ℕ → List Entry → Bool → Type 0
-SomeSays c k kept b = WitnessSays c.task.book.now c.entries.now (all_of c) k kept b
+SomeSays c k kept b = WitnessSays c.task.book.now c.entries.now (ways_of c) k kept b
 
 abbrev pub AreNarrowed : Choosing → ℕ → List Entry → Type 0
-AreNarrowed c k kept = IsNarrowed c.task.book.now c.entries.now (all_of c) k kept
+AreNarrowed c k kept = IsNarrowed c.task.book.now c.entries.now (ways_of c) k kept
 
 -- nothing is a witness with all of the entries that it has
 abbrev pub HasNone : Choosing → Type 0
-HasNone c = LacksWitness c.task.book.now c.entries.now (all_of c) (length c.entries.now) []
+HasNone c = LacksWitness c.task.book.now c.entries.now (ways_of c) (length c.entries.now) []

@@ -7,12 +7,12 @@ use Rattle.pc_accept.specs.Sets.{those_in}
 use Rattle.pc_ask.specs.Asking.{IsDeniedAt}
 use Rattle.pc_ask.specs.declared.narrowing.Choosing.{Choosing}
 use Rattle.pc_ask.specs.declared.finding.Found.{Found}
-use Rattle.pc_ask.specs.inside.Choices.{all_of, AreNarrowed, HasNone}
+use Rattle.pc_ask.specs.inside.Choices.{ways_of, AreNarrowed, HasNone}
 
 -- the kept entries, oldest first, an assignment that has them, and the line that derives that one of them doesn't stand
 pub record IsExplained (c : Choosing) (kept : List Entry) (log : List LogLine) (found : Found) : Type 0 where
   pub support_is : found.support.items ≡ those_in c.task.book.now.entries kept
-  pub shown : Contains (all_of c) found.shown
+  pub shown : Contains (ways_of c) found.shown
   pub has : HasAll found.shown found.support.items
   pub denied : IsDeniedAt c.task.book.now found.support.items log found.last
 

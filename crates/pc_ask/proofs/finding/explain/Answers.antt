@@ -3,7 +3,7 @@ use Rattle.pc_accept.specs.Sets.{those_in}
 use Rattle.pc_ask.specs.inside.Parts.{IsAskable}
 use Rattle.pc_sheet.specs.Entailment.{HasAll, IsConsistent}
 use Rattle.pc_ask.specs.Asking.{IsDeniedAt}
-use Rattle.pc_ask.specs.inside.Choices.{all_of}
+use Rattle.pc_ask.specs.inside.Choices.{ways_of}
 use Rattle.pc_ask.specs.inside.Narrowing.{RefuteSays}
 use Rattle.pc_ask.proofs.Searched.{none_spent}
 use Rattle.pc_ask.proofs.Kept.{support_all, support_falls}
@@ -21,11 +21,11 @@ returns-in_err-shown-clause-spends c = none_spent c.args.choosing.task.variables
 pub refute_set-requires-clause-set : goal.refute_set-requires-clause-set
 refute_set-requires-clause-set c =
     subst (All (IsAskable c.args.choosing.task.book.now)) (sym (c.deref-2.ensures.value ∙ (c.in_ok-support.ensures ∙ ap (λ es. those_in es c.args.kept.now) c.entries.ensures.items)))
-    (support_all c.args.choosing.task.book.now c.args.choosing.entries.now (all_of c.args.choosing) c.args.kept.now c.requires.narrowed (IsAskable c.args.choosing.task.book.now) c.requires.choosing.askable)
+    (support_all c.args.choosing.task.book.now c.args.choosing.entries.now (ways_of c.args.choosing) c.args.kept.now c.requires.narrowed (IsAskable c.args.choosing.task.book.now) c.requires.choosing.askable)
 
 pub unreachable-requires : goal.unreachable-requires
 unreachable-requires c =
-    support_falls c.args.choosing.task.book.now c.args.choosing.entries.now (all_of c.args.choosing) c.args.kept.now c.requires.narrowed c.requires.entered
+    support_falls c.args.choosing.task.book.now c.args.choosing.entries.now (ways_of c.args.choosing) c.args.kept.now c.requires.narrowed c.requires.entered
     (subst (IsConsistent c.args.choosing.task.book.now) (c.deref-2.ensures.value ∙ (c.in_ok-support.ensures ∙ ap (λ es. those_in es c.args.kept.now) c.entries.ensures.items))
     (subst (RefuteSays c.args.choosing.task.book.now c.deref-2.result.now c.refute_set.new.log) c.in-None.is c.in_ok-last.ensures.says))
 

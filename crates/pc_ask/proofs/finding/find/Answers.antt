@@ -2,7 +2,7 @@ use Rattle.std.proofs.Common.{◌+◌, ◌*◌, ◌^◌, Vec, Global, length, ar
 use Rattle.pc_sheet.specs.declared.ids.Entry.{Entry}
 use Rattle.pc_support.proofs.NarrowingLemmas.{at_none, at_some}
 use Rattle.pc_support.proofs.SpendingLemmas.{spends_on}
-use Rattle.pc_ask.specs.inside.Choices.{all_of, AreNarrowed, tried_of}
+use Rattle.pc_ask.specs.inside.Choices.{ways_of, AreNarrowed, tried_of}
 use Rattle.pc_ask.specs.inside.Finding.{IsExplained}
 use Rattle.pc_ask.proofs.Searched.{within_more}
 use Rattle.pc_ask.proofs.Spent.{few_and_once, still_low, tried_few}
@@ -43,9 +43,9 @@ returns-in_ok-explain-in-Some-clause-says c = (
 pub explain-requires-clause-few_learned : goal.explain-requires-clause-few_learned
 explain-requires-clause-few_learned c =
     (still_low (length c.args.choosing.task.variables.now) (tried_of c.args.choosing * (length c.args.choosing.entries.now + 1)) (2 ^ 120) (2 ^ 126) c.args.tally.now c.narrow.new.tally c.args.log.now c.narrow.new.log c.narrow.ensures.spends c.recall_limit.ensures
-    (few_and_once (tried_of c.args.choosing) (length c.args.choosing.entries.now) (tried_few (all_of c.args.choosing)) c.requires.choosing.few) (omega arith) c.requires.few_learned c.requires.few_calls).0
+    (few_and_once (tried_of c.args.choosing) (length c.args.choosing.entries.now) (tried_few (ways_of c.args.choosing)) c.requires.choosing.few) (omega arith) c.requires.few_learned c.requires.few_calls).0
 
 pub explain-requires-clause-few_calls : goal.explain-requires-clause-few_calls
 explain-requires-clause-few_calls c =
     (still_low (length c.args.choosing.task.variables.now) (tried_of c.args.choosing * (length c.args.choosing.entries.now + 1)) (2 ^ 120) (2 ^ 126) c.args.tally.now c.narrow.new.tally c.args.log.now c.narrow.new.log c.narrow.ensures.spends c.recall_limit.ensures
-    (few_and_once (tried_of c.args.choosing) (length c.args.choosing.entries.now) (tried_few (all_of c.args.choosing)) c.requires.choosing.few) (omega arith) c.requires.few_learned c.requires.few_calls).1
+    (few_and_once (tried_of c.args.choosing) (length c.args.choosing.entries.now) (tried_few (ways_of c.args.choosing)) c.requires.choosing.few) (omega arith) c.requires.few_learned c.requires.few_calls).1

@@ -1,6 +1,6 @@
 use Rattle.std.proofs.Common.{◌≡◌, ◌-◌, ◌*◌, ◌^◌, length, arith, subst}
 use Rattle.pc_support.proofs.SpendingLemmas.{one_more_place, spends_on, up_to_all, up_to_here}
-use Rattle.pc_ask.specs.inside.Choices.{all_of, AreNarrowed, tried_of}
+use Rattle.pc_ask.specs.inside.Choices.{ways_of, AreNarrowed, tried_of}
 use Rattle.pc_ask.proofs.Searched.{none_spent, within_more}
 use Rattle.pc_ask.proofs.Spent.{few_left, still_low, tried_few}
 use Rattle.pc_ask.proofs.narrowing.decide_all.Goals as goal
@@ -19,12 +19,12 @@ decide-requires-clause-asked c = c.loop-place.invariant.asked
 pub decide-requires-clause-few_learned : goal.decide-requires-clause-few_learned
 decide-requires-clause-few_learned c =
     (still_low (length c.args.choosing.task.variables.now) (tried_of c.args.choosing * (length c.args.choosing.entries.now - c.loop-place.place)) (2 ^ 124) (2 ^ 125) c.args.tally.now c.loop-place.tally c.args.log.now c.loop-place.log c.loop-place.invariant.spends c.recall_limit.ensures
-    (few_left (tried_of c.args.choosing) (length c.args.choosing.entries.now) c.loop-place.place (tried_few (all_of c.args.choosing)) c.requires.choosing.few) (omega arith) c.requires.few_learned c.requires.few_calls).0
+    (few_left (tried_of c.args.choosing) (length c.args.choosing.entries.now) c.loop-place.place (tried_few (ways_of c.args.choosing)) c.requires.choosing.few) (omega arith) c.requires.few_learned c.requires.few_calls).0
 
 pub decide-requires-clause-few_calls : goal.decide-requires-clause-few_calls
 decide-requires-clause-few_calls c =
     (still_low (length c.args.choosing.task.variables.now) (tried_of c.args.choosing * (length c.args.choosing.entries.now - c.loop-place.place)) (2 ^ 124) (2 ^ 125) c.args.tally.now c.loop-place.tally c.args.log.now c.loop-place.log c.loop-place.invariant.spends c.recall_limit.ensures
-    (few_left (tried_of c.args.choosing) (length c.args.choosing.entries.now) c.loop-place.place (tried_few (all_of c.args.choosing)) c.requires.choosing.few) (omega arith) c.requires.few_learned c.requires.few_calls).1
+    (few_left (tried_of c.args.choosing) (length c.args.choosing.entries.now) c.loop-place.place (tried_few (ways_of c.args.choosing)) c.requires.choosing.few) (omega arith) c.requires.few_learned c.requires.few_calls).1
 
 pub returns-in_err-decide-clause-spends : goal.returns-in_err-decide-clause-spends
 returns-in_err-decide-clause-spends c =

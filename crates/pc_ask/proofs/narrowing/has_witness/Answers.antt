@@ -1,6 +1,6 @@
 use Rattle.std.proofs.Common.{length, arith, subst}
 use Rattle.pc_support.proofs.SpendingLemmas.{spends_on}
-use Rattle.pc_ask.specs.inside.Choices.{all_of, OneSays, tried_of}
+use Rattle.pc_ask.specs.inside.Choices.{ways_of, OneSays, tried_of}
 use Rattle.pc_ask.proofs.Searched.{none_spent, within_more}
 use Rattle.pc_ask.proofs.Numbered.{tried_ways}
 use Rattle.pc_ask.proofs.Witnesses.{none_more, none_of_all, witness_at}
@@ -36,7 +36,7 @@ returns-then-branch-clause-spends c =
 
 pub returns-then-branch-clause-says : goal.returns-then-branch-clause-says
 returns-then-branch-clause-says c =
-    witness_at c.args.choosing.task.book.now c.args.choosing.entries.now (all_of c.args.choosing) c.args.count c.args.kept.now c.loop-number.number c.in_ok-way.way c.in_ok-way.ensures
+    witness_at c.args.choosing.task.book.now c.args.choosing.entries.now (ways_of c.args.choosing) c.args.count c.args.kept.now c.loop-number.number c.in_ok-way.way c.in_ok-way.ensures
     (subst (OneSays c.args.choosing c.args.count c.args.kept.now c.in_ok-way.way) c.if-branch.true c.in_ok-is_witness.ensures.says)
 
 pub loop-number-preserved : goal.loop-number-preserved
@@ -44,7 +44,7 @@ loop-number-preserved c = record {
   within = omega (arith, c.loop-number-test.true, c.count_ways-ways.ensures, tried_ways c.args.choosing);
   asked = c.is_witness.ensures.asked;
   spends = spends_on (length c.args.choosing.task.variables.now) c.loop-number.number 1 _ c.args.tally.now c.loop-number.tally c.is_witness.new.tally c.args.log.now c.loop-number.log c.is_witness.new.log (omega arith) c.loop-number.invariant.spends c.is_witness.ensures.spends;
-  none = none_more c.args.choosing.task.book.now c.args.choosing.entries.now (all_of c.args.choosing) c.args.count c.args.kept.now c.loop-number.number c.in_ok-way.way c.in_ok-way.ensures
+  none = none_more c.args.choosing.task.book.now c.args.choosing.entries.now (ways_of c.args.choosing) c.args.count c.args.kept.now c.loop-number.number c.in_ok-way.way c.in_ok-way.ensures
       (subst (OneSays c.args.choosing c.args.count c.args.kept.now c.in_ok-way.way) c.if-branch.false c.in_ok-is_witness.ensures.says) c.loop-number.invariant.none;
 }
 
@@ -60,5 +60,5 @@ returns-clause-spends c =
 
 pub returns-clause-says : goal.returns-clause-says
 returns-clause-says c =
-    none_of_all c.args.choosing.task.book.now c.args.choosing.entries.now (all_of c.args.choosing) c.args.count c.args.kept.now c.loop-number.number
+    none_of_all c.args.choosing.task.book.now c.args.choosing.entries.now (ways_of c.args.choosing) c.args.count c.args.kept.now c.loop-number.number
     (omega (arith, c.loop-number-test.false, c.count_ways-ways.ensures, tried_ways c.args.choosing, c.in_ok-all_tried.ensures.ok)) c.loop-number.invariant.none
