@@ -21,9 +21,11 @@ number_of CertRefused = 8
 
 -- ---- lines that end a run
 
+-- that memory was wanting
 abbrev pub memory_text : List ℕ
 memory_text = ended (codes "refused 15 memory")
 
+-- that memory was wanting for the sheet, or before it
 abbrev pub sheet_memory_text : List ℕ
 sheet_memory_text = ended (codes "sheet refused 15 memory")
 
