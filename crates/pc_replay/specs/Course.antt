@@ -16,6 +16,7 @@ use Rattle.pc_demo.specs.Course.{Demo}
 use Rattle.pc_spreadsheet.specs.Tasks.{Starts}
 use Rattle.pc_spreadsheet.specs.Allowed.{Notes, Allows, RefusesText}
 
+-- which words fit
 abbrev pub usage_text : List ℕ
 usage_text = ended (codes "usage: predicalc replay / edit FILE / check FILE / merge FILE / posts FILE / demo N [--budget K]")
 

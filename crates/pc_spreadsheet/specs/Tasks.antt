@@ -19,7 +19,7 @@ use Rattle.pc_sortcheck.specs.Declaring.{ReadsAs}
 use Rattle.pc_sortcheck.specs.DeclarationFaults.{HasRoomForEntry}
 use Rattle.pc_session.specs.RuleNames.{IsNewName, IsRuleAt}
 
--- a sheet, and the most propagations of an edit
+-- a sheet, and how many literals the search for one line may place
 pub record State : Type 0 where
   pub sheet : Sheet
   pub budget : ℕ
