@@ -30,7 +30,7 @@ use Rattle.pc_run_laws.specs.Statuses.{DoneIsSo, SomeAreRefused, SheetsAreRefuse
 use Rattle.pc_run_laws.specs.ByStatus.{UsageIsOfWords, WordsAreTold, IsRefusedCertificate, CertificatesAreRefused, WantsMemory, at_words, at_sheet, at_certificate, at_journal, at_line, MemoryIsWanted}
 use Rattle.pc_theorem.specs.Theorem as page
 use Rattle.pc_theorem.specs.Journals.{EndsJournals, merges_both}
-use Rattle.pc_theorem.specs.Theorem.{KnownRun, IsProved, Answers, RefusesSheet, Ends, LacksMemory, IsWorthIts, IsTold, IsCutOff}
+use Rattle.pc_theorem.specs.Theorem.{KnownRun, IsProved, Answers, RefusesSheet, Ends, LacksMemory, EndsAsAsked, IsTold, IsCutOff}
 use Rattle.pc_theorem.specs.Laws.{RunsKeepTheirWord, RunsKeepJournals, RunsDemonstrate}
 use Rattle.pc_theorem.proofs.Happenings.{front_cancels, printed_is, given_file, taken_all}
 use Rattle.pc_theorem.proofs.Quiet.{check_needs, course_needs}
@@ -241,7 +241,7 @@ module _ (sums : EventsAddUp) (one : WordsFitOneRequest) (first : StartsAreOpen)
         asked_for : (request : Request) → FitsWords run.words request → Ends run request.budget request.mode ⊎ LacksMemory run
         asked_for request fits = elim (all_ends request fits) [ inl e ↦ inl (page_ends run request.budget request.mode e) | inr lacks ↦ inr lacks ]
 
-        worth : IsWorthIts run
+        worth : EndsAsAsked run
         worth = record { asked_for = asked_for; unfit = unfit }
 
     module _ (on_done : DoneIsSo) (on_some : SomeAreRefused) (on_sheet : SheetsAreRefused) (on_certificate : CertificatesAreRefused) (on_memory : MemoryIsWanted) (on_usage : UsageIsOfWords) (on_unfit : WordsAreTold) where

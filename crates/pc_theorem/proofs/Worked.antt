@@ -28,7 +28,7 @@ use Rattle.pc_words.specs.Words.{Mode, edits, merges, Request, FitsWords, usual_
 use Rattle.pc_words.specs.Laws.{WordsFitOneRequest}
 use Rattle.pc_spreadsheet.specs.Tasks.{State, shows, lines_page, why_page, showing, IsTask}
 use Rattle.pc_afresh_laws.specs.Afresh.{IsOpen, DumpsStartAgain}
-use Rattle.pc_theorem.specs.Theorem.{KnownRun, Explains, page_shown, IsSession, answers_all, Ends, IsTold, IsWorthIts, KeepsItsWord}
+use Rattle.pc_theorem.specs.Theorem.{KnownRun, Explains, page_shown, IsSession, answers_all, Ends, IsTold, EndsAsAsked, KeepsItsWord}
 use Rattle.pc_theorem.specs.Journals.{IsMerged, merges_both, EndsJournals, KeepsJournals}
 use Rattle.pc_theorem.specs.Examples.{told_outside, merge_words, edit_words, WorkedWords}
 use Rattle.pc_theorem.proofs.BrokenSessions.{a_post, is_file_name}
@@ -131,14 +131,14 @@ module _ (one : WordsFitOneRequest) (words : List (List ℕ)) (files : Files) (i
       bytes_same : (x y : List ℕ) → Some x ≡ Some y → x ≡ y
       bytes_same x y e = cc
 
-  worth : Ends the_run request.budget request.mode → IsWorthIts the_run
+  worth : Ends the_run request.budget request.mode → EndsAsAsked the_run
   worth ends = record {
     asked_for = λ other asked. inl (the_request Ends the_run other asked ends);
     unfit = λ none. absurd (none request fits);
   }
 
   keeps : Ends the_run request.budget request.mode → KeepsItsWord words status (told_outside files input []) (told_outside files [] printed)
-  keeps ends run is uncut = subst IsWorthIts (run_is run is) (worth ends)
+  keeps ends run is uncut = subst EndsAsAsked (run_is run is) (worth ends)
 
   keeps_journals : EndsJournals the_run request.budget request.mode → KeepsJournals words status (told_outside files input []) (told_outside files [] printed)
   keeps_journals ends run is uncut other asked =

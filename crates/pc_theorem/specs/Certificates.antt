@@ -24,6 +24,7 @@ Assigns sheet text values = (e : Entry) → Contains values e ↔ Any (λ line. 
 abbrev pub IsClaimLine : Sheet → List ℕ → Claim → Type 0
 IsClaimLine sheet line claim = (written : WrittenClaim) × IsClaimForm line (texts_of line) written × IsClaimNamed sheet written claim
 
+-- the line says `set`
 abbrev pub IsSetLine : List ℕ → Type 0
 IsSetLine line = texts_of line ≡ codes "set" ∷ []
 

@@ -181,9 +181,9 @@ pub data Answers (state : State) (line : List ℕ) : Answer → State → Type 0
 
 -- ---- sessions
 
--- A text starts no session, and this is told behind the cause: the first fault of the text; a sheet that is too large, or whose rules leave no
--- assignment, with a certificate of that; or a budget that is less than is enough for it, all of which was placed. (A text has one verdict:
--- `texts_have_one_verdict`.)
+-- Why a text starts no session, and what is told behind that cause: for the first fault of the text nothing; for a sheet that is too large
+-- nothing; for one whose rules leave no assignment a certificate of that; for a budget that is less than is enough for it, all of which was
+-- placed, nothing. (A text has one verdict: `texts_have_one_verdict`.)
 pub data RefusesSheet (budget : ℕ) (text : List ℕ) : SheetRefusal → List ℕ → Type 0 where
   for_fault : (why : SheetRefusal) → HasFault text why → RefusesSheet budget text why []
   for_weight : IsTooLarge text → RefusesSheet budget text (of_whole TooLarge) []
@@ -197,6 +197,7 @@ IsSheetText run replays text = (rest : List ℕ) × (run.input ≡ text ++ rest)
 IsSheetText run (edits file) text = file_named file run.files ≡ Some text
 IsSheetText run mode text = ⊥
 
+-- the command lines, as said above
 abbrev pub AreCommands : KnownRun → Mode → List ℕ → List (List ℕ) → Type 0
 AreCommands run replays text commands = (rest : List ℕ) × (run.input ≡ text ++ rest) × (commands ≡ lines_of rest)
 AreCommands run (edits file) text commands = commands ≡ lines_of run.input
@@ -233,8 +234,8 @@ Ends run budget mode = EndsSession run budget mode
 abbrev pub LacksMemory : KnownRun → Type 0
 LacksMemory run = (run.status ≡ Memory) × ((run.printed ≡ memory_text) ⊎ (run.printed ≡ sheet_memory_text))
 
--- what a run is worth
-pub record IsWorthIts (run : KnownRun) : Type 0 where
+-- the run ended as its words ask, or lacked memory; where they ask for nothing, it told the usage
+pub record EndsAsAsked (run : KnownRun) : Type 0 where
   pub asked_for : (request : Request) → FitsWords run.words request → Ends run request.budget request.mode ⊎ LacksMemory run
   pub unfit : FitNothing run.words → (run.status ≡ Usage) × (run.printed ≡ usage_text)
 
@@ -259,4 +260,4 @@ IsCutOff status = ⊥
 
 -- of its words, of its status, and of what was outside before it and after it
 abbrev pub KeepsItsWord : List (List ℕ) → Status → Outside → Outside → Type 0
-KeepsItsWord words status before after = (run : KnownRun) → IsTold words status before after run → ¬ IsCutOff run.status → IsWorthIts run
+KeepsItsWord words status before after = (run : KnownRun) → IsTold words status before after run → ¬ IsCutOff run.status → EndsAsAsked run
