@@ -42,7 +42,7 @@ impl WatchLists {
     pub fn new(alloc: Global, count: usize) -> Result<WatchLists, AllocError>
         ensures { IfOk result (λ w. w ≡ record { lists = replicate count []; room = replicate count 0 }) }
     {
-        let mut lists = Vec::new(alloc);
+        let mut lists = Vec::with_capacity(alloc, count)?;
         'lists: for _ in 0..count {
             lists.push(Vec::new(alloc))?;
         }
