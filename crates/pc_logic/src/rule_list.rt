@@ -8,7 +8,7 @@ use pc_sheet::Rule;
 use std::alloc::{AllocError, Global};
 use std::marker::Model;
 
-/// RuleList in the order in which they were added. A clause sees them as a sheet has them.
+/// Rules in the order in which they were added. A clause sees them as a sheet has them.
 #[derive(Drop)]
 pub(crate) struct RuleList {
     list: Vec<Rule>,

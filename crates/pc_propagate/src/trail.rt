@@ -471,7 +471,9 @@ impl Trail {
         requires within { other < length (body_at self.old.watching (watch.place / 2)) }
         requires blocker { Contains (body_at self.old.watching (watch.place / 2)) blocker }
         ensures shifted { IsShifted (code_of lit) index other watch blocker self.old.watching.watched self.new.watching.watched }
-        ensures same { self.new ≡ record self.old { watching = record self.old.watching { watched = self.new.watching.watched } } }
+        ensures same { self.new ≡ record self.old {
+          watching = record self.old.watching { watched = self.new.watching.watched };
+        } }
     {
         self.watched.shift(lit, index, watch, other, blocker);
     }
