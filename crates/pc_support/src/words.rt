@@ -159,6 +159,23 @@ impl Words {
         put_bit(&mut self.words, place, has);
     }
 
+    /// The same set.
+    pub(crate) fn copy(&self, alloc: Global) -> Result<Words, AllocError>
+        ensures { IfOk result (λ words. words ≡ self.now) }
+    {
+        Ok(Words {
+            len: self.len,
+            words: Vec::from_slice(alloc, &self.words)?,
+        })
+    }
+
+    /// How many truth values there are.
+    pub(crate) fn len(&self) -> usize
+        ensures { result ≡ length self.now }
+    {
+        self.len
+    }
+
     /// Whether the set has this place. It has none past its end.
     pub(crate) fn has(&self, place: usize) -> bool
         ensures { IsTrue result ↔ HasPlace self.now place }
