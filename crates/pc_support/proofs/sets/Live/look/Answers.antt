@@ -1,4 +1,4 @@
-use Rattle.std.proofs.Common.{◌∙◌, OnOk}
+use Rattle.std.proofs.Common.{◌∙◌}
 use Rattle.std.proofs.lemmas.Result.{on_ok_weaker}
 use Rattle.pc_support.proofs.SetLemmas.{live_lacks, live_adds}
 use Rattle.pc_support.proofs.sets.Live.look.Goals as goal
