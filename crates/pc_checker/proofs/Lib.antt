@@ -19,4 +19,5 @@ pub mod Acceptance
 pub mod OneVerdict
 pub mod SetLemmas
 pub mod BlockLemmas
+pub mod AlikeLemmas
 pub mod ClaimOfSets

@@ -32,7 +32,7 @@ derivation_prepared sheet c clauses axioms allowed room lines start mid last fir
       within = within;
     }
 
-pub made : (sheet : Sheet) (c : Cert) (s : Scratch) → IsReadFor sheet c → IsDerivationPrepared sheet c s.clauses s.axioms.items s.allowed.items (length s.values) → AreValuesPrepared sheet c s.entered.items s.assignment s.sets.items s.pairs → IsMadeFor sheet c s
+pub made : (sheet : Sheet) (c : Cert) (s : Scratch) → IsReadFor sheet c → IsDerivationPrepared sheet c s.clauses s.axioms.items s.allowed.items (length s.values) → AreValuesPrepared sheet c s.entered.items s.assignment s.sets.items s.pairs s.apart → IsMadeFor sheet c s
 made sheet c s read derivation given =
     let ready = derivation.lines in
     let grown = ready.grows in
@@ -46,6 +46,7 @@ made sheet c s read derivation given =
         assignment = given.values;
         sets = given.sets;
         pairs = given.room;
+        apart = given.first_apart;
         count = ready.count;
         marks = ready.marks;
         within = subst (λ (xs : List Symbol). All (All (IsNamedIn xs)) s.clauses) grown.1 ready.within;

@@ -13,9 +13,9 @@ use Rattle.pc_cert.specs.declared.cert.SaidSet.{SaidSet}
 use Rattle.pc_cert.specs.Text.{SetReading, entry_said}
 use Rattle.pc_cert.specs.Views.{said_of, set_of}
 use Rattle.pc_cert.specs.ReadFor.{IsSetSaidOf}
-use Rattle.pc_checker.specs.Made.{entries_of, set_values}
+use Rattle.pc_checker.specs.Made.{AreApartAt, entries_of, set_values}
 use Rattle.pc_checker.specs.Verdicts.{Numbered, IsFirstWithout, IsFault, IsFirstInSet, AreApart}
-use Rattle.pc_checker.specs.inside.Parts.{AreApartAt, IsOneSetFault}
+use Rattle.pc_checker.specs.inside.Parts.{IsOneSetFault}
 use Rattle.pc_checker.specs.inside.Prepared.{AreSetsPrepared, IsShownPrepared}
 use Rattle.pc_checker.specs.declared.verdict.Verdict.{Verdict}
 use Rattle.pc_checker.specs.declared.verdict.Verdict.TheVariants.{UseNotEntered, BadValues, UseNotHeld, RuleBroken, HasValue, SetInSet, BadAxiom, BadStep, WrongEnd, Accepted}

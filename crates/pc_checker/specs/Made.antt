@@ -1,5 +1,5 @@
 -- When a certificate was read for a sheet, and when a scratch was made for both.
-use Rattle.std.specs.Prelude.{◌≡◌, ◌<◌, ℕ, Bool, false, MatchBool, List, [], ◌++◌, map, length, slice_get, slice_index_or, Some, All}
+use Rattle.std.specs.Prelude.{◌≡◌, ◌<◌, ◌≤◌, ℕ, Bool, false, MatchBool, List, [], ◌++◌, map, length, slice_get, slice_index_or, Some, All}
 use Rattle.pc_sheet.specs.Sheet.{Sheet}
 use Rattle.pc_sheet.specs.declared.ids.ValueId.{ValueId}
 use Rattle.pc_lits.specs.declared.literal.Lit.{Lit}
@@ -19,7 +19,7 @@ use Rattle.pc_cert.specs.Views.{said_of, set_of, symbols_of, literal_of, reading
 use Rattle.pc_cert.specs.ReadFor.{IsNamedIn, IsReadFor}
 use Rattle.pc_checker.specs.declared.scratch.Scratch.{Scratch}
 use Rattle.pc_checker.specs.Entered.{AreEnteredPairs, HasEachPair}
-use Rattle.pc_checker.specs.Verdicts.{values_in, allowed_in}
+use Rattle.pc_checker.specs.Verdicts.{AreApart, values_in, allowed_in}
 
 abbrev pub value_said : Said → ValueId
 value_said s = s.entry.value
@@ -45,8 +45,17 @@ own_blocks sheet c = blocks_said sheet c.sets.items
 abbrev pub set_values : SaidSet → List ValueId
 set_values s = values_in (map said_of s.values.items)
 
--- all that the check needs: the entries by cell and value, a mark for each such pair, the symbols of the clauses, the certificate's
--- first, and each clause by their numbers
+-- the sets before this place are apart from the one there
+abbrev pub AreApartAt : List SaidSet → ℕ → Type 0
+AreApartAt sets place = (k : ℕ) (d : SaidSet) → k < place → AreApart (set_of (slice_index_or sets k d)) (set_of (slice_index_or sets place d))
+
+-- so many of the first sets are apart from one another
+pub record AreFirstApart (sets : List SaidSet) (n : ℕ) : Type 0 where
+  pub within : n ≤ length sets
+  pub apart : (j : ℕ) → j < n → AreApartAt sets j
+
+-- all that the check needs: the entries by cell and value, a mark for each such pair, how many of the first sets are apart, the symbols
+-- of the clauses, the certificate's first, and each clause by their numbers
 pub record IsPreparedFor (sheet : Sheet) (c : Cert) (s : Scratch) : Type 0 where
   pub more : List Symbol
   pub distinct : AreSymbolsDistinct (symbols_of c ++ more)
@@ -55,6 +64,7 @@ pub record IsPreparedFor (sheet : Sheet) (c : Cert) (s : Scratch) : Type 0 where
   pub assignment : s.assignment ≡ values_in (reading_of c).values
   pub sets : s.sets.items ≡ map set_values c.sets.items
   pub pairs : HasEachPair sheet s.pairs
+  pub apart : AreFirstApart c.sets.items s.apart
   pub count : length s.clauses ≡ length c.lines.items
   pub marks : length s.axioms.items ≡ length c.lines.items
   pub within : All (All (IsNamedIn (symbols_of c ++ more))) s.clauses

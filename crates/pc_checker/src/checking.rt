@@ -26,6 +26,7 @@ pub fn check(book: &Book, cert: &Cert, scratch: &mut Scratch) -> Verdict
         &scratch.entered,
         &scratch.assignment,
         &scratch.sets,
+        scratch.apart,
         &mut scratch.pairs,
     ) {
         return verdict;

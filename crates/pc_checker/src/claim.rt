@@ -5,7 +5,7 @@ ghost use Rattle.pc_sheet.specs.Limits.{most_rules};
 ghost use Rattle.pc_sheet.specs.Entailment.{HasTarget};
 ghost use Rattle.pc_sheet.specs.declared.ids.Entry.{Entry as TheEntry};
 ghost use Rattle.pc_checker.specs.Entered.{ArePairsMarked, HasEachPair, HasPlace};
-ghost use Rattle.pc_checker.specs.Made.{set_values};
+ghost use Rattle.pc_checker.specs.Made.{AreFirstApart, set_values};
 ghost use Rattle.pc_checker.specs.inside.Parts.{BarredBy, IsFirstLine, IsLineOfValues, IsRuleBroken, IsClaimVerdict, IsShownFault, IsOneSetFault, IsFirstSetFault, IsSetsFault};
 ghost use Rattle.pc_checker.specs.inside.Prepared.{AreSetsPrepared, IsClaimPrepared, IsShownPrepared};
 ghost use Rattle.pc_checker.specs.Verdicts.{IsHeld};
@@ -28,16 +28,18 @@ struct Shown<'a> {
     assigned: &'a Assignment,
 }
 
-/// The verdict, if the used entries, the assignment or the sets don't stand.
+/// The verdict, if the used entries, the assignment or the sets don't stand. So many of the first sets are known to be apart.
 pub(crate) fn claim_verdict(
     book: &Book,
     cert: &Cert,
     entered: &[bool],
     values: &Assignment,
     sets: &[Assignment],
+    apart: usize,
     marks: &mut Values,
 ) -> Option<Verdict>
     requires prepared { IsClaimPrepared book.now cert.now entered.now values.now sets.now }
+    requires apart { AreFirstApart cert.now.sets.items apart }
     requires marks { HasEachPair book.now marks.old }
     ensures verdict { IsClaimVerdict book.now (reading_of cert.now) result }
     ensures room { length marks.new ≡ length marks.old }
@@ -45,9 +47,9 @@ pub(crate) fn claim_verdict(
     match cert.claim {
         Claim::Implied(_) => fault_of_own(book, cert, entered, values, None),
         Claim::Inconsistent => None,
-        Claim::Repairs => fault_of_sets(book, &cert.sets, entered, sets, None, marks),
+        Claim::Repairs => fault_of_sets(book, &cert.sets, entered, sets, None, apart, marks),
         Claim::Not(target) => {
-            fault_of_sets(book, &cert.sets, entered, sets, Some(target), marks)
+            fault_of_sets(book, &cert.sets, entered, sets, Some(target), apart, marks)
         }
         Claim::Against(rule) => fault_of_own(book, cert, entered, values, Some(rule)),
     }
@@ -106,9 +108,11 @@ fn fault_of_sets(
     entered: &[bool],
     assigned: &[Assignment],
     barred: Option<Target>,
+    apart: usize,
     marks: &mut Values,
 ) -> Option<Verdict>
     requires prepared { AreSetsPrepared book.now sets.now entered.now assigned.now }
+    requires apart { AreFirstApart sets.now apart }
     requires marks { HasEachPair book.now marks.old }
     ensures fault { IsSetsFault book.now (BarredBy barred) (map set_of sets.now) result }
     ensures room { length marks.new ≡ length marks.old }
@@ -117,7 +121,7 @@ fn fault_of_sets(
     if let Some(verdict) = first_faulty_set(book, sets, entered, assigned, barred) {
         return Some(verdict);
     }
-    if let Some(line) = first_in_set(sets, marks) {
+    if let Some(line) = first_in_set(sets, apart, marks) {
         return Some(Verdict::SetInSet { line });
     }
     None

@@ -1,6 +1,7 @@
 //! The check of a certificate: whether its entries, its assignment and its derivation show what it claims.
 #![tactic(auto)]
 
+mod alike;
 mod axiom;
 mod checking;
 mod claim;

@@ -12,6 +12,7 @@ ghost use Rattle.pc_checker.specs.inside.Prepared.{ArePrepared, AreValuesPrepare
 ghost use Rattle.pc_checker.specs.Verdicts.{allowed_in};
 ghost use Rattle.pc_checker.specs.inside.Written.{IsBlockWritten};
 
+use crate::alike::first_apart;
 use crate::draft::ClauseDraft;
 use crate::entered::entered_pairs;
 use crate::line_clauses::LineClauses;
@@ -41,12 +42,13 @@ pub fn room_for(alloc: Global, book: &Book, cert: &Cert) -> Result<Scratch, Allo
     ensures { IfOk result (IsMadeFor book.now cert.now) }
 {
     let (clauses, axioms, allowed, values) = room_for_derivation(alloc, book, cert)?;
-    let (entered, assignment, sets, pairs) = room_for_values(alloc, book, cert)?;
+    let (entered, assignment, sets, pairs, apart) = room_for_values(alloc, book, cert)?;
     Ok(Scratch {
         entered,
         assignment,
         sets,
         pairs,
+        apart,
         clauses,
         axioms,
         allowed,
@@ -84,19 +86,21 @@ fn room_for_derivation(
     Ok((clauses, axioms, allowed, values))
 }
 
-// Which pairs are entered, the values of the certificate and of its sets, and room for a mark of each pair.
+// Which pairs are entered, the values of the certificate and of its sets, room for a mark of each pair, and how many of the first sets
+// are apart.
 fn room_for_values(
     alloc: Global,
     book: &Book,
     cert: &Cert,
-) -> Result<(Vec<bool>, Assignment, Vec<Assignment>, Values), AllocError>
-    ensures { IfOk result (λ r. AreValuesPrepared book.now cert.now r.0.items r.1 r.2.items r.3) }
+) -> Result<(Vec<bool>, Assignment, Vec<Assignment>, Values, usize), AllocError>
+    ensures { IfOk result (λ r. AreValuesPrepared book.now cert.now r.0.items r.1 r.2.items r.3 r.4) }
 {
     let entered = entered_pairs(alloc, book)?;
     let assignment = assignment_of(alloc, &cert.values)?;
     let sets = assignments_of(alloc, &cert.sets)?;
     let pairs = room_for_pairs(alloc, book)?;
-    Ok((entered, assignment, sets, pairs))
+    let apart = first_apart(alloc, &cert.sets)?;
+    Ok((entered, assignment, sets, pairs, apart))
 }
 
 // Room for a mark of each pair of a cell and a value.

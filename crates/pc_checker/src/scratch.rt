@@ -16,6 +16,8 @@ pub struct Scratch {
     pub(crate) sets: Vec<Assignment>,
     // Room to mark the entries of a set, by cell and value.
     pub(crate) pairs: Values,
+    // How many of the first sets are known to be apart from one another.
+    pub(crate) apart: usize,
     // The clause of each line of the derivation.
     pub(crate) clauses: LineClauses,
     // Whether each line may be taken as an axiom.

@@ -7,9 +7,9 @@ ghost use Rattle.pc_sheet.specs.declared.ids.Entry.{Entry as TheEntry};
 ghost use Rattle.pc_cert.specs.Views.{said_of, set_of};
 ghost use Rattle.pc_checker.specs.Drafts.{AreWritten};
 ghost use Rattle.pc_checker.specs.Entered.{AreUsesMarked, HasPlace, HavePlaces, SetsHavePlaces, pair_place};
-ghost use Rattle.pc_checker.specs.Made.{entries_of};
+ghost use Rattle.pc_checker.specs.Made.{AreApartAt, AreFirstApart, entries_of};
 ghost use Rattle.pc_checker.specs.Verdicts.{AreApart};
-ghost use Rattle.pc_checker.specs.inside.Parts.{AreApartAt, IsLineInSet};
+ghost use Rattle.pc_checker.specs.inside.Parts.{IsLineInSet};
 
 use crate::draft::ClauseDraft;
 use crate::entered::place_of;
@@ -97,13 +97,15 @@ fn is_apart_from(sets: &[SaidSet], place: usize, marks: &mut Values) -> bool
     true
 }
 
-/// The line of the first set that lies within an earlier one, or in which an earlier one lies.
-pub(crate) fn first_in_set(sets: &[SaidSet], marks: &mut Values) -> Option<u32>
-    requires { SetsHavePlaces marks.old sets.now }
+/// The line of the first set that lies within an earlier one, or in which an earlier one lies. So many of the first are known to be
+/// apart from one another.
+pub(crate) fn first_in_set(sets: &[SaidSet], apart: usize, marks: &mut Values) -> Option<u32>
+    requires places { SetsHavePlaces marks.old sets.now }
+    requires apart { AreFirstApart sets.now apart }
     ensures line { IsLineInSet (map set_of sets.now) result }
     ensures room { length marks.new ≡ length marks.old }
 {
-    for place in 0..sets.len() {
+    for place in apart..sets.len() {
         if !is_apart_from(sets, place, marks) {
             return Some(sets[place].line);
         }

@@ -64,10 +64,6 @@ module _ (sheet : Sheet) (IsBarred : List ValueId → Type 0) where
   IsSetsFault sets None = SetsStand sheet IsBarred sets
   IsSetsFault sets (Some v) = IsFaultOfSets sheet IsBarred sets v
 
--- the sets before this place are apart from the one there
-abbrev pub AreApartAt : List SaidSet → ℕ → Type 0
-AreApartAt sets place = (k : ℕ) (d : SaidSet) → k < place → AreApart (set_of (slice_index_or sets k d)) (set_of (slice_index_or sets place d))
-
 abbrev pub IsLineInSet : List SetReading → Option ℕ → Type 0
 IsLineInSet sets None = AllPairs AreApart sets
 IsLineInSet sets (Some line) = (s : SetReading) × IsFirstInSet sets s × (line ≡ s.line)

@@ -11,7 +11,7 @@ use Rattle.pc_cert.specs.ReadFor.{IsNamedIn, IsSaidOf, IsSetSaidOf, IsReadFor}
 use Rattle.pc_cert.specs.declared.cert.SaidSet.{SaidSet}
 use Rattle.pc_cert.specs.declared.cert.Said.{Said}
 use Rattle.pc_cert.specs.Views.{said_of, symbols_of, literal_of, reading_of, AreSymbolsDistinct}
-use Rattle.pc_checker.specs.Made.{IsPrepared, own_blocks, set_values}
+use Rattle.pc_checker.specs.Made.{AreFirstApart, IsPrepared, own_blocks, set_values}
 use Rattle.pc_cert.specs.Numbered.{StartsWith}
 use Rattle.pc_checker.specs.Entered.{AreEnteredPairs, HasEachPair}
 use Rattle.pc_checker.specs.Verdicts.{values_in, allowed_in}
@@ -48,12 +48,13 @@ pub record IsDerivationPrepared (sheet : Sheet) (c : Cert) (clauses : List (List
   pub literals : map (literal_of names) allowed ≡ allowed_in (reading_of c)
   pub within : All (IsNamedIn names) allowed
 
--- what the test of the claim needs beside it, and room for a mark of each pair
-pub record AreValuesPrepared (sheet : Sheet) (c : Cert) (by_pair : List Bool) (assigned : List ValueId) (in_sets : List (List ValueId)) (pairs : List (Option Bool)) : Type 0 where
+-- what the test of the claim needs beside it, room for a mark of each pair, and how many of the first sets are apart
+pub record AreValuesPrepared (sheet : Sheet) (c : Cert) (by_pair : List Bool) (assigned : List ValueId) (in_sets : List (List ValueId)) (pairs : List (Option Bool)) (apart : ℕ) : Type 0 where
   pub entered : AreEnteredPairs sheet by_pair
   pub values : assigned ≡ values_in (reading_of c).values
   pub sets : in_sets ≡ map set_values c.sets.items
   pub room : HasEachPair sheet pairs
+  pub first_apart : AreFirstApart c.sets.items apart
 
 -- what the tests of a claim need: a certificate that was read for the sheet, the sheet's entries by cell and value, and
 -- the assignments that the certificate and its sets give

@@ -1,5 +1,5 @@
 use Rattle.std.proofs.Common.{◌≡◌, ℕ, ◌<◌, length}
-use Rattle.pc_checker.specs.inside.Parts.{AreApartAt}
+use Rattle.pc_checker.specs.Made.{AreApartAt}
 use Rattle.pc_checker.proofs.sets.first_in_set.Given as goal
 
 abbrev pub invariant-loop-place : goal.invariant-loop-place
