@@ -14,8 +14,6 @@ use Rattle.pc_accept.specs.Accepts.{AreInCellOrder}
 use Rattle.pc_cert.specs.declared.cert.CertPart.{CertPart}
 use Rattle.pc_cert.specs.declared.cert.CertPart.TheVariants.{Axiom, Step, Block}
 use Rattle.pc_cert.specs.declared.cert.CertLine.{CertLine}
-use Rattle.pc_cert.specs.declared.cert.SaidSet.{SaidSet}
-use Rattle.pc_cert.specs.Views.{set_of}
 use Rattle.pc_cert.specs.Text.{SetReading, CertificateReading, entry_said, place_meant}
 use Rattle.pc_checker.specs.declared.verdict.Verdict.{Verdict}
 use Rattle.pc_checker.specs.declared.verdict.Verdict.TheVariants.{BadAxiom, BadStep}
