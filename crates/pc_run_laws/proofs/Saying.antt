@@ -1,5 +1,5 @@
 -- What each mode's course says at its stages.
-use Rattle.std.proofs.Common.{◌≡◌, ◌≤◌, ℕ, List, [], ◌∷◌, ◌++◌, length, refl, sym, ◌∙◌, ap, subst, inl, inr, append-nil}
+use Rattle.std.proofs.Common.{◌≡◌, ◌≤◌, ℕ, List, [], ◌∷◌, ◌++◌, length, refl, sym, ◌∙◌, ap, subst, append-nil}
 use Rattle.pc_sheet.specs.Sheet.{Sheet}
 use Rattle.pc_sortcheck.specs.Declaring.{ReadsAs}
 use Rattle.pc_cert.specs.declared.TheConstants.{CERT_LIMIT}
@@ -31,7 +31,7 @@ use Rattle.pc_demo.specs.Course.{Demo}
 use Rattle.pc_spreadsheet.specs.Tasks.{State, Starts}
 use Rattle.pc_spreadsheet.specs.Allowed.{Notes, Allows, RefusesText}
 use Rattle.pc_replay.specs.Course.{CourseIn}
-use Rattle.pc_run_laws.specs.Statuses.{AnswersInput, AnswersAll, of_input, on_file, of_posts, of_blocks, RefusesSheet, refuses_input, refuses_file, refuses_to_post, refuses_blocks, refuses_to_check, no_journal_of_file, no_journal_of_input, refuses_both, TakesLines, TakesIn}
+use Rattle.pc_run_laws.specs.Statuses.{AnswersInput, AnswersAll, of_input, on_file, of_posts, of_blocks, RefusesSheet, refuses_input, refuses_file, refuses_to_post, refuses_blocks, refuses_to_check, no_journal_of_file, no_journal_to_merge, no_journal_to_post, refuses_both, TakesLines, TakesIn}
 
 -- what a mode's last piece says, with the status that it ends in
 pub data SaysLast (mode : Mode) (budget : ℕ) (notes notes' : Notes) (events : List Event) (line : List ℕ) (status : Status) : Type 0 where
@@ -120,7 +120,7 @@ merge_input_says : (budget : ℕ) (file text : List ℕ) (notes notes' : Notes) 
 merge_input_says budget file text notes notes' events more stage a u v same small reads is (journal.awaits_journal none) = (refl, tt)
 merge_input_says budget file text notes notes' events more stage a u v same small reads is (journal.needs_memory some few more_is) = tt
 merge_input_says budget file text notes notes' events more stage a u v same small reads is (journal.is_refused other line fault few first more_is) =
-    refuses refl (no_journal_of_input file text other (merges file) line fault (inl refl) few first (is ∙ ap (λ (es : List Event). gave file text ∷ es) more_is) refl same)
+    refuses refl (no_journal_to_merge file text other line fault few first (is ∙ ap (λ (es : List Event). gave file text ∷ es) more_is) refl same)
 merge_input_says budget file text notes notes' events more stage a u v same small reads is (journal.has_journal other b last few reads_b h more_is) =
     both_say budget file text other notes notes' events last stage a b v same small reads few reads_b (is ∙ ap (λ (es : List Event). gave file text ∷ es) more_is) h
 
@@ -146,7 +146,7 @@ posts_input_says : (budget : ℕ) (file text : List ℕ) (events more : List Eve
 posts_input_says budget file text events more stage start notes old new first small starts is (journal.awaits_journal none) = (refl, tt)
 posts_input_says budget file text events more stage start notes old new first small starts is (journal.needs_memory some few more_is) = tt
 posts_input_says budget file text events more stage start notes old new first small starts is (journal.is_refused other line fault few at_fault more_is) =
-    refuses refl (no_journal_of_input file text other (posts file) line fault (inr refl) few at_fault (is ∙ ap (λ (es : List Event). gave file text ∷ es) more_is) refl (ap (λ (pair : State × Notes). pair.1) first))
+    refuses refl (no_journal_to_post file text other start line fault small starts few at_fault (is ∙ ap (λ (es : List Event). gave file text ∷ es) more_is) refl (ap (λ (pair : State × Notes). pair.1) first))
 posts_input_says budget file text events more stage start notes old new first small starts is (journal.has_journal other a last few reads h more_is) =
     held_says budget file text other events last stage a start notes new small starts few reads (is ∙ ap (λ (es : List Event). gave file text ∷ es) more_is) h
 

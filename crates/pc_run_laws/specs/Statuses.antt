@@ -91,7 +91,8 @@ pub record HasWanting (words : List (List ℕ)) (notes notes' : Notes) (events :
 -- ---- a sheet or a journal that is refused
 
 -- What happened before this line refuses the sheet: that of the input, of the file or of the generated text; or, in a check, for a fault
--- alone; or it refuses the text of a file or an input that is no journal's, or two journals that differ.
+-- alone; or it refuses the text of a file or an input that is no journal's (where there are posts to answer, on a sheet that a run starts from), or
+-- two journals that differ.
 pub data RefusesSheet (budget : ℕ) (notes notes' : Notes) (events : List Event) (line : List ℕ) : Mode → Type 0 where
   refuses_input : (text : List ℕ) (why : SheetRefusal) (more : List ℕ) → IsSheetTaken text events → RefusesText budget text why more notes notes' → line ≡ sheet_refusal_text why ++ more → RefusesSheet budget notes notes' events line replays
   refuses_file : (file text : List ℕ) (why : SheetRefusal) (more : List ℕ) → length text ≤ SHEET_LIMIT → RefusesText budget text why more notes notes' → events ≡ gave file text ∷ [] → line ≡ sheet_refusal_text why ++ more → RefusesSheet budget notes notes' events line (edits file)
@@ -99,8 +100,10 @@ pub data RefusesSheet (budget : ℕ) (notes notes' : Notes) (events : List Event
   refuses_blocks : (blocks : ℕ) (why : SheetRefusal) (more : List ℕ) → RefusesText budget (generated_text blocks) why more notes notes' → events ≡ [] → line ≡ sheet_refusal_text why ++ more → RefusesSheet budget notes notes' events line (demonstrates blocks)
   refuses_to_check : (file text : List ℕ) (why : SheetRefusal) → length text ≤ SHEET_LIMIT → HasFault text why → ((read : Sheet) → ¬ ReadsAs text read) → events ≡ gave file text ∷ [] → line ≡ sheet_refusal_text why → notes' ≡ notes → RefusesSheet budget notes notes' events line (checks file)
   no_journal_of_file : (file text : List ℕ) (number : ℕ) (fault : LineFault) → length text ≤ SHEET_LIMIT → IsFirstFaultOfJournal text number fault → events ≡ gave file text ∷ [] → line ≡ refused_text from_file fault number → notes' ≡ notes → RefusesSheet budget notes notes' events line (merges file)
-  no_journal_of_input : (file text journal : List ℕ) (mode : Mode) (number : ℕ) (fault : LineFault) → (mode ≡ merges file) ⊎ (mode ≡ posts file) → length journal ≤ JOURNAL_LIMIT → IsFirstFaultOfJournal journal number fault
-      → events ≡ gave file text ∷ took_rest journal ∷ [] → line ≡ refused_text from_input fault number → notes' ≡ notes → RefusesSheet budget notes notes' events line mode
+  no_journal_to_merge : (file text journal : List ℕ) (number : ℕ) (fault : LineFault) → length journal ≤ JOURNAL_LIMIT → IsFirstFaultOfJournal journal number fault → events ≡ gave file text ∷ took_rest journal ∷ [] → line ≡ refused_text from_input fault number → notes' ≡ notes
+      → RefusesSheet budget notes notes' events line (merges file)
+  no_journal_to_post : (file text journal : List ℕ) (start : State) (number : ℕ) (fault : LineFault) → length text ≤ SHEET_LIMIT → Starts budget text start → length journal ≤ JOURNAL_LIMIT → IsFirstFaultOfJournal journal number fault
+      → events ≡ gave file text ∷ took_rest journal ∷ [] → line ≡ refused_text from_input fault number → notes' ≡ notes → RefusesSheet budget notes notes' events line (posts file)
   refuses_both : (file text journal : List ℕ) (a b : List Post) (author number : ℕ) → IsTextOf text a → IsTextOf journal b → DifferFirstAt a b author number → events ≡ gave file text ∷ took_rest journal ∷ [] → line ≡ differ_text author number → notes' ≡ notes
       → RefusesSheet budget notes notes' events line (merges file)
 

@@ -5,7 +5,7 @@ use Rattle.std.proofs.lemmas.List.Concat.{flat_map-append}
 use Rattle.pc_port.specs.Shelf.{file_named}
 use Rattle.pc_lines.specs.Lines.{lines_of}
 use Rattle.pc_collab.specs.Journal.{Post}
-use Rattle.pc_collab.specs.Reading.{IsTextOf, LineFault, bad_line, gap, out_of_order}
+use Rattle.pc_collab.specs.Reading.{IsTextOf, LineFault, bad_line, gap, out_of_order, IsFirstFaultOfJournal}
 use Rattle.pc_collab.specs.ReadBack.{JournalsReadBack}
 use Rattle.pc_collab.specs.Merge.{IsMerge, DifferFirstAt}
 use Rattle.pc_collab.proofs.Whole.{one_in_journal}
@@ -230,6 +230,12 @@ module _ (sums : EventsAddUp) (run : page.KnownRun) (before after : Outside) (ke
           let whole = ends_so ∙ ap (λ (es : List Event). es ++ told line ∷ []) is in
           (file_is file text (took_rest input ∷ told line ∷ []) whole, rest_is file text input (told line ∷ []) whole, printed_last earlier line ends_so (ap told_in is))
 
+      no_journal : (journal : List ℕ) (number : ℕ) (fault : LineFault) → IsFirstFaultOfJournal journal number fault → run.input ≡ journal → (held : List Post) → ¬ IsTextOf run.input held
+      no_journal journal number fault at same held reads = back.sound journal held number fault (subst (λ (i : List ℕ). IsTextOf i held) same reads) at
+
+      told_of_input : (fault : LineFault) (number : ℕ) → run.printed ≡ refused_text from_input fault number → BeginsWith (codes "journal refused ") run.printed
+      told_of_input fault number told_so = subst (BeginsWith (codes "journal refused ")) (sym told_so) (fault_told from_input fault number)
+
       pub refuses_all : (mode : Mode) → HasFewBlocks mode → by_status.RefusesSheet budget notes noted earlier line mode → AllEnds run budget mode
       refuses_all mode few_blocks (by_status.refuses_input text why more is_taken refuses line_is) =
           page.refuses text why more status (sheet_text text earlier (told line ∷ []) is_taken ends_so) (refused budget text why more notes noted some refuses) (printed_last earlier line ends_so (taken_is_quiet text earlier is_taken) ∙ line_is)
@@ -254,14 +260,12 @@ module _ (sums : EventsAddUp) (run : page.KnownRun) (before after : Outside) (ke
             none = λ one other merged reads other_reads merge. back.sound text one number fault reads at;
             told = subst (BeginsWith (codes "journal refused ")) (sym (f.1 ∙ line_is)) (fault_told from_file fault number);
           })
-      refuses_all mode few_blocks (by_status.no_journal_of_input file text journal same_mode number fault which small at is line_is same) =
+      refuses_all mode few_blocks (by_status.no_journal_to_merge file text journal number fault small at is line_is same) =
           let f = refused_both file text journal is in
-          let told_so : BeginsWith (codes "journal refused ") run.printed = subst (BeginsWith (codes "journal refused ")) (sym (f.2 ∙ line_is)) (fault_told from_input fault number) in
-          let none : (j : List Post) → ¬ IsTextOf run.input j = λ j reads. back.sound journal j number fault (subst (λ (i : List ℕ). IsTextOf i j) f.1 reads) at in
-          elim which [
-            | inl merging ↦ subst (AllEnds run budget) (sym merging) (journals.finds_no_merge status (record { bytes = text; found = f.0; none = λ one other merged reads other_reads merge. none other other_reads; told = told_so }))
-            | inr posting ↦ subst (AllEnds run budget) (sym posting) (journals.finds_no_journal status none told_so)
-          ]
+          journals.finds_no_merge status (record { bytes = text; found = f.0; none = λ one other merged reads other_reads merge. no_journal journal number fault at f.1 other other_reads; told = told_of_input fault number (f.2 ∙ line_is) })
+      refuses_all mode few_blocks (by_status.no_journal_to_post file text journal start number fault small starts few at is line_is same) =
+          let f = refused_both file text journal is in
+          journals.finds_no_journal text start status f.0 starts (no_journal journal number fault at f.1) (told_of_input fault number (f.2 ∙ line_is))
       refuses_all mode few_blocks (by_status.refuses_both file text journal a b author number reads other differ is line_is same) =
           let f = refused_both file text journal is in
           journals.finds_no_merge status (record {

@@ -13,6 +13,7 @@ use Rattle.pc_refusals.specs.declared.status.Status.TheVariants.{Done, SheetRefu
 use Rattle.pc_refusals.specs.Events.{Outside}
 use Rattle.pc_journal.specs.PostLines.{lines_of_posts}
 use Rattle.pc_words.specs.Words.{Mode, merges, posts, Request, FitsWords}
+use Rattle.pc_spreadsheet.specs.Tasks.{State, Starts}
 use Rattle.pc_theorem.specs.Theorem.{KnownRun, BeginsWith, RefusesSheet, IsSession, LacksMemory, IsTold, IsCutOff}
 
 -- MERGED. The file and the input are journals, and the text of their merge was printed: the journal whose posts are those of either.
@@ -40,11 +41,11 @@ pub data EndsMerge (run : KnownRun) (file : List ℕ) : Type 0 where
   finds_no_merge : run.status ≡ SheetRefused → HasNoMerge run.files file run.input run.printed → EndsMerge run file
 
 -- With `posts FILE` the command lines are the texts of the posts of the input's journal, with a line `show` at last: all were answered on the
--- file's sheet as in a session; or the sheet was refused; or the input is no journal, and that was told.
+-- file's sheet as in a session; or the sheet was refused; or it wasn't, the input is no journal, and that was told.
 pub data EndsPosts (run : KnownRun) (budget : ℕ) (file : List ℕ) : Type 0 where
   posts_answered : (text : List ℕ) (journal : List Post) → file_named file run.files ≡ Some text → IsTextOf run.input journal → IsSession run budget text (lines_of_posts journal) → EndsPosts run budget file
   posts_no_sheet : (text : List ℕ) (why : SheetRefusal) (more : List ℕ) → run.status ≡ SheetRefused → file_named file run.files ≡ Some text → RefusesSheet budget text why more → run.printed ≡ sheet_refusal_text why ++ more → EndsPosts run budget file
-  finds_no_journal : run.status ≡ SheetRefused → ((journal : List Post) → ¬ IsTextOf run.input journal) → BeginsWith (codes "journal refused ") run.printed → EndsPosts run budget file
+  finds_no_journal : (text : List ℕ) (start : State) → run.status ≡ SheetRefused → file_named file run.files ≡ Some text → Starts budget text start → ((journal : List Post) → ¬ IsTextOf run.input journal) → BeginsWith (codes "journal refused ") run.printed → EndsPosts run budget file
 
 -- what was asked for ends so
 abbrev pub EndsJournals : KnownRun → ℕ → Mode → Type 0
