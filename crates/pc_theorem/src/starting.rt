@@ -2,8 +2,7 @@
 ghost use Rattle.std.specs.Prelude.{◌≡◌, ◌⊎◌, IfOk, map, string_bytes};
 ghost use Rattle.std.specs.IoError.{error_kind};
 ghost use Rattle.std.specs.Vec.Iter.{into_iter_items};
-ghost use Rattle.pc_theorem.specs.Outsides.{outside_of};
-ghost use Rattle.pc_theorem.specs.Starting.{IsRunOf, LacksWords, StartsSo, behind_name, words_read};
+ghost use Rattle.pc_theorem.specs.Starting.{IsRunOf, IsWithoutWords, StartsSo, behind_name, words_read};
 
 use crate::top::run;
 use pc_port::{Shelf, Sink, Source};
@@ -34,7 +33,7 @@ fn run_words<I: Source, H: Shelf, O: Sink>(
     out: &mut O,
     spent: &mut Spendings,
 ) -> Status
-    ensures { IsRunOf (map string_bytes words.now) result spent.old spent.new (outside_of H.kept H.asked H.faults I.left I.faults O.given O.faults shelf.old input.old out.old) (outside_of H.kept H.asked H.faults I.left I.faults O.given O.faults shelf.new input.new out.new) }
+    ensures { IsRunOf H.kept H.asked H.faults I.left I.faults O.given O.faults shelf.old shelf.new input.old input.new out.old out.new (map string_bytes words.now) result spent.old spent.new }
 {
     run(alloc, words, input, shelf, out, spent)
 }
@@ -46,7 +45,7 @@ fn tell_lacking<I: Source, H: Shelf, O: Sink>(
     out: &mut O,
     spent: &mut Spendings,
 ) -> Status
-    ensures { LacksWords result spent.old spent.new (outside_of H.kept H.asked H.faults I.left I.faults O.given O.faults shelf.old input.old out.old) (outside_of H.kept H.asked H.faults I.left I.faults O.given O.faults shelf.new input.new out.new) }
+    ensures { IsWithoutWords H.kept H.asked H.faults I.left I.faults O.given O.faults shelf.old shelf.new input.old input.new out.old out.new result spent.old spent.new }
 {
     tell_no_memory(out)
 }
@@ -60,8 +59,8 @@ fn run_args<I: Source, H: Shelf, O: Sink>(
     out: &mut O,
     spent: &mut Spendings,
 ) -> Status
-    ensures { IsRunOf (behind_name (map string_bytes (into_iter_items args))) result spent.old spent.new (outside_of H.kept H.asked H.faults I.left I.faults O.given O.faults shelf.old input.old out.old) (outside_of H.kept H.asked H.faults I.left I.faults O.given O.faults shelf.new input.new out.new)
-        ⊎ LacksWords result spent.old spent.new (outside_of H.kept H.asked H.faults I.left I.faults O.given O.faults shelf.old input.old out.old) (outside_of H.kept H.asked H.faults I.left I.faults O.given O.faults shelf.new input.new out.new) }
+    ensures { IsRunOf H.kept H.asked H.faults I.left I.faults O.given O.faults shelf.old shelf.new input.old input.new out.old out.new (behind_name (map string_bytes (into_iter_items args))) result spent.old spent.new
+        ⊎ IsWithoutWords H.kept H.asked H.faults I.left I.faults O.given O.faults shelf.old shelf.new input.old input.new out.old out.new result spent.old spent.new }
 {
     match words_behind_name(alloc, args) {
         Ok(words) => run_words(alloc, &words, input, shelf, out, spent),
@@ -80,7 +79,7 @@ pub fn start<I: Source, H: Shelf, O: Sink>(
     out: &mut O,
     spent: &mut Spendings,
 ) -> Status
-    ensures { StartsSo (words_read (λ read. map string_bytes (into_iter_items read)) error_kind args) result spent.old spent.new (outside_of H.kept H.asked H.faults I.left I.faults O.given O.faults shelf.old input.old out.old) (outside_of H.kept H.asked H.faults I.left I.faults O.given O.faults shelf.new input.new out.new) }
+    ensures { StartsSo H.kept H.asked H.faults I.left I.faults O.given O.faults shelf.old shelf.new input.old input.new out.old out.new (words_read (λ read. map string_bytes (into_iter_items read)) error_kind args) result spent.old spent.new }
 {
     match args {
         Ok(args) => run_args(alloc, args, input, shelf, out, spent),
