@@ -13,7 +13,8 @@ use Rattle.pc_transcript.specs.Transcript.{Transcript, Legal}
 use Rattle.pc_words.specs.Words.{demonstrates, FitsWords}
 use Rattle.pc_judge.specs.AcceptedText.{IsAcceptedText}
 use Rattle.pc_spreadsheet.specs.Allowed.{Notes}
-use Rattle.pc_spreadsheet.specs.Tasks.{State, Starts, lines_page, text_page}
+use Rattle.pc_spreadsheet.specs.Tasks.{State, Starts, PageKind, text_page}
+use Rattle.pc_afresh_laws.specs.Afresh.{IsDisplay}
 use Rattle.pc_replay.specs.Course.{Runs}
 use Rattle.pc_theorem.specs.Theorem.{KnownRun, EndsCheck, TellsPage, Answers, LacksMemory, IsTold, IsCutOff, KeepsItsWord}
 use Rattle.pc_theorem.specs.Journals.{KeepsJournals}
@@ -33,10 +34,11 @@ RunsDemonstrate = (words : List (List ℕ)) (status : Status) (notes noted : Not
 
 -- ---- a saved sheet
 
--- What was told for `dump`, a later session may begin with. There `show` is answered, before any edit, as it would have been in place of the
--- `dump`.
+-- What was told for `dump`, a later session may begin with. There `show`, `grid` and `json` are answered, before any edit, as they would have been
+-- in place of the `dump`.
 abbrev pub SavedSheetsShowTheSame : Type 0
-SavedSheetsShowTheSame = (sheet : Sheet) (saved shown later : List ℕ) (budget : ℕ) (start : State) → TellsPage sheet text_page saved → TellsPage sheet lines_page shown → Starts budget saved start → TellsPage start.sheet lines_page later → later ≡ shown
+SavedSheetsShowTheSame =
+    (sheet : Sheet) (kind : PageKind) (saved shown later : List ℕ) (budget : ℕ) (start : State) → IsDisplay kind → TellsPage sheet text_page saved → TellsPage sheet kind shown → Starts budget saved start → TellsPage start.sheet kind later → later ≡ shown
 
 -- What `check` accepts for a sheet, as the certificates that a session prints, isn't refused for a file that has what was told for `dump`.
 abbrev pub SavedSheetsTakeCertificates : Type 0
