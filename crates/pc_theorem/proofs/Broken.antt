@@ -77,7 +77,7 @@ first_byte (b ∷ bs) = b
 accepted_not_refused : (more : List ℕ) → ended (codes "accepted") ≡ codes "refused " ++ more → ⊥
 accepted_not_refused more e = let bytes : 97 ≡ 114 = ap first_byte e in omega (arith, bytes)
 
-nothing_not_refused : (more : List ℕ) → [] ≡ codes "journal refused " ++ more → ⊥
+pub nothing_not_refused : (more : List ℕ) → [] ≡ codes "journal refused " ++ more → ⊥
 nothing_not_refused more e = let bytes : 0 ≡ 106 = ap first_byte e in omega (arith, bytes)
 
 -- ---- checks, merges and inputs

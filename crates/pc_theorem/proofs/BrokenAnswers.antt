@@ -54,11 +54,11 @@ memory_for_show state next line one (memory_lacking takes) = takes (inr (inl one
 
 -- ---- `why`
 
-abbrev first_byte : List ℕ → ℕ
+abbrev pub first_byte : List ℕ → ℕ
 first_byte [] = 0
 first_byte (b ∷ bs) = b
 
-abbrev first_text : List (List ℕ) → ℕ
+abbrev pub first_text : List (List ℕ) → ℕ
 first_text [] = 0
 first_text (t ∷ ts) = first_byte t
 
@@ -73,7 +73,7 @@ claims_nothing sheet t (written_against n, is, named) = absurd named
 one_line : lines (ended (codes "not implied")) ≡ codes "not implied" ∷ []
 one_line = refl
 
-of_one : (P : List ℕ → Type 0) (x : List ℕ) → Any P (x ∷ []) → P x
+pub of_one : (P : List ℕ → Type 0) (x : List ℕ) → Any P (x ∷ []) → P x
 of_one P x (zero, y, inside, same, p) = subst P (sym same) p
 of_one P x (suc k, y, inside, same, p) = absurd (omega (arith, inside))
 
@@ -97,10 +97,10 @@ never_unassigned sheet t text is some none (by_support uses least by) = no_value
     nothing_given (v ∷ vs) assigns = absurd (none v ((assigns v).0 (contains_first v vs)))
 
 -- one page is asked for
-same_page : (kind other : PageKind) → does (shows kind) ≡ does (shows other) → kind ≡ other
+pub same_page : (kind other : PageKind) → does (shows kind) ≡ does (shows other) → kind ≡ other
 same_page kind other same = cc
 
-explains_it : LinesHaveOneVerdict → (state next : State) (line text : List ℕ) (t : Target) → IsWellFormed state.sheet → IsTask state line (shows (why_page t)) → Answers state line (shown text) next → Explains state.sheet t text
+pub explains_it : LinesHaveOneVerdict → (state next : State) (line text : List ℕ) (t : Target) → IsWellFormed state.sheet → IsTask state line (shows (why_page t)) → Answers state line (shown text) next → Explains state.sheet t text
 explains_it one state next line text t formed asks_why (page_shown kind said asked tells) = subst (λ k. TellsPage state.sheet k text) (same_page kind (why_page t) (one state formed line (does (shows kind)) (does (shows (why_page t))) asked asks_why)) tells
 
 -- ---- a spent budget
@@ -140,7 +140,7 @@ has_enough read line c reading (to_ask a f other needs short) =
     no_formula equal_cells c f (subst (λ x. NeedsAnswer equal_cells x f) a_is needs)
 
 -- what is told as spent has too little budget
-too_little : (state next : State) (line more : List ℕ) (answer : Answer) (counts : Counts) → answer ≡ refused (Spent counts) more → Answers state line answer next → HasTooLittle state line
+pub too_little : (state next : State) (line more : List ℕ) (answer : Answer) (counts : Counts) → answer ≡ refused (Spent counts) more → Answers state line answer next → HasTooLittle state line
 too_little state next line more answer counts same (nothing_asked none) = absurd (cc)
 too_little state next line more answer counts same (edit_done edit asked edits) = absurd (cc)
 too_little state next line more answer counts same (page_shown kind text asked tells) = absurd (cc)

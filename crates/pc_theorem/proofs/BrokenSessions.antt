@@ -72,11 +72,11 @@ none_refused files keeps = absurd (cc (nothing_is_done files [] SomeRefused (λ 
 
 -- ---- a refusal that isn't told
 
-abbrev first_byte : List ℕ → ℕ
+abbrev pub first_byte : List ℕ → ℕ
 first_byte [] = 0
 first_byte (b ∷ bs) = b
 
-never_refused : (b c : Bool) → SheetRefused ≡ worse_of b c → ⊥
+pub never_refused : (b c : Bool) → SheetRefused ≡ worse_of b c → ⊥
 never_refused true c is = absurd (cc)
 never_refused false true is = absurd (cc)
 never_refused false false is = absurd (cc)
@@ -149,7 +149,7 @@ ok_for_repairs read files keeps = by (edit_ends files listing_line (ended (codes
 
 -- ---- a demonstration
 
-one_digit : IsNumber 3 256 (codes "1") 1
+pub one_digit : IsNumber 3 256 (codes "1") 1
 one_digit =
     let written = decimal_digit 1 (omega arith) in
     let read = decimal_is_IsNumeral_wide 1 (omega arith) in
@@ -165,14 +165,14 @@ one_digit =
 not_silent : (s : Summary) (loaded more : List ℕ) → loaded ≡ summary_text (codes "loaded") s → [] ≡ loaded ++ more → ⊥
 not_silent s loaded more is e = let bytes : 0 ≡ 108 = ap first_byte (e ∙ ap (λ (xs : List ℕ). xs ++ more) is) in omega (arith, bytes)
 
-demo_ends : (files : Files) (printed : List ℕ) (status : Status) → Demonstrated demo_words files [] printed status → (status ≡ Memory → ⊥) → ¬ IsCutOff status → EndsDemonstration (run_on demo_words files [] printed status) usual_budget 1
+pub demo_ends : (files : Files) (printed : List ℕ) (status : Status) → Demonstrated demo_words files [] printed status → (status ≡ Memory → ⊥) → ¬ IsCutOff status → EndsDemonstration (run_on demo_words files [] printed status) usual_budget 1
 demo_ends files printed status keeps other uncut = elim (keeps (run_on demo_words files [] printed status) (told demo_words files [] printed status) uncut 1 usual_budget (inl ((codes "1", refl, one_digit), refl))) [
   | inl ends ↦ ends
   | inr lacks ↦ absurd (other lacks.0)
 ]
 
 -- the byte at which `13` and `14` differ
-abbrev sixteenth : List ℕ → ℕ
+abbrev pub sixteenth : List ℕ → ℕ
 sixteenth text = get_or text 15 0
 
 abbrev told_inconsistent : List ℕ

@@ -14,7 +14,7 @@ use Rattle.pc_run_laws.proofs.WorkedBudgets.{no_verdict_spent}
 use Rattle.pc_theorem.specs.Theorem.{Answers, nothing_asked, edit_done, page_shown, not_doable, contradicting, budget_spent, memory_lacking}
 use Rattle.pc_theorem.specs.Examples.{BrokenVerdicts}
 
-same_task : (task other : Task) → does task ≡ does other → task ≡ other
+pub same_task : (task other : Task) → does task ≡ does other → task ≡ other
 same_task task other same = cc
 
 same_refusal : (why other : Refusal) → refuses why ≡ refuses other → why ≡ other

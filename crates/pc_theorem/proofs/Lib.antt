@@ -23,3 +23,8 @@ mod Broken
 mod OneState
 mod EnoughDemonstrated
 mod Begun
+mod WrongPages
+mod WrongCertificates
+mod WrongChecks
+mod WrongSessions
+mod WrongJournals

@@ -28,7 +28,7 @@ module _ (read : CommandsHaveOneReading) where
   asks_so : (a : Asked) → IsCommandReading show_word (asks a) → a ≡ asks_show
   asks_so a reading = asked_same a asks_show (read show_word (asks a) (asks asks_show) reading asks_to_show)
 
-  answer_is : (start end : State) (answer : Answer) (display : List ℕ) → IsShown start.sheet display → Answers start show_word answer end → Done ≡ status_of ((show_line, answer) ∷ []) → answer_text answer ≡ display
+  pub answer_is : (start end : State) (answer : Answer) (display : List ℕ) → IsShown start.sheet display → Answers start show_word answer end → Done ≡ status_of ((show_line, answer) ∷ []) → answer_text answer ≡ display
   answer_is start end answer display is (nothing_asked none) status = absurd (something (read show_word no_command (asks asks_show) none asks_to_show))
   answer_is start end answer display is (edit_done edit asked is_edit) status = absurd (no_edit start.sheet edit (subst (λ a. IsTaskOf start.sheet a edit) (asks_so asked.0 asked.1) asked.2) is_edit)
   answer_is start end answer display is (page_shown kind text asked tells) status =

@@ -17,6 +17,7 @@ use Rattle.pc_canonical_laws.proofs.Lines.{cuts_to_end}
 use Rattle.pc_gen.proofs.Names.{small_name}
 use Rattle.pc_collab.specs.Journal.{Post, IsOneLine, IsPost, AreNumberedByAuthor, IsJournal}
 use Rattle.pc_collab.proofs.Numbered.{numbered_push}
+use Rattle.pc_collab.specs.Merge.{IsMerge}
 use Rattle.pc_collab.specs.Text.{journal_text}
 use Rattle.pc_writer.specs.SheetText.{sheet_text}
 use Rattle.pc_display.specs.Show.{IsShown}
@@ -35,13 +36,13 @@ use Rattle.pc_theorem.proofs.BrokenSessions.{a_post, is_file_name}
 use Rattle.pc_theorem.proofs.OneWord.{one_word}
 use Rattle.pc_theorem.proofs.Pages.{the_text}
 
-abbrev the_post : Post
+abbrev pub the_post : Post
 the_post = record { author = 1; number = 1; stamp = 7; text = codes "show" }
 
 abbrev the_files : Files
 the_files = (codes "f", a_post) ∷ []
 
-abbrev IsNoEnd : ℕ → Type 0
+abbrev pub IsNoEnd : ℕ → Type 0
 IsNoEnd b = (b ≢ 10) × (b ≢ 13)
 
 is_one_line : IsOneLine (codes "show")
@@ -55,27 +56,30 @@ short_text = refl
 is_post : IsPost the_post
 is_post = record { author = (omega arith, omega arith); number = (omega arith, omega arith); stamp = (omega arith, omega arith); short = omega (arith, short_text); one_line = is_one_line }
 
-no_numbers : AreNumberedByAuthor []
+pub no_numbers : AreNumberedByAuthor []
 no_numbers author = refl
 
 one_long : length (the_post ∷ []) ≡ 1
 one_long = refl
 
-one_post : IsJournal (the_post ∷ [])
+pub one_post : IsJournal (the_post ∷ [])
 one_post = record {
   each = All-cons IsPost the_post [] is_post (All-nil IsPost);
   rise = λ i j d below within. absurd (omega (arith, below, within, one_long));
   numbered = numbered_push [] the_post no_numbers refl;
 }
 
-no_post : IsJournal []
+pub no_post : IsJournal []
 no_post = record { each = All-nil IsPost; rise = λ i j d below within. absurd (omega (arith, within)); numbered = no_numbers }
 
 abbrev line_of : List ℕ → List ℕ → List ℕ → List ℕ
 line_of author number stamp = (codes "post " ++ (author ++ (codes " " ++ (number ++ (codes " " ++ (stamp ++ (codes " : " ++ (codes "show" ++ codes "\n")))))))) ++ []
 
-text_is : a_post ≡ journal_text (the_post ∷ [])
+pub text_is : a_post ≡ journal_text (the_post ∷ [])
 text_is = sym (ap (λ a. line_of a (decimal 1) (decimal 7)) (decimal_digit 1 (omega arith)) ∙ ap (λ n. line_of (codes "1") n (decimal 7)) (decimal_digit 1 (omega arith)) ∙ ap (λ s. line_of (codes "1") (codes "1") s) (decimal_digit 7 (omega arith)))
+
+pub one_merge : IsMerge (the_post ∷ []) [] (the_post ∷ [])
+one_merge = record { journal = one_post; posts = λ p. (λ there. inl there, λ either. elim either [ inl there ↦ there | inr none ↦ absurd (contains_none p none) ]) }
 
 merged : IsMerged the_files (codes "f") [] a_post
 merged = record {
@@ -86,7 +90,7 @@ merged = record {
   reads_one = record { journal = one_post; text = text_is };
   reads_other = record { journal = no_post; text = refl };
   merged = the_post ∷ [];
-  merge = record { journal = one_post; posts = λ p. (λ there. inl there, λ either. elim either [ inl there ↦ there | inr none ↦ absurd (contains_none p none) ]) };
+  merge = one_merge;
   told = text_is;
 }
 

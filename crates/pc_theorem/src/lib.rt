@@ -7,6 +7,7 @@
 mod law;
 mod starting;
 mod top;
+mod wrong;
 
 pub use law::{
     answers_leave_one_state, broken_words, demonstrations_of_enough_are_done, runs_keep_their_word,
@@ -15,3 +16,7 @@ pub use law::{
 pub use pc_replay::{Spendings, Status};
 pub use starting::start;
 pub use top::run;
+pub use wrong::{
+    broken_certificates, broken_checks, broken_demonstrations, broken_devices, broken_journals,
+    broken_pages, broken_replies, broken_sessions, broken_usage,
+};
