@@ -9,7 +9,7 @@ use Rattle.pc_transcript.specs.Answer.{Answer, silent, accepted, shown, refused,
 use Rattle.pc_spreadsheet.specs.Judgement.{nothing, does, refuses, contradicts}
 use Rattle.pc_spreadsheet.specs.Laws.{LinesHaveOneVerdict}
 use Rattle.pc_spreadsheet.specs.Refused.{IsRefused}
-use Rattle.pc_spreadsheet.specs.Tasks.{State, Task, shows, IsTask, state_after}
+use Rattle.pc_spreadsheet.specs.Tasks.{State, Task, IsTask, state_after}
 use Rattle.pc_run_laws.proofs.WorkedBudgets.{no_verdict_spent}
 use Rattle.pc_theorem.specs.Theorem.{Answers, nothing_asked, edit_done, page_shown, not_doable, contradicting, budget_spent, memory_lacking}
 use Rattle.pc_theorem.specs.Examples.{BrokenVerdicts}
