@@ -53,6 +53,7 @@ module _ {I H O : Type 0} (kept : H → Option Files) (asked : H → List (List 
   abbrev pub after : Outside
   after = outside_of kept asked shelf_faults left input_faults given output_faults shelf' input' output'
 
+  -- the input and the shelf are as they were
   abbrev pub AreLeft : Type 0
   AreLeft = (input' ≡ input) × (shelf' ≡ shelf)
 
@@ -65,6 +66,7 @@ module _ {I H O : Type 0} (kept : H → Option Files) (asked : H → List (List 
     pub as_asked : RunsAsAsked words status notes noted before after ⊎ AreLeft
     pub devices : AreUsedAsAsked words status kept shelf_faults input_faults output_faults shelf shelf' input input' output output'
 
+  -- memory was wanting for the words
   abbrev pub IsWithoutWords : Status → Notes → Notes → Type 0
   IsWithoutWords status notes noted = LacksWords status notes noted before after × AreLeft
 
