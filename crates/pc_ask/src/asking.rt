@@ -39,11 +39,13 @@ fn search_book<'a, 'b, C: Choices>(
     requires ground { ground.now ≡ grounded book.now }
     requires literals { All (All (λ l. l.variable.0 < ground.now.variables)) ground.now.clauses }
     requires asked { (f : Statement) × (book.now ≡ asked (C.sheet view.now) f) }
-    requires chosen { AreCandidates (C.sheet view.now) book.now chosen.now.entries.items chosen.now.fitting.now chosen.now.parts.items }
+    requires chosen { AreCandidates (C.sheet view.now) book.now chosen.now.entries.items
+        chosen.now.fitting.now chosen.now.parts.items }
     requires new_log { log.old ≡ [] }
     requires few_learned { tally.old.learned < 2 ^ 120 }
     requires few_calls { tally.old.calls < 2 ^ 120 }
-    ensures says { (f : Statement) → book.now ≡ asked (C.sheet view.now) f → IfOk result (SearchSays (C.sheet view.now) f log.new) }
+    ensures says { (f : Statement) → book.now ≡ asked (C.sheet view.now) f →
+        IfOk result (SearchSays (C.sheet view.now) f log.new) }
     ensures stop { IfErr result (StopSays tally.new) }
     ensures search { IsSearchOf (C.sheet view.now) book.now tally.old tally.new log.new }
 {
@@ -87,10 +89,13 @@ pub fn ask<C: Choices>(
     requires new_log { log.old ≡ [] }
     requires few_learned { tally.old.learned < 2 ^ 120 }
     requires few_calls { tally.old.calls < 2 ^ 120 }
-    ensures says { (f : Statement) → book.now ≡ asked (C.sheet view.now) f → IfOk result (AskSays (C.sheet view.now) f log.new) }
+    ensures says { (f : Statement) → book.now ≡ asked (C.sheet view.now) f →
+        IfOk result (AskSays (C.sheet view.now) f log.new) }
     ensures large { IfOk result (λ _. weight book.now ≤ most_weight) }
     ensures stop { IfErr result (AskStops book.now tally.new) }
-    ensures search { (f : Statement) (entries sets : ℕ) → book.now ≡ asked (C.sheet view.now) f → AreReadSizes (C.sheet view.now) f entries sets → IsWholeSearch book.now [] (sets * (entries + 2) + 1) tally.old tally.new log.new }
+    ensures search { (f : Statement) (entries sets : ℕ) → book.now ≡ asked (C.sheet view.now) f →
+        AreReadSizes (C.sheet view.now) f entries sets →
+        IsWholeSearch book.now [] (sets * (entries + 2) + 1) tally.old tally.new log.new }
     ensures whole { (most : ℕ) × IsWholeSearch book.now [] most tally.old tally.new log.new }
     ensures part { (most : ℕ) × IsPartSearch book.now most tally.old tally.new log.new }
 {

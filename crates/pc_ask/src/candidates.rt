@@ -147,7 +147,8 @@ pub(crate) fn find_candidates<'a, C: Choices>(
 ) -> Result<Candidates<'a>, AllocError>
     requires ground { ground.now ≡ grounded book.now }
     requires asked { (f : Statement) × (book.now ≡ asked (C.sheet view.now) f) }
-    ensures { IfOk result (λ c. AreCandidates (C.sheet view.now) book.now c.entries.items c.fitting.now c.parts.items) }
+    ensures { IfOk result (λ c. AreCandidates (C.sheet view.now) book.now c.entries.items
+        c.fitting.now c.parts.items) }
 {
     let own = view.book();
     let fitting = view.fitting();

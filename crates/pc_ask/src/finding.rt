@@ -61,8 +61,10 @@ fn explain(
     requires asked { IsAsked choosing.task.book.now choosing.task.variables.now solver.old log.old }
     requires few_learned { tally.old.learned < 2 ^ 126 }
     requires few_calls { tally.old.calls < 2 ^ 126 }
-    ensures asked { IsAsked choosing.entry.task.book.now choosing.entry.task.variables.now solver.new log.new }
-    ensures spends { SpendsIn (length choosing.entry.task.variables.now) 1 tally.old tally.new log.old log.new }
+    ensures asked { IsAsked choosing.entry.task.book.now choosing.entry.task.variables.now
+        solver.new log.new }
+    ensures spends { SpendsIn (length choosing.entry.task.variables.now) 1 tally.old tally.new
+        log.old log.new }
     ensures explained { IfOk result (IsExplained choosing.entry kept.now log.new) }
     ensures stop { IfErr result (StopSays tally.new) }
 {
@@ -92,8 +94,10 @@ pub(crate) fn find(
     requires asked { IsAsked choosing.task.book.now choosing.task.variables.now solver.old log.old }
     requires few_learned { tally.old.learned < 2 ^ 120 }
     requires few_calls { tally.old.calls < 2 ^ 120 }
-    ensures asked { IsAsked choosing.entry.task.book.now choosing.entry.task.variables.now solver.new log.new }
-    ensures spends { SpendsIn (length choosing.entry.task.variables.now) (tried_of choosing.entry * (length choosing.entry.entries.now + 1) + 1) tally.old tally.new log.old log.new }
+    ensures asked { IsAsked choosing.entry.task.book.now choosing.entry.task.variables.now
+        solver.new log.new }
+    ensures spends { SpendsIn (length choosing.entry.task.variables.now) (tried_of choosing.entry *
+        (length choosing.entry.entries.now + 1) + 1) tally.old tally.new log.old log.new }
     ensures says { IfOk result (FindSays choosing.entry log.new) }
     ensures stop { IfErr result (StopSays tally.new) }
 {

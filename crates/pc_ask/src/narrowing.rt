@@ -49,7 +49,8 @@ fn left_of(
     kept: &[Entry],
 ) -> Result<Vec<Entry>, AllocError>
     requires { count ≤ length choosing.entries.now }
-    ensures { IfOk result (λ left. left.items ≡ left_of choosing.entry.entries.now count kept.now values.now) }
+    ensures { IfOk result (λ left. left.items ≡ left_of choosing.entry.entries.now count kept.now
+        values.now) }
 {
     let mut left = had_by(choosing.task.alloc, &choosing.entries[..count], values)?;
     for entry in kept {
@@ -74,8 +75,10 @@ fn is_witness(
     requires asked { IsAsked choosing.task.book.now choosing.task.variables.now solver.old log.old }
     requires few_learned { tally.old.learned < 2 ^ 126 }
     requires few_calls { tally.old.calls < 2 ^ 126 }
-    ensures asked { IsAsked choosing.entry.task.book.now choosing.entry.task.variables.now solver.new log.new }
-    ensures spends { SpendsIn (length choosing.entry.task.variables.now) 1 tally.old tally.new log.old log.new }
+    ensures asked { IsAsked choosing.entry.task.book.now choosing.entry.task.variables.now
+        solver.new log.new }
+    ensures spends { SpendsIn (length choosing.entry.task.variables.now) 1 tally.old tally.new
+        log.old log.new }
     ensures says { IfOk result (OneSays choosing.entry count kept.now values.now) }
     ensures stop { IfErr result (StopSays tally.new) }
 {
@@ -114,8 +117,10 @@ fn has_witness(
     requires asked { IsAsked choosing.task.book.now choosing.task.variables.now solver.old log.old }
     requires few_learned { tally.old.learned < 2 ^ 125 }
     requires few_calls { tally.old.calls < 2 ^ 125 }
-    ensures asked { IsAsked choosing.entry.task.book.now choosing.entry.task.variables.now solver.new log.new }
-    ensures spends { SpendsIn (length choosing.entry.task.variables.now) (tried_of choosing.entry) tally.old tally.new log.old log.new }
+    ensures asked { IsAsked choosing.entry.task.book.now choosing.entry.task.variables.now
+        solver.new log.new }
+    ensures spends { SpendsIn (length choosing.entry.task.variables.now) (tried_of choosing.entry)
+        tally.old tally.new log.old log.new }
     ensures says { IfOk result (SomeSays choosing.entry count kept.now) }
     ensures stop { IfErr result (StopSays tally.new) }
 {
@@ -151,8 +156,10 @@ fn decide(
     requires asked { IsAsked choosing.task.book.now choosing.task.variables.now solver.old log.old }
     requires few_learned { tally.old.learned < 2 ^ 125 }
     requires few_calls { tally.old.calls < 2 ^ 125 }
-    ensures asked { IsAsked choosing.entry.task.book.now choosing.entry.task.variables.now solver.new log.new }
-    ensures spends { SpendsIn (length choosing.entry.task.variables.now) (tried_of choosing.entry) tally.old tally.new log.old log.new }
+    ensures asked { IsAsked choosing.entry.task.book.now choosing.entry.task.variables.now
+        solver.new log.new }
+    ensures spends { SpendsIn (length choosing.entry.task.variables.now) (tried_of choosing.entry)
+        tally.old tally.new log.old log.new }
     ensures narrowed { OnOk result (AreNarrowed choosing.entry place kept.new.items) }
     ensures stop { IfErr result (StopSays tally.new) }
 {
@@ -177,8 +184,10 @@ fn decide_all(
     requires asked { IsAsked choosing.task.book.now choosing.task.variables.now solver.old log.old }
     requires few_learned { tally.old.learned < 2 ^ 124 }
     requires few_calls { tally.old.calls < 2 ^ 124 }
-    ensures asked { IsAsked choosing.entry.task.book.now choosing.entry.task.variables.now solver.new log.new }
-    ensures spends { SpendsIn (length choosing.entry.task.variables.now) (tried_of choosing.entry * length choosing.entry.entries.now) tally.old tally.new log.old log.new }
+    ensures asked { IsAsked choosing.entry.task.book.now choosing.entry.task.variables.now
+        solver.new log.new }
+    ensures spends { SpendsIn (length choosing.entry.task.variables.now) (tried_of choosing.entry *
+        length choosing.entry.entries.now) tally.old tally.new log.old log.new }
     ensures narrowed { OnOk result (AreNarrowed choosing.entry 0 kept.new.items) }
     ensures stop { IfErr result (StopSays tally.new) }
 {
@@ -202,10 +211,13 @@ pub(crate) fn narrow(
     requires asked { IsAsked choosing.task.book.now choosing.task.variables.now solver.old log.old }
     requires few_learned { tally.old.learned < 2 ^ 123 }
     requires few_calls { tally.old.calls < 2 ^ 123 }
-    ensures asked { IsAsked choosing.entry.task.book.now choosing.entry.task.variables.now solver.new log.new }
-    ensures spends { SpendsIn (length choosing.entry.task.variables.now) (tried_of choosing.entry * (length choosing.entry.entries.now + 1)) tally.old tally.new log.old log.new }
+    ensures asked { IsAsked choosing.entry.task.book.now choosing.entry.task.variables.now
+        solver.new log.new }
+    ensures spends { SpendsIn (length choosing.entry.task.variables.now) (tried_of choosing.entry *
+        (length choosing.entry.entries.now + 1)) tally.old tally.new log.old log.new }
     ensures none { IfOk result (λ found. IfNone found (HasNone choosing.entry)) }
-    ensures some { IfOk result (λ found. IfSome found (λ kept. AreNarrowed choosing.entry 0 kept.items)) }
+    ensures some { IfOk result (λ found.
+        IfSome found (λ kept. AreNarrowed choosing.entry 0 kept.items)) }
     ensures stop { IfErr result (StopSays tally.new) }
 {
     tally.recall_limit();

@@ -83,7 +83,8 @@ fn marked_clauses(
 ) -> Result<Vec<u32>, AllocError>
     requires few { length store.now < 2 ^ 32 }
     requires room { All (All (λ l. l.variable.0 < length marks.now)) store.now }
-    ensures { IfOk result (λ used. AreMarkedBelow store.now marks.now (length store.now) used.items) }
+    ensures { IfOk result (λ used. AreMarkedBelow store.now marks.now (length store.now)
+        used.items) }
 {
     let mut used = Vec::new(alloc);
     for number in 0..store.len() {
@@ -103,7 +104,8 @@ pub(crate) fn axioms_over(
     requires ground { ground.now ≡ grounded book.now }
     requires literals { All (All (λ l. l.variable.0 < ground.now.variables)) ground.now.clauses }
     requires part { IsAskedOver book.now part.now.cells.items part.now.variables.items }
-    ensures { IfOk result (λ used. AreAxiomsOver (clauses book.now) part.now.variables.items used.items) }
+    ensures { IfOk result (λ used. AreAxiomsOver (clauses book.now) part.now.variables.items
+        used.items) }
 {
     well_formed(book);
     ground.few_axioms();

@@ -23,8 +23,10 @@ pub fn prove(
     log: &Log,
 ) -> Result<(Log, Span), AllocError>
     requires lawful { IsLawfulLog (whole_problem book.now) [] log.now }
-    requires answer { (sheet : Sheet) × (f : Statement) × (book.now ≡ asked sheet f) × IsAnswer sheet f log.now answer.now }
-    ensures { IfOk result (λ kept. GoesAgainst book.now (names_of book.now) (length book.now.rules - 1) answer.now.support.items answer.now.shown kept.0 kept.1) }
+    requires answer { (sheet : Sheet) × (f : Statement) × (book.now ≡ asked sheet f) ×
+        IsAnswer sheet f log.now answer.now }
+    ensures { IfOk result (λ kept. GoesAgainst book.now (names_of book.now) (length book.now.rules -
+        1) answer.now.support.items answer.now.shown kept.0 kept.1) }
 {
     names_are_of_their_sheet();
     own_lines_are_named();

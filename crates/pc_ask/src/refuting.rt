@@ -19,7 +19,8 @@ use std::alloc::AllocError;
 fn assumptions(task: Task<'_>, set: &[Entry]) -> Result<Vec<Lit>, AllocError>
     requires task { IsTask task.book.now task.ground.now }
     requires set { All (IsAskable task.book.now) set.now }
-    ensures { IfOk result (λ lits. lits.items ≡ map (entry_literal (cell_sizes task.entry.book.now.universe)) set.now) }
+    ensures { IfOk result (λ lits.
+        lits.items ≡ map (entry_literal (cell_sizes task.entry.book.now.universe)) set.now) }
 {
     let mut lits = Vec::new(task.alloc);
     for entry in set {
@@ -43,7 +44,8 @@ pub(crate) fn refute_set(
     requires few_learned { tally.old.learned < 2 ^ 126 }
     requires few_calls { tally.old.calls < 2 ^ 126 }
     ensures asked { IsAsked task.entry.book.now task.entry.variables.now solver.new log.new }
-    ensures spends { SpendsIn (length task.entry.variables.now) 1 tally.old tally.new log.old log.new }
+    ensures spends { SpendsIn (length task.entry.variables.now) 1 tally.old tally.new log.old
+        log.new }
     ensures says { IfOk result (RefuteSays task.entry.book.now set.now log.new) }
     ensures stop { IfErr result (StopSays tally.new) }
 {

@@ -60,7 +60,8 @@ fn last_place(paths: &[NodePath], path: &NodePath) -> Option<u32>
 /// Keeps a path at a place of its own.
 fn add_path(paths: &mut Vec<NodePath>, path: NodePath) -> Result<u32, AllocError>
     ensures kept { take (length paths.old.items) paths.new.items ≡ paths.old.items }
-    ensures here { IfOk result (λ place. IsPathAt paths.new.items place path.rule path.steps.items) }
+    ensures here { IfOk result (λ place. IsPathAt paths.new.items place path.rule
+        path.steps.items) }
 {
     let place = next_place(paths.len())?;
     paths.push(path)?;
@@ -70,7 +71,8 @@ fn add_path(paths: &mut Vec<NodePath>, path: NodePath) -> Result<u32, AllocError
 /// The place of a path that is given away: the last one, if it is there.
 pub(crate) fn place_of(paths: &mut Vec<NodePath>, path: NodePath) -> Result<u32, AllocError>
     ensures kept { take (length paths.old.items) paths.new.items ≡ paths.old.items }
-    ensures here { IfOk result (λ place. IsPathAt paths.new.items place path.rule path.steps.items) }
+    ensures here { IfOk result (λ place. IsPathAt paths.new.items place path.rule
+        path.steps.items) }
 {
     match last_place(paths, &path) {
         Some(place) => Ok(place),
@@ -81,7 +83,8 @@ pub(crate) fn place_of(paths: &mut Vec<NodePath>, path: NodePath) -> Result<u32,
 /// The place of a path: the last one, if it is there, or that of a copy.
 fn path_place(paths: &mut Vec<NodePath>, path: &NodePath) -> Result<u32, AllocError>
     ensures kept { take (length paths.old.items) paths.new.items ≡ paths.old.items }
-    ensures here { IfOk result (λ place. IsPathAt paths.new.items place path.now.rule path.now.steps.items) }
+    ensures here { IfOk result (λ place. IsPathAt paths.new.items place path.now.rule
+        path.now.steps.items) }
 {
     match last_place(paths, path) {
         Some(place) => Ok(place),
@@ -114,8 +117,10 @@ pub(crate) fn kept_of(
 ) -> Result<KeptName, AllocError>
     ensures paths { take (length paths.old.items) paths.new.items ≡ paths.old.items }
     ensures rows { take (length rows.old) rows.new ≡ rows.old }
-    ensures within { IfOk result (λ kept. IsKeptWithin (length paths.new.items) (length rows.new) kept) }
-    ensures named { IfOk result (λ kept. axiom_in paths.new.items rows.new kept ≡ axiom_shown name.entry) }
+    ensures within { IfOk result (λ kept. IsKeptWithin (length paths.new.items) (length rows.new)
+        kept) }
+    ensures named { IfOk result (λ kept. axiom_in paths.new.items rows.new kept ≡
+        axiom_shown name.entry) }
 {
     match name {
         AxiomRef::Any(cell) => Ok(KeptName::Any(cell)),

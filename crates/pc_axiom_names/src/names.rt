@@ -63,7 +63,8 @@ impl Names {
 
     /// Names the next variable by a node. Without memory the names stay as they are.
     pub fn add_node(&mut self, path: NodePath) -> Result<(), AllocError>
-        ensures ok { OnOk result (self.new ≡ with_variable self.old (node path.rule path.steps.items)) }
+        ensures ok { OnOk result
+            (self.new ≡ with_variable self.old (node path.rule path.steps.items)) }
         ensures err { OnErr result (self.new ≡ self.old) }
     {
         let place = place_of(&mut self.paths, path)?;

@@ -55,8 +55,10 @@ impl Model for Cache {
 impl Cache {
     /// A place for a row of each target of the book, all empty.
     pub fn new(alloc: Global, book: &Book) -> Result<Cache, AllocError>
-        ensures order { IfOk result (λ cache. targets_of cache.rows ≡ targets (cell_sizes book.now.universe)) }
-        ensures targets { IfOk result (λ cache. (t : Target) → HasRowOf cache.rows t ↔ IsTargetIn book.now.universe t) }
+        ensures order { IfOk result (λ cache. targets_of cache.rows ≡
+            targets (cell_sizes book.now.universe)) }
+        ensures targets { IfOk result (λ cache. (t : Target) → HasRowOf cache.rows t ↔
+            IsTargetIn book.now.universe t) }
         ensures once { IfOk result (λ cache. AreDistinct cache.rows) }
         ensures empty { IfOk result (λ cache. AreEmpty cache.rows) }
         ensures bytes { IfOk result (λ cache. cache.bytes ≡ 0) }
@@ -95,14 +97,16 @@ impl Cache {
 
     /// The targets that are still to be searched after an entry was added or got another value: those without a row.
     pub fn after_enter(&self, _entry: Entry) -> Result<Vec<Target>, AllocError>
-        ensures { IfOk result (λ found. found.items ≡ filter (lacks_row self.now.rows) (targets_of self.now.rows)) }
+        ensures { IfOk result (λ found. found.items ≡ filter (lacks_row self.now.rows)
+            (targets_of self.now.rows)) }
     {
         targets_without_row(*self.slots.allocator(), &self.slots)
     }
 
     /// The targets that are still to be searched after the entry was removed: those whose support has it.
     pub fn after_clear(&self, entry: Entry) -> Result<Vec<Target>, AllocError>
-        ensures { IfOk result (λ found. found.items ≡ filter (uses_entry entry self.now.rows) (targets_of self.now.rows)) }
+        ensures { IfOk result (λ found. found.items ≡ filter (uses_entry entry self.now.rows)
+            (targets_of self.now.rows)) }
     {
         targets_resting_on(*self.slots.allocator(), &self.slots, entry)
     }
@@ -118,7 +122,8 @@ impl Cache {
     /// it is.
     pub fn apply(&mut self, patch: Patch) -> Result<(), AllocError>
         requires { HaveTargets self.old.rows patch }
-        ensures rows { OnOk result ((t : Target) → row_of self.new.rows t ≡ row_after patch t (row_of self.old.rows t)) }
+        ensures rows { OnOk result ((t : Target) →
+            row_of self.new.rows t ≡ row_after patch t (row_of self.old.rows t)) }
         ensures targets { targets_of self.new.rows ≡ targets_of self.old.rows }
         ensures bytes { OnOk result (self.new.bytes ≡ self.old.bytes + bytes_of_rows patch) }
         ensures err { OnErr result (self.new ≡ self.old) }

@@ -46,7 +46,8 @@ pub(crate) fn all_targets(alloc: Global, slots: &[Slot]) -> Result<Vec<Target>, 
 
 /// The targets without a row.
 pub(crate) fn targets_without_row(alloc: Global, slots: &[Slot]) -> Result<Vec<Target>, AllocError>
-    ensures { IfOk result (λ targets. targets.items ≡ map slot_target (filter slot_is_missing slots.now)) }
+    ensures { IfOk result (λ targets. targets.items ≡
+        map slot_target (filter slot_is_missing slots.now)) }
 {
     let mut targets = Vec::new(alloc);
     for slot in slots {
@@ -63,7 +64,8 @@ pub(crate) fn targets_resting_on(
     slots: &[Slot],
     entry: Entry,
 ) -> Result<Vec<Target>, AllocError>
-    ensures { IfOk result (λ targets. targets.items ≡ map slot_target (filter (slot_rests_on entry) slots.now)) }
+    ensures { IfOk result (λ targets. targets.items ≡
+        map slot_target (filter (slot_rests_on entry) slots.now)) }
 {
     slots
         .iter()

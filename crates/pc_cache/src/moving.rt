@@ -22,7 +22,8 @@ pub(crate) fn move_rows(
     ensures extends { Extends into.old into.new }
     ensures are { OnOk result (AreRowsIn into.new slots.new) }
     ensures same { OnOk result (rows_in into.new slots.new ≡ rows_in from.now slots.old) }
-    ensures bytes { OnOk result (bytes_of into.new ≡ bytes_of into.old + bytes_of_rows (rows_in from.now slots.old)) }
+    ensures bytes { OnOk result (bytes_of into.new ≡ bytes_of into.old +
+        bytes_of_rows (rows_in from.now slots.old)) }
 {
     spans_stay();
     for slot in slots.iter_mut() {
@@ -44,7 +45,8 @@ pub(crate) fn take_rows(
     ensures extends { Extends into.old into.new }
     ensures are { OnOk result (AreRowsIn into.new slots.new) }
     ensures same { OnOk result (rows_in into.new slots.new ≡ rows_in from slots.old) }
-    ensures bytes { OnOk result (bytes_of into.new ≡ bytes_of into.old + bytes_of_rows (rows_in from slots.old)) }
+    ensures bytes { OnOk result (bytes_of into.new ≡ bytes_of into.old +
+        bytes_of_rows (rows_in from slots.old)) }
 {
     if into.len() > 0 {
         return move_rows(alloc, &from, slots, into);
@@ -64,7 +66,8 @@ fn move_row(
     ensures extends { Extends into.old into.new }
     ensures is { OnOk result (IsRowIn into.new row.new) }
     ensures same { OnOk result (kept_or_none into.new row.new ≡ kept_or_none from.now row.old) }
-    ensures bytes { OnOk result (bytes_of into.new ≡ bytes_of into.old + row_bytes (kept_or_none from.now row.old)) }
+    ensures bytes { OnOk result (bytes_of into.new ≡ bytes_of into.old +
+        row_bytes (kept_or_none from.now row.old)) }
 {
     if let Some(row) = row {
         row.span = append_span(alloc, from, row.span, into)?;

@@ -56,7 +56,8 @@ impl Patch {
 
     /// The target is to have no row. Without memory the patch stays as it is.
     pub fn remove(&mut self, target: Target) -> Result<(), AllocError>
-        ensures ok { OnOk result (self.new ≡ self.old ++ record { target = target; row = None } ∷ []) }
+        ensures ok { OnOk result (self.new ≡ self.old ++ record { target = target; row = None } ∷
+            []) }
         ensures err { OnErr result (self.new ≡ self.old) }
     {
         self.slots.push(Slot { target, row: None })?;
@@ -74,7 +75,12 @@ impl Patch {
         last: StepId,
     ) -> Result<(), AllocError>
         requires { last.0 < length log.now }
-        ensures ok { OnOk result ((lines : List LogLine) × IsTrimmed log.now last.0 [] lines × (self.new ≡ self.old ++ record { target = target; row = Some (record { support = support.now; shown = shown.now; lines = lines }) } ∷ [])) }
+        ensures ok { OnOk result ((lines : List LogLine) × IsTrimmed log.now last.0 [] lines ×
+            (self.new ≡ self.old ++ record {
+              target = target;
+              row = Some (record { support = support.now; shown = shown.now; lines = lines });
+            } ∷
+            [])) }
         ensures err { OnErr result (self.new ≡ self.old) }
     {
         spans_stay();

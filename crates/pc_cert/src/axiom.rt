@@ -19,7 +19,8 @@ use std::alloc::{AllocError, Global};
 
 // `some`
 fn some_axiom(book: &Book, cell: &CellTree) -> Option<AxiomName>
-    ensures { (a : Axiom) → (option_map axiom_of result ≡ Some a) ↔ IsAxiomNamed book.now (written_some (cell_of cell.now)) a }
+    ensures { (a : Axiom) → (option_map axiom_of result ≡ Some a) ↔
+        IsAxiomNamed book.now (written_some (cell_of cell.now)) a }
 {
     let Some(id) = named_cell(book, cell) else {
         return None;
@@ -34,7 +35,9 @@ fn one_axiom(
     first: &ValueTree,
     second: &ValueTree,
 ) -> Option<AxiomName>
-    ensures { (a : Axiom) → (option_map axiom_of result ≡ Some a) ↔ IsAxiomNamed book.now (written_one (cell_of cell.now) (value_of first.now) (value_of second.now)) a }
+    ensures { (a : Axiom) → (option_map axiom_of result ≡ Some a) ↔
+        IsAxiomNamed book.now (written_one (cell_of cell.now) (value_of first.now)
+        (value_of second.now)) a }
 {
     let Some((id, v, w)) = named_values(book, cell, first, second) else {
         return None;
@@ -44,7 +47,8 @@ fn one_axiom(
 
 // `rule`
 fn rule_axiom(book: &Book, name: &Name) -> Option<AxiomName>
-    ensures { (a : Axiom) → (option_map axiom_of result ≡ Some a) ↔ IsAxiomNamed book.now (written_rule name.now) a }
+    ensures { (a : Axiom) → (option_map axiom_of result ≡ Some a) ↔
+        IsAxiomNamed book.now (written_rule name.now) a }
 {
     let Some(rule) = named_rule(book, name) else {
         return None;
@@ -59,7 +63,8 @@ fn node_axiom(
     path: &PathTree,
     number: u32,
 ) -> Result<Option<AxiomName>, AllocError>
-    ensures { IfOk result (λ o. (a : Axiom) → (option_map axiom_of o ≡ Some a) ↔ IsAxiomNamed book.now (written_node_clause (path_of path.now) number) a) }
+    ensures { IfOk result (λ o. (a : Axiom) → (option_map axiom_of o ≡ Some a) ↔
+        IsAxiomNamed book.now (written_node_clause (path_of path.now) number) a) }
 {
     let Some(place) = named_node(alloc, book, path)? else {
         return Ok(None);
@@ -74,7 +79,8 @@ fn atom_axiom(
     path: &PathTree,
     reads: &[PairTree],
 ) -> Result<Option<AxiomName>, AllocError>
-    ensures { IfOk result (λ o. (a : Axiom) → (option_map axiom_of o ≡ Some a) ↔ IsAxiomNamed book.now (written_atom (path_of path.now) (map pair_of reads.now)) a) }
+    ensures { IfOk result (λ o. (a : Axiom) → (option_map axiom_of o ≡ Some a) ↔
+        IsAxiomNamed book.now (written_atom (path_of path.now) (map pair_of reads.now)) a) }
 {
     let Some(place) = named_node(alloc, book, path)? else {
         return Ok(None);
@@ -91,7 +97,8 @@ pub fn named_axiom(
     book: &Book,
     part: &PartTree,
 ) -> Result<Option<AxiomName>, AllocError>
-    ensures { IfOk result (λ o. (a : Axiom) → (option_map axiom_of o ≡ Some a) ↔ IsAxiomNamed book.now (part_of part.now) a) }
+    ensures { IfOk result (λ o. (a : Axiom) → (option_map axiom_of o ≡ Some a) ↔
+        IsAxiomNamed book.now (part_of part.now) a) }
 {
     match part {
         PartTree::Any(cell) => Ok(some_axiom(book, cell)),

@@ -24,7 +24,8 @@ fn is_one_word(texts: &[&[u8]], word: &str) -> bool
 // The name behind `against`.
 fn against_name(alloc: Global, rest: &[&[u8]]) -> Result<Name, Refusal>
     ensures told { IfOk result (λ n. (seen rest.now ≡ codes "against" ∷ n ∷ []) × IsNameText n) }
-    ensures none { result ≡ Err Refusal.Syntax → (n : List ℕ) → seen rest.now ≡ codes "against" ∷ n ∷ [] → IsNameText n → ⊥ }
+    ensures none { result ≡ Err Refusal.Syntax → (n : List ℕ) →
+        seen rest.now ≡ codes "against" ∷ n ∷ [] → IsNameText n → ⊥ }
 {
     let [word, name] = rest else {
         return Err(Refusal::Syntax);
@@ -37,9 +38,12 @@ fn against_name(alloc: Global, rest: &[&[u8]]) -> Result<Name, Refusal>
 
 // `not` with a cell and a value, or `against` with a rule's name.
 fn denial_or_against(alloc: Global, line: &[u8], rest: &[&[u8]]) -> Result<ClaimTree, Refusal>
-    ensures told { IfOk result (λ c. IsClaimForm line.now (codes "claim" ∷ seen rest.now) (claim_of c)) }
-    ensures denial { result ≡ Err Refusal.Syntax → (p : WrittenPair) → SpellsThis IsDenial line.now p → ⊥ }
-    ensures against { result ≡ Err Refusal.Syntax → (n : List ℕ) → seen rest.now ≡ codes "against" ∷ n ∷ [] → IsNameText n → ⊥ }
+    ensures told { IfOk result (λ c. IsClaimForm line.now (codes "claim" ∷ seen rest.now)
+        (claim_of c)) }
+    ensures denial { result ≡ Err Refusal.Syntax → (p : WrittenPair) →
+        SpellsThis IsDenial line.now p → ⊥ }
+    ensures against { result ≡ Err Refusal.Syntax → (n : List ℕ) →
+        seen rest.now ≡ codes "against" ∷ n ∷ [] → IsNameText n → ⊥ }
 {
     match read_denial(alloc, line) {
         Ok(pair) => Ok(ClaimTree::Not(pair)),
@@ -53,8 +57,10 @@ fn denial_or_against(alloc: Global, line: &[u8], rest: &[&[u8]]) -> Result<Claim
 
 /// What the line claims, whose texts behind `claim` are these.
 pub fn read_claim_line(alloc: Global, line: &[u8], rest: &[&[u8]]) -> Result<ClaimTree, Refusal>
-    ensures told { IfOk result (λ c. IsClaimForm line.now (codes "claim" ∷ seen rest.now) (claim_of c)) }
-    ensures none { result ≡ Err Refusal.Syntax → (c : WrittenClaim) → IsClaimForm line.now (codes "claim" ∷ seen rest.now) c → ⊥ }
+    ensures told { IfOk result (λ c. IsClaimForm line.now (codes "claim" ∷ seen rest.now)
+        (claim_of c)) }
+    ensures none { result ≡ Err Refusal.Syntax → (c : WrittenClaim) →
+        IsClaimForm line.now (codes "claim" ∷ seen rest.now) c → ⊥ }
 {
     if is_one_word(rest, "inconsistent") {
         return Ok(ClaimTree::Inconsistent);

@@ -23,7 +23,12 @@ fn hinted_clause(
     table: &mut Table,
 ) -> Result<Option<CertPart>, AllocError>
     ensures kept { IfOk result (λ o. AreSymbolNumbers table.old → AreSymbolNumbers table.new) }
-    ensures told { (sets : ℕ) → IfOk result (λ o. MatchOption o ((ls : List Literal) (ns : List ℕ) → IsPartNamed book.now sets (written_step (map literal_of clause.now) hints.now) (derived ls ns) → ⊥) (IsPartTaken book.now sets (written_step (map literal_of clause.now) hints.now) table.old.names table.new.names)) }
+    ensures told { (sets : ℕ) →
+        IfOk result (λ o. MatchOption o ((ls : List Literal) (ns : List ℕ) →
+        IsPartNamed book.now sets (written_step (map literal_of clause.now) hints.now)
+        (derived ls ns) →
+        ⊥) (IsPartTaken book.now sets (written_step (map literal_of clause.now) hints.now)
+        table.old.names table.new.names)) }
 {
     let Some(clause) = number_literals(alloc, book, clause, table)? else {
         return Ok(None);
@@ -44,7 +49,8 @@ fn named_set(sets: usize, number: u64) -> Option<usize>
 
 // The clause of a set.
 fn set_clause(sets: usize, number: u64) -> Option<CertPart>
-    ensures { MatchOption result ((k : ℕ) → number ≡ k + 1 → k < sets → ⊥) (λ p. (k : ℕ) × (p ≡ Block k) × (number ≡ k + 1) × (k < sets)) }
+    ensures { MatchOption result ((k : ℕ) → number ≡ k + 1 → k < sets → ⊥) (λ p. (k : ℕ) ×
+        (p ≡ Block k) × (number ≡ k + 1) × (k < sets)) }
 {
     let Some(place) = named_set(sets, number) else {
         return None;
@@ -61,7 +67,8 @@ fn named_step(
     table: &mut Table,
 ) -> Result<Option<CertPart>, AllocError>
     ensures kept { IfOk result (λ o. AreSymbolNumbers table.old → AreSymbolNumbers table.new) }
-    ensures told { IfOk result (λ o. MatchOption o (IsNoClause book.now sets (part_of part.now)) (IsPartTaken book.now sets (part_of part.now) table.old.names table.new.names)) }
+    ensures told { IfOk result (λ o. MatchOption o (IsNoClause book.now sets (part_of part.now))
+        (IsPartTaken book.now sets (part_of part.now) table.old.names table.new.names)) }
 {
     match part {
         PartTree::Any(_) => Ok(None),
@@ -85,7 +92,9 @@ pub fn named_part(
     table: &mut Table,
 ) -> Result<Option<CertPart>, AllocError>
     ensures kept { IfOk result (λ o. AreSymbolNumbers table.old → AreSymbolNumbers table.new) }
-    ensures told { IfOk result (λ o. MatchOption o ((p : CertificatePart) → IsPartNamed book.now sets (part_of part.now) p → ⊥) (IsPartTaken book.now sets (part_of part.now) table.old.names table.new.names)) }
+    ensures told { IfOk result (λ o. MatchOption o ((p : CertificatePart) →
+        IsPartNamed book.now sets (part_of part.now) p →
+        ⊥) (IsPartTaken book.now sets (part_of part.now) table.old.names table.new.names)) }
 {
     let Some(axiom) = named_axiom(alloc, book, part)? else {
         return named_step(alloc, book, sets, part, table);

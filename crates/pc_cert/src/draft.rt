@@ -31,7 +31,10 @@ pub struct Draft {
 // `claim`
 fn say_claim(book: &Book, claim: &ClaimTree, number: u32, draft: &mut Draft) -> bool
     requires { number + 1 < 2 ^ 32 }
-    ensures { (ls : List SaidLine) → IsGathered ls draft.old → number ≡ length ls + 1 → MatchBool result (AddsLine book.now (claims (claim_of claim.now)) ls draft.new) ((l : SaidLine) → IsSaidLine book.now (sets_in (map kind_of ls)) (claims (claim_of claim.now)) l → ⊥) }
+    ensures { (ls : List SaidLine) → IsGathered ls draft.old → number ≡ length ls + 1 →
+        MatchBool result (AddsLine book.now (claims (claim_of claim.now)) ls draft.new)
+        ((l : SaidLine) →
+        IsSaidLine book.now (sets_in (map kind_of ls)) (claims (claim_of claim.now)) l → ⊥) }
 {
     let Some(claim) = named_claim(book, claim) else {
         return false;
@@ -46,7 +49,8 @@ fn say_claim(book: &Book, claim: &ClaimTree, number: u32, draft: &mut Draft) -> 
 // `set`
 fn say_set(alloc: Global, number: u32, draft: &mut Draft) -> Result<(), AllocError>
     requires { number + 1 < 2 ^ 32 }
-    ensures { (ls : List SaidLine) → IsGathered ls draft.old → number ≡ length ls + 1 → IfOk result (λ _. IsGathered (ls ++ begins ∷ []) draft.new) }
+    ensures { (ls : List SaidLine) → IsGathered ls draft.old → number ≡ length ls + 1 →
+        IfOk result (λ _. IsGathered (ls ++ begins ∷ []) draft.new) }
 {
     draft.sets.push(SaidSet {
         line: number,
@@ -64,7 +68,9 @@ fn push_said(
     number: u32,
     said: &mut Vec<Said>,
 ) -> Result<bool, AllocError>
-    ensures { IfOk result (λ b. MatchBool b (IsSaidNext book.now.universe (pair_of pair.now) number said.old.items said.new.items) ((e : TheEntry) → IsPairNamed book.now.universe (pair_of pair.now) e → ⊥)) }
+    ensures { IfOk result
+        (λ b. MatchBool b (IsSaidNext book.now.universe (pair_of pair.now) number said.old.items
+        said.new.items) ((e : TheEntry) → IsPairNamed book.now.universe (pair_of pair.now) e → ⊥)) }
 {
     let Some(entry) = named_entry(book, pair) else {
         return Ok(false);
@@ -79,7 +85,10 @@ fn push_said(
 // `use`
 fn say_use(book: &Book, pair: &PairTree, number: u32, draft: &mut Draft) -> Result<bool, AllocError>
     requires { number + 1 < 2 ^ 32 }
-    ensures { (ls : List SaidLine) → IsGathered ls draft.old → number ≡ length ls + 1 → IfOk result (λ b. MatchBool b (AddsLine book.now (uses (pair_of pair.now)) ls draft.new) ((l : SaidLine) → IsSaidLine book.now (sets_in (map kind_of ls)) (uses (pair_of pair.now)) l → ⊥)) }
+    ensures { (ls : List SaidLine) → IsGathered ls draft.old → number ≡ length ls + 1 →
+        IfOk result (λ b. MatchBool b (AddsLine book.now (uses (pair_of pair.now)) ls draft.new)
+        ((l : SaidLine) → IsSaidLine book.now (sets_in (map kind_of ls)) (uses (pair_of pair.now))
+        l → ⊥)) }
 {
     let Some(mut set) = draft.sets.pop() else {
         draft.after = number + 1;
@@ -99,7 +108,10 @@ fn say_value(
     draft: &mut Draft,
 ) -> Result<bool, AllocError>
     requires { number + 1 < 2 ^ 32 }
-    ensures { (ls : List SaidLine) → IsGathered ls draft.old → number ≡ length ls + 1 → IfOk result (λ b. MatchBool b (AddsLine book.now (assigns (pair_of pair.now)) ls draft.new) ((l : SaidLine) → IsSaidLine book.now (sets_in (map kind_of ls)) (assigns (pair_of pair.now)) l → ⊥)) }
+    ensures { (ls : List SaidLine) → IsGathered ls draft.old → number ≡ length ls + 1 →
+        IfOk result (λ b. MatchBool b (AddsLine book.now (assigns (pair_of pair.now)) ls draft.new)
+        ((l : SaidLine) →
+        IsSaidLine book.now (sets_in (map kind_of ls)) (assigns (pair_of pair.now)) l → ⊥)) }
 {
     let Some(mut set) = draft.sets.pop() else {
         draft.after = number + 1;
@@ -120,7 +132,11 @@ fn say_part(
     number: u32,
     draft: &mut Draft,
 ) -> Result<bool, AllocError>
-    ensures { (ls : List SaidLine) → IsGathered ls draft.old → number ≡ length ls + 1 → IfOk result (λ b. MatchBool b (AddsLine book.now (derives place (part_of part.now)) ls draft.new) ((l : SaidLine) → IsSaidLine book.now (sets_in (map kind_of ls)) (derives place (part_of part.now)) l → ⊥)) }
+    ensures { (ls : List SaidLine) → IsGathered ls draft.old → number ≡ length ls + 1 →
+        IfOk result
+        (λ b. MatchBool b (AddsLine book.now (derives place (part_of part.now)) ls draft.new)
+        ((l : SaidLine) →
+        IsSaidLine book.now (sets_in (map kind_of ls)) (derives place (part_of part.now)) l → ⊥)) }
 {
     let sets = draft.sets.len();
     let Some(part) = named_part(alloc, book, sets, part, &mut draft.table)? else {
@@ -139,7 +155,10 @@ pub fn say(
     draft: &mut Draft,
 ) -> Result<bool, AllocError>
     requires { number + 1 < 2 ^ 32 }
-    ensures { (ls : List SaidLine) → IsGathered ls draft.old → number ≡ length ls + 1 → IfOk result (λ b. MatchBool b (AddsLine book.now (line_of line.now) ls draft.new) ((l : SaidLine) → IsSaidLine book.now (sets_in (map kind_of ls)) (line_of line.now) l → ⊥)) }
+    ensures { (ls : List SaidLine) → IsGathered ls draft.old → number ≡ length ls + 1 →
+        IfOk result (λ b. MatchBool b (AddsLine book.now (line_of line.now) ls draft.new)
+        ((l : SaidLine) → IsSaidLine book.now (sets_in (map kind_of ls)) (line_of line.now) l →
+        ⊥)) }
 {
     match line {
         LineTree::Nothing => Ok(true),

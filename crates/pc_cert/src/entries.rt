@@ -18,7 +18,8 @@ pub fn named_entries(
     book: &Book,
     pairs: &[PairTree],
 ) -> Result<Option<Vec<Entry>>, AllocError>
-    ensures { IfOk result (λ o. (es : List Entry) → (option_map entries_in o ≡ Some es) ↔ AreNamedEach (IsPairNamed book.now.universe) (map pair_of pairs.now) es) }
+    ensures { IfOk result (λ o. (es : List Entry) → (option_map entries_in o ≡ Some es) ↔
+        AreNamedEach (IsPairNamed book.now.universe) (map pair_of pairs.now) es) }
 {
     let mut entries = Vec::new(alloc);
     for pair in pairs {

@@ -15,8 +15,10 @@ use std::alloc::Global;
 
 // `certificate` and the number 1
 fn heading_line(rest: &[&[u8]]) -> Result<LineTree, Refusal>
-    ensures told { IfOk result (λ t. (l : List ℕ) → IsCertificateForm l (codes "certificate" ∷ seen rest.now) (line_of t)) }
-    ensures none { result ≡ Err Refusal.Syntax → (l : List ℕ) (f : WrittenLine) → IsCertificateForm l (codes "certificate" ∷ seen rest.now) f → ⊥ }
+    ensures told { IfOk result (λ t. (l : List ℕ) →
+        IsCertificateForm l (codes "certificate" ∷ seen rest.now) (line_of t)) }
+    ensures none { result ≡ Err Refusal.Syntax → (l : List ℕ) (f : WrittenLine) →
+        IsCertificateForm l (codes "certificate" ∷ seen rest.now) f → ⊥ }
     ensures no_memory { result ≡ Err Refusal.Memory → ⊥ }
 {
     let [version] = rest else {
@@ -30,8 +32,10 @@ fn heading_line(rest: &[&[u8]]) -> Result<LineTree, Refusal>
 
 // `end`
 fn end_line(rest: &[&[u8]]) -> Result<LineTree, Refusal>
-    ensures told { IfOk result (λ t. (l : List ℕ) → IsCertificateForm l (codes "end" ∷ seen rest.now) (line_of t)) }
-    ensures none { result ≡ Err Refusal.Syntax → (l : List ℕ) (f : WrittenLine) → IsCertificateForm l (codes "end" ∷ seen rest.now) f → ⊥ }
+    ensures told { IfOk result (λ t. (l : List ℕ) →
+        IsCertificateForm l (codes "end" ∷ seen rest.now) (line_of t)) }
+    ensures none { result ≡ Err Refusal.Syntax → (l : List ℕ) (f : WrittenLine) →
+        IsCertificateForm l (codes "end" ∷ seen rest.now) f → ⊥ }
     ensures no_memory { result ≡ Err Refusal.Memory → ⊥ }
 {
     if rest.is_empty() {
@@ -43,8 +47,10 @@ fn end_line(rest: &[&[u8]]) -> Result<LineTree, Refusal>
 
 // `claim`
 fn claim_line(alloc: Global, line: &[u8], rest: &[&[u8]]) -> Result<LineTree, Refusal>
-    ensures told { IfOk result (λ t. IsCertificateForm line.now (codes "claim" ∷ seen rest.now) (line_of t)) }
-    ensures none { result ≡ Err Refusal.Syntax → (f : WrittenLine) → IsCertificateForm line.now (codes "claim" ∷ seen rest.now) f → ⊥ }
+    ensures told { IfOk result (λ t. IsCertificateForm line.now (codes "claim" ∷ seen rest.now)
+        (line_of t)) }
+    ensures none { result ≡ Err Refusal.Syntax → (f : WrittenLine) →
+        IsCertificateForm line.now (codes "claim" ∷ seen rest.now) f → ⊥ }
 {
     let claim = read_claim_line(alloc, line, rest)?;
     Ok(LineTree::Claims(claim))
@@ -52,8 +58,10 @@ fn claim_line(alloc: Global, line: &[u8], rest: &[&[u8]]) -> Result<LineTree, Re
 
 // `set`
 fn set_line(rest: &[&[u8]]) -> Result<LineTree, Refusal>
-    ensures told { IfOk result (λ t. (l : List ℕ) → IsCertificateForm l (codes "set" ∷ seen rest.now) (line_of t)) }
-    ensures none { result ≡ Err Refusal.Syntax → (l : List ℕ) (f : WrittenLine) → IsCertificateForm l (codes "set" ∷ seen rest.now) f → ⊥ }
+    ensures told { IfOk result (λ t. (l : List ℕ) →
+        IsCertificateForm l (codes "set" ∷ seen rest.now) (line_of t)) }
+    ensures none { result ≡ Err Refusal.Syntax → (l : List ℕ) (f : WrittenLine) →
+        IsCertificateForm l (codes "set" ∷ seen rest.now) f → ⊥ }
     ensures no_memory { result ≡ Err Refusal.Memory → ⊥ }
 {
     if rest.is_empty() {
@@ -65,8 +73,10 @@ fn set_line(rest: &[&[u8]]) -> Result<LineTree, Refusal>
 
 // `use`
 fn use_line(alloc: Global, line: &[u8], rest: &[&[u8]]) -> Result<LineTree, Refusal>
-    ensures told { IfOk result (λ t. IsCertificateForm line.now (codes "use" ∷ seen rest.now) (line_of t)) }
-    ensures none { result ≡ Err Refusal.Syntax → (f : WrittenLine) → IsCertificateForm line.now (codes "use" ∷ seen rest.now) f → ⊥ }
+    ensures told { IfOk result (λ t. IsCertificateForm line.now (codes "use" ∷ seen rest.now)
+        (line_of t)) }
+    ensures none { result ≡ Err Refusal.Syntax → (f : WrittenLine) →
+        IsCertificateForm line.now (codes "use" ∷ seen rest.now) f → ⊥ }
 {
     let pair = read_word_pair(alloc, line, "use")?;
     Ok(LineTree::Uses(pair))
@@ -74,8 +84,10 @@ fn use_line(alloc: Global, line: &[u8], rest: &[&[u8]]) -> Result<LineTree, Refu
 
 // `value`
 fn value_line(alloc: Global, line: &[u8], rest: &[&[u8]]) -> Result<LineTree, Refusal>
-    ensures told { IfOk result (λ t. IsCertificateForm line.now (codes "value" ∷ seen rest.now) (line_of t)) }
-    ensures none { result ≡ Err Refusal.Syntax → (f : WrittenLine) → IsCertificateForm line.now (codes "value" ∷ seen rest.now) f → ⊥ }
+    ensures told { IfOk result (λ t. IsCertificateForm line.now (codes "value" ∷ seen rest.now)
+        (line_of t)) }
+    ensures none { result ≡ Err Refusal.Syntax → (f : WrittenLine) →
+        IsCertificateForm line.now (codes "value" ∷ seen rest.now) f → ⊥ }
 {
     let pair = read_word_pair(alloc, line, "value")?;
     Ok(LineTree::Assigns(pair))
@@ -83,8 +95,10 @@ fn value_line(alloc: Global, line: &[u8], rest: &[&[u8]]) -> Result<LineTree, Re
 
 // A number and a part of the derivation.
 fn derivation_line(alloc: Global, texts: &[&[u8]]) -> Result<LineTree, Refusal>
-    ensures told { IfOk result (λ t. (l : List ℕ) → IsCertificateForm l (seen texts.now) (line_of t)) }
-    ensures none { result ≡ Err Refusal.Syntax → (n : ℕ) (p : WrittenPart) → IsDerivationForm (seen texts.now) n p → ⊥ }
+    ensures told { IfOk result (λ t. (l : List ℕ) →
+        IsCertificateForm l (seen texts.now) (line_of t)) }
+    ensures none { result ≡ Err Refusal.Syntax → (n : ℕ) (p : WrittenPart) →
+        IsDerivationForm (seen texts.now) n p → ⊥ }
 {
     let Some((first, rest)) = texts.split_first() else {
         return Err(Refusal::Syntax);
@@ -99,7 +113,8 @@ fn derivation_line(alloc: Global, texts: &[&[u8]]) -> Result<LineTree, Refusal>
 /// The form of the line.
 pub fn read_line(alloc: Global, line: &[u8]) -> Result<LineTree, Refusal>
     ensures told { IfOk result (λ t. IsCertificateLine line.now (line_of t)) }
-    ensures none { result ≡ Err Refusal.Syntax → (f : WrittenLine) → IsCertificateLine line.now f → ⊥ }
+    ensures none { result ≡ Err Refusal.Syntax → (f : WrittenLine) → IsCertificateLine line.now f →
+        ⊥ }
 {
     let found = texts(alloc, line)?;
     let Some((first, rest)) = found.split_first() else {

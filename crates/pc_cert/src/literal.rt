@@ -46,7 +46,8 @@ fn read_symbol(alloc: Global, text: &[u8]) -> Result<SymbolTree, Refusal>
 /// The literal that the text is.
 pub fn read_literal(alloc: Global, text: &[u8]) -> Result<LiteralTree, Refusal>
     ensures told { IfOk result (λ l. IsLiteralText text.now (literal_of l)) }
-    ensures none { result ≡ Err Refusal.Syntax → (l : WrittenLiteral) → IsLiteralText text.now l → ⊥ }
+    ensures none { result ≡ Err Refusal.Syntax → (l : WrittenLiteral) → IsLiteralText text.now l →
+        ⊥ }
 {
     let negated = starts_with(text, b'~');
     let what = read_symbol(alloc, without_negation(text))?;
@@ -58,8 +59,10 @@ pub fn read_literal(alloc: Global, text: &[u8]) -> Result<LiteralTree, Refusal>
 
 /// The literals that the texts are.
 pub fn read_literals(alloc: Global, texts: &[&[u8]]) -> Result<Vec<LiteralTree>, Refusal>
-    ensures told { IfOk result (λ v. AreAll IsLiteralText (seen texts.now) (map literal_of v.items)) }
-    ensures none { result ≡ Err Refusal.Syntax → (ls : List WrittenLiteral) → AreAll IsLiteralText (seen texts.now) ls → ⊥ }
+    ensures told { IfOk result (λ v. AreAll IsLiteralText (seen texts.now)
+        (map literal_of v.items)) }
+    ensures none { result ≡ Err Refusal.Syntax → (ls : List WrittenLiteral) →
+        AreAll IsLiteralText (seen texts.now) ls → ⊥ }
 {
     let mut literals = Vec::new(alloc);
     for text in texts {
@@ -72,7 +75,8 @@ pub fn read_literals(alloc: Global, texts: &[&[u8]]) -> Result<Vec<LiteralTree>,
 /// The cells with values that the texts are.
 pub fn read_pairs(alloc: Global, texts: &[&[u8]]) -> Result<Vec<PairTree>, Refusal>
     ensures told { IfOk result (λ v. AreAll IsReadText (seen texts.now) (map pair_of v.items)) }
-    ensures none { result ≡ Err Refusal.Syntax → (ps : List WrittenPair) → AreAll IsReadText (seen texts.now) ps → ⊥ }
+    ensures none { result ≡ Err Refusal.Syntax → (ps : List WrittenPair) →
+        AreAll IsReadText (seen texts.now) ps → ⊥ }
 {
     let mut pairs = Vec::new(alloc);
     for text in texts {

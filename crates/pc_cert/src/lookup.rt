@@ -22,7 +22,8 @@ use pc_sheet::{CellId, Entry, Target, ValueId};
 
 /// The cell that is named.
 pub fn named_cell(book: &Book, cell: &CellTree) -> Option<CellId>
-    ensures { (id : CellId) → (result ≡ Some id) ↔ IsCellNamed book.now.universe (cell_of cell.now) id }
+    ensures { (id : CellId) → (result ≡ Some id) ↔ IsCellNamed book.now.universe (cell_of cell.now)
+        id }
 {
     let Ok(id) = find_cell(book, cell) else {
         return None;
@@ -50,7 +51,9 @@ pub fn named_values(
     first: &ValueTree,
     second: &ValueTree,
 ) -> Option<(CellId, ValueId, ValueId)>
-    ensures { (id : CellId) (v w : ValueId) → (result ≡ Some (id, v, w)) ↔ AreValuesNamed book.now.universe (cell_of cell.now) (value_of first.now) (value_of second.now) id v w }
+    ensures { (id : CellId) (v w : ValueId) → (result ≡ Some (id, v, w)) ↔
+        AreValuesNamed book.now.universe (cell_of cell.now) (value_of first.now)
+        (value_of second.now) id v w }
 {
     let Ok(id) = find_cell(book, cell) else {
         return None;
@@ -79,7 +82,8 @@ pub fn named_rule(book: &Book, name: &Name) -> Option<u32>
 
 // The target that is named.
 fn named_target(book: &Book, pair: &PairTree, holds: bool) -> Option<Target>
-    ensures { (t : TheTarget) → (result ≡ Some t) ↔ IsTargetNamed book.now.universe (pair_of pair.now) holds t }
+    ensures { (t : TheTarget) → (result ≡ Some t) ↔
+        IsTargetNamed book.now.universe (pair_of pair.now) holds t }
 {
     let Some(entry) = named_entry(book, pair) else {
         return None;
@@ -93,7 +97,8 @@ fn named_target(book: &Book, pair: &PairTree, holds: bool) -> Option<Target>
 
 // The claim that a target is implied.
 fn implied_claim(book: &Book, pair: &PairTree, holds: bool) -> Option<Claim>
-    ensures { (c : PlainClaim) → (option_map plain_claim result ≡ Some c) ↔ IsClaimNamed book.now (written_implied (pair_of pair.now) holds) c }
+    ensures { (c : PlainClaim) → (option_map plain_claim result ≡ Some c) ↔
+        IsClaimNamed book.now (written_implied (pair_of pair.now) holds) c }
 {
     let Some(target) = named_target(book, pair, holds) else {
         return None;
@@ -103,7 +108,8 @@ fn implied_claim(book: &Book, pair: &PairTree, holds: bool) -> Option<Claim>
 
 // The claim that a target isn't implied.
 fn unimplied_claim(book: &Book, pair: &PairTree) -> Option<Claim>
-    ensures { (c : PlainClaim) → (option_map plain_claim result ≡ Some c) ↔ IsClaimNamed book.now (written_unimplied (pair_of pair.now)) c }
+    ensures { (c : PlainClaim) → (option_map plain_claim result ≡ Some c) ↔
+        IsClaimNamed book.now (written_unimplied (pair_of pair.now)) c }
 {
     let Some(target) = named_target(book, pair, true) else {
         return None;
@@ -113,7 +119,8 @@ fn unimplied_claim(book: &Book, pair: &PairTree) -> Option<Claim>
 
 // The claim against a rule.
 fn against_claim(book: &Book, name: &Name) -> Option<Claim>
-    ensures { (c : PlainClaim) → (option_map plain_claim result ≡ Some c) ↔ IsClaimNamed book.now (written_against name.now) c }
+    ensures { (c : PlainClaim) → (option_map plain_claim result ≡ Some c) ↔
+        IsClaimNamed book.now (written_against name.now) c }
 {
     let Some(rule) = named_rule(book, name) else {
         return None;
@@ -123,7 +130,8 @@ fn against_claim(book: &Book, name: &Name) -> Option<Claim>
 
 /// The claim that is named.
 pub fn named_claim(book: &Book, claim: &ClaimTree) -> Option<Claim>
-    ensures { (c : PlainClaim) → (option_map plain_claim result ≡ Some c) ↔ IsClaimNamed book.now (claim_of claim.now) c }
+    ensures { (c : PlainClaim) → (option_map plain_claim result ≡ Some c) ↔
+        IsClaimNamed book.now (claim_of claim.now) c }
 {
     match claim {
         ClaimTree::Implied(pair, holds) => implied_claim(book, pair, *holds),

@@ -37,7 +37,8 @@ fn children(kind: NodeKind) -> u32
 
 // No node has so many children that a child's number takes more than 32 bits.
 fn has_few_children(book: &Book, rule: u32, steps: &[u32])
-    ensures { (k : ℕ) (more : List ℕ) → 2 ^ 32 ≤ k → IsSome (node_at book.now rule (steps.now ++ k ∷ more)) → ⊥ }
+    ensures { (k : ℕ) (more : List ℕ) → 2 ^ 32 ≤ k →
+        IsSome (node_at book.now rule (steps.now ++ k ∷ more)) → ⊥ }
 {
     let Some(kind) = node_at(book, rule, steps) else {
         return;
@@ -53,7 +54,8 @@ fn small_steps(
     rule: u32,
     steps: &[u64],
 ) -> Result<Option<Vec<u32>>, AllocError>
-    ensures { IfOk result (λ o. MatchOption o (IsSome (node_at book.now rule steps.now) → ⊥) (λ v. v.items ≡ steps.now)) }
+    ensures { IfOk result (λ o. MatchOption o (IsSome (node_at book.now rule steps.now) →
+        ⊥) (λ v. v.items ≡ steps.now)) }
 {
     let mut small = Vec::new(alloc);
     for step in steps {
@@ -73,7 +75,9 @@ pub fn named_node(
     book: &Book,
     path: &PathTree,
 ) -> Result<Option<NodePath>, AllocError>
-    ensures { IfOk result (λ o. (rule : ℕ) (steps : List ℕ) → (option_map place_of o ≡ Some (rule, steps)) ↔ IsNodeNamed book.now (path_of path.now) rule steps) }
+    ensures { IfOk result (λ o. (rule : ℕ) (steps : List ℕ) →
+        (option_map place_of o ≡ Some (rule, steps)) ↔
+        IsNodeNamed book.now (path_of path.now) rule steps) }
 {
     let Some(rule) = named_rule(book, &path.rule) else {
         return Ok(None);

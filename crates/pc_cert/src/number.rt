@@ -10,7 +10,8 @@ use std::str;
 const MOST_DIGITS: usize = 18;
 
 fn has_digits_alone(text: &[u8]) -> bool
-    ensures { IsTrue result ↔ EachIndex text.now (λ k. is_ascii_digit (slice_index text.now k) ≡ true) }
+    ensures { IsTrue result ↔
+        EachIndex text.now (λ k. is_ascii_digit (slice_index text.now k) ≡ true) }
 {
     text.iter().all(|byte| byte.is_ascii_digit())
 }

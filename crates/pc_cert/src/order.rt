@@ -40,7 +40,8 @@ pub fn nothing_yet() -> Order
 
 /// Whether the line may stand next.
 pub fn stands(order: &Order, line: &LineTree) -> bool
-    ensures { (before : List LineKind) → order.now ≡ order_of before → result ≡ may_stand before (kind_of_written (line_of line.now)) }
+    ensures { (before : List LineKind) → order.now ≡ order_of before →
+        result ≡ may_stand before (kind_of_written (line_of line.now)) }
 {
     match line {
         LineTree::Nothing => true,
@@ -58,7 +59,8 @@ pub fn stands(order: &Order, line: &LineTree) -> bool
 
 // What stood so far, once the claim stands.
 fn behind_claim(order: &Order, claim: &ClaimTree) -> Order
-    ensures { (before : List LineKind) → order.now ≡ order_of before → result ≡ order_of (before ++ kind_of_written_claim (claim_of claim.now) ∷ []) }
+    ensures { (before : List LineKind) → order.now ≡ order_of before →
+        result ≡ order_of (before ++ kind_of_written_claim (claim_of claim.now) ∷ []) }
 {
     let mut next = *order;
     next.some = true;
@@ -75,7 +77,9 @@ fn behind_claim(order: &Order, claim: &ClaimTree) -> Order
 
 /// What stood so far, once the line stands.
 pub fn behind(order: &Order, line: &LineTree) -> Order
-    ensures { (before : List LineKind) → order.now ≡ order_of before → may_stand before (kind_of_written (line_of line.now)) ≡ true → result ≡ order_of (before ++ kind_of_written (line_of line.now) ∷ []) }
+    ensures { (before : List LineKind) → order.now ≡ order_of before →
+        may_stand before (kind_of_written (line_of line.now)) ≡ true →
+        result ≡ order_of (before ++ kind_of_written (line_of line.now) ∷ []) }
 {
     let mut next = *order;
     match line {

@@ -23,7 +23,8 @@ pub fn is_word(text: &[u8], word: &str) -> bool
 // CELL
 fn some_part(alloc: Global, texts: &[&[u8]]) -> Result<PartTree, Refusal>
     ensures told { IfOk result (λ p. IsPartStarting (codes "some") (seen texts.now) (part_of p)) }
-    ensures none { result ≡ Err Refusal.Syntax → (p : WrittenPart) → IsPartStarting (codes "some") (seen texts.now) p → ⊥ }
+    ensures none { result ≡ Err Refusal.Syntax → (p : WrittenPart) →
+        IsPartStarting (codes "some") (seen texts.now) p → ⊥ }
 {
     let [text] = texts else {
         return Err(Refusal::Syntax);
@@ -35,7 +36,8 @@ fn some_part(alloc: Global, texts: &[&[u8]]) -> Result<PartTree, Refusal>
 // CELL VALUE VALUE
 fn one_part(alloc: Global, texts: &[&[u8]]) -> Result<PartTree, Refusal>
     ensures told { IfOk result (λ p. IsPartStarting (codes "one") (seen texts.now) (part_of p)) }
-    ensures none { result ≡ Err Refusal.Syntax → (p : WrittenPart) → IsPartStarting (codes "one") (seen texts.now) p → ⊥ }
+    ensures none { result ≡ Err Refusal.Syntax → (p : WrittenPart) →
+        IsPartStarting (codes "one") (seen texts.now) p → ⊥ }
 {
     let [cell, first, second] = texts else {
         return Err(Refusal::Syntax);
@@ -49,7 +51,8 @@ fn one_part(alloc: Global, texts: &[&[u8]]) -> Result<PartTree, Refusal>
 // NAME
 fn rule_part(alloc: Global, texts: &[&[u8]]) -> Result<PartTree, Refusal>
     ensures told { IfOk result (λ p. IsPartStarting (codes "rule") (seen texts.now) (part_of p)) }
-    ensures none { result ≡ Err Refusal.Syntax → (p : WrittenPart) → IsPartStarting (codes "rule") (seen texts.now) p → ⊥ }
+    ensures none { result ≡ Err Refusal.Syntax → (p : WrittenPart) →
+        IsPartStarting (codes "rule") (seen texts.now) p → ⊥ }
 {
     let [text] = texts else {
         return Err(Refusal::Syntax);
@@ -61,7 +64,8 @@ fn rule_part(alloc: Global, texts: &[&[u8]]) -> Result<PartTree, Refusal>
 // PATH and the number of a clause
 fn node_part(alloc: Global, texts: &[&[u8]]) -> Result<PartTree, Refusal>
     ensures told { IfOk result (λ p. IsPartStarting (codes "node") (seen texts.now) (part_of p)) }
-    ensures none { result ≡ Err Refusal.Syntax → (p : WrittenPart) → IsPartStarting (codes "node") (seen texts.now) p → ⊥ }
+    ensures none { result ≡ Err Refusal.Syntax → (p : WrittenPart) →
+        IsPartStarting (codes "node") (seen texts.now) p → ⊥ }
 {
     let [path, number] = texts else {
         return Err(Refusal::Syntax);
@@ -79,7 +83,8 @@ fn node_part(alloc: Global, texts: &[&[u8]]) -> Result<PartTree, Refusal>
 // PATH { READ }
 fn atom_part(alloc: Global, texts: &[&[u8]]) -> Result<PartTree, Refusal>
     ensures told { IfOk result (λ p. IsPartStarting (codes "atom") (seen texts.now) (part_of p)) }
-    ensures none { result ≡ Err Refusal.Syntax → (p : WrittenPart) → IsPartStarting (codes "atom") (seen texts.now) p → ⊥ }
+    ensures none { result ≡ Err Refusal.Syntax → (p : WrittenPart) →
+        IsPartStarting (codes "atom") (seen texts.now) p → ⊥ }
 {
     let Some((path, reads)) = texts.split_first() else {
         return Err(Refusal::Syntax);
@@ -91,7 +96,9 @@ fn atom_part(alloc: Global, texts: &[&[u8]]) -> Result<PartTree, Refusal>
 
 // What stands before the first colon, and what stands behind it.
 fn at_colon<'a>(texts: &'a [&'a [u8]]) -> Option<(&'a [&'a [u8]], &'a [&'a [u8]])>
-    ensures { MatchOption result ((xs ys : List (List ℕ)) → seen texts.now ≡ xs ++ codes ":" ∷ ys → ⊥) (λ p. (seen texts.now ≡ seen p.0.now ++ codes ":" ∷ seen p.1.now) × AllByRecursion (λ t. t ≢ codes ":") (seen p.0.now)) }
+    ensures { MatchOption result ((xs ys : List (List ℕ)) → seen texts.now ≡ xs ++ codes ":" ∷ ys →
+        ⊥) (λ p. (seen texts.now ≡ seen p.0.now ++ codes ":" ∷ seen p.1.now) ×
+        AllByRecursion (λ t. t ≢ codes ":") (seen p.0.now)) }
 {
     for (i, text) in texts.iter().enumerate() {
         if is_word(text, ":") {
@@ -104,7 +111,8 @@ fn at_colon<'a>(texts: &'a [&'a [u8]]) -> Option<(&'a [&'a [u8]], &'a [&'a [u8]]
 // { LIT } `:` { H }
 fn step_part(alloc: Global, texts: &[&[u8]]) -> Result<PartTree, Refusal>
     ensures told { IfOk result (λ p. IsPartStarting (codes "step") (seen texts.now) (part_of p)) }
-    ensures none { result ≡ Err Refusal.Syntax → (p : WrittenPart) → IsPartStarting (codes "step") (seen texts.now) p → ⊥ }
+    ensures none { result ≡ Err Refusal.Syntax → (p : WrittenPart) →
+        IsPartStarting (codes "step") (seen texts.now) p → ⊥ }
 {
     let Some((literals, numbers)) = at_colon(texts) else {
         return Err(Refusal::Syntax);
@@ -117,7 +125,8 @@ fn step_part(alloc: Global, texts: &[&[u8]]) -> Result<PartTree, Refusal>
 // The number of a set
 fn block_part(texts: &[&[u8]]) -> Result<PartTree, Refusal>
     ensures told { IfOk result (λ p. IsPartStarting (codes "block") (seen texts.now) (part_of p)) }
-    ensures none { result ≡ Err Refusal.Syntax → (p : WrittenPart) → IsPartStarting (codes "block") (seen texts.now) p → ⊥ }
+    ensures none { result ≡ Err Refusal.Syntax → (p : WrittenPart) →
+        IsPartStarting (codes "block") (seen texts.now) p → ⊥ }
     ensures no_memory { result ≡ Err Refusal.Memory → ⊥ }
 {
     let [number] = texts else {
@@ -132,7 +141,8 @@ fn block_part(texts: &[&[u8]]) -> Result<PartTree, Refusal>
 /// The part of a derivation that the texts are.
 pub fn read_part(alloc: Global, texts: &[&[u8]]) -> Result<PartTree, Refusal>
     ensures told { IfOk result (λ p. IsPartForm (seen texts.now) (part_of p)) }
-    ensures none { result ≡ Err Refusal.Syntax → (p : WrittenPart) → IsPartForm (seen texts.now) p → ⊥ }
+    ensures none { result ≡ Err Refusal.Syntax → (p : WrittenPart) → IsPartForm (seen texts.now) p →
+        ⊥ }
 {
     let Some((word, rest)) = texts.split_first() else {
         return Err(Refusal::Syntax);

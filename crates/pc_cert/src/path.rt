@@ -29,7 +29,8 @@ pub fn read_name(alloc: Global, text: &[u8]) -> Result<Name, Refusal>
 // The name behind `@`.
 fn marked_name(alloc: Global, piece: &[u8]) -> Result<Name, Refusal>
     ensures told { IfOk result (λ n. (piece.now ≡ codes "@" ++ n) × IsNameText n) }
-    ensures none { result ≡ Err Refusal.Syntax → (n : List ℕ) → piece.now ≡ codes "@" ++ n → IsNameText n → ⊥ }
+    ensures none { result ≡ Err Refusal.Syntax → (n : List ℕ) → piece.now ≡ codes "@" ++ n →
+        IsNameText n → ⊥ }
 {
     let Some((mark, text)) = piece.split_first() else {
         return Err(Refusal::Syntax);
@@ -50,7 +51,8 @@ fn pieces<'a>(alloc: Global, text: &'a [u8]) -> Result<Vec<&'a [u8]>, AllocError
 /// The numbers that the texts are.
 pub fn read_numbers(alloc: Global, texts: &[&[u8]]) -> Result<Vec<u64>, Refusal>
     ensures told { IfOk result (λ v. AreAll IsNumberText (seen texts.now) v.items) }
-    ensures none { result ≡ Err Refusal.Syntax → (ns : List ℕ) → AreAll IsNumberText (seen texts.now) ns → ⊥ }
+    ensures none { result ≡ Err Refusal.Syntax → (ns : List ℕ) →
+        AreAll IsNumberText (seen texts.now) ns → ⊥ }
 {
     let mut numbers = Vec::new(alloc);
     for text in texts {

@@ -45,7 +45,10 @@ fn take_form(
     draft: &mut Draft,
 ) -> Result<(), CertFault>
     requires { number + 1 < 2 ^ 32 }
-    ensures { (ls : List SaidLine) (line : List ℕ) → IsCertificateLine line (line_of tree.now) → IsGathered ls draft.old → order.old ≡ order_of (map kind_of ls) → number ≡ length ls + 1 → MatchResult result (λ _. IsTaken book.now ls line order.new draft.new) (IsLineFault book.now (map kind_of ls) line number) }
+    ensures { (ls : List SaidLine) (line : List ℕ) → IsCertificateLine line (line_of tree.now) →
+        IsGathered ls draft.old → order.old ≡ order_of (map kind_of ls) → number ≡ length ls + 1 →
+        MatchResult result (λ _. IsTaken book.now ls line order.new draft.new)
+        (IsLineFault book.now (map kind_of ls) line number) }
 {
     if !stands(order, tree) {
         return Err(CertFault::Syntax { line: number });
@@ -68,7 +71,10 @@ fn take_line(
     draft: &mut Draft,
 ) -> Result<(), CertFault>
     requires { number + 1 < 2 ^ 32 }
-    ensures { (ls : List SaidLine) → IsGathered ls draft.old → order.old ≡ order_of (map kind_of ls) → number ≡ length ls + 1 → MatchResult result (λ _. IsTaken book.now ls line.now order.new draft.new) (IsLineFault book.now (map kind_of ls) line.now number) }
+    ensures { (ls : List SaidLine) → IsGathered ls draft.old →
+        order.old ≡ order_of (map kind_of ls) → number ≡ length ls + 1 →
+        MatchResult result (λ _. IsTaken book.now ls line.now order.new draft.new)
+        (IsLineFault book.now (map kind_of ls) line.now number) }
 {
     match form_of(alloc, line, number) {
         Ok(tree) => take_form(alloc, book, &tree, number, order, draft),
@@ -93,7 +99,9 @@ fn empty_draft(alloc: Global) -> Draft
 
 // What was read, once no line follows; the next one would have this number.
 fn finish(order: &Order, draft: Draft, number: u32) -> Result<Cert, CertFault>
-    ensures { (sheet : Sheet) (text rest : List ℕ) → AreTaken sheet text rest order.now draft number → lines rest ≡ [] → IsCertTold sheet text result }
+    ensures { (sheet : Sheet) (text rest : List ℕ) →
+        AreTaken sheet text rest order.now draft number → lines rest ≡ [] →
+        IsCertTold sheet text result }
 {
     let Draft {
         claim,

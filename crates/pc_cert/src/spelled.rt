@@ -18,7 +18,8 @@ use std::alloc::Global;
 // Reads CELL = VALUE and the end.
 fn whole_pair(alloc: Global, words: &mut Words<'_>) -> Result<PairTree, Refusal>
     ensures told { IfOk result (λ p. IsWholePair Kind.Equal words.old (pair_of p)) }
-    ensures none { result ≡ Err Refusal.Syntax → (p : WrittenPair) → IsWholePair Kind.Equal words.old p → ⊥ }
+    ensures none { result ≡ Err Refusal.Syntax → (p : WrittenPair) →
+        IsWholePair Kind.Equal words.old p → ⊥ }
 {
     let (cell, value) = read_equation(alloc, words)?;
     Ok(PairTree { cell, value })
@@ -57,7 +58,8 @@ pub fn read_pair_text(alloc: Global, text: &[u8]) -> Result<PairTree, Refusal>
 // Reads the word, CELL = VALUE and the end.
 fn word_pair(alloc: Global, words: &mut Words<'_>, word: &str) -> Result<PairTree, Refusal>
     ensures told { IfOk result (λ p. IsWordPair word.now Kind.Equal words.old (pair_of p)) }
-    ensures none { result ≡ Err Refusal.Syntax → (p : WrittenPair) → IsWordPair word.now Kind.Equal words.old p → ⊥ }
+    ensures none { result ≡ Err Refusal.Syntax → (p : WrittenPair) →
+        IsWordPair word.now Kind.Equal words.old p → ⊥ }
 {
     let Some(first) = words.take_name() else {
         return Err(Refusal::Syntax);
@@ -71,7 +73,8 @@ fn word_pair(alloc: Global, words: &mut Words<'_>, word: &str) -> Result<PairTre
 // Reads `claim`, CELL = VALUE or CELL != VALUE and the end.
 fn claim_words(alloc: Global, words: &mut Words<'_>) -> Result<(PairTree, bool), Refusal>
     ensures told { IfOk result (λ q. IsClaim words.old (claimed_of q)) }
-    ensures none { result ≡ Err Refusal.Syntax → (q : WrittenPair × Bool) → IsClaim words.old q → ⊥ }
+    ensures none { result ≡ Err Refusal.Syntax → (q : WrittenPair × Bool) → IsClaim words.old q →
+        ⊥ }
 {
     let Some(first) = words.take_name() else {
         return Err(Refusal::Syntax);
@@ -106,7 +109,8 @@ fn denial_words(alloc: Global, words: &mut Words<'_>) -> Result<PairTree, Refusa
 /// The cell with a value that stands behind the word that starts the line.
 pub fn read_word_pair(alloc: Global, text: &[u8], word: &str) -> Result<PairTree, Refusal>
     ensures told { IfOk result (λ p. SpellsPair text.now word.now (pair_of p)) }
-    ensures none { result ≡ Err Refusal.Syntax → (p : WrittenPair) → SpellsPair text.now word.now p → ⊥ }
+    ensures none { result ≡ Err Refusal.Syntax → (p : WrittenPair) →
+        SpellsPair text.now word.now p → ⊥ }
 {
     let spelled = Spelled::new(alloc, text)?;
     let mut words = spelled.words();
@@ -116,7 +120,8 @@ pub fn read_word_pair(alloc: Global, text: &[u8], word: &str) -> Result<PairTree
 /// What the line claims of a cell and a value.
 pub fn read_claim(alloc: Global, text: &[u8]) -> Result<(PairTree, bool), Refusal>
     ensures told { IfOk result (λ q. SpellsThis IsClaim text.now (claimed_of q)) }
-    ensures none { result ≡ Err Refusal.Syntax → (q : WrittenPair × Bool) → SpellsThis IsClaim text.now q → ⊥ }
+    ensures none { result ≡ Err Refusal.Syntax → (q : WrittenPair × Bool) →
+        SpellsThis IsClaim text.now q → ⊥ }
 {
     let spelled = Spelled::new(alloc, text)?;
     let mut words = spelled.words();
@@ -126,7 +131,8 @@ pub fn read_claim(alloc: Global, text: &[u8]) -> Result<(PairTree, bool), Refusa
 /// The cell and the value of which the line claims that the cell needn't have it.
 pub fn read_denial(alloc: Global, text: &[u8]) -> Result<PairTree, Refusal>
     ensures told { IfOk result (λ p. SpellsThis IsDenial text.now (pair_of p)) }
-    ensures none { result ≡ Err Refusal.Syntax → (p : WrittenPair) → SpellsThis IsDenial text.now p → ⊥ }
+    ensures none { result ≡ Err Refusal.Syntax → (p : WrittenPair) →
+        SpellsThis IsDenial text.now p → ⊥ }
 {
     let spelled = Spelled::new(alloc, text)?;
     let mut words = spelled.words();

@@ -68,7 +68,8 @@ fn number_symbol(alloc: Global, symbol: Symbol, table: &mut Table) -> Result<u32
 
 // The symbol of a cell and a value.
 fn named_pair(book: &Book, pair: &PairTree) -> Option<Symbol>
-    ensures { (s : PlainSymbol) → (option_map symbol_of result ≡ Some s) ↔ IsSymbolNamed book.now (written_pair (tree.pair_of pair.now)) s }
+    ensures { (s : PlainSymbol) → (option_map symbol_of result ≡ Some s) ↔
+        IsSymbolNamed book.now (written_pair (tree.pair_of pair.now)) s }
 {
     let Some(entry) = named_entry(book, pair) else {
         return None;
@@ -78,7 +79,8 @@ fn named_pair(book: &Book, pair: &PairTree) -> Option<Symbol>
 
 // The symbol of a node.
 fn named_place(alloc: Global, book: &Book, path: &PathTree) -> Result<Option<Symbol>, AllocError>
-    ensures { IfOk result (λ o. (s : PlainSymbol) → (option_map symbol_of o ≡ Some s) ↔ IsSymbolNamed book.now (written_node (tree.path_of path.now)) s) }
+    ensures { IfOk result (λ o. (s : PlainSymbol) → (option_map symbol_of o ≡ Some s) ↔
+        IsSymbolNamed book.now (written_node (tree.path_of path.now)) s) }
 {
     let Some(place) = named_node(alloc, book, path)? else {
         return Ok(None);
@@ -92,7 +94,8 @@ fn named_symbol(
     book: &Book,
     symbol: &SymbolTree,
 ) -> Result<Option<Symbol>, AllocError>
-    ensures { IfOk result (λ o. (s : PlainSymbol) → (option_map symbol_of o ≡ Some s) ↔ IsSymbolNamed book.now (tree.symbol_of symbol.now) s) }
+    ensures { IfOk result (λ o. (s : PlainSymbol) → (option_map symbol_of o ≡ Some s) ↔
+        IsSymbolNamed book.now (tree.symbol_of symbol.now) s) }
 {
     match symbol {
         SymbolTree::Pair(pair) => Ok(named_pair(book, pair)),
@@ -108,7 +111,10 @@ fn number_literal(
     table: &mut Table,
 ) -> Result<Option<Lit>, AllocError>
     ensures kept { IfOk result (λ o. AreSymbolNumbers table.old → AreSymbolNumbers table.new) }
-    ensures told { IfOk result (λ o. MatchOption o ((l : Literal) → IsLiteralNamed book.now (tree.literal_of literal.now) l → ⊥) (λ l. AreNumbered book.now (tree.literal_of literal.now ∷ []) table.old.names table.new.names (l ∷ []))) }
+    ensures told { IfOk result (λ o. MatchOption o ((l : Literal) →
+        IsLiteralNamed book.now (tree.literal_of literal.now) l →
+        ⊥) (λ l. AreNumbered book.now (tree.literal_of literal.now ∷ []) table.old.names
+        table.new.names (l ∷ []))) }
 {
     let Some(symbol) = named_symbol(alloc, book, &literal.what)? else {
         return Ok(None);
@@ -128,7 +134,10 @@ pub fn number_literals(
     table: &mut Table,
 ) -> Result<Option<Vec<Lit>>, AllocError>
     ensures kept { IfOk result (λ o. AreSymbolNumbers table.old → AreSymbolNumbers table.new) }
-    ensures told { IfOk result (λ o. MatchOption o ((ls : List Literal) → AreNamedEach (IsLiteralNamed book.now) (map tree.literal_of literals.now) ls → ⊥) (λ v. AreNumbered book.now (map tree.literal_of literals.now) table.old.names table.new.names v.items)) }
+    ensures told { IfOk result (λ o. MatchOption o ((ls : List Literal) →
+        AreNamedEach (IsLiteralNamed book.now) (map tree.literal_of literals.now) ls →
+        ⊥) (λ v. AreNumbered book.now (map tree.literal_of literals.now) table.old.names
+        table.new.names v.items)) }
 {
     let mut numbered = Vec::new(alloc);
     for literal in literals {

@@ -46,7 +46,8 @@ impl<'a> Spelled<'a> {
     /// Splits the text.
     pub fn new(alloc: Global, text: &'a [u8]) -> Result<Spelled<'a>, Refusal>
         ensures told { IfOk result (SpellsWords text.now) }
-        ensures none { result ≡ Err Refusal.Syntax → (ws : List Word) → SpellsWords text.now ws → ⊥ }
+        ensures none { result ≡ Err Refusal.Syntax → (ws : List Word) → SpellsWords text.now ws →
+            ⊥ }
     {
         let Some(line) = utf8(text) else {
             return Err(Refusal::Syntax);
@@ -65,7 +66,8 @@ impl<'a> Spelled<'a> {
 
 // The text, where it is UTF-8.
 fn utf8(text: &[u8]) -> Option<&str>
-    ensures { MatchOption result ((ws : List Word) → SpellsWords text.now ws → ⊥) (λ s. (s.now ≡ text.now) × IsUtf8 text.now) }
+    ensures { MatchOption result ((ws : List Word) → SpellsWords text.now ws →
+        ⊥) (λ s. (s.now ≡ text.now) × IsUtf8 text.now) }
 {
     str::from_utf8(text).ok()
 }
@@ -75,7 +77,8 @@ fn split(alloc: Global, text: &str) -> Result<Vec<Token>, Refusal>
     ensures each { IfOk result (λ found. AllByRecursion (IsTokenOf text.now) found.items) }
     ensures told { IfOk result (λ found. HasWords text.now (words_of text.now found.items)) }
     ensures short { IfOk result (λ found. HasShortNames (words_of text.now found.items)) }
-    ensures none { result ≡ Err Refusal.Syntax → (ws : List Word) → HasWords text.now ws → HasShortNames ws → ⊥ }
+    ensures none { result ≡ Err Refusal.Syntax → (ws : List Word) → HasWords text.now ws →
+        HasShortNames ws → ⊥ }
 {
     let found = match tokens(alloc, text) {
         Ok(found) => found,

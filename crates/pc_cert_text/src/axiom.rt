@@ -26,7 +26,8 @@ pub(crate) fn write_axiom<O: Sink>(
     out: &mut O,
 ) -> Result<(), Failed>
     requires { IsAxiomOf book.now (axiom_shown name) }
-    ensures { Writes O.given O.faults out.old out.new result (axiom_text book.now (axiom_shown name.entry)) }
+    ensures { Writes O.given O.faults out.old out.new result
+        (axiom_text book.now (axiom_shown name.entry)) }
 {
     match name {
         AxiomRef::Any(cell) => write_some(book, cell, out),
@@ -39,7 +40,8 @@ pub(crate) fn write_axiom<O: Sink>(
 
 fn write_some<O: Sink>(book: &Book, cell: CellId, out: &mut O) -> Result<(), Failed>
     requires { cell.0 < length (cell_sizes book.now.universe) }
-    ensures { Writes O.given O.faults out.old out.new result (axiom_text book.now (axiom_some cell)) }
+    ensures { Writes O.given O.faults out.old out.new result
+        (axiom_text book.now (axiom_some cell)) }
 {
     write_text(b"some ", out)?;
     write_tight_cell(book, cell, out)
@@ -54,7 +56,8 @@ fn write_one<O: Sink>(
 ) -> Result<(), Failed>
     requires value { IsEntryOf book.now.universe (record { cell = cell; value = value }) }
     requires other { IsEntryOf book.now.universe (record { cell = cell; value = other }) }
-    ensures { Writes O.given O.faults out.old out.new result (axiom_text book.now (axiom_one cell value other)) }
+    ensures { Writes O.given O.faults out.old out.new result
+        (axiom_text book.now (axiom_one cell value other)) }
 {
     write_text(b"one ", out)?;
     write_tight_cell(book, cell, out)?;
@@ -70,7 +73,8 @@ fn write_next_value<O: Sink>(
     out: &mut O,
 ) -> Result<(), Failed>
     requires { IsEntryOf book.now.universe (record { cell = cell; value = value }) }
-    ensures { Writes O.given O.faults out.old out.new result (behind_blank (value_text book.now.universe (sort_of book.now.universe cell) value)) }
+    ensures { Writes O.given O.faults out.old out.new result
+        (behind_blank (value_text book.now.universe (sort_of book.now.universe cell) value)) }
 {
     write_text(b" ", out)?;
     write_value(book, sort_of(book, cell), value, out)
@@ -78,7 +82,8 @@ fn write_next_value<O: Sink>(
 
 fn write_rule<O: Sink>(book: &Book, rule: u32, out: &mut O) -> Result<(), Failed>
     requires { rule < length book.now.rules }
-    ensures { Writes O.given O.faults out.old out.new result (axiom_text book.now (axiom_rule rule)) }
+    ensures { Writes O.given O.faults out.old out.new result
+        (axiom_text book.now (axiom_rule rule)) }
 {
     write_text(b"rule ", out)?;
     write_rule_name(book, rule, out)
@@ -86,7 +91,8 @@ fn write_rule<O: Sink>(book: &Book, rule: u32, out: &mut O) -> Result<(), Failed
 
 fn write_node<O: Sink>(book: &Book, path: &NodePath, number: u32, out: &mut O) -> Result<(), Failed>
     requires { IsPathOf book.now path.now.rule path.now.steps.items }
-    ensures { Writes O.given O.faults out.old out.new result (axiom_text book.now (axiom_node path.now.rule path.now.steps.items number)) }
+    ensures { Writes O.given O.faults out.old out.new result
+        (axiom_text book.now (axiom_node path.now.rule path.now.steps.items number)) }
 {
     write_text(b"node ", out)?;
     write_path(book, path.rule, &path.steps, out)?;
@@ -102,7 +108,8 @@ fn write_atom<O: Sink>(
 ) -> Result<(), Failed>
     requires path { IsPathOf book.now path.now.rule path.now.steps.items }
     requires reads { All (IsEntryOf book.now.universe) reads.now }
-    ensures { Writes O.given O.faults out.old out.new result (axiom_text book.now (axiom_atom path.now.rule path.now.steps.items reads.now)) }
+    ensures { Writes O.given O.faults out.old out.new result
+        (axiom_text book.now (axiom_atom path.now.rule path.now.steps.items reads.now)) }
 {
     write_text(b"atom ", out)?;
     write_path(book, path.rule, &path.steps, out)?;
@@ -111,7 +118,8 @@ fn write_atom<O: Sink>(
 
 fn write_reads<O: Sink>(book: &Book, reads: &[Entry], out: &mut O) -> Result<(), Failed>
     requires { All (IsEntryOf book.now.universe) reads.now }
-    ensures { Writes O.given O.faults out.old out.new result (flat_map (λ e. behind_blank (read_text book.now.universe e)) reads.now) }
+    ensures { Writes O.given O.faults out.old out.new result
+        (flat_map (λ e. behind_blank (read_text book.now.universe e)) reads.now) }
 {
     for read in reads {
         write_next_read(book, *read, out)?;
@@ -122,7 +130,8 @@ fn write_reads<O: Sink>(book: &Book, reads: &[Entry], out: &mut O) -> Result<(),
 // Writes a cell with a value behind a blank.
 fn write_next_read<O: Sink>(book: &Book, read: Entry, out: &mut O) -> Result<(), Failed>
     requires { IsEntryOf book.now.universe read }
-    ensures { Writes O.given O.faults out.old out.new result (behind_blank (read_text book.now.universe read)) }
+    ensures { Writes O.given O.faults out.old out.new result
+        (behind_blank (read_text book.now.universe read)) }
 {
     write_text(b" ", out)?;
     write_read(book, read, out)

@@ -18,7 +18,8 @@ use pc_writer::{sort_of, write_cell, write_text, write_value};
 /// Writes the line of the claim that a target is implied.
 pub(crate) fn write_implied<O: Sink>(book: &Book, target: Target, out: &mut O) -> Result<(), Failed>
     requires { IsTargetOf book.now target }
-    ensures { Writes O.given O.faults out.old out.new result (ended (claim_text book.now (implied target))) }
+    ensures { Writes O.given O.faults out.old out.new result
+        (ended (claim_text book.now (implied target))) }
 {
     write_target_line(book, b"claim ", target, out)
 }
@@ -30,7 +31,8 @@ pub(crate) fn write_sets_claim<O: Sink>(
     out: &mut O,
 ) -> Result<(), Failed>
     requires { CanBeClaimed book.now claim }
-    ensures { Writes O.given O.faults out.old out.new result (ended (claim_text book.now (claim_on_sets claim))) }
+    ensures { Writes O.given O.faults out.old out.new result
+        (ended (claim_text book.now (claim_on_sets claim))) }
 {
     match claim {
         SetsClaim::Repairs => write_text(b"claim repairs\n", out),
@@ -41,7 +43,8 @@ pub(crate) fn write_sets_claim<O: Sink>(
 /// Writes the line of the claim against a rule.
 pub(crate) fn write_against_rule<O: Sink>(book: &Book, rule: u32, out: &mut O) -> Result<(), Failed>
     requires { rule < length book.now.rules }
-    ensures { Writes O.given O.faults out.old out.new result (ended (claim_text book.now (against rule))) }
+    ensures { Writes O.given O.faults out.old out.new result
+        (ended (claim_text book.now (against rule))) }
 {
     write_against_name(book, rule, out)?;
     write_text(b"\n", out)
@@ -63,7 +66,8 @@ fn write_target_line<O: Sink>(
     out: &mut O,
 ) -> Result<(), Failed>
     requires { IsTargetOf book.now target }
-    ensures { Writes O.given O.faults out.old out.new result (ended (words.now ++ target_text book.now.universe target)) }
+    ensures { Writes O.given O.faults out.old out.new result
+        (ended (words.now ++ target_text book.now.universe target)) }
 {
     write_worded_target(book, words, target, out)?;
     write_text(b"\n", out)
@@ -76,7 +80,8 @@ fn write_worded_target<O: Sink>(
     out: &mut O,
 ) -> Result<(), Failed>
     requires { IsTargetOf book.now target }
-    ensures { Writes O.given O.faults out.old out.new result (words.now ++ target_text book.now.universe target) }
+    ensures { Writes O.given O.faults out.old out.new result
+        (words.now ++ target_text book.now.universe target) }
 {
     write_text(words, out)?;
     write_target(book, target, out)
@@ -84,7 +89,8 @@ fn write_worded_target<O: Sink>(
 
 fn write_target<O: Sink>(book: &Book, target: Target, out: &mut O) -> Result<(), Failed>
     requires { IsTargetOf book.now target }
-    ensures { Writes O.given O.faults out.old out.new result (target_text book.now.universe target) }
+    ensures { Writes O.given O.faults out.old out.new result
+        (target_text book.now.universe target) }
 {
     write_cell(book, target.cell, out)?;
     write_equality(target.holds, out)?;

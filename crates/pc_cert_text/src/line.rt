@@ -26,8 +26,12 @@ use pc_writer::write_text;
 /// Writes the lines of a proof, numbered from 1, their hints counted from the first of them.
 pub(crate) fn write_lines<O: Sink>(book: &Book, proof: Proof<'_>, out: &mut O) -> Result<(), Failed>
     requires span { IsSpanOf proof.log.now proof.span }
-    requires lines { AreNamedAndOfSheet book.now proof.names.now (lines_of_span proof.log.now proof.span) }
-    ensures { Writes O.given O.faults out.old out.new result (derivation_lines_text book.now 1 (map (line_named proof.entry.names.now) (lines_of_span proof.entry.log.now proof.entry.span))) }
+    requires lines { AreNamedAndOfSheet book.now proof.names.now
+        (lines_of_span proof.log.now proof.span) }
+    ensures { Writes O.given O.faults out.old out.new result
+        (derivation_lines_text book.now 1
+        (map (line_named proof.entry.names.now)
+        (lines_of_span proof.entry.log.now proof.entry.span))) }
 {
     let first = proof.span.first.0;
     let last = proof.span.last.0;
@@ -49,7 +53,9 @@ fn write_ended_line<O: Sink>(
     out: &mut O,
 ) -> Result<(), Failed>
     requires { CanBeWritten book.now names.now first (shown_line line) }
-    ensures { Writes O.given O.faults out.old out.new result (ended (number_text number ++ behind_blank (logged_text book.now names.now first (shown_line line.entry)))) }
+    ensures { Writes O.given O.faults out.old out.new result
+        (ended (number_text number ++
+        behind_blank (logged_text book.now names.now first (shown_line line.entry)))) }
 {
     write_numbered_line(book, names, line, first, number, out)?;
     write_text(b"\n", out)
@@ -64,7 +70,8 @@ fn write_numbered_line<O: Sink>(
     out: &mut O,
 ) -> Result<(), Failed>
     requires { CanBeWritten book.now names.now first (shown_line line) }
-    ensures { Writes O.given O.faults out.old out.new result (number_text number ++ behind_blank (logged_text book.now names.now first (shown_line line.entry))) }
+    ensures { Writes O.given O.faults out.old out.new result (number_text number ++
+        behind_blank (logged_text book.now names.now first (shown_line line.entry))) }
 {
     write_number(number, out)?;
     write_text(b" ", out)?;
@@ -80,7 +87,8 @@ pub(crate) fn write_line<O: Sink>(
     out: &mut O,
 ) -> Result<(), Failed>
     requires { CanBeWritten book.now names.now first (shown_line line) }
-    ensures { Writes O.given O.faults out.old out.new result (logged_text book.now names.now first (shown_line line.entry)) }
+    ensures { Writes O.given O.faults out.old out.new result
+        (logged_text book.now names.now first (shown_line line.entry)) }
 {
     match line {
         Line::Axiom(number) => write_axiom(book, names.axiom(number), out),
@@ -94,7 +102,8 @@ pub(crate) fn write_line<O: Sink>(
 // Writes the number of a set, counted from 1, whose clause the line has.
 fn write_block<O: Sink>(book: &Book, number: usize, out: &mut O) -> Result<(), Failed>
     requires { number + 1 < 2 ^ 64 }
-    ensures { Writes O.given O.faults out.old out.new result (derivation_line_text book.now (blocked number)) }
+    ensures { Writes O.given O.faults out.old out.new result
+        (derivation_line_text book.now (blocked number)) }
 {
     write_text(b"block ", out)?;
     write_number((number + 1) as u64, out)
@@ -112,7 +121,8 @@ pub(crate) fn write_step_line<O: Sink>(
     requires clause { All (IsLiteralOf book.now names.now) clause.now }
     requires from { All (λ h. first ≤ h.0) hints.now }
     requires room { All (λ h. h.0 + 1 < 2 ^ 64) hints.now }
-    ensures { Writes O.given O.faults out.old out.new result (step_text book.now names.now first clause.now hints.now) }
+    ensures { Writes O.given O.faults out.old out.new result
+        (step_text book.now names.now first clause.now hints.now) }
 {
     write_text(b"step", out)?;
     write_literals(book, names, clause, out)?;
@@ -127,7 +137,8 @@ fn write_literals<O: Sink>(
     out: &mut O,
 ) -> Result<(), Failed>
     requires { All (IsLiteralOf book.now names.now) clause.now }
-    ensures { Writes O.given O.faults out.old out.new result (flat_map (spaced_literal_text book.now names.now) clause.now) }
+    ensures { Writes O.given O.faults out.old out.new result
+        (flat_map (spaced_literal_text book.now names.now) clause.now) }
 {
     for literal in clause {
         write_spaced_literal(book, names, *literal, out)?;
@@ -142,7 +153,8 @@ fn write_spaced_literal<O: Sink>(
     out: &mut O,
 ) -> Result<(), Failed>
     requires { IsLiteralOf book.now names.now literal }
-    ensures { Writes O.given O.faults out.old out.new result (spaced_literal_text book.now names.now literal) }
+    ensures { Writes O.given O.faults out.old out.new result
+        (spaced_literal_text book.now names.now literal) }
 {
     write_text(b" ", out)?;
     write_literal(book, names, literal, out)
@@ -151,7 +163,8 @@ fn write_spaced_literal<O: Sink>(
 fn write_hints<O: Sink>(hints: &[StepId], first: usize, out: &mut O) -> Result<(), Failed>
     requires from { All (λ h. first ≤ h.0) hints.now }
     requires room { All (λ h. h.0 + 1 < 2 ^ 64) hints.now }
-    ensures { Writes O.given O.faults out.old out.new result (flat_map (hint_text first) hints.now) }
+    ensures { Writes O.given O.faults out.old out.new result
+        (flat_map (hint_text first) hints.now) }
 {
     for hint in hints {
         write_hint(*hint, first, out)?;

@@ -25,7 +25,8 @@ pub(crate) fn write_literal<O: Sink>(
 ) -> Result<(), Failed>
     requires named { literal.variable.0 < length names.now.variables }
     requires symbol { IsSymbolOf book.now (symbol_named names.now literal.variable.0) }
-    ensures { Writes O.given O.faults out.old out.new result (literal_text book.now (literal_named names.now literal)) }
+    ensures { Writes O.given O.faults out.old out.new result
+        (literal_text book.now (literal_named names.now literal)) }
 {
     write_sign(literal.sign, out)?;
     write_symbol(book, names.variable(literal.variable), out)
@@ -39,7 +40,8 @@ fn write_sign<O: Sink>(sign: bool, out: &mut O) -> Result<(), Failed>
 
 fn write_symbol<O: Sink>(book: &Book, name: VarName<'_>, out: &mut O) -> Result<(), Failed>
     requires { IsSymbolOf book.now (symbol_shown name) }
-    ensures { Writes O.given O.faults out.old out.new result (symbol_text book.now (symbol_shown name.entry)) }
+    ensures { Writes O.given O.faults out.old out.new result
+        (symbol_text book.now (symbol_shown name.entry)) }
 {
     match name {
         VarName::Pair(cell, value) => write_read(book, Entry { cell, value }, out),

@@ -33,7 +33,8 @@ pub(crate) fn write_rule_name<O: Sink>(book: &Book, rule: u32, out: &mut O) -> R
 }
 
 fn write_steps<O: Sink>(steps: &[u32], out: &mut O) -> Result<(), Failed>
-    ensures { Writes O.given O.faults out.old out.new result (flat_map (λ k. codes "/" ++ number_text k) steps.now) }
+    ensures { Writes O.given O.faults out.old out.new result
+        (flat_map (λ k. codes "/" ++ number_text k) steps.now) }
 {
     for step in steps {
         write_step(*step, out)?;

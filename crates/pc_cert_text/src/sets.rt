@@ -17,7 +17,8 @@ use pc_writer::write_text;
 /// Writes the lines of each set: `set`, its entries as uses, and the value of each cell.
 pub(crate) fn write_worlds<O: Sink>(book: &Book, sets: &Worlds, out: &mut O) -> Result<(), Failed>
     requires { All (IsSetOf book.now) (map given_of sets.now) }
-    ensures { Writes O.given O.faults out.old out.new result (sets_text book.now.universe (map given_of sets.now)) }
+    ensures { Writes O.given O.faults out.old out.new result
+        (sets_text book.now.universe (map given_of sets.now)) }
 {
     for i in 0..sets.len() {
         write_set(book, sets.entries(i), sets.shown(i).values(), out)?;
@@ -33,7 +34,11 @@ fn write_set<O: Sink>(
 ) -> Result<(), Failed>
     requires uses { All (IsEntryOf book.now.universe) entries.now }
     requires values { All (IsEntryOf book.now.universe) (entries_from 0 values.now) }
-    ensures { Writes O.given O.faults out.old out.new result (set_text book.now.universe (record { uses = entries.now; values = entries_from 0 values.now })) }
+    ensures { Writes O.given O.faults out.old out.new result
+        (set_text book.now.universe (record {
+          uses = entries.now;
+          values = entries_from 0 values.now;
+        })) }
 {
     write_text(b"set\n", out)?;
     write_uses(book, entries, out)?;

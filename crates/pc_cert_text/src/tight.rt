@@ -17,7 +17,8 @@ pub(crate) fn write_tight_cell<O: Sink>(
     out: &mut O,
 ) -> Result<(), Failed>
     requires { cell.0 < length (cell_sizes book.now.universe) }
-    ensures { Writes O.given O.faults out.old out.new result (tight_cell_text book.now.universe cell) }
+    ensures { Writes O.given O.faults out.old out.new result
+        (tight_cell_text book.now.universe cell) }
 {
     write_separated_cell(book, cell, b",", out)
 }

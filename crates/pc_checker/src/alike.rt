@@ -78,7 +78,8 @@ fn joins(
     names: &mut Numbering,
 ) -> Result<bool, AllocError>
     requires { IsKey key.now }
-    ensures { IfOk result (λ joined. IsTrue joined → (length key.now ≡ size) × IsNumberedAs names.old names.new (symbol_by key.now) place × AreSymbolsDistinct names.new) }
+    ensures { IfOk result (λ joined. IsTrue joined → (length key.now ≡ size) ×
+        IsNumberedAs names.old names.new (symbol_by key.now) place × AreSymbolsDistinct names.new) }
 {
     if key.len() != size {
         return Ok(false);

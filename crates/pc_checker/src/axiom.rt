@@ -18,7 +18,9 @@ pub(crate) fn write_values(
     draft: &mut ClauseDraft,
 ) -> Result<(), AllocError>
     requires { count ≤ most_values }
-    ensures { OnOk result (AreWritten draft.old draft.new (each_below count (λ v. positive (pair cell (record { 0 = v }))))) }
+    ensures { OnOk result
+        (AreWritten draft.old draft.new
+        (each_below count (λ v. positive (pair cell (record { 0 = v }))))) }
 {
     for value in 0..count {
         draft.push_pair(alloc, cell, ValueId(value as u16), true)?;
@@ -34,7 +36,12 @@ pub(crate) fn write_children(
     sign: bool,
     draft: &mut ClauseDraft,
 ) -> Result<(), AllocError>
-    ensures { OnOk result (AreWritten draft.old draft.new (each_below count (λ k. record { what = child_of parent.now.rule parent.now.steps.items k; sign = sign }))) }
+    ensures { OnOk result
+        (AreWritten draft.old draft.new
+        (each_below count (λ k. record {
+          what = child_of parent.now.rule parent.now.steps.items k;
+          sign = sign;
+        }))) }
 {
     for child in 0..count {
         draft.push_child(alloc, parent, child, sign)?;
@@ -50,7 +57,11 @@ pub(crate) fn write_parts(
     children: &[(u32, bool)],
     draft: &mut ClauseDraft,
 ) -> Result<(), AllocError>
-    ensures { OnOk result (AreWritten draft.old draft.new ((record { what = node parent.now.rule parent.now.steps.items; sign = own }) ∷ map (λ c. record { what = child_of parent.now.rule parent.now.steps.items c.0; sign = c.1 }) children.now)) }
+    ensures { OnOk result
+        (AreWritten draft.old draft.new
+        ((record { what = node parent.now.rule parent.now.steps.items; sign = own }) ∷
+        map (λ c. record { what = child_of parent.now.rule parent.now.steps.items c.0; sign = c.1 })
+        children.now)) }
 {
     draft.push_node(alloc, parent.rule, &parent.steps, own)?;
     for (child, sign) in children {

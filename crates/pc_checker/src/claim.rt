@@ -63,8 +63,10 @@ fn fault_of_own(
     values: &Assignment,
     left_out: Option<u32>,
 ) -> Option<Verdict>
-    requires { IsShownPrepared book.now cert.now.uses.items cert.now.values.items entered.now values.now }
-    ensures { IsShownFault book.now left_out (map said_of cert.now.uses.items) (map said_of cert.now.values.items) cert.now.after result }
+    requires { IsShownPrepared book.now cert.now.uses.items cert.now.values.items entered.now
+        values.now }
+    ensures { IsShownFault book.now left_out (map said_of cert.now.uses.items)
+        (map said_of cert.now.values.items) cert.now.after result }
 {
     let shown = Shown {
         uses: &cert.uses,
@@ -82,8 +84,10 @@ fn fault_of(
     entered: &[bool],
     left_out: Option<u32>,
 ) -> Option<Verdict>
-    requires { IsShownPrepared book.now shown.uses.now shown.values.now entered.now shown.assigned.now }
-    ensures { IsShownFault book.now left_out (map said_of shown.entry.uses.now) (map said_of shown.entry.values.now) shown.entry.after result }
+    requires { IsShownPrepared book.now shown.uses.now shown.values.now entered.now
+        shown.assigned.now }
+    ensures { IsShownFault book.now left_out (map said_of shown.entry.uses.now)
+        (map said_of shown.entry.values.now) shown.entry.after result }
 {
     well_formed(book);
     if let Some(line) = first_not_entered(entered, shown.uses) {
@@ -154,7 +158,8 @@ fn fault_of_set(
     assigned: &Assignment,
     barred: Option<Target>,
 ) -> Option<Verdict>
-    requires { IsShownPrepared book.now set.now.uses.items set.now.values.items entered.now assigned.now }
+    requires { IsShownPrepared book.now set.now.uses.items set.now.values.items entered.now
+        assigned.now }
     ensures { IsOneSetFault book.now (BarredBy barred) (set_of set.now) result }
 {
     let shown = Shown {
@@ -195,7 +200,8 @@ fn has_target(values: &[ValueId], target: Target) -> bool
 // The line of the first used entry that isn't entered.
 fn first_not_entered(entered: &[bool], uses: &[Said]) -> Option<u32>
     requires { All (λ s. HasPlace entered.now s.entry) uses.now }
-    ensures { (entries : List TheEntry) → ArePairsMarked entries entered.now → IsFirstLine (λ e. Contains entries e.1) (map said_of uses.now) result }
+    ensures { (entries : List TheEntry) → ArePairsMarked entries entered.now →
+        IsFirstLine (λ e. Contains entries e.1) (map said_of uses.now) result }
 {
     for said in uses {
         if !is_entered(entered, said.entry) {

@@ -35,7 +35,9 @@ impl Counted {
         requires few { self.values + self.values * self.threshold < 2 ^ 32 }
         requires i { i ≤ self.values }
         requires j { j ≤ self.threshold }
-        ensures { (rule : ℕ) (path : List ℕ) → part_of rule path result ≡ counter_part (signed_node rule path) (signed_child rule path) self.values self.threshold i j sign }
+        ensures { (rule : ℕ) (path : List ℕ) →
+            part_of rule path result ≡ counter_part (signed_node rule path) (signed_child rule path)
+            self.values self.threshold i j sign }
     {
         if j == 0 {
             return RowPart::Fixed(sign);
@@ -55,7 +57,8 @@ fn write_row(
     draft: &mut ClauseDraft,
 ) -> Result<bool, AllocError>
     requires { draft.old.clause ≡ [] }
-    ensures { IfOk result (IsRowWritten (map (part_of path.now.rule path.now.steps.items) row.now) draft.old draft.new) }
+    ensures { IfOk result (IsRowWritten (map (part_of path.now.rule path.now.steps.items) row.now)
+        draft.old draft.new) }
 {
     for part in row {
         match part {
@@ -82,7 +85,10 @@ pub(crate) fn write_count(
 ) -> Result<bool, AllocError>
     requires blank { draft.old.clause ≡ [] }
     requires few { counted.values + counted.values * counted.threshold < 2 ^ 32 }
-    ensures { IfOk result (IsRowNumberWritten (count_rows (signed_node path.now.rule path.now.steps.items) (signed_child path.now.rule path.now.steps.items) counted.values counted.threshold at_most) number draft.old draft.new) }
+    ensures { IfOk result
+        (IsRowNumberWritten (count_rows (signed_node path.now.rule path.now.steps.items)
+        (signed_child path.now.rule path.now.steps.items) counted.values counted.threshold at_most)
+        number draft.old draft.new) }
 {
     if number == 1 {
         let all = counted.part(counted.values, counted.threshold, !at_most);
@@ -109,7 +115,10 @@ fn write_counter(
     requires few { counted.values + counted.values * counted.threshold < 2 ^ 32 }
     requires i { i < counted.values }
     requires j { j < counted.threshold }
-    ensures { IfOk result (IsRowNumberWritten (counter_rows (signed_node path.now.rule path.now.steps.items) (signed_child path.now.rule path.now.steps.items) counted.values counted.threshold i j) number draft.old draft.new) }
+    ensures { IfOk result
+        (IsRowNumberWritten (counter_rows (signed_node path.now.rule path.now.steps.items)
+        (signed_child path.now.rule path.now.steps.items) counted.values counted.threshold i j)
+        number draft.old draft.new) }
 {
     if number == 1 {
         let not = counted.part(i + 1, j + 1, false);
@@ -151,7 +160,10 @@ fn write_child(
 ) -> Result<bool, AllocError>
     requires blank { draft.old.clause ≡ [] }
     requires few { counted.values + counted.values * counted.threshold < 2 ^ 32 }
-    ensures { IfOk result (IsRowNumberWritten (rows_of_child (signed_node path.now.rule path.now.steps.items) (signed_child path.now.rule path.now.steps.items) counted.values counted.threshold k) number draft.old draft.new) }
+    ensures { IfOk result
+        (IsRowNumberWritten (rows_of_child (signed_node path.now.rule path.now.steps.items)
+        (signed_child path.now.rule path.now.steps.items) counted.values counted.threshold k) number
+        draft.old draft.new) }
 {
     if k < counted.values {
         return Ok(false);
@@ -166,7 +178,9 @@ fn write_child(
 
 // What a node of that kind counts, if it does.
 fn counted_by(kind: NodeKind) -> Option<Counted>
-    ensures { MatchOption result ((rule : ℕ) (path : List ℕ) (k : ℕ) → rows_below_kind (signed_node rule path) (signed_child rule path) kind k ≡ []) (λ c. (at_most : Bool) × (kind ≡ Count at_most c.values c.threshold)) }
+    ensures { MatchOption result ((rule : ℕ) (path : List ℕ) (k : ℕ) →
+        rows_below_kind (signed_node rule path) (signed_child rule path) kind k ≡ [])
+        (λ c. (at_most : Bool) × (kind ≡ Count at_most c.values c.threshold)) }
 {
     match kind {
         NodeKind::Count {
@@ -188,7 +202,10 @@ pub(crate) fn write_counter_at(
     draft: &mut ClauseDraft,
 ) -> Result<bool, AllocError>
     requires blank { draft.old.clause ≡ [] }
-    ensures { (i j : ℕ) → kind_at book.now path.now.rule path.now.steps.items ≡ Some (Counter i j) → IfOk result (IsWritten (IsClauseOfKind book.now path.now.rule path.now.steps.items (Counter i j) number) draft.old draft.new) }
+    ensures { (i j : ℕ) → kind_at book.now path.now.rule path.now.steps.items ≡ Some (Counter i j) →
+        IfOk result
+        (IsWritten (IsClauseOfKind book.now path.now.rule path.now.steps.items (Counter i j) number)
+        draft.old draft.new) }
 {
     let Some((last, steps)) = path.steps.split_last() else {
         return Ok(false);

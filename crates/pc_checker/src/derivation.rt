@@ -130,7 +130,8 @@ fn mark(sign: bool, lits: &[Lit], values: &mut Values)
 // Whether the literal is of the other sign or marked.
 fn is_marked(sign: bool, lit: Lit, values: &Values) -> bool
     requires { IsInRange values.now lit }
-    ensures { (lits : List TheLit) → AreMarked sign lits values.now → (IsTrue result ↔ IsAmongOf sign lits lit) }
+    ensures { (lits : List TheLit) → AreMarked sign lits values.now →
+        (IsTrue result ↔ IsAmongOf sign lits lit) }
 {
     if lit.is_positive() == sign {
         values.is_true(lit)

@@ -78,7 +78,10 @@ impl ClauseDraft {
         value: ValueId,
         sign: bool,
     ) -> Result<(), AllocError>
-        ensures { OnOk result (IsLiteralWritten self.old self.new (record { what = pair cell value; sign = sign })) }
+        ensures { OnOk result (IsLiteralWritten self.old self.new (record {
+          what = pair cell value;
+          sign = sign;
+        })) }
     {
         self.push(alloc, &[0, u32::from(cell.0), u32::from(value.0)], sign)
     }
@@ -91,7 +94,11 @@ impl ClauseDraft {
         steps: &[u32],
         sign: bool,
     ) -> Result<(), AllocError>
-        ensures { OnOk result (IsLiteralWritten self.old self.new (record { what = node rule steps.now; sign = sign })) }
+        ensures { OnOk result
+            (IsLiteralWritten self.old self.new (record {
+              what = node rule steps.now;
+              sign = sign;
+            })) }
     {
         let mut key = Vec::new(alloc);
         key.push(1)?;
@@ -108,7 +115,12 @@ impl ClauseDraft {
         child: u32,
         sign: bool,
     ) -> Result<(), AllocError>
-        ensures { OnOk result (IsLiteralWritten self.old self.new (record { what = child_of parent.now.rule parent.now.steps.items child; sign = sign })) }
+        ensures { OnOk result
+            (IsLiteralWritten self.old self.new
+            (record {
+              what = child_of parent.now.rule parent.now.steps.items child;
+              sign = sign;
+            })) }
     {
         let mut steps = Vec::from_slice(alloc, &parent.steps)?;
         steps.push(child)?;
@@ -118,7 +130,11 @@ impl ClauseDraft {
     // Adds a literal by its symbol's key.
     fn push(&mut self, alloc: Global, key: &[u32], sign: bool) -> Result<(), AllocError>
         requires { IsKey key.now }
-        ensures { OnOk result (IsLiteralWritten self.old self.new (record { what = symbol_by key.now; sign = sign })) }
+        ensures { OnOk result
+            (IsLiteralWritten self.old self.new (record {
+              what = symbol_by key.now;
+              sign = sign;
+            })) }
     {
         let number = self.names.number(alloc, key)?;
         self.lits.push(Lit {

@@ -39,7 +39,8 @@ pub(crate) fn place_of(entry: Entry) -> usize
 /// Whether the entry is one of those that were marked.
 pub(crate) fn is_entered(marks: &[bool], entry: Entry) -> bool
     requires { HasPlace marks.now entry }
-    ensures { (entries : List TheEntry) → ArePairsMarked entries marks.now → (IsTrue result ↔ Contains entries entry) }
+    ensures { (entries : List TheEntry) → ArePairsMarked entries marks.now →
+        (IsTrue result ↔ Contains entries entry) }
 {
     marks[place_of(entry)]
 }

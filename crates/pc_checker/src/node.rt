@@ -25,7 +25,9 @@ pub(crate) fn write_node(
 ) -> Result<bool, AllocError>
     requires blank { draft.old.clause ≡ [] }
     requires at { kind_at book.now path.now.rule path.now.steps.items ≡ Some kind }
-    ensures { IfOk result (IsWritten (IsClauseOfKind book.now path.now.rule path.now.steps.items kind number) draft.old draft.new) }
+    ensures { IfOk result
+        (IsWritten (IsClauseOfKind book.now path.now.rule path.now.steps.items kind number)
+        draft.old draft.new) }
 {
     match kind {
         NodeKind::Atom => Ok(false),
@@ -56,7 +58,9 @@ fn write_not(
     draft: &mut ClauseDraft,
 ) -> Result<bool, AllocError>
     requires { draft.old.clause ≡ [] }
-    ensures { IfOk result (IsNumberWritten (clauses_of_kind (node path.now.rule path.now.steps.items) (child_of path.now.rule path.now.steps.items) NodeKind.Not) number draft.old draft.new) }
+    ensures { IfOk result
+        (IsNumberWritten (clauses_of_kind (node path.now.rule path.now.steps.items)
+        (child_of path.now.rule path.now.steps.items) NodeKind.Not) number draft.old draft.new) }
 {
     if number == 1 {
         write_parts(alloc, path, false, &[(0, false)], draft)?;
@@ -76,7 +80,10 @@ fn write_implies(
     draft: &mut ClauseDraft,
 ) -> Result<bool, AllocError>
     requires { draft.old.clause ≡ [] }
-    ensures { IfOk result (IsNumberWritten (clauses_of_kind (node path.now.rule path.now.steps.items) (child_of path.now.rule path.now.steps.items) NodeKind.Implies) number draft.old draft.new) }
+    ensures { IfOk result
+        (IsNumberWritten (clauses_of_kind (node path.now.rule path.now.steps.items)
+        (child_of path.now.rule path.now.steps.items) NodeKind.Implies) number draft.old
+        draft.new) }
 {
     if number == 1 {
         write_parts(alloc, path, false, &[(0, false), (1, true)], draft)?;
@@ -100,7 +107,9 @@ fn write_iff(
     draft: &mut ClauseDraft,
 ) -> Result<bool, AllocError>
     requires { draft.old.clause ≡ [] }
-    ensures { IfOk result (IsNumberWritten (clauses_of_kind (node path.now.rule path.now.steps.items) (child_of path.now.rule path.now.steps.items) NodeKind.Iff) number draft.old draft.new) }
+    ensures { IfOk result
+        (IsNumberWritten (clauses_of_kind (node path.now.rule path.now.steps.items)
+        (child_of path.now.rule path.now.steps.items) NodeKind.Iff) number draft.old draft.new) }
 {
     if number == 1 {
         write_parts(alloc, path, false, &[(0, false), (1, true)], draft)?;
@@ -132,7 +141,9 @@ fn write_many(
     draft: &mut ClauseDraft,
 ) -> Result<bool, AllocError>
     requires { draft.old.clause ≡ [] }
-    ensures { IfOk result (IsNumberWritten (clauses_of_many (node path.now.rule path.now.steps.items) (child_of path.now.rule path.now.steps.items) sign count) number draft.old draft.new) }
+    ensures { IfOk result
+        (IsNumberWritten (clauses_of_many (node path.now.rule path.now.steps.items)
+        (child_of path.now.rule path.now.steps.items) sign count) number draft.old draft.new) }
 {
     if number == 0 {
         return Ok(false);

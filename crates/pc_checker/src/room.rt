@@ -64,7 +64,8 @@ fn room_for_derivation(
     cert: &Cert,
 ) -> Result<(LineClauses, Vec<bool>, Vec<Lit>, Values), AllocError>
     requires { IsReadFor book.now cert.now }
-    ensures { IfOk result (λ r. IsDerivationPrepared book.now cert.now r.0 r.1.items r.2.items (length r.3)) }
+    ensures { IfOk result (λ r. IsDerivationPrepared book.now cert.now r.0 r.1.items r.2.items
+        (length r.3)) }
 {
     let names = number_symbols(alloc, &cert.symbols)?;
     let mut draft = ClauseDraft::new(alloc, names);
@@ -93,7 +94,8 @@ fn room_for_values(
     book: &Book,
     cert: &Cert,
 ) -> Result<(Vec<bool>, Assignment, Vec<Assignment>, Values, usize), AllocError>
-    ensures { IfOk result (λ r. AreValuesPrepared book.now cert.now r.0.items r.1 r.2.items r.3 r.4) }
+    ensures { IfOk result (λ r. AreValuesPrepared book.now cert.now r.0.items r.1 r.2.items r.3
+        r.4) }
 {
     let entered = entered_pairs(alloc, book)?;
     let assignment = assignment_of(alloc, &cert.values)?;
@@ -136,7 +138,8 @@ fn prepare_lines(
     requires sets { All (IsSetSaidOf book.now) sets.now }
     requires no_clauses { clauses.old ≡ [] }
     requires no_marks { axioms.old.items ≡ [] }
-    ensures { OnOk result (ArePrepared book.now (blocks_said book.now sets.now) lines.now (length lines.now) draft.old.symbols draft.new.symbols clauses.new axioms.new.items) }
+    ensures { OnOk result (ArePrepared book.now (blocks_said book.now sets.now) lines.now
+        (length lines.now) draft.old.symbols draft.new.symbols clauses.new axioms.new.items) }
 {
     let mut marks = room_for_pairs(alloc, book)?;
     let mut shared = Shared::new(alloc);
@@ -166,10 +169,15 @@ fn prepare_place(
     requires over { IsPartOver book.now draft.old.symbols place.part.now }
     requires sets { All (IsSetSaidOf book.now) place.sets.now }
     requires marks { HasEachPair book.now marks.old }
-    requires earlier { IfSome place.earlier (λ j. (j < length clauses.old) × (j < length place.axioms.now)) }
+    requires earlier { IfSome place.earlier (λ j. (j < length clauses.old) ×
+        (j < length place.axioms.now)) }
     ensures room { length marks.new ≡ length marks.old }
-    ensures by_itself { IfNone place.entry.earlier (IfOk result (IsLinePrepared book.now (blocks_said book.now place.entry.sets.now) place.entry.part.now draft.old.symbols draft.new.symbols clauses.old clauses.new)) }
-    ensures repeated { IfSome place.entry.earlier (λ j. IfOk result (IsRepeated j place.entry.axioms.now draft.old.symbols draft.new.symbols clauses.old clauses.new)) }
+    ensures by_itself { IfNone place.entry.earlier
+        (IfOk result (IsLinePrepared book.now (blocks_said book.now place.entry.sets.now)
+        place.entry.part.now draft.old.symbols draft.new.symbols clauses.old clauses.new)) }
+    ensures repeated { IfSome place.entry.earlier
+        (λ j. IfOk result (IsRepeated j place.entry.axioms.now draft.old.symbols draft.new.symbols
+        clauses.old clauses.new)) }
 {
     match place.earlier {
         None => prepare_line(alloc, book, place.sets, place.part, draft, clauses, marks),
@@ -194,7 +202,8 @@ fn prepare_line(
     requires sets { All (IsSetSaidOf book.now) sets.now }
     requires marks { HasEachPair book.now marks.old }
     ensures room { length marks.new ≡ length marks.old }
-    ensures prepared { IfOk result (IsLinePrepared book.now (blocks_said book.now sets.now) part.now draft.old.symbols draft.new.symbols clauses.old clauses.new) }
+    ensures prepared { IfOk result (IsLinePrepared book.now (blocks_said book.now sets.now) part.now
+        draft.old.symbols draft.new.symbols clauses.old clauses.new) }
 {
     match part {
         CertPart::Axiom(axiom) => {
@@ -228,7 +237,8 @@ fn write_block(
     requires blank { draft.old.clause ≡ [] }
     requires sets { All (IsSetSaidOf book.now) sets.now }
     requires marks { HasEachPair book.now marks.old }
-    ensures written { IfOk result (IsBlockWritten (blocks_said book.now sets.now) place draft.old draft.new) }
+    ensures written { IfOk result (IsBlockWritten (blocks_said book.now sets.now) place draft.old
+        draft.new) }
     ensures room { length marks.new ≡ length marks.old }
 {
     if place >= sets.len() {
@@ -258,7 +268,9 @@ fn write_allowed(alloc: Global, cert: &Cert, draft: &mut ClauseDraft) -> Result<
 
 // Writes that some used entry doesn't hold.
 fn write_uses(alloc: Global, uses: &[Said], draft: &mut ClauseDraft) -> Result<(), AllocError>
-    ensures { OnOk result (AreWritten draft.old draft.new (map negated_entry (map entry_said (map said_of uses.now)))) }
+    ensures { OnOk result
+        (AreWritten draft.old draft.new
+        (map negated_entry (map entry_said (map said_of uses.now)))) }
 {
     for said in uses {
         draft.push_pair(alloc, said.entry.cell, said.entry.value, false)?;

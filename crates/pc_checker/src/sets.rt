@@ -40,7 +40,8 @@ fn mark_uses(uses: &[Said], marks: &mut Values)
 // Whether the entry is one of those that were marked.
 fn is_used(marks: &Values, entry: Entry) -> bool
     requires { HasPlace marks.now entry }
-    ensures { (entries : List TheEntry) → AreUsesMarked entries marks.now → (IsTrue result ↔ Contains entries entry) }
+    ensures { (entries : List TheEntry) → AreUsesMarked entries marks.now →
+        (IsTrue result ↔ Contains entries entry) }
 {
     marks.is_true(mark_of(entry))
 }
@@ -48,7 +49,8 @@ fn is_used(marks: &Values, entry: Entry) -> bool
 // Whether each used entry is one of those that were marked.
 fn are_used(marks: &Values, uses: &[Said]) -> bool
     requires { HavePlaces marks.now uses.now }
-    ensures { (entries : List TheEntry) → AreUsesMarked entries marks.now → (IsTrue result ↔ All (λ e. Contains entries e.1) (map said_of uses.now)) }
+    ensures { (entries : List TheEntry) → AreUsesMarked entries marks.now →
+        (IsTrue result ↔ All (λ e. Contains entries e.1) (map said_of uses.now)) }
 {
     for said in uses {
         if !is_used(marks, said.entry) {
@@ -62,7 +64,8 @@ fn are_used(marks: &Values, uses: &[Said]) -> bool
 fn is_within(uses: &[Said], others: &[Said], marks: &mut Values) -> bool
     requires uses { HavePlaces marks.old uses.now }
     requires others { HavePlaces marks.old others.now }
-    ensures within { IsTrue result ↔ All (λ e. Contains (entries_of others.now) e.1) (map said_of uses.now) }
+    ensures within { IsTrue result ↔
+        All (λ e. Contains (entries_of others.now) e.1) (map said_of uses.now) }
     ensures room { length marks.new ≡ length marks.old }
 {
     mark_uses(others, marks);
@@ -123,7 +126,8 @@ pub(crate) fn write_outside(
 ) -> Result<(), AllocError>
     requires entries { All (HasPlace marks.old) entries.now }
     requires uses { HavePlaces marks.old uses.now }
-    ensures written { OnOk result (AreWritten draft.old draft.new (block_of entries.now (entries_of uses.now))) }
+    ensures written { OnOk result
+        (AreWritten draft.old draft.new (block_of entries.now (entries_of uses.now))) }
     ensures room { length marks.new ≡ length marks.old }
 {
     mark_uses(uses, marks);
@@ -138,7 +142,8 @@ fn write_unmarked(
     draft: &mut ClauseDraft,
 ) -> Result<(), AllocError>
     requires { All (HasPlace marks.now) entries.now }
-    ensures { (used : List TheEntry) → AreUsesMarked used marks.now → OnOk result (AreWritten draft.old draft.new (block_of entries.now used)) }
+    ensures { (used : List TheEntry) → AreUsesMarked used marks.now →
+        OnOk result (AreWritten draft.old draft.new (block_of entries.now used)) }
 {
     for entry in entries {
         write_if_unmarked(alloc, *entry, marks, draft)?;
@@ -154,7 +159,8 @@ fn write_if_unmarked(
     draft: &mut ClauseDraft,
 ) -> Result<(), AllocError>
     requires { HasPlace marks.now entry }
-    ensures { (used : List TheEntry) → AreUsesMarked used marks.now → OnOk result (AreWritten draft.old draft.new (block_of (entry ∷ []) used)) }
+    ensures { (used : List TheEntry) → AreUsesMarked used marks.now →
+        OnOk result (AreWritten draft.old draft.new (block_of (entry ∷ []) used)) }
 {
     if is_used(marks, entry) {
         return Ok(());

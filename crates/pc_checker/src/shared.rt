@@ -83,7 +83,10 @@ impl Shared {
         place: usize,
     ) -> Result<Option<usize>, AllocError>
         requires { place < length lines.now }
-        ensures { IfOk result (λ found. IfSome found (λ j. (j < place) × ((d : TheLine) → TakeSame (slice_index_or lines.now j d).part (slice_index_or lines.now place d).part))) }
+        ensures { IfOk result (λ found. IfSome found (λ j. (j < place) ×
+            ((d : TheLine) →
+            TakeSame (slice_index_or lines.now j d).part
+            (slice_index_or lines.now place d).part))) }
     {
         let first = self.first_with_part(alloc, &lines[place].part, place)?;
         if first < place && take_same(&lines[first].part, &lines[place].part) {

@@ -31,7 +31,8 @@ pub(crate) fn write_axiom(
     requires over { IsOverSheet book.now name.now }
     requires blank { draft.old.clause ≡ [] }
     requires marks { length (cell_sizes book.now.universe) ≤ length marks.old }
-    ensures written { IfOk result (IsAxiomWritten book.now (axiom_of name.now) draft.old draft.new) }
+    ensures written { IfOk result (IsAxiomWritten book.now (axiom_of name.now) draft.old
+        draft.new) }
     ensures room { length marks.new ≡ length marks.old }
 {
     match name {
@@ -78,7 +79,9 @@ fn write_atom(
     requires reads { All (IsEntryOf book.now.universe) reads.now }
     requires blank { draft.old.clause ≡ [] }
     requires marks { length (cell_sizes book.now.universe) ≤ length marks.old }
-    ensures written { IfOk result (IsAxiomWritten book.now (axiom_atom path.now.rule path.now.steps.items reads.now) draft.old draft.new) }
+    ensures written { IfOk result
+        (IsAxiomWritten book.now (axiom_atom path.now.rule path.now.steps.items reads.now) draft.old
+        draft.new) }
     ensures room { length marks.new ≡ length marks.old }
 {
     if !have_distinct_cells(reads, marks) {

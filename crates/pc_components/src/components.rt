@@ -96,7 +96,10 @@ impl Components {
         ensures cells { IfOk result (λ c. c.cells ≡ self.now.cells) }
         ensures numbers { IfOk result (λ c. c.numbers ≡ self.now.numbers) }
         ensures axioms { IfOk result (λ c. c.axioms ≡ axioms.now) }
-        ensures variables { IfOk result (λ c. AllZip (λ used own. AreVariablesOf (clauses book.now) used (map variable_number own)) c.axioms c.variables) }
+        ensures variables { IfOk result
+            (λ c.
+            AllZip (λ used own. AreVariablesOf (clauses book.now) used (map variable_number own))
+            c.axioms c.variables) }
     {
         let _book = book;
         let variables = variables_of_parts(

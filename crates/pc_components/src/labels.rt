@@ -55,7 +55,11 @@ fn no_labels(alloc: Global, count: usize) -> Result<Vec<usize>, AllocError>
 impl Traversal {
     /// Before the search.
     fn new(alloc: Global, cells: usize, rows: usize) -> Result<Traversal, AllocError>
-        ensures { IfOk result (λ t. t ≡ record { labels = replicate cells cells; frontier = []; visited = replicate rows false }) }
+        ensures { IfOk result (λ t. t ≡ record {
+          labels = replicate cells cells;
+          frontier = [];
+          visited = replicate rows false;
+        }) }
     {
         Ok(Traversal {
             labels: no_labels(alloc, cells)?,
@@ -152,7 +156,8 @@ impl Traversal {
         requires rows_of { rows_of.now ≡ turned count rows.now }
         requires label { label < count }
         requires search { IsTraversal rows.now count (label + 1) label Nothing self.old }
-        ensures search { OnOk result (IsTraversal rows.now count (label + 1) label Nothing self.new) }
+        ensures search { OnOk result (IsTraversal rows.now count (label + 1) label Nothing
+            self.new) }
         ensures all { OnOk result (self.new.frontier ≡ []) }
     {
         'cells: while let Some(cell) = self.next() {

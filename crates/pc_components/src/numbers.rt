@@ -34,7 +34,8 @@ pub(crate) fn number_cells(
     labels: &[usize],
 ) -> Result<(Vec<usize>, usize), AllocError>
     requires { AreOwn labels.now }
-    ensures numbers { IfOk result (λ found. found.0.items ≡ map (place_in (own_firsts labels.now)) labels.now) }
+    ensures numbers { IfOk result (λ found. found.0.items ≡ map (place_in (own_firsts labels.now))
+        labels.now) }
     ensures count { IfOk result (λ found. found.1 ≡ length (own_firsts labels.now)) }
     ensures small { IfOk result (λ found. found.1 ≤ length labels.now) }
 {

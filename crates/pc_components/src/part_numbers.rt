@@ -54,7 +54,8 @@ fn marks_of_spans(
     number: usize,
 ) -> Result<Vec<bool>, AllocError>
     requires { AreWithin (length numbers.now) spans.now }
-    ensures { IfOk result (λ marks. marks.items ≡ map (λ span. is_among (row_of numbers.now span) number) spans.now) }
+    ensures { IfOk result (λ marks. marks.items ≡
+        map (λ span. is_among (row_of numbers.now span) number) spans.now) }
 {
     let mut marks = Vec::new(alloc);
     for span in spans {
@@ -72,7 +73,8 @@ impl PartNumbers {
         ground: &Ground,
     ) -> Result<PartNumbers, AllocError>
         requires { ground.now ≡ grounded book.now }
-        ensures { IfOk result (λ found. HasNumbers book.now found.parts found.cells.items found.pieces.items) }
+        ensures { IfOk result (λ found. HasNumbers book.now found.parts found.cells.items
+            found.pieces.items) }
     {
         well_formed(book);
         let rows = ground.reads();
@@ -104,7 +106,8 @@ impl PartNumbers {
         ground: &Ground,
     ) -> Result<Rows<usize>, AllocError>
         requires ground { ground.now ≡ grounded book.now }
-        requires numbers { HasNumbers book.now self.now.parts self.now.cells.items self.now.pieces.items }
+        requires numbers { HasNumbers book.now self.now.parts self.now.cells.items
+            self.now.pieces.items }
         ensures { IfOk result (λ rows. rows ≡ owners_by book.now (labels_of book.now)) }
     {
         let numbers = self.all(alloc)?;
@@ -113,7 +116,8 @@ impl PartNumbers {
 
     /// The cells of the part of that number, in order.
     pub(crate) fn cells_of(&self, alloc: Global, number: usize) -> Result<Vec<usize>, AllocError>
-        ensures { IfOk result (λ cells. cells.items ≡ places_from 0 (map alone self.now.cells.items) number) }
+        ensures { IfOk result (λ cells. cells.items ≡ places_from 0 (map alone self.now.cells.items)
+            number) }
     {
         let marks = marks_of_numbers(alloc, &self.cells, number)?;
         marked_places(alloc, &marks)
@@ -128,8 +132,10 @@ impl PartNumbers {
         number: usize,
     ) -> Result<Vec<usize>, AllocError>
         requires ground { ground.now ≡ grounded book.now }
-        requires numbers { HasNumbers book.now self.now.parts self.now.cells.items self.now.pieces.items }
-        ensures { IfOk result (λ axioms. axioms.items ≡ places_from 0 (owners_by book.now (labels_of book.now)) number) }
+        requires numbers { HasNumbers book.now self.now.parts self.now.cells.items
+            self.now.pieces.items }
+        ensures { IfOk result (λ axioms. axioms.items ≡
+            places_from 0 (owners_by book.now (labels_of book.now)) number) }
     {
         let numbers = self.all(alloc)?;
         let marks = marks_of_spans(alloc, &numbers, ground.owners(), number)?;

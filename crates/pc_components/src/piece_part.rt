@@ -31,7 +31,8 @@ pub fn find_part_of_piece(
 ) -> Result<PartOfPiece, AllocError>
     requires ground { ground.now ≡ grounded book.now }
     requires piece { piece < length ground.now.reads }
-    ensures { IfOk result (λ part. IsPartOfPiece book.now piece part.cells.items part.variables.items) }
+    ensures { IfOk result (λ part. IsPartOfPiece book.now piece part.cells.items
+        part.variables.items) }
 {
     well_formed(book);
     few_cells(book);

@@ -59,7 +59,11 @@ fn list_columns(book: &Book, cell: CellId, sorts: &[SortId]) -> usize
     requires formed { IsWellFormed book.now }
     requires cell { cell.0 < length (cell_sizes book.now.universe) }
     requires sorts { sorts.now ≡ argument_sorts (family_of book.now.universe cell) }
-    ensures exact { result ≡ columns (joined (codes ", ") (value_texts book.now.universe sorts.now (application_of book.now.universe cell).arguments)) }
+    ensures exact { result ≡
+        columns
+        (joined (codes ", ")
+        (value_texts book.now.universe sorts.now
+        (application_of book.now.universe cell).arguments)) }
     ensures few { result ≤ 33554440 }
 {
     let mut total = 0;
@@ -74,7 +78,9 @@ fn arguments_columns(book: &Book, cell: CellId, sorts: &[SortId]) -> usize
     requires formed { IsWellFormed book.now }
     requires cell { cell.0 < length (cell_sizes book.now.universe) }
     requires sorts { sorts.now ≡ argument_sorts (family_of book.now.universe cell) }
-    ensures exact { result ≡ columns (arguments_text book.now.universe sorts.now (application_of book.now.universe cell).arguments) }
+    ensures exact { result ≡
+        columns (arguments_text book.now.universe sorts.now
+        (application_of book.now.universe cell).arguments) }
     ensures few { result ≤ 33554442 }
 {
     if sorts.is_empty() {
@@ -142,7 +148,8 @@ fn values_columns(book: &Book, sort: SortId, entries: &[Entry]) -> usize
     requires formed { IsWellFormed book.now }
     requires few { length entries.now ≤ most_entries }
     requires values { HaveValuesOf book.now.universe sort entries.now }
-    ensures { result ≡ columns (joined (codes ", ") (entered_texts book.now.universe sort entries.now)) }
+    ensures { result ≡
+        columns (joined (codes ", ") (entered_texts book.now.universe sort entries.now)) }
 {
     let mut total = 0;
     for (i, entry) in entries.iter().enumerate() {
@@ -157,7 +164,8 @@ pub(crate) fn entered_columns(book: &Book, cell: CellId, entries: &[Entry]) -> u
     requires cell { cell.0 < length (cell_sizes book.now.universe) }
     requires few { length entries.now ≤ most_entries }
     requires values { HaveValuesOf book.now.universe (sort_of book.now.universe cell) entries.now }
-    ensures { result ≡ columns (entered_text book.now.universe (sort_of book.now.universe cell) entries.now) }
+    ensures { result ≡ columns (entered_text book.now.universe (sort_of book.now.universe cell)
+        entries.now) }
 {
     if entries.is_empty() {
         1
@@ -185,8 +193,11 @@ pub(crate) struct Widths {
 
 /// The most columns that a cell's text takes, and that the values of a cell's entries take, or a dash.
 pub(crate) fn widths_of(book: &Book) -> Widths
-    ensures cell { result.cell ≡ widest (map (cell_text book.now.universe) (cells_below (length (cells book.now.universe)))) }
-    ensures entry { result.entry ≡ widest (map (entry_column book.now) (cells_below (length (cells book.now.universe)))) }
+    ensures cell { result.cell ≡
+        widest
+        (map (cell_text book.now.universe) (cells_below (length (cells book.now.universe)))) }
+    ensures entry { result.entry ≡
+        widest (map (entry_column book.now) (cells_below (length (cells book.now.universe)))) }
 {
     let mut widths = Widths { cell: 0, entry: 0 };
     let mut before = None;

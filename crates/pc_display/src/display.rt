@@ -33,7 +33,8 @@ pub(crate) fn conflict_of<V: Supports>(view: &V, entry: Entry) -> Option<&[Entry
 /// Whether some of the entries has a conflict.
 pub(crate) fn have_conflict<V: Supports>(view: &V, entries: &[Entry]) -> bool
     requires { All (IsEntryOf (V.sheet view.now).universe) entries.now }
-    ensures { (reason : Reasoning) → IsReasoning (V.sheet view.now) reason → result ≡ have_conflict reason entries.now }
+    ensures { (reason : Reasoning) → IsReasoning (V.sheet view.now) reason →
+        result ≡ have_conflict reason entries.now }
 {
     for entry in entries {
         if conflict_of(view, *entry).is_some() {
@@ -52,9 +53,12 @@ fn write_if_implied<V: Supports, O: Sink>(
 ) -> Result<(), Failed>
     requires formed { IsWellFormed (V.sheet view.now) }
     requires cell { cell.0 < length (cell_sizes (V.sheet view.now).universe) }
-    requires value { value.0 < size_of (V.sheet view.now).universe (sort_of (V.sheet view.now).universe cell) }
-    ensures { (reason : Reasoning) → IsReasoning (V.sheet view.now) reason → Writes O.given O.faults out.old out.new result
-        (value_line (V.sheet view.now).universe (sort_of (V.sheet view.now).universe cell) value (reason_of reason cell value)) }
+    requires value { value.0 < size_of (V.sheet view.now).universe
+        (sort_of (V.sheet view.now).universe cell) }
+    ensures { (reason : Reasoning) → IsReasoning (V.sheet view.now) reason →
+        Writes O.given O.faults out.old out.new result
+        (value_line (V.sheet view.now).universe (sort_of (V.sheet view.now).universe cell) value
+        (reason_of reason cell value)) }
 {
     let target = Target {
         cell,
@@ -78,7 +82,8 @@ fn write_value_lines<V: Supports, O: Sink>(
 ) -> Result<(), Failed>
     requires formed { IsWellFormed (V.sheet view.now) }
     requires cell { cell.0 < length (cell_sizes (V.sheet view.now).universe) }
-    ensures { (reason : Reasoning) → IsReasoning (V.sheet view.now) reason → Writes O.given O.faults out.old out.new result
+    ensures { (reason : Reasoning) → IsReasoning (V.sheet view.now) reason →
+        Writes O.given O.faults out.old out.new result
         (value_lines (V.sheet view.now).universe reason cell) }
 {
     for value in 0..view.book().values_of(cell) {
@@ -98,8 +103,9 @@ fn write_if_clashing<V: Supports, O: Sink>(
     requires formed { IsWellFormed (V.sheet view.now) }
     requires entry { IsEntryOf (V.sheet view.now).universe entry }
     requires value { entry.value.0 < size_of (V.sheet view.now).universe sort }
-    ensures { (reason : Reasoning) → IsReasoning (V.sheet view.now) reason → Writes O.given O.faults out.old out.new result
-        (conflict_line (V.sheet view.now).universe sort several entry.value (conflict_of reason entry)) }
+    ensures { (reason : Reasoning) → IsReasoning (V.sheet view.now) reason →
+        Writes O.given O.faults out.old out.new result (conflict_line (V.sheet view.now).universe
+        sort several entry.value (conflict_of reason entry)) }
 {
     match conflict_of(view, entry) {
         None => Ok(()),
@@ -119,8 +125,9 @@ fn write_conflict_lines<V: Supports, O: Sink>(
     requires formed { IsWellFormed (V.sheet view.now) }
     requires entries { All (IsEntryOf (V.sheet view.now).universe) entries.now }
     requires values { HaveValuesOf (V.sheet view.now).universe sort entries.now }
-    ensures { (reason : Reasoning) → IsReasoning (V.sheet view.now) reason → Writes O.given O.faults out.old out.new result
-        (conflict_lines (V.sheet view.now).universe reason sort entries.now) }
+    ensures { (reason : Reasoning) → IsReasoning (V.sheet view.now) reason →
+        Writes O.given O.faults out.old out.new result (conflict_lines (V.sheet view.now).universe
+        reason sort entries.now) }
 {
     let several = are_several(entries);
     for entry in entries {
@@ -132,8 +139,8 @@ fn write_conflict_lines<V: Supports, O: Sink>(
 /// Writes the lines of a cell.
 fn write_cell_lines<V: Supports, O: Sink>(view: &V, cell: CellId, out: &mut O) -> Result<(), Failed>
     requires { cell.0 < length (cell_sizes (V.sheet view.now).universe) }
-    ensures { (reason : Reasoning) → IsReasoning (V.sheet view.now) reason → Writes O.given O.faults out.old out.new result
-        (cell_lines (V.sheet view.now) reason cell) }
+    ensures { (reason : Reasoning) → IsReasoning (V.sheet view.now) reason →
+        Writes O.given O.faults out.old out.new result (cell_lines (V.sheet view.now) reason cell) }
 {
     let book = view.book();
     let found = entries_of(book, cell);
@@ -148,7 +155,8 @@ fn write_cell_lines<V: Supports, O: Sink>(view: &V, cell: CellId, out: &mut O) -
 ///
 /// It fails only where the sink does, and has then written a front of the display.
 pub fn show<V: Supports, O: Sink>(view: &V, out: &mut O) -> Result<(), Failed>
-    ensures { (text : List ℕ) → IsShown (V.sheet view.now) text → Writes O.given O.faults out.old out.new result text }
+    ensures { (text : List ℕ) → IsShown (V.sheet view.now) text →
+        Writes O.given O.faults out.old out.new result text }
 {
     for cell in 0..view.book().cells() {
         write_cell_lines(view, CellId(cell as u16), out)?;

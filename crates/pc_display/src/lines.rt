@@ -33,7 +33,8 @@ fn write_values<O: Sink>(
     out: &mut O,
 ) -> Result<(), Failed>
     requires { HaveValuesOf book.now.universe sort entries.now }
-    ensures { Writes O.given O.faults out.old out.new result (joined (codes ", ") (entered_texts book.now.universe sort entries.now)) }
+    ensures { Writes O.given O.faults out.old out.new result
+        (joined (codes ", ") (entered_texts book.now.universe sort entries.now)) }
 {
     for (i, entry) in entries.iter().enumerate() {
         write_separator(i, out)?;
@@ -80,7 +81,8 @@ pub(crate) fn write_head_line<O: Sink>(
 ) -> Result<(), Failed>
     requires cell { cell.0 < length (cell_sizes book.now.universe) }
     requires values { HaveValuesOf book.now.universe (sort_of book.now.universe cell) entries.now }
-    ensures { Writes O.given O.faults out.old out.new result (head_line book.now.universe cell entries.now clashes) }
+    ensures { Writes O.given O.faults out.old out.new result
+        (head_line book.now.universe cell entries.now clashes) }
 {
     write_cell(book, cell, out)?;
     write_text(b" : ", out)?;
@@ -92,7 +94,8 @@ pub(crate) fn write_head_line<O: Sink>(
 /// Writes why a value is implied.
 fn write_because<O: Sink>(book: &Book, support: &[Entry], out: &mut O) -> Result<(), Failed>
     requires { All (IsEntryOf book.now.universe) support.now }
-    ensures { Writes O.given O.faults out.old out.new result (because book.now.universe support.now) }
+    ensures { Writes O.given O.faults out.old out.new result
+        (because book.now.universe support.now) }
 {
     if support.is_empty() {
         return write_text(b" always", out);
@@ -112,7 +115,9 @@ pub(crate) fn write_value_line<O: Sink>(
     requires value { value.0 < size_of book.now.universe sort }
     requires support { All (IsEntryOf book.now.universe) support.now }
     ensures { Writes O.given O.faults out.old out.new result
-        (ended (codes "  = " ++ (value_text book.now.universe sort value ++ because book.now.universe support.now))) }
+        (ended
+        (codes "  = " ++ (value_text book.now.universe sort value ++ because book.now.universe
+        support.now))) }
 {
     write_text(b"  = ", out)?;
     write_value(book, sort, value, out)?;
@@ -123,7 +128,8 @@ pub(crate) fn write_value_line<O: Sink>(
 /// Writes what an entry clashes with.
 fn write_against<O: Sink>(book: &Book, support: &[Entry], out: &mut O) -> Result<(), Failed>
     requires { All (IsEntryOf book.now.universe) support.now }
-    ensures { Writes O.given O.faults out.old out.new result (against book.now.universe support.now) }
+    ensures { Writes O.given O.faults out.old out.new result
+        (against book.now.universe support.now) }
 {
     if support.is_empty() {
         return write_text(b"the rules", out);
@@ -140,7 +146,8 @@ fn write_told<O: Sink>(
     out: &mut O,
 ) -> Result<(), Failed>
     requires { value.0 < size_of book.now.universe sort }
-    ensures { Writes O.given O.faults out.old out.new result (value_told book.now.universe sort several value) }
+    ensures { Writes O.given O.faults out.old out.new result
+        (value_told book.now.universe sort several value) }
 {
     if several {
         write_value(book, sort, value, out)?;
@@ -162,7 +169,8 @@ pub(crate) fn write_conflict_line<O: Sink>(
     requires value { value.0 < size_of book.now.universe sort }
     requires support { All (IsEntryOf book.now.universe) support.now }
     ensures { Writes O.given O.faults out.old out.new result
-        (ended (codes "  ! " ++ (value_told book.now.universe sort several value ++ (codes "against " ++ against book.now.universe support.now)))) }
+        (ended (codes "  ! " ++ (value_told book.now.universe sort several value ++
+        (codes "against " ++ against book.now.universe support.now)))) }
 {
     write_text(b"  ! ", out)?;
     write_told(book, sort, several, value, out)?;

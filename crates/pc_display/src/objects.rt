@@ -52,8 +52,9 @@ fn one_or_all(mut list: Vec<Value>) -> Value
 fn conflict_json<V: Supports>(alloc: Global, view: &V, entry: Entry) -> Result<Value, AllocError>
     requires formed { IsWellFormed (V.sheet view.now) }
     requires entry { IsEntryOf (V.sheet view.now).universe entry }
-    ensures { (reason : Reasoning) → IsReasoning (V.sheet view.now) reason
-        → IfOk result (λ found. data_of found ≡ conflict_data (V.sheet view.now).universe (conflict_of reason entry)) }
+    ensures { (reason : Reasoning) → IsReasoning (V.sheet view.now) reason →
+        IfOk result (λ found. data_of found ≡ conflict_data (V.sheet view.now).universe
+        (conflict_of reason entry)) }
 {
     match conflict_of(view, entry) {
         None => Ok(Value::Null),
@@ -69,8 +70,9 @@ fn conflicts_json<V: Supports>(
 ) -> Result<Value, AllocError>
     requires formed { IsWellFormed (V.sheet view.now) }
     requires entries { All (IsEntryOf (V.sheet view.now).universe) entries.now }
-    ensures { (reason : Reasoning) → IsReasoning (V.sheet view.now) reason
-        → IfOk result (λ found. data_of found ≡ conflicts_data (V.sheet view.now).universe reason entries.now) }
+    ensures { (reason : Reasoning) → IsReasoning (V.sheet view.now) reason →
+        IfOk result (λ found. data_of found ≡ conflicts_data (V.sheet view.now).universe reason
+        entries.now) }
 {
     let mut list = Vec::new(alloc);
     for entry in entries {
@@ -88,7 +90,8 @@ fn entered_json(
 ) -> Result<Value, AllocError>
     requires formed { IsWellFormed book.now }
     requires values { HaveValuesOf book.now.universe sort entries.now }
-    ensures { IfOk result (λ found. data_of found ≡ entered_data book.now.universe sort entries.now) }
+    ensures { IfOk result (λ found. data_of found ≡ entered_data book.now.universe sort
+        entries.now) }
 {
     let mut list = Vec::new(alloc);
     for entry in entries {
@@ -99,7 +102,8 @@ fn entered_json(
 }
 
 fn reasoned_json(alloc: Global, because: Value, value: String) -> Result<Value, AllocError>
-    ensures { IfOk result (λ found. data_of found ≡ reasoned_data (data_of because) (string_bytes value)) }
+    ensures { IfOk result (λ found. data_of found ≡ reasoned_data (data_of because)
+        (string_bytes value)) }
 {
     json!(in alloc; {"because": because, "value": value})
 }
@@ -111,7 +115,8 @@ fn object_json(
     entry: Value,
     implied: Value,
 ) -> Result<Value, AllocError>
-    ensures { IfOk result (λ found. data_of found ≡ object_data (string_bytes cell) (data_of conflict) (data_of entry) (data_of implied)) }
+    ensures { IfOk result (λ found. data_of found ≡ object_data (string_bytes cell)
+        (data_of conflict) (data_of entry) (data_of implied)) }
 {
     json!(in alloc; {"cell": cell, "conflict": conflict, "entry": entry, "implied": implied})
 }
@@ -126,9 +131,12 @@ fn push_if_implied<V: Supports>(
 ) -> Result<(), AllocError>
     requires formed { IsWellFormed (V.sheet view.now) }
     requires cell { cell.0 < length (cell_sizes (V.sheet view.now).universe) }
-    requires value { value.0 < size_of (V.sheet view.now).universe (sort_of (V.sheet view.now).universe cell) }
-    ensures { (reason : Reasoning) → IsReasoning (V.sheet view.now) reason → OnOk result (map data_of list.new.items
-        ≡ map data_of list.old.items ++ implied_data (V.sheet view.now).universe (sort_of (V.sheet view.now).universe cell) value (reason_of reason cell value)) }
+    requires value { value.0 < size_of (V.sheet view.now).universe
+        (sort_of (V.sheet view.now).universe cell) }
+    ensures { (reason : Reasoning) → IsReasoning (V.sheet view.now) reason →
+        OnOk result (map data_of list.new.items ≡ map data_of list.old.items ++
+        implied_data (V.sheet view.now).universe (sort_of (V.sheet view.now).universe cell) value
+        (reason_of reason cell value)) }
 {
     let target = Target {
         cell,
@@ -151,8 +159,9 @@ fn push_if_implied<V: Supports>(
 fn values_json<V: Supports>(alloc: Global, view: &V, cell: CellId) -> Result<Value, AllocError>
     requires formed { IsWellFormed (V.sheet view.now) }
     requires cell { cell.0 < length (cell_sizes (V.sheet view.now).universe) }
-    ensures { (reason : Reasoning) → IsReasoning (V.sheet view.now) reason
-        → IfOk result (λ found. data_of found ≡ array_of (all_implied_data (V.sheet view.now).universe reason cell)) }
+    ensures { (reason : Reasoning) → IsReasoning (V.sheet view.now) reason →
+        IfOk result (λ found. data_of found ≡
+        array_of (all_implied_data (V.sheet view.now).universe reason cell)) }
 {
     let mut list = Vec::new(alloc);
     for value in 0..view.book().values_of(cell) {
@@ -163,7 +172,8 @@ fn values_json<V: Supports>(alloc: Global, view: &V, cell: CellId) -> Result<Val
 
 fn cell_json<V: Supports>(alloc: Global, view: &V, cell: CellId) -> Result<Value, AllocError>
     requires { cell.0 < length (cell_sizes (V.sheet view.now).universe) }
-    ensures { (reason : Reasoning) → IsReasoning (V.sheet view.now) reason → IfOk result (λ found. data_of found ≡ cell_data (V.sheet view.now) reason cell) }
+    ensures { (reason : Reasoning) → IsReasoning (V.sheet view.now) reason →
+        IfOk result (λ found. data_of found ≡ cell_data (V.sheet view.now) reason cell) }
 {
     let book = view.book();
     let found = entries_of(book, cell);
@@ -181,7 +191,8 @@ fn cell_json<V: Supports>(alloc: Global, view: &V, cell: CellId) -> Result<Value
 }
 
 fn cells_json<V: Supports>(alloc: Global, view: &V) -> Result<Value, AllocError>
-    ensures { (reason : Reasoning) → IsReasoning (V.sheet view.now) reason → IfOk result (λ found. data_of found ≡ sheet_data (V.sheet view.now) reason) }
+    ensures { (reason : Reasoning) → IsReasoning (V.sheet view.now) reason →
+        IfOk result (λ found. data_of found ≡ sheet_data (V.sheet view.now) reason) }
 {
     let mut list = Vec::new(alloc);
     for cell in 0..view.book().cells() {
@@ -195,8 +206,10 @@ fn cells_json<V: Supports>(alloc: Global, view: &V) -> Result<Value, AllocError>
 ///
 /// It fails only for want of memory.
 pub fn json<V: Supports>(alloc: Global, view: &V) -> Result<String, AllocError>
-    ensures text { (text : List ℕ) → IsJson (V.sheet view.now) text → IfOk result (λ found. string_bytes found ≡ text) }
-    ensures reads_back { (whole : Data) → IsJsonData (V.sheet view.now) whole → IfOk result (λ found. read (string_bytes found) ≡ Some whole) }
+    ensures text { (text : List ℕ) → IsJson (V.sheet view.now) text →
+        IfOk result (λ found. string_bytes found ≡ text) }
+    ensures reads_back { (whole : Data) → IsJsonData (V.sheet view.now) whole →
+        IfOk result (λ found. read (string_bytes found) ≡ Some whole) }
 {
     cells_json(alloc, view)?.to_string(alloc)
 }

@@ -45,7 +45,8 @@ fn write_padded_cell<O: Sink>(
     requires formed { IsWellFormed book.now }
     requires cell { cell.0 < length (cell_sizes book.now.universe) }
     requires name { IsAsWide (family_of book.now.universe cell) name }
-    ensures { Writes O.given O.faults out.old out.new result (padded width (cell_text book.now.universe cell)) }
+    ensures { Writes O.given O.faults out.old out.new result
+        (padded width (cell_text book.now.universe cell)) }
 {
     write_cell(book, cell, out)?;
     write_spaces(width.saturating_sub(cell_columns(book, cell, name)), out)
@@ -64,7 +65,8 @@ fn write_padded_entries<O: Sink>(
     requires few { length entries.now ≤ most_entries }
     requires values { HaveValuesOf book.now.universe (sort_of book.now.universe cell) entries.now }
     ensures { Writes O.given O.faults out.old out.new result
-        (padded width (entered_text book.now.universe (sort_of book.now.universe cell) entries.now)) }
+        (padded width (entered_text book.now.universe (sort_of book.now.universe cell)
+        entries.now)) }
 {
     write_entered(book, cell, entries, out)?;
     write_spaces(
@@ -74,7 +76,8 @@ fn write_padded_entries<O: Sink>(
 }
 
 fn write_conflict<O: Sink>(clashes: bool, out: &mut O) -> Result<(), Failed>
-    ensures { Writes O.given O.faults out.old out.new result (codes "  " ++ (conflict_column clashes ++ codes "  ")) }
+    ensures { Writes O.given O.faults out.old out.new result
+        (codes "  " ++ (conflict_column clashes ++ codes "  ")) }
 {
     if clashes {
         write_text(b"  !  ", out)
@@ -98,7 +101,8 @@ fn write_front<O: Sink>(
     requires name { IsAsWide (family_of book.now.universe cell) name }
     requires few { length entries.now ≤ most_entries }
     requires values { HaveValuesOf book.now.universe (sort_of book.now.universe cell) entries.now }
-    ensures { Writes O.given O.faults out.old out.new result (front_text book.now.universe widths.cell widths.entry cell entries.now clashes) }
+    ensures { Writes O.given O.faults out.old out.new result
+        (front_text book.now.universe widths.cell widths.entry cell entries.now clashes) }
 {
     write_padded_cell(book, cell, name, widths.cell, out)?;
     write_text(b"  ", out)?;
@@ -121,7 +125,8 @@ fn write_next_value<O: Sink>(
     out: &mut O,
 ) -> Result<(), Failed>
     requires { value.0 < size_of book.now.universe sort }
-    ensures { Writes O.given O.faults out.old out.new result (next_text some (value_text book.now.universe sort value ∷ [])) }
+    ensures { Writes O.given O.faults out.old out.new result
+        (next_text some (value_text book.now.universe sort value ∷ [])) }
 {
     write_comma(some, out)?;
     write_value(book, sort, value, out)
@@ -136,11 +141,17 @@ fn write_next_implied<V: Supports, O: Sink>(
     out: &mut O,
 ) -> Result<bool, Failed>
     requires cell { cell.0 < length (cell_sizes (V.sheet view.now).universe) }
-    requires value { value.0 < size_of (V.sheet view.now).universe (sort_of (V.sheet view.now).universe cell) }
-    ensures text { (reason : Reasoning) → IsReasoning (V.sheet view.now) reason → Writes O.given O.faults out.old out.new result
-        (next_text some (implied_text (V.sheet view.now).universe (sort_of (V.sheet view.now).universe cell) value (reason_of reason cell value))) }
-    ensures more { (reason : Reasoning) → IsReasoning (V.sheet view.now) reason → IfOk result (λ more. more ≡ some_more some
-        (implied_text (V.sheet view.now).universe (sort_of (V.sheet view.now).universe cell) value (reason_of reason cell value))) }
+    requires value { value.0 < size_of (V.sheet view.now).universe
+        (sort_of (V.sheet view.now).universe cell) }
+    ensures text { (reason : Reasoning) → IsReasoning (V.sheet view.now) reason →
+        Writes O.given O.faults out.old out.new result
+        (next_text some (implied_text (V.sheet view.now).universe
+        (sort_of (V.sheet view.now).universe cell) value (reason_of reason cell value))) }
+    ensures more { (reason : Reasoning) → IsReasoning (V.sheet view.now) reason →
+        IfOk result (λ more.
+        more ≡
+        some_more some (implied_text (V.sheet view.now).universe
+        (sort_of (V.sheet view.now).universe cell) value (reason_of reason cell value))) }
 {
     let target = Target {
         cell,
@@ -160,7 +171,8 @@ fn write_next_implied<V: Supports, O: Sink>(
 /// Writes the cell's implied values, or a dash where there are none.
 fn write_implied<V: Supports, O: Sink>(view: &V, cell: CellId, out: &mut O) -> Result<(), Failed>
     requires { cell.0 < length (cell_sizes (V.sheet view.now).universe) }
-    ensures { (reason : Reasoning) → IsReasoning (V.sheet view.now) reason → Writes O.given O.faults out.old out.new result
+    ensures { (reason : Reasoning) → IsReasoning (V.sheet view.now) reason →
+        Writes O.given O.faults out.old out.new result
         (listed_texts (implied_texts (V.sheet view.now).universe reason cell)) }
 {
     let mut some = false;
@@ -180,7 +192,8 @@ fn write_grid_line<V: Supports, O: Sink>(
 ) -> Result<(), Failed>
     requires cell { cell.0 < length (cell_sizes (V.sheet view.now).universe) }
     requires name { IsAsWide (family_of (V.sheet view.now).universe cell) name }
-    ensures { (reason : Reasoning) → IsReasoning (V.sheet view.now) reason → Writes O.given O.faults out.old out.new result
+    ensures { (reason : Reasoning) → IsReasoning (V.sheet view.now) reason →
+        Writes O.given O.faults out.old out.new result
         (grid_line (V.sheet view.now) reason widths.cell widths.entry cell) }
 {
     let book = view.book();
@@ -209,7 +222,8 @@ fn name_before<V: Supports>(view: &V, cell: CellId, before: Option<NameColumns>)
 ///
 /// It fails only where the sink does, and has then written a front of the table.
 pub fn grid<V: Supports, O: Sink>(view: &V, out: &mut O) -> Result<(), Failed>
-    ensures { (text : List ℕ) → IsGrid (V.sheet view.now) text → Writes O.given O.faults out.old out.new result text }
+    ensures { (text : List ℕ) → IsGrid (V.sheet view.now) text →
+        Writes O.given O.faults out.old out.new result text }
 {
     let widths = widths_of(view.book());
     let mut before = None;

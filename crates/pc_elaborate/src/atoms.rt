@@ -30,7 +30,8 @@ pub(crate) fn comparison(
     requires scope { IsScope book.now.universe (variables_of variables.now) }
     requires left { IsSizedSide (side_of left.now) }
     requires right { IsSizedSide (side_of right.now) }
-    ensures { IsFormulaTold book.now.universe (variables_of variables.now) (tree.compare (side_of left.now) op (side_of right.now)) result }
+    ensures { IsFormulaTold book.now.universe (variables_of variables.now)
+        (tree.compare (side_of left.now) op (side_of right.now)) result }
 {
     well_formed(book);
     let (left, kind) = find_side(alloc, book, variables, left)?;
@@ -47,7 +48,8 @@ pub(crate) fn comparison(
 /// The sorts of a table's arguments.
 fn table_sorts(book: &Book, table: TableId) -> &[SortId]
     requires { table.0 < length book.now.universe.tables }
-    ensures takes { IsSomeAnd (slice_get book.now.universe.tables table.0) (λ declared. declared.sorts ≡ result.now) }
+    ensures takes { IsSomeAnd (slice_get book.now.universe.tables table.0) (λ declared.
+        declared.sorts ≡ result.now) }
     ensures declared { All (IsDeclaredSort book.now.universe) result.now }
 {
     well_formed(book);
@@ -63,7 +65,8 @@ pub(crate) fn table_atom(
     args: &[ItemTree],
 ) -> Result<Formula, SortFault>
     requires { IsScope book.now.universe (variables_of variables.now) }
-    ensures { IsFormulaTold book.now.universe (variables_of variables.now) (tree.in_table name.now (map item_of args.now)) result }
+    ensures { IsFormulaTold book.now.universe (variables_of variables.now)
+        (tree.in_table name.now (map item_of args.now)) result }
 {
     well_formed(book);
     let table = find_table(book, name)?;

@@ -19,7 +19,8 @@ use pc_sheet::cells_are_numbered_in_order;
 
 /// The listed value of the sort that a name stands for, or why there is none.
 fn find_listed(book: &Book, sort: SortId, name: &Name) -> Result<ValueId, SortFault>
-    ensures { IsFoundOrFault (StandsForValue book.now.universe sort (name_value name.now)) (IsValueFault book.now.universe sort (name_value name.now)) result }
+    ensures { IsFoundOrFault (StandsForValue book.now.universe sort (name_value name.now))
+        (IsValueFault book.now.universe sort (name_value name.now)) result }
 {
     let Some((found, value)) = value_named(book, name) else {
         return Err(name_fault(book, name));
@@ -33,7 +34,8 @@ fn find_listed(book: &Book, sort: SortId, name: &Name) -> Result<ValueId, SortFa
 /// The value of the sort that a whole number stands for, or why there is none.
 pub(crate) fn find_integer(book: &Book, sort: SortId, n: i64) -> Result<ValueId, SortFault>
     requires { sort.0 < length book.now.universe.sorts }
-    ensures { IsFoundOrFault (StandsForValue book.now.universe sort (integer_value n)) (IsValueFault book.now.universe sort (integer_value n)) result }
+    ensures { IsFoundOrFault (StandsForValue book.now.universe sort (integer_value n))
+        (IsValueFault book.now.universe sort (integer_value n)) result }
 {
     well_formed(book);
     let Some((low, high)) = book.range_of(sort) else {
@@ -48,7 +50,8 @@ pub(crate) fn find_integer(book: &Book, sort: SortId, n: i64) -> Result<ValueId,
 /// The value of the sort that is written, or why there is none.
 pub fn find_sort_value(book: &Book, sort: SortId, value: &ValueTree) -> Result<ValueId, SortFault>
     requires { sort.0 < length book.now.universe.sorts }
-    ensures exact { TellsFound (StandsForValue book.now.universe sort (value_of value.now)) (IsValueFault book.now.universe sort (value_of value.now)) result }
+    ensures exact { TellsFound (StandsForValue book.now.universe sort (value_of value.now))
+        (IsValueFault book.now.universe sort (value_of value.now)) result }
     ensures within { IfOk result (λ v. v.0 < size_of book.now.universe sort) }
 {
     well_formed(book);
@@ -68,8 +71,10 @@ pub fn find_values(
     requires sorts { All (IsDeclaredSort book.now.universe) sorts.now }
     requires count { length values.now ≡ length sorts.now }
     requires room { length into.old ≡ length sorts.now }
-    ensures exact { TellsValues (AreValuesOf book.now.universe sorts.now (map value_of values.now)) (AreValuesFault book.now.universe sorts.now (map value_of values.now)) into.new result }
-    ensures within { IfOk result (λ done. AreWithin (map (size_of book.now.universe) sorts.now) into.new) }
+    ensures exact { TellsValues (AreValuesOf book.now.universe sorts.now (map value_of values.now))
+        (AreValuesFault book.now.universe sorts.now (map value_of values.now)) into.new result }
+    ensures within { IfOk result (λ done. AreWithin (map (size_of book.now.universe) sorts.now)
+        into.new) }
 {
     well_formed(book);
     for i in 0..sorts.len() {
@@ -108,8 +113,11 @@ fn find_application(book: &Book, family: FamilyId, args: &[ValueTree]) -> Result
 
 /// The cell that is written, or why there is none.
 pub fn find_cell(book: &Book, cell: &CellTree) -> Result<CellId, SortFault>
-    ensures exact { TellsFound (λ c. IsCell book.now.universe (cell_of cell.now) c (sort_of_cell book.now.universe c)) (IsCellFault book.now.universe (cell_of cell.now)) result }
-    ensures sort { (c : CellId) (s : SortId) → IsCell book.now.universe (cell_of cell.now) c s → s ≡ sort_of_cell book.now.universe c }
+    ensures exact { TellsFound (λ c. IsCell book.now.universe (cell_of cell.now) c
+        (sort_of_cell book.now.universe c)) (IsCellFault book.now.universe (cell_of cell.now))
+        result }
+    ensures sort { (c : CellId) (s : SortId) → IsCell book.now.universe (cell_of cell.now) c s →
+        s ≡ sort_of_cell book.now.universe c }
     ensures within { IfOk result (λ c. c.0 < length (cell_sizes book.now.universe)) }
 {
     well_formed(book);
@@ -121,8 +129,12 @@ pub fn find_cell(book: &Book, cell: &CellTree) -> Result<CellId, SortFault>
 /// The value of the cell's sort that is written, or why there is none.
 pub fn find_value(book: &Book, cell: CellId, value: &ValueTree) -> Result<ValueId, SortFault>
     requires { cell.0 < length (cell_sizes book.now.universe) }
-    ensures exact { TellsFound (StandsForValue book.now.universe (sort_of_cell book.now.universe cell) (value_of value.now)) (IsValueFault book.now.universe (sort_of_cell book.now.universe cell) (value_of value.now)) result }
-    ensures entry { IfOk result (λ v. IsEntryOf book.now.universe (record { cell = cell; value = v })) }
+    ensures exact { TellsFound
+        (StandsForValue book.now.universe (sort_of_cell book.now.universe cell)
+        (value_of value.now)) (IsValueFault book.now.universe (sort_of_cell book.now.universe cell)
+        (value_of value.now)) result }
+    ensures entry { IfOk result
+        (λ v. IsEntryOf book.now.universe (record { cell = cell; value = v })) }
 {
     well_formed(book);
     cells_are_numbered_in_order();

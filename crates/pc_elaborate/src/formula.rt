@@ -46,7 +46,8 @@ fn variable_sort(
     sort: &Name,
 ) -> Result<SortId, SortFault>
     requires { IsScope book.now.universe (variables_of variables.now) }
-    ensures { IsVariableTold book.now.universe (variables_of variables.now) name.now sort.now result }
+    ensures { IsVariableTold book.now.universe (variables_of variables.now) name.now sort.now
+        result }
 {
     if variables.len() == MOST_DEPTH {
         return Err(SortFault::Limit(Limited::Depth));
@@ -72,7 +73,8 @@ fn quantified<'a>(
 ) -> Result<(Name, SortId, Box<Formula>), SortFault>
     requires scope { IsScope book.now.universe (variables_of variables.now) }
     requires sized { IsSized (formula_of body.now) }
-    ensures { IsQuantifiedTold book.now.universe (variables_of variables.now) name.now sort.now (formula_of body.now) result }
+    ensures { IsQuantifiedTold book.now.universe (variables_of variables.now) name.now sort.now
+        (formula_of body.now) result }
 {
     let sort = variable_sort(book, variables, name, sort)?;
     let inner = with_variable(alloc, variables, name, sort)?;
@@ -91,7 +93,8 @@ fn formula_among<'a>(
 ) -> Result<Formula, SortFault>
     requires scope { IsScope book.now.universe (variables_of variables.now) }
     requires sized { IsSized (formula_of formula.now) }
-    ensures { IsFormulaTold book.now.universe (variables_of variables.now) (formula_of formula.now) result }
+    ensures { IsFormulaTold book.now.universe (variables_of variables.now) (formula_of formula.now)
+        result }
 {
     match formula {
         FormulaTree::Compare { left, op, right } => {
@@ -158,7 +161,8 @@ fn boxed<'a>(
 ) -> Result<Box<Formula>, SortFault>
     requires scope { IsScope book.now.universe (variables_of variables.now) }
     requires sized { IsSized (formula_of formula.now) }
-    ensures { IsBoxedTold book.now.universe (variables_of variables.now) (formula_of formula.now) result }
+    ensures { IsBoxedTold book.now.universe (variables_of variables.now) (formula_of formula.now)
+        result }
 {
     let found = formula_among(alloc, book, variables, formula)?;
     Ok(Box::new(alloc, found)?)
@@ -174,7 +178,8 @@ fn formulas<'a>(
 ) -> Result<Vec<Formula>, SortFault>
     requires scope { IsScope book.now.universe (variables_of variables.now) }
     requires sized { AreSized (parts_of (map formula_of parts.now)) }
-    ensures { AreFormulasTold book.now.universe (variables_of variables.now) (parts_of (map formula_of parts.now)) result }
+    ensures { AreFormulasTold book.now.universe (variables_of variables.now)
+        (parts_of (map formula_of parts.now)) result }
 {
     let mut found = Vec::new(alloc);
     for part in parts {
@@ -192,9 +197,12 @@ pub fn check_formula(
 ) -> Result<Formula, SortFault>
     requires sized { IsSized (formula_of formula.now) }
     ensures told { IsFormulaTold book.now.universe [] (formula_of formula.now) result }
-    ensures nested { IfOk result (λ f. built.nesting_of (statement_of f) ≡ written.nesting_of (formula_of formula.now)) }
-    ensures only { (s : Statement) → IsStatement book.now.universe [] (formula_of formula.now) s → IsWellSorted book.now.universe [] s → TellsStatement result s }
-    ensures fault { (e : SortFault) → IsFormulaFault book.now.universe [] (formula_of formula.now) e → TellsFault result e }
+    ensures nested { IfOk result (λ f. built.nesting_of (statement_of f) ≡
+        written.nesting_of (formula_of formula.now)) }
+    ensures only { (s : Statement) → IsStatement book.now.universe [] (formula_of formula.now) s →
+        IsWellSorted book.now.universe [] s → TellsStatement result s }
+    ensures fault { (e : SortFault) → IsFormulaFault book.now.universe [] (formula_of formula.now)
+        e → TellsFault result e }
 {
     well_formed(book);
     formula_among(alloc, book, &[], formula)

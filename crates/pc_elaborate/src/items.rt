@@ -21,7 +21,8 @@ fn bare_item(
     name: &Name,
 ) -> Result<(Term, SortId), SortFault>
     requires { IsScope book.now.universe (variables_of variables.now) }
-    ensures { IsItemTold book.now.universe (variables_of variables.now) (named name.now no_item) result }
+    ensures { IsItemTold book.now.universe (variables_of variables.now) (named name.now no_item)
+        result }
 {
     if let Some((k, sort)) = variable_named(variables, name) {
         return Ok((Term::Variable(k), sort));
@@ -45,7 +46,8 @@ fn only_cell(
 ) -> Result<(Term, SortId), SortFault>
     requires scope { IsScope book.now.universe (variables_of variables.now) }
     requires family { IsFamilyNamed book.now.universe name.now family }
-    ensures { IsItemTold book.now.universe (variables_of variables.now) (named name.now no_item) result }
+    ensures { IsItemTold book.now.universe (variables_of variables.now) (named name.now no_item)
+        result }
 {
     well_formed(book);
     if !argument_sorts(book, family).is_empty() {
@@ -83,7 +85,8 @@ pub(crate) fn named_item(
     args: &[ItemTree],
 ) -> Result<(Term, SortId), SortFault>
     requires { IsScope book.now.universe (variables_of variables.now) }
-    ensures { IsItemTold book.now.universe (variables_of variables.now) (named name.now (items_of (map item_of args.now))) result }
+    ensures { IsItemTold book.now.universe (variables_of variables.now)
+        (named name.now (items_of (map item_of args.now))) result }
 {
     if args.is_empty() {
         bare_item(alloc, book, variables, name)
@@ -103,7 +106,8 @@ fn application(
 ) -> Result<(Term, SortId), SortFault>
     requires scope { IsScope book.now.universe (variables_of variables.now) }
     requires some { 0 < length args.now }
-    ensures { IsItemTold book.now.universe (variables_of variables.now) (named name.now (items_of (map item_of args.now))) result }
+    ensures { IsItemTold book.now.universe (variables_of variables.now)
+        (named name.now (items_of (map item_of args.now))) result }
 {
     well_formed(book);
     let family = applied_family(book, variables, name)?;
@@ -127,7 +131,8 @@ pub(crate) fn arguments(
     requires scope { IsScope book.now.universe (variables_of variables.now) }
     requires sorts { All (IsDeclaredSort book.now.universe) sorts.now }
     requires count { length args.now ≡ length sorts.now }
-    ensures { AreArgumentsTold book.now.universe (variables_of variables.now) sorts.now (items_of (map item_of args.now)) result }
+    ensures { AreArgumentsTold book.now.universe (variables_of variables.now) sorts.now
+        (items_of (map item_of args.now)) result }
 {
     let mut terms = Vec::new(alloc);
     for (i, arg) in args.iter().enumerate() {
@@ -147,7 +152,8 @@ fn argument(
 ) -> Result<Term, SortFault>
     requires scope { IsScope book.now.universe (variables_of variables.now) }
     requires sort { sort.0 < length book.now.universe.sorts }
-    ensures { IsArgumentTold book.now.universe (variables_of variables.now) sort (item_of arg.now) result }
+    ensures { IsArgumentTold book.now.universe (variables_of variables.now) sort (item_of arg.now)
+        result }
 {
     match arg {
         ItemTree::Number(n) => {

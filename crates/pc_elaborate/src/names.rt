@@ -53,7 +53,8 @@ pub fn family_named(book: &Book, name: &Name) -> Option<FamilyId>
 
 /// The listed value of that name, if it is declared.
 pub fn value_named(book: &Book, name: &Name) -> Option<(SortId, ValueId)>
-    ensures { (s : SortId) (v : ValueId) → (result ≡ Some (s, v)) ↔ StandsForValue book.now.universe s (name_value name.now) v }
+    ensures { (s : SortId) (v : ValueId) → (result ≡ Some (s, v)) ↔
+        StandsForValue book.now.universe s (name_value name.now) v }
 {
     match book.look_up(name.as_str()) {
         Some(Named::Value(sort, value)) => Some((sort, value)),
@@ -76,7 +77,8 @@ pub(crate) fn name_fault(book: &Book, name: &Name) -> SortFault
 
 /// The sort of that name, or why there is none.
 pub fn find_sort(book: &Book, name: &Name) -> Result<SortId, SortFault>
-    ensures { TellsFound (IsSortNamed book.now.universe name.now) (IsSortNameFault book.now.universe name.now) result }
+    ensures { TellsFound (IsSortNamed book.now.universe name.now)
+        (IsSortNameFault book.now.universe name.now) result }
 {
     well_formed(book);
     match sort_named(book, name) {
@@ -87,7 +89,8 @@ pub fn find_sort(book: &Book, name: &Name) -> Result<SortId, SortFault>
 
 /// The table of that name, or why there is none.
 pub fn find_table(book: &Book, name: &Name) -> Result<TableId, SortFault>
-    ensures { TellsFound (IsTableNamed book.now.universe name.now) (IsNameFault book.now.universe name.now (IsSomeTable book.now.universe name.now)) result }
+    ensures { TellsFound (IsTableNamed book.now.universe name.now)
+        (IsNameFault book.now.universe name.now (IsSomeTable book.now.universe name.now)) result }
 {
     well_formed(book);
     match table_named(book, name) {
@@ -98,7 +101,8 @@ pub fn find_table(book: &Book, name: &Name) -> Result<TableId, SortFault>
 
 /// The family of that name, or why there is none.
 pub fn find_family(book: &Book, name: &Name) -> Result<FamilyId, SortFault>
-    ensures { TellsFound (IsFamilyNamed book.now.universe name.now) (IsNameFault book.now.universe name.now (IsSomeFamily book.now.universe name.now)) result }
+    ensures { TellsFound (IsFamilyNamed book.now.universe name.now)
+        (IsNameFault book.now.universe name.now (IsSomeFamily book.now.universe name.now)) result }
 {
     well_formed(book);
     match family_named(book, name) {

@@ -17,7 +17,8 @@ pub(crate) struct Variable<'a> {
 /// The place and sort of the variable of that name, if there is one.
 pub(crate) fn variable_named(variables: &[Variable], name: &Name) -> Option<(u8, SortId)>
     requires { length variables.now ≤ most_depth }
-    ensures some { IfSome result (λ found. slice_get (variables_of variables.now) found.0 ≡ Some (name.now, found.1)) }
+    ensures some { IfSome result (λ found. slice_get (variables_of variables.now) found.0 ≡
+        Some (name.now, found.1)) }
     ensures none { IfNone result (¬ IsAround (variables_of variables.now) name.now) }
 {
     for (k, variable) in variables.iter().enumerate() {
@@ -35,7 +36,8 @@ pub(crate) fn with_variable<'a>(
     name: &'a Name,
     sort: SortId,
 ) -> Result<Vec<Variable<'a>>, AllocError>
-    ensures { IfOk result (λ inner. variables_of inner.items ≡ variables_of variables.now ++ (name.now, sort) ∷ []) }
+    ensures { IfOk result (λ inner. variables_of inner.items ≡ variables_of variables.now ++
+        (name.now, sort) ∷ []) }
 {
     let mut inner = Vec::from_slice(alloc, variables)?;
     inner.push(Variable { name, sort })?;

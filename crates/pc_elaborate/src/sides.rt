@@ -68,7 +68,8 @@ pub(crate) fn may_compare(left: Kind, op: Op, right: Kind) -> bool
 
 /// A whole number in a side.
 fn number_item(n: i64) -> Result<(Term, Kind), SortFault>
-    ensures { (u : Universe) (vs : Variables) (several : Bool) → IsSideItemTold u vs several (integer n) result }
+    ensures { (u : Universe) (vs : Variables) (several : Bool) →
+        IsSideItemTold u vs several (integer n) result }
 {
     if n < -LARGEST_NUMBER || LARGEST_NUMBER < n {
         return Err(SortFault::Limit(Limited::Number));
@@ -86,7 +87,8 @@ fn named_side_item(
     args: &[ItemTree],
 ) -> Result<(Term, Kind), SortFault>
     requires { IsScope book.now.universe (variables_of variables.now) }
-    ensures { IsSideItemTold book.now.universe (variables_of variables.now) several (named name.now (items_of (map item_of args.now))) result }
+    ensures { IsSideItemTold book.now.universe (variables_of variables.now) several
+        (named name.now (items_of (map item_of args.now))) result }
 {
     well_formed(book);
     let (term, sort) = named_item(alloc, book, variables, name, args)?;
@@ -106,7 +108,8 @@ fn side_item(
     item: &ItemTree,
 ) -> Result<(Term, Kind), SortFault>
     requires { IsScope book.now.universe (variables_of variables.now) }
-    ensures { IsSideItemTold book.now.universe (variables_of variables.now) several (item_of item.now) result }
+    ensures { IsSideItemTold book.now.universe (variables_of variables.now) several
+        (item_of item.now) result }
 {
     match item {
         ItemTree::Number(n) => number_item(*n),
@@ -124,7 +127,8 @@ fn added_items(
     rest: &[(Sign, ItemTree)],
 ) -> Result<Vec<(Sign, Term)>, SortFault>
     requires { IsScope book.now.universe (variables_of variables.now) }
-    ensures { AreAddedTold book.now.universe (variables_of variables.now) (map added_of rest.now) result }
+    ensures { AreAddedTold book.now.universe (variables_of variables.now) (map added_of rest.now)
+        result }
 {
     let mut items = Vec::new(alloc);
     for (sign, item) in rest {

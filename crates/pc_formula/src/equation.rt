@@ -48,7 +48,8 @@ pub fn read_last_value(alloc: Global, words: &mut Words<'_>) -> Result<ValueTree
 /// Reads CELL = VALUE and the end.
 pub fn read_equation(alloc: Global, words: &mut Words<'_>) -> Result<(CellTree, ValueTree), Refusal>
     ensures told { IfOk result (λ p. IsEquation words.old Kind.Equal (cell_of p.0) (value_of p.1)) }
-    ensures none { result ≡ Err Refusal.Syntax → (c : Cell) (v : Value) → IsEquation words.old Kind.Equal c v → ⊥ }
+    ensures none { result ≡ Err Refusal.Syntax → (c : Cell) (v : Value) →
+        IsEquation words.old Kind.Equal c v → ⊥ }
 {
     let cell = read_cell(alloc, words)?;
     if !words.take_sign(Kind::Equal) {
@@ -63,8 +64,10 @@ pub fn read_question(
     alloc: Global,
     words: &mut Words<'_>,
 ) -> Result<(CellTree, ValueTree, bool), Refusal>
-    ensures told { IfOk result (λ q. IsEquation words.old (equality q.2) (cell_of q.0) (value_of q.1)) }
-    ensures none { result ≡ Err Refusal.Syntax → (c : Cell) (v : Value) (holds : Bool) → IsEquation words.old (equality holds) c v → ⊥ }
+    ensures told { IfOk result (λ q. IsEquation words.old (equality q.2) (cell_of q.0)
+        (value_of q.1)) }
+    ensures none { result ≡ Err Refusal.Syntax → (c : Cell) (v : Value) (holds : Bool) →
+        IsEquation words.old (equality holds) c v → ⊥ }
 {
     let cell = read_cell(alloc, words)?;
     let Some(holds) = take_equality(words) else {
@@ -76,7 +79,8 @@ pub fn read_question(
 
 // Takes `=` or `!=`, where it is the first word.
 fn take_equality(words: &mut Words<'_>) -> Option<bool>
-    ensures { MatchOption result ((holds : Bool) → NotFirst (equality holds) words.old) (λ holds. words.old ≡ sign (equality holds) ∷ words.new) }
+    ensures { MatchOption result ((holds : Bool) → NotFirst (equality holds) words.old) (λ holds.
+        words.old ≡ sign (equality holds) ∷ words.new) }
 {
     if words.take_sign(Kind::Equal) {
         return Some(true);

@@ -70,7 +70,8 @@ fn imp(alloc: Global, words: &mut Words<'_>) -> Result<FormulaTree, Refusal>
 // Reads OR = AND { | AND }.
 #[cycle(formula)]
 fn or(alloc: Global, words: &mut Words<'_>) -> Result<FormulaTree, Refusal>
-    ensures ok { IfOk result (λ t. Reads (Derives (joined by_or)) 5 words.old (formula_of t) words.new) }
+    ensures ok { IfOk result (λ t. Reads (Derives (joined by_or)) 5 words.old (formula_of t)
+        words.new) }
     ensures shorter { OnOk result (length words.new < length words.old) }
     ensures err { result ≡ Err Refusal.Syntax → ReadsNone (Derives (joined by_or)) 5 words.old }
 {
@@ -90,7 +91,8 @@ fn or(alloc: Global, words: &mut Words<'_>) -> Result<FormulaTree, Refusal>
 // Reads AND = UNARY { & UNARY }.
 #[cycle(formula)]
 fn and(alloc: Global, words: &mut Words<'_>) -> Result<FormulaTree, Refusal>
-    ensures ok { IfOk result (λ t. Reads (Derives (joined by_and)) 4 words.old (formula_of t) words.new) }
+    ensures ok { IfOk result (λ t. Reads (Derives (joined by_and)) 4 words.old (formula_of t)
+        words.new) }
     ensures shorter { OnOk result (length words.new < length words.old) }
     ensures err { result ≡ Err Refusal.Syntax → ReadsNone (Derives (joined by_and)) 4 words.old }
 {
@@ -172,8 +174,10 @@ fn table_atom(side: SideTree) -> Result<FormulaTree, Refusal>
 
 // Reads NAME : NAME `.`, behind QUANTIFIER: its variable and its sort.
 fn binder(alloc: Global, words: &mut Words<'_>) -> Result<(Name, Name), Refusal>
-    ensures ok { IfOk result (λ p. words.old ≡ name p.0 ∷ sign Kind.Colon ∷ name p.1 ∷ sign Kind.Dot ∷ words.new) }
-    ensures err { result ≡ Err Refusal.Syntax → (variable sort : List ℕ) (more : List Word) → words.old ≡ name variable ∷ sign Kind.Colon ∷ name sort ∷ sign Kind.Dot ∷ more → ⊥ }
+    ensures ok { IfOk result (λ p. words.old ≡ name p.0 ∷ sign Kind.Colon ∷ name p.1 ∷
+        sign Kind.Dot ∷ words.new) }
+    ensures err { result ≡ Err Refusal.Syntax → (variable sort : List ℕ) (more : List Word) →
+        words.old ≡ name variable ∷ sign Kind.Colon ∷ name sort ∷ sign Kind.Dot ∷ more → ⊥ }
 {
     let Some(variable) = words.take_name() else {
         return Err(Refusal::Syntax);

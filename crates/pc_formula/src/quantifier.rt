@@ -19,8 +19,10 @@ pub enum Quantifier {
 
 /// Reads QUANTIFIER = forall | exists | atmost NUMBER | atleast NUMBER, where the first word is a reserved one.
 pub fn read_quantifier(words: &mut Words<'_>) -> Result<Option<Quantifier>, Refusal>
-    ensures ok { IfOk result (λ found. MatchOption found (HasNotReserved words.old words.new) (λ q. DerivesQuantifier words.old q words.new)) }
-    ensures shorter { IfOk result (λ found. IfSome found (λ q. length words.new < length words.old)) }
+    ensures ok { IfOk result (λ found. MatchOption found (HasNotReserved words.old words.new)
+        (λ q. DerivesQuantifier words.old q words.new)) }
+    ensures shorter { IfOk result (λ found.
+        IfSome found (λ q. length words.new < length words.old)) }
     ensures err { result ≡ Err Refusal.Syntax → ReadsNone (Derives whole) 7 words.old }
 {
     let Some(word) = words.take_reserved() else {

@@ -14,7 +14,8 @@ use std::alloc::Global;
 
 /// Reads NUMBER, and gives its value.
 pub fn read_number(words: &mut Words<'_>) -> Option<u64>
-    ensures read { MatchOption result (ReadsNone DerivesNumber 0 words.old) (λ n. Reads DerivesNumber 0 words.old n words.new) }
+    ensures read { MatchOption result (ReadsNone DerivesNumber 0 words.old)
+        (λ n. Reads DerivesNumber 0 words.old n words.new) }
     ensures small { IfSome result (λ n. n < 10 ^ 18) }
 {
     let digits = words.take_number()?;
@@ -26,7 +27,8 @@ pub fn read_number(words: &mut Words<'_>) -> Option<u64>
 
 /// Reads INT = [ - ] NUMBER.
 pub fn read_integer(words: &mut Words<'_>) -> Option<i64>
-    ensures { MatchOption result (ReadsNone DerivesInt 0 words.old) (λ z. Reads DerivesInt 0 words.old z words.new) }
+    ensures { MatchOption result (ReadsNone DerivesInt 0 words.old)
+        (λ z. Reads DerivesInt 0 words.old z words.new) }
 {
     if words.take_sign(Kind::Minus) {
         let size = read_number(words)?;
@@ -67,7 +69,8 @@ pub fn read_cell(alloc: Global, words: &mut Words<'_>) -> Result<CellTree, Refus
 
 // Reads [ ( VALUE { , VALUE } ) ].
 fn value_arguments(alloc: Global, words: &mut Words<'_>) -> Result<Vec<ValueTree>, Refusal>
-    ensures ok { IfOk result (λ v. Reads (Arguments DerivesValue) 1 words.old (map value_of v.items) words.new) }
+    ensures ok { IfOk result (λ v. Reads (Arguments DerivesValue) 1 words.old (map value_of v.items)
+        words.new) }
     ensures err { result ≡ Err Refusal.Syntax → ReadsNone (Arguments DerivesValue) 1 words.old }
 {
     if !words.take_sign(Kind::Open) {
@@ -99,7 +102,8 @@ pub fn read_name_arguments(alloc: Global, words: &mut Words<'_>) -> Result<Vec<N
 
 /// Reads ( VALUE { , VALUE } ).
 pub fn read_values(alloc: Global, words: &mut Words<'_>) -> Result<Vec<ValueTree>, Refusal>
-    ensures ok { IfOk result (λ v. Reads (InParentheses DerivesValue) 0 words.old (map value_of v.items) words.new) }
+    ensures ok { IfOk result (λ v. Reads (InParentheses DerivesValue) 0 words.old
+        (map value_of v.items) words.new) }
     ensures err { result ≡ Err Refusal.Syntax → ReadsNone (InParentheses DerivesValue) 0 words.old }
 {
     if !words.take_sign(Kind::Open) {
@@ -110,7 +114,8 @@ pub fn read_values(alloc: Global, words: &mut Words<'_>) -> Result<Vec<ValueTree
 
 /// Reads ( NAME { , NAME } ).
 pub fn read_names(alloc: Global, words: &mut Words<'_>) -> Result<Vec<Name>, Refusal>
-    ensures ok { IfOk result (λ v. Reads (InParentheses DerivesName) 0 words.old v.items words.new) }
+    ensures ok { IfOk result (λ v. Reads (InParentheses DerivesName) 0 words.old v.items
+        words.new) }
     ensures err { result ≡ Err Refusal.Syntax → ReadsNone (InParentheses DerivesName) 0 words.old }
 {
     if !words.take_sign(Kind::Open) {
@@ -121,7 +126,8 @@ pub fn read_names(alloc: Global, words: &mut Words<'_>) -> Result<Vec<Name>, Ref
 
 // Reads VALUE { , VALUE } ).
 fn listed_values(alloc: Global, words: &mut Words<'_>) -> Result<Vec<ValueTree>, Refusal>
-    ensures ok { IfOk result (λ v. Reads (Listed DerivesValue) 0 words.old (map value_of v.items) words.new) }
+    ensures ok { IfOk result (λ v. Reads (Listed DerivesValue) 0 words.old (map value_of v.items)
+        words.new) }
     ensures err { result ≡ Err Refusal.Syntax → ReadsNone (Listed DerivesValue) 0 words.old }
 {
     let mut values = Vec::new(alloc);
@@ -163,8 +169,10 @@ fn read_name(alloc: Global, words: &mut Words<'_>) -> Result<Name, Refusal>
 
 /// Takes `,`, behind which a list goes on, or the `)` that ends it.
 pub fn goes_on(words: &mut Words<'_>) -> Result<bool, Refusal>
-    ensures ok { IfOk result (λ more. words.old ≡ sign (if more then Kind.Comma else Kind.Close) ∷ words.new) }
-    ensures err { result ≡ Err Refusal.Syntax → NotFirst Kind.Comma words.old × NotFirst Kind.Close words.old }
+    ensures ok { IfOk result (λ more. words.old ≡ sign (if more then Kind.Comma else Kind.Close) ∷
+        words.new) }
+    ensures err { result ≡ Err Refusal.Syntax → NotFirst Kind.Comma words.old ×
+        NotFirst Kind.Close words.old }
     ensures no_memory { result ≡ Err Refusal.Memory → ⊥ }
 {
     if words.take_sign(Kind::Comma) {

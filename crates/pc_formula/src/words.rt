@@ -69,7 +69,8 @@ impl<'a> Words<'a> {
 
     /// Takes the first word, where it is a name.
     pub fn take_name(&mut self) -> Option<&'a str>
-        ensures { MatchOption result (HasNoName self.old self.new) (λ text. (self.old ≡ name text.now ∷ self.new) × IsName text.now) }
+        ensures { MatchOption result (HasNoName self.old self.new) (λ text.
+            (self.old ≡ name text.now ∷ self.new) × IsName text.now) }
     {
         let (first, rest) = self.tokens.split_first()?;
         let text = name_of(self.line, *first)?;
@@ -79,7 +80,8 @@ impl<'a> Words<'a> {
 
     /// Takes the first word, where it is a reserved one.
     pub fn take_reserved(&mut self) -> Option<&'a str>
-        ensures { MatchOption result (HasNotReserved self.old self.new) (λ text. (self.old ≡ reserved text.now ∷ self.new) × (is_reserved text.now ≡ true)) }
+        ensures { MatchOption result (HasNotReserved self.old self.new) (λ text.
+            (self.old ≡ reserved text.now ∷ self.new) × (is_reserved text.now ≡ true)) }
     {
         let (first, rest) = self.tokens.split_first()?;
         let text = reserved_of(self.line, *first)?;
@@ -89,7 +91,9 @@ impl<'a> Words<'a> {
 
     /// Takes the first word, where it is a number, of at most 18 digits.
     pub fn take_number(&mut self) -> Option<&'a str>
-        ensures { MatchOption result (HasNoNumber self.old self.new) (λ digits. (self.old ≡ number digits.now ∷ self.new) × IsNumeral 10 digits.now × (length digits.now ≤ 18)) }
+        ensures { MatchOption result (HasNoNumber self.old self.new) (λ digits.
+            (self.old ≡ number digits.now ∷ self.new) × IsNumeral 10 digits.now ×
+            (length digits.now ≤ 18)) }
     {
         let (first, rest) = self.tokens.split_first()?;
         let digits = number_of(self.line, *first)?;
@@ -99,7 +103,9 @@ impl<'a> Words<'a> {
 
     /// Takes the first word, where it is the sign of a comparison.
     pub fn take_op(&mut self) -> Option<Op>
-        ensures { MatchOption result ((self.new ≡ self.old) × ((op : Op) → NotFirst (op_sign op) self.old)) (λ op. self.old ≡ sign (op_sign op) ∷ self.new) }
+        ensures { MatchOption result ((self.new ≡ self.old) ×
+            ((op : Op) → NotFirst (op_sign op) self.old)) (λ op. self.old ≡ sign (op_sign op) ∷
+            self.new) }
     {
         let (first, rest) = self.tokens.split_first()?;
         let op = op_of(first.kind)?;
@@ -109,7 +115,9 @@ impl<'a> Words<'a> {
 
     /// Takes the first word, where it is a plus or a minus.
     pub fn take_plus_or_minus(&mut self) -> Option<Sign>
-        ensures { MatchOption result ((self.new ≡ self.old) × ((s : Sign) → NotFirst (added_sign s) self.old)) (λ s. self.old ≡ sign (added_sign s) ∷ self.new) }
+        ensures { MatchOption result ((self.new ≡ self.old) ×
+            ((s : Sign) → NotFirst (added_sign s) self.old)) (λ s. self.old ≡ sign (added_sign s) ∷
+            self.new) }
     {
         let (first, rest) = self.tokens.split_first()?;
         let sign = plus_or_minus_of(first.kind)?;
@@ -180,7 +188,8 @@ fn is_of_kind(token: Token, kind: Kind) -> bool
 fn name_of<'a>(line: &'a str, token: Token) -> Option<&'a str>
     requires token { IsTokenOf line.now token }
     requires short { IsShort (word_of line.now token) }
-    ensures { MatchOption result ((text : List ℕ) → word_of line.now token ≡ name text → ⊥) (λ text. (word_of line.now token ≡ name text.now) × IsName text.now) }
+    ensures { MatchOption result ((text : List ℕ) → word_of line.now token ≡ name text →
+        ⊥) (λ text. (word_of line.now token ≡ name text.now) × IsName text.now) }
 {
     if token.kind != Kind::Name {
         return None;
@@ -195,7 +204,8 @@ fn name_of<'a>(line: &'a str, token: Token) -> Option<&'a str>
 // The reserved word that the token is.
 fn reserved_of<'a>(line: &'a str, token: Token) -> Option<&'a str>
     requires { IsTokenOf line.now token }
-    ensures { MatchOption result ((text : List ℕ) → word_of line.now token ≡ reserved text → ⊥) (λ text. (word_of line.now token ≡ reserved text.now) × (is_reserved text.now ≡ true)) }
+    ensures { MatchOption result ((text : List ℕ) → word_of line.now token ≡ reserved text →
+        ⊥) (λ text. (word_of line.now token ≡ reserved text.now) × (is_reserved text.now ≡ true)) }
 {
     if token.kind != Kind::Name {
         return None;
@@ -210,7 +220,9 @@ fn reserved_of<'a>(line: &'a str, token: Token) -> Option<&'a str>
 // The digits of the number that the token is.
 fn number_of<'a>(line: &'a str, token: Token) -> Option<&'a str>
     requires { IsTokenOf line.now token }
-    ensures { MatchOption result ((digits : List ℕ) → word_of line.now token ≡ number digits → ⊥) (λ digits. (word_of line.now token ≡ number digits.now) × IsNumeral 10 digits.now × (length digits.now ≤ 18)) }
+    ensures { MatchOption result ((digits : List ℕ) → word_of line.now token ≡ number digits →
+        ⊥) (λ digits. (word_of line.now token ≡ number digits.now) × IsNumeral 10 digits.now ×
+        (length digits.now ≤ 18)) }
 {
     if token.kind != Kind::Number {
         return None;

@@ -21,7 +21,8 @@ fn color_name(number: u32) -> &'static str
 
 // Adds all that stands before the entries.
 fn push_head(alloc: Global, n: u32, text: &mut String) -> Result<(), AllocError>
-    ensures { OnOk result (string_bytes text.new ≡ string_bytes text.old ++ flat_map ended (head_lines n)) }
+    ensures { OnOk result (string_bytes text.new ≡ string_bytes text.old ++
+        flat_map ended (head_lines n)) }
 {
     let blocks = format!(in alloc; "sort block = 1 .. {n}\n")?;
     text.push_str("sheet 1\n")?;
@@ -37,7 +38,8 @@ fn push_entry(
     color: u32,
     text: &mut String,
 ) -> Result<(), AllocError>
-    ensures { OnOk result (string_bytes text.new ≡ string_bytes text.old ++ ended (enter_line block slot.now color)) }
+    ensures { OnOk result (string_bytes text.new ≡ string_bytes text.old ++
+        ended (enter_line block slot.now color)) }
 {
     let color = color_name(color);
     let line = format!(in alloc; "enter x({block}, {slot}) = {color}\n")?;
@@ -47,7 +49,8 @@ fn push_entry(
 // Adds the entries of a block.
 fn push_block(alloc: Global, block: u32, text: &mut String) -> Result<(), AllocError>
     requires { block ≤ 256 }
-    ensures { OnOk result (string_bytes text.new ≡ string_bytes text.old ++ flat_map ended (block_lines block)) }
+    ensures { OnOk result (string_bytes text.new ≡ string_bytes text.old ++
+        flat_map ended (block_lines block)) }
 {
     push_entry(alloc, block, "1", block % 3, text)?;
     push_entry(alloc, block, "3", block * block % 3, text)

@@ -13,7 +13,9 @@ use std::alloc::{AllocError, Global};
 
 /// Names the clauses of a node that have these numbers.
 fn name_numbers(names: &mut Names, path: &NodePath, numbers: &[u32]) -> Result<(), AllocError>
-    ensures { OnOk result (names.new ≡ named names.old [] (map (axiom_node path.now.rule path.now.steps.items) numbers.now)) }
+    ensures { OnOk result
+        (names.new ≡ named names.old [] (map (axiom_node path.now.rule path.now.steps.items)
+        numbers.now)) }
 {
     for number in numbers {
         names.add_axiom(AxiomRef::Node(path, *number))?;
@@ -23,7 +25,9 @@ fn name_numbers(names: &mut Names, path: &NodePath, numbers: &[u32]) -> Result<(
 
 /// Names the clauses of the counter that at least `j + 1` of the first `i + 1` values make the body true.
 fn name_counter(names: &mut Names, path: &NodePath, i: u32, j: u32) -> Result<(), AllocError>
-    ensures { OnOk result (names.new ≡ named names.old [] (map (axiom_node path.now.rule path.now.steps.items) (counter_numbers i j))) }
+    ensures { OnOk result
+        (names.new ≡ named names.old [] (map (axiom_node path.now.rule path.now.steps.items)
+        (counter_numbers i j))) }
 {
     if i == 0 {
         if j == 0 {
@@ -48,7 +52,9 @@ pub(crate) fn name_counter_nodes(
 ) -> Result<(), AllocError>
     requires values { values ≤ 256 }
     requires threshold { threshold ≤ 65536 }
-    ensures { OnOk result (names.new ≡ named names.old (counters_below path.now.rule path.now.steps.items values threshold) []) }
+    ensures { OnOk result
+        (names.new ≡ named names.old (counters_below path.now.rule path.now.steps.items values
+        threshold) []) }
 {
     for q in 0..values * threshold {
         let counter = child_path(alloc, path, values + q)?;
@@ -69,7 +75,12 @@ fn name_counters_of(
     requires values { values ≤ 256 }
     requires threshold { threshold ≤ 65536 }
     requires i { i < values }
-    ensures { OnOk result (names.new ≡ named names.old [] (map name_of (flat_map (counter_axioms path.now.rule path.now.steps.items values threshold i) (range_with_len 0 threshold)))) }
+    ensures { OnOk result
+        (names.new ≡
+        named names.old []
+        (map name_of
+        (flat_map (counter_axioms path.now.rule path.now.steps.items values threshold i)
+        (range_with_len 0 threshold)))) }
 {
     for j in 0..threshold {
         let counter = child_path(alloc, path, values + (i * threshold + j))?;
@@ -88,7 +99,10 @@ pub(crate) fn name_counters(
 ) -> Result<(), AllocError>
     requires values { values ≤ 256 }
     requires threshold { threshold ≤ 65536 }
-    ensures { OnOk result (names.new ≡ named names.old [] (map name_of (counters_axioms path.now.rule path.now.steps.items values threshold))) }
+    ensures { OnOk result
+        (names.new ≡
+        named names.old []
+        (map name_of (counters_axioms path.now.rule path.now.steps.items values threshold))) }
 {
     for i in 0..values {
         name_counters_of(alloc, names, path, values, threshold, i)?;

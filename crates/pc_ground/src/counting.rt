@@ -60,8 +60,10 @@ fn push_row(alloc: Global, store: &mut ClauseStore, row: &[RowPart]) -> Result<(
 /// The body under the value of number `i`, or its negation.
 fn body_part(counted: Counted, i: u32, sign: bool) -> RowPart
     requires i { i < counted.values }
-    requires room { counted.node + 1 + (counted.values * counted.size + counted.values * counted.threshold) < 2 ^ 32 }
-    ensures { part_of result ≡ literal (counted_literal counted.node counted.values counted.size i sign) }
+    requires room { counted.node + 1 + (counted.values * counted.size + counted.values *
+        counted.threshold) < 2 ^ 32 }
+    ensures { part_of result ≡ literal (counted_literal counted.node counted.values counted.size i
+        sign) }
 {
     let variable = counted.node + 1 + i * counted.size;
     RowPart::Literal(literal(variable, sign))
@@ -71,8 +73,11 @@ fn body_part(counted: Counted, i: u32, sign: bool) -> RowPart
 fn counter_part(counted: Counted, i: u32, j: u32, sign: bool) -> RowPart
     requires i { i ≤ counted.values }
     requires j { j ≤ counted.threshold }
-    requires room { counted.node + 1 + (counted.values * counted.size + counted.values * counted.threshold) < 2 ^ 32 }
-    ensures { part_of result ≡ counter_part (lit counted.node) (counted_literal counted.node counted.values counted.size) counted.values counted.threshold i j sign }
+    requires room { counted.node + 1 + (counted.values * counted.size + counted.values *
+        counted.threshold) < 2 ^ 32 }
+    ensures { part_of result ≡ counter_part (lit counted.node)
+        (counted_literal counted.node counted.values counted.size) counted.values counted.threshold
+        i j sign }
 {
     if j == 0 {
         return RowPart::Fixed(sign);
@@ -92,8 +97,10 @@ pub(crate) fn push_count(
     counted: Counted,
     at_most: bool,
 ) -> Result<(), AllocError>
-    requires room { counted.node + 1 + (counted.values * counted.size + counted.values * counted.threshold) < 2 ^ 32 }
-    ensures { OnOk result (store.new ≡ store.old ++ count_clauses counted.node counted.values counted.size (Count at_most counted.values counted.threshold)) }
+    requires room { counted.node + 1 + (counted.values * counted.size + counted.values *
+        counted.threshold) < 2 ^ 32 }
+    ensures { OnOk result (store.new ≡ store.old ++ count_clauses counted.node counted.values
+        counted.size (Count at_most counted.values counted.threshold)) }
 {
     let node = RowPart::Literal(literal(counted.node, true));
     let not = RowPart::Literal(literal(counted.node, false));
@@ -114,8 +121,10 @@ fn push_counter(
 ) -> Result<(), AllocError>
     requires i { i < counted.values }
     requires j { j < counted.threshold }
-    requires room { counted.node + 1 + (counted.values * counted.size + counted.values * counted.threshold) < 2 ^ 32 }
-    ensures { OnOk result (store.new ≡ store.old ++ counter_clauses counted.node counted.values counted.size counted.threshold i j) }
+    requires room { counted.node + 1 + (counted.values * counted.size + counted.values *
+        counted.threshold) < 2 ^ 32 }
+    ensures { OnOk result (store.new ≡ store.old ++ counter_clauses counted.node counted.values
+        counted.size counted.threshold i j) }
 {
     let is = counter_part(counted, i + 1, j + 1, true);
     let not = counter_part(counted, i + 1, j + 1, false);
@@ -140,8 +149,11 @@ fn push_counters_of(
     i: u32,
 ) -> Result<(), AllocError>
     requires i { i < counted.values }
-    requires room { counted.node + 1 + (counted.values * counted.size + counted.values * counted.threshold) < 2 ^ 32 }
-    ensures { OnOk result (store.new ≡ store.old ++ flat_map (counter_clauses counted.node counted.values counted.size counted.threshold i) (range_with_len 0 counted.threshold)) }
+    requires room { counted.node + 1 + (counted.values * counted.size + counted.values *
+        counted.threshold) < 2 ^ 32 }
+    ensures { OnOk result (store.new ≡ store.old ++
+        flat_map (counter_clauses counted.node counted.values counted.size counted.threshold i)
+        (range_with_len 0 counted.threshold)) }
 {
     for j in 0..counted.threshold {
         push_counter(alloc, store, counted, i, j)?;
@@ -155,8 +167,10 @@ pub(crate) fn push_counters(
     store: &mut ClauseStore,
     counted: Counted,
 ) -> Result<(), AllocError>
-    requires room { counted.node + 1 + (counted.values * counted.size + counted.values * counted.threshold) < 2 ^ 32 }
-    ensures { OnOk result (store.new ≡ store.old ++ counters_clauses counted.node counted.values counted.size counted.threshold) }
+    requires room { counted.node + 1 + (counted.values * counted.size + counted.values *
+        counted.threshold) < 2 ^ 32 }
+    ensures { OnOk result (store.new ≡ store.old ++ counters_clauses counted.node counted.values
+        counted.size counted.threshold) }
 {
     for i in 0..counted.values {
         push_counters_of(alloc, store, counted, i)?;

@@ -38,7 +38,8 @@ fn push_leaf(
     is: bool,
 ) -> Result<(), AllocError>
     requires reads { AreReads cells.now reads.now }
-    ensures { OnOk result (store.new ≡ store.old ++ leaf_by_number cells.now p (reads.now, is) ∷ []) }
+    ensures { OnOk result (store.new ≡ store.old ++ leaf_by_number cells.now p (reads.now, is) ∷
+        []) }
 {
     let mut clause = Vec::new(alloc);
     for read in reads {

@@ -40,8 +40,10 @@ pub(crate) fn own_children(
     first: u32,
 ) -> Result<(), AllocError>
     requires sorted { AreSorted book.now.universe (statements_of (map statement_of parts.now)) }
-    requires room { first + piece_count_of_parts book.now.universe (statements_of (map statement_of parts.now)) < 2 ^ 32 }
-    ensures { OnOk result (owners.new.items ≡ owners.old.items ++ spans_of_children book.now.universe first (statements_of (map statement_of parts.now))) }
+    requires room { first + piece_count_of_parts book.now.universe
+        (statements_of (map statement_of parts.now)) < 2 ^ 32 }
+    ensures { OnOk result (owners.new.items ≡ owners.old.items ++
+        spans_of_children book.now.universe first (statements_of (map statement_of parts.now))) }
 {
     let mut at = first;
     for part in parts {
@@ -60,7 +62,8 @@ pub(crate) fn own_values(
     size: usize,
 ) -> Result<(), AllocError>
     requires { first + size * count < 2 ^ 32 }
-    ensures { OnOk result (owners.new.items ≡ owners.old.items ++ map (span_at first count) (values_below size)) }
+    ensures { OnOk result (owners.new.items ≡ owners.old.items ++ map (span_at first count)
+        (values_below size)) }
 {
     let mut at = first;
     'values: for _ in 0..size {

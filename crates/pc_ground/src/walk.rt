@@ -66,9 +66,12 @@ impl Draft {
     /// Makes the cells, and answers how many pairs they have.
     pub(crate) fn add_cells(&mut self, alloc: Global, cells: &Cells) -> Result<u32, AllocError>
         requires { sum cells.now < 2 ^ 31 }
-        ensures clauses { OnOk result (self.new.nodes.clauses ≡ self.old.nodes.clauses ++ cells_clauses 0 cells.now) }
-        ensures names { OnOk result (self.new.nodes.names ≡ named self.old.nodes.names (pairs_from 0 cells.now) (map name_of (cells_axioms 0 cells.now))) }
-        ensures owners { OnOk result (self.new.owners.items ≡ self.old.owners.items ++ cells_times 0 cells.now) }
+        ensures clauses { OnOk result (self.new.nodes.clauses ≡ self.old.nodes.clauses ++
+            cells_clauses 0 cells.now) }
+        ensures names { OnOk result (self.new.nodes.names ≡ named self.old.nodes.names
+            (pairs_from 0 cells.now) (map name_of (cells_axioms 0 cells.now))) }
+        ensures owners { OnOk result (self.new.owners.items ≡ self.old.owners.items ++
+            cells_times 0 cells.now) }
         ensures reads { self.new.reads ≡ self.old.reads }
         ensures pairs { IfOk result (λ n. n ≡ sum cells.now) }
     {
@@ -90,12 +93,23 @@ impl Grounding<'_> {
         p: u32,
         piece: u32,
     ) -> Result<(), AllocError>
-        requires sorted { IsSortedIn self.now.book.now.universe (length scope.now) (statement_of formula.now) }
-        requires room { p + count_nodes self.now.book.now.universe (statement_of formula.now) < 2 ^ 32 }
-        ensures clauses { OnOk result (draft.new.nodes.clauses ≡ draft.old.nodes.clauses ++ node_clauses self.now.book.now.universe self.now.cells.now p scope.now (statement_of formula.now)) }
-        ensures names { OnOk result (draft.new.nodes.names ≡ named draft.old.nodes.names (nodes_below self.now.book.now.universe path.now.rule path.now.steps.items (statement_of formula.now)) (map name_of (node_axioms self.now.book.now.universe path.now.rule path.now.steps.items scope.now (statement_of formula.now)))) }
-        ensures owners { OnOk result (draft.new.owners.items ≡ draft.old.owners.items ++ of_one piece (node_axioms self.now.book.now.universe path.now.rule path.now.steps.items scope.now (statement_of formula.now))) }
-        ensures reads { OnOk result (draft.new.reads ≡ draft.old.reads ++ cells_under self.now.book.now.universe scope.now (statement_of formula.now) ∷ []) }
+        requires sorted { IsSortedIn self.now.book.now.universe (length scope.now)
+            (statement_of formula.now) }
+        requires room { p + count_nodes self.now.book.now.universe (statement_of formula.now) <
+            2 ^ 32 }
+        ensures clauses { OnOk result (draft.new.nodes.clauses ≡ draft.old.nodes.clauses ++
+            node_clauses self.now.book.now.universe self.now.cells.now p scope.now
+            (statement_of formula.now)) }
+        ensures names { OnOk result (draft.new.nodes.names ≡ named draft.old.nodes.names
+            (nodes_below self.now.book.now.universe path.now.rule path.now.steps.items
+            (statement_of formula.now))
+            (map name_of (node_axioms self.now.book.now.universe path.now.rule path.now.steps.items
+            scope.now (statement_of formula.now)))) }
+        ensures owners { OnOk result (draft.new.owners.items ≡ draft.old.owners.items ++
+            of_one piece (node_axioms self.now.book.now.universe path.now.rule path.now.steps.items
+            scope.now (statement_of formula.now))) }
+        ensures reads { OnOk result (draft.new.reads ≡ draft.old.reads ++
+            cells_under self.now.book.now.universe scope.now (statement_of formula.now) ∷ []) }
     {
         let before = draft.nodes.clauses.len();
         let mut cells = Vec::new(self.alloc);
@@ -120,13 +134,25 @@ impl Grounding<'_> {
         p: u32,
         piece: u32,
     ) -> Result<(), AllocError>
-        requires sorted { IsSortedIn self.now.book.now.universe (length scope.now) (statement_of formula.now) }
-        requires room { p + count_nodes self.now.book.now.universe (statement_of formula.now) < 2 ^ 32 }
-        requires pieces { piece + piece_count self.now.book.now.universe (statement_of formula.now) < 2 ^ 32 }
-        ensures clauses { OnOk result (draft.new.nodes.clauses ≡ draft.old.nodes.clauses ++ node_clauses self.now.book.now.universe self.now.cells.now p scope.now (statement_of formula.now)) }
-        ensures names { OnOk result (draft.new.nodes.names ≡ named draft.old.nodes.names (nodes_below self.now.book.now.universe path.now.rule path.now.steps.items (statement_of formula.now)) (map name_of (node_axioms self.now.book.now.universe path.now.rule path.now.steps.items scope.now (statement_of formula.now)))) }
-        ensures owners { OnOk result (draft.new.owners.items ≡ draft.old.owners.items ++ spans self.now.book.now.universe piece path.now.rule path.now.steps.items scope.now (statement_of formula.now)) }
-        ensures reads { OnOk result (draft.new.reads ≡ draft.old.reads ++ piece_cells self.now.book.now.universe scope.now (statement_of formula.now)) }
+        requires sorted { IsSortedIn self.now.book.now.universe (length scope.now)
+            (statement_of formula.now) }
+        requires room { p + count_nodes self.now.book.now.universe (statement_of formula.now) <
+            2 ^ 32 }
+        requires pieces { piece + piece_count self.now.book.now.universe
+            (statement_of formula.now) < 2 ^ 32 }
+        ensures clauses { OnOk result (draft.new.nodes.clauses ≡ draft.old.nodes.clauses ++
+            node_clauses self.now.book.now.universe self.now.cells.now p scope.now
+            (statement_of formula.now)) }
+        ensures names { OnOk result (draft.new.nodes.names ≡ named draft.old.nodes.names
+            (nodes_below self.now.book.now.universe path.now.rule path.now.steps.items
+            (statement_of formula.now))
+            (map name_of (node_axioms self.now.book.now.universe path.now.rule path.now.steps.items
+            scope.now (statement_of formula.now)))) }
+        ensures owners { OnOk result (draft.new.owners.items ≡ draft.old.owners.items ++
+            spans self.now.book.now.universe piece path.now.rule path.now.steps.items scope.now
+            (statement_of formula.now)) }
+        ensures reads { OnOk result (draft.new.reads ≡ draft.old.reads ++
+            piece_cells self.now.book.now.universe scope.now (statement_of formula.now)) }
     {
         match formula {
             Formula::Compare { .. } => self.walk_piece(draft, path, scope, formula, p, piece),
@@ -154,13 +180,23 @@ impl Grounding<'_> {
         p: u32,
         piece: u32,
     ) -> Result<(), AllocError>
-        requires sorted { AreSorted self.now.book.now.universe (statements_of (map statement_of parts.now)) }
+        requires sorted { AreSorted self.now.book.now.universe
+            (statements_of (map statement_of parts.now)) }
         requires few { length parts.now < 4194304 }
-        requires room { p + 1 + count_all self.now.book.now.universe (statements_of (map statement_of parts.now)) < 2 ^ 32 }
-        requires pieces { piece + piece_count_of_parts self.now.book.now.universe (statements_of (map statement_of parts.now)) < 2 ^ 32 }
-        ensures clauses { OnOk result (draft.new.nodes.clauses ≡ draft.old.nodes.clauses ++ joined_clauses p true (roots self.now.book.now.universe (p + 1) (statements_of (map statement_of parts.now)))) }
-        ensures names { OnOk result (draft.new.nodes.names ≡ named draft.old.nodes.names (node path.now.rule path.now.steps.items ∷ []) (own_names path.now.rule path.now.steps.items (length parts.now + 1))) }
-        ensures owners { OnOk result (draft.new.owners.items ≡ draft.old.owners.items ++ (spans_of_children self.now.book.now.universe piece (statements_of (map statement_of parts.now)) ++ no_groups piece ∷ [])) }
+        requires room { p + 1 + count_all self.now.book.now.universe
+            (statements_of (map statement_of parts.now)) < 2 ^ 32 }
+        requires pieces { piece + piece_count_of_parts self.now.book.now.universe
+            (statements_of (map statement_of parts.now)) < 2 ^ 32 }
+        ensures clauses { OnOk result (draft.new.nodes.clauses ≡ draft.old.nodes.clauses ++
+            joined_clauses p true
+            (roots self.now.book.now.universe (p + 1)
+            (statements_of (map statement_of parts.now)))) }
+        ensures names { OnOk result (draft.new.nodes.names ≡ named draft.old.nodes.names
+            (node path.now.rule path.now.steps.items ∷ [])
+            (own_names path.now.rule path.now.steps.items (length parts.now + 1))) }
+        ensures owners { OnOk result (draft.new.owners.items ≡ draft.old.owners.items ++
+            (spans_of_children self.now.book.now.universe piece
+            (statements_of (map statement_of parts.now)) ++ no_groups piece ∷ [])) }
         ensures reads { draft.new.reads ≡ draft.old.reads }
     {
         draft
@@ -185,14 +221,31 @@ impl Grounding<'_> {
         p: u32,
         piece: u32,
     ) -> Result<(), AllocError>
-        requires sorted { AreSortedIn self.now.book.now.universe (length scope.now) (statements_of (map statement_of parts.now)) }
+        requires sorted { AreSortedIn self.now.book.now.universe (length scope.now)
+            (statements_of (map statement_of parts.now)) }
         requires few { length parts.now < 4194304 }
-        requires room { p + 1 + count_all self.now.book.now.universe (statements_of (map statement_of parts.now)) < 2 ^ 32 }
-        requires pieces { piece + piece_count_of_parts self.now.book.now.universe (statements_of (map statement_of parts.now)) < 2 ^ 32 }
-        ensures clauses { OnOk result (draft.new.nodes.clauses ≡ draft.old.nodes.clauses ++ (joined_clauses p true (roots self.now.book.now.universe (p + 1) (statements_of (map statement_of parts.now))) ++ parts_clauses self.now.book.now.universe self.now.cells.now (p + 1) scope.now (statements_of (map statement_of parts.now)))) }
-        ensures names { OnOk result (draft.new.nodes.names ≡ named draft.old.nodes.names (node path.now.rule path.now.steps.items ∷ parts_below self.now.book.now.universe path.now.rule path.now.steps.items 0 (statements_of (map statement_of parts.now))) (own_names path.now.rule path.now.steps.items (length parts.now + 1) ++ map name_of (parts_axioms self.now.book.now.universe path.now.rule path.now.steps.items scope.now 0 (statements_of (map statement_of parts.now))))) }
-        ensures owners { OnOk result (draft.new.owners.items ≡ draft.old.owners.items ++ ((spans_of_children self.now.book.now.universe piece (statements_of (map statement_of parts.now)) ++ no_groups piece ∷ []) ++ spans_of_parts self.now.book.now.universe piece path.now.rule path.now.steps.items scope.now 0 (statements_of (map statement_of parts.now)))) }
-        ensures reads { OnOk result (draft.new.reads ≡ draft.old.reads ++ piece_cells_of_parts self.now.book.now.universe scope.now (statements_of (map statement_of parts.now))) }
+        requires room { p + 1 + count_all self.now.book.now.universe
+            (statements_of (map statement_of parts.now)) < 2 ^ 32 }
+        requires pieces { piece + piece_count_of_parts self.now.book.now.universe
+            (statements_of (map statement_of parts.now)) < 2 ^ 32 }
+        ensures clauses { OnOk result (draft.new.nodes.clauses ≡ draft.old.nodes.clauses ++
+            (joined_clauses p true (roots self.now.book.now.universe (p + 1)
+            (statements_of (map statement_of parts.now))) ++
+            parts_clauses self.now.book.now.universe self.now.cells.now (p + 1) scope.now
+            (statements_of (map statement_of parts.now)))) }
+        ensures names { OnOk result (draft.new.nodes.names ≡ named draft.old.nodes.names
+            (node path.now.rule path.now.steps.items ∷ parts_below self.now.book.now.universe
+            path.now.rule path.now.steps.items 0 (statements_of (map statement_of parts.now)))
+            (own_names path.now.rule path.now.steps.items (length parts.now + 1) ++
+            map name_of (parts_axioms self.now.book.now.universe path.now.rule path.now.steps.items
+            scope.now 0 (statements_of (map statement_of parts.now))))) }
+        ensures owners { OnOk result (draft.new.owners.items ≡ draft.old.owners.items ++
+            ((spans_of_children self.now.book.now.universe piece
+            (statements_of (map statement_of parts.now)) ++ no_groups piece ∷ []) ++
+            spans_of_parts self.now.book.now.universe piece path.now.rule path.now.steps.items
+            scope.now 0 (statements_of (map statement_of parts.now)))) }
+        ensures reads { OnOk result (draft.new.reads ≡ draft.old.reads ++ piece_cells_of_parts
+            self.now.book.now.universe scope.now (statements_of (map statement_of parts.now))) }
     {
         self.open_joint(draft, path, parts, p, piece)?;
         self.walk_parts(draft, path, scope, parts, p + 1, piece)?;
@@ -210,14 +263,26 @@ impl Grounding<'_> {
         first: u32,
         piece: u32,
     ) -> Result<(), AllocError>
-        requires sorted { AreSortedIn self.now.book.now.universe (length scope.now) (statements_of (map statement_of parts.now)) }
+        requires sorted { AreSortedIn self.now.book.now.universe (length scope.now)
+            (statements_of (map statement_of parts.now)) }
         requires few { length parts.now < 4194304 }
-        requires room { first + count_all self.now.book.now.universe (statements_of (map statement_of parts.now)) < 2 ^ 32 }
-        requires pieces { piece + piece_count_of_parts self.now.book.now.universe (statements_of (map statement_of parts.now)) < 2 ^ 32 }
-        ensures clauses { OnOk result (draft.new.nodes.clauses ≡ draft.old.nodes.clauses ++ parts_clauses self.now.book.now.universe self.now.cells.now first scope.now (statements_of (map statement_of parts.now))) }
-        ensures names { OnOk result (draft.new.nodes.names ≡ named draft.old.nodes.names (parts_below self.now.book.now.universe path.now.rule path.now.steps.items 0 (statements_of (map statement_of parts.now))) (map name_of (parts_axioms self.now.book.now.universe path.now.rule path.now.steps.items scope.now 0 (statements_of (map statement_of parts.now))))) }
-        ensures owners { OnOk result (draft.new.owners.items ≡ draft.old.owners.items ++ spans_of_parts self.now.book.now.universe piece path.now.rule path.now.steps.items scope.now 0 (statements_of (map statement_of parts.now))) }
-        ensures reads { OnOk result (draft.new.reads ≡ draft.old.reads ++ piece_cells_of_parts self.now.book.now.universe scope.now (statements_of (map statement_of parts.now))) }
+        requires room { first + count_all self.now.book.now.universe
+            (statements_of (map statement_of parts.now)) < 2 ^ 32 }
+        requires pieces { piece + piece_count_of_parts self.now.book.now.universe
+            (statements_of (map statement_of parts.now)) < 2 ^ 32 }
+        ensures clauses { OnOk result (draft.new.nodes.clauses ≡ draft.old.nodes.clauses ++
+            parts_clauses self.now.book.now.universe self.now.cells.now first scope.now
+            (statements_of (map statement_of parts.now))) }
+        ensures names { OnOk result (draft.new.nodes.names ≡ named draft.old.nodes.names
+            (parts_below self.now.book.now.universe path.now.rule path.now.steps.items 0
+            (statements_of (map statement_of parts.now)))
+            (map name_of (parts_axioms self.now.book.now.universe path.now.rule path.now.steps.items
+            scope.now 0 (statements_of (map statement_of parts.now))))) }
+        ensures owners { OnOk result (draft.new.owners.items ≡ draft.old.owners.items ++
+            spans_of_parts self.now.book.now.universe piece path.now.rule path.now.steps.items
+            scope.now 0 (statements_of (map statement_of parts.now))) }
+        ensures reads { OnOk result (draft.new.reads ≡ draft.old.reads ++ piece_cells_of_parts
+            self.now.book.now.universe scope.now (statements_of (map statement_of parts.now))) }
     {
         let mut next = first;
         let mut at = piece;
@@ -244,9 +309,13 @@ impl Grounding<'_> {
         requires few { size ≤ 65536 }
         requires room { p + 1 + size * count < 2 ^ 32 }
         requires pieces { piece + size * pieces < 2 ^ 32 }
-        ensures clauses { OnOk result (draft.new.nodes.clauses ≡ draft.old.nodes.clauses ++ joined_clauses p true (roots_of_values (p + 1) count size)) }
-        ensures names { OnOk result (draft.new.nodes.names ≡ named draft.old.nodes.names (node path.now.rule path.now.steps.items ∷ []) (own_names path.now.rule path.now.steps.items (size + 1))) }
-        ensures owners { OnOk result (draft.new.owners.items ≡ draft.old.owners.items ++ (map (span_at piece pieces) (values_below size) ++ no_groups piece ∷ [])) }
+        ensures clauses { OnOk result (draft.new.nodes.clauses ≡ draft.old.nodes.clauses ++
+            joined_clauses p true (roots_of_values (p + 1) count size)) }
+        ensures names { OnOk result (draft.new.nodes.names ≡ named draft.old.nodes.names
+            (node path.now.rule path.now.steps.items ∷ [])
+            (own_names path.now.rule path.now.steps.items (size + 1))) }
+        ensures owners { OnOk result (draft.new.owners.items ≡ draft.old.owners.items ++
+            (map (span_at piece pieces) (values_below size) ++ no_groups piece ∷ [])) }
         ensures reads { draft.new.reads ≡ draft.old.reads }
     {
         draft
@@ -273,13 +342,42 @@ impl Grounding<'_> {
     ) -> Result<(), AllocError>
         requires sort { binder.sort.0 < length self.now.book.now.universe.sorts }
         requires depth { length binder.scope.now < most_depth }
-        requires sorted { IsSortedIn self.now.book.now.universe (length binder.scope.now + 1) (statement_of body.now) }
-        requires room { p + 1 + size_of self.now.book.now.universe binder.sort * count_nodes self.now.book.now.universe (statement_of body.now) < 2 ^ 32 }
-        requires pieces { piece + size_of self.now.book.now.universe binder.sort * piece_count self.now.book.now.universe (statement_of body.now) < 2 ^ 32 }
-        ensures clauses { OnOk result (draft.new.nodes.clauses ≡ draft.old.nodes.clauses ++ (joined_clauses p true (roots_of_values (p + 1) (count_nodes self.now.book.now.universe (statement_of body.now)) (size_of self.now.book.now.universe binder.entry.sort)) ++ instances_clauses self.now.book.now.universe self.now.cells.now (p + 1) binder.entry.scope.now binder.entry.sort (statement_of body.now) (size_of self.now.book.now.universe binder.entry.sort))) }
-        ensures names { OnOk result (draft.new.nodes.names ≡ named draft.old.nodes.names (node path.now.rule path.now.steps.items ∷ flat_map (λ v. nodes_below self.now.book.now.universe path.now.rule (path.now.steps.items ++ v.0 ∷ []) (statement_of body.now)) (values_below (size_of self.now.book.now.universe binder.entry.sort))) (own_names path.now.rule path.now.steps.items (size_of self.now.book.now.universe binder.entry.sort + 1) ++ map name_of (flat_map (λ v. node_axioms self.now.book.now.universe path.now.rule (path.now.steps.items ++ v.0 ∷ []) (binder.entry.scope.now ++ (binder.entry.sort, v) ∷ []) (statement_of body.now)) (values_below (size_of self.now.book.now.universe binder.entry.sort))))) }
-        ensures owners { OnOk result (draft.new.owners.items ≡ draft.old.owners.items ++ ((map (span_at piece (piece_count self.now.book.now.universe (statement_of body.now))) (values_below (size_of self.now.book.now.universe binder.entry.sort)) ++ no_groups piece ∷ []) ++ spans_of_values self.now.book.now.universe piece path.now.rule path.now.steps.items binder.entry.scope.now binder.entry.sort (statement_of body.now) (size_of self.now.book.now.universe binder.entry.sort))) }
-        ensures reads { OnOk result (draft.new.reads ≡ draft.old.reads ++ flat_map (λ v. piece_cells self.now.book.now.universe (binder.entry.scope.now ++ (binder.entry.sort, v) ∷ []) (statement_of body.now)) (values_below (size_of self.now.book.now.universe binder.entry.sort))) }
+        requires sorted { IsSortedIn self.now.book.now.universe (length binder.scope.now + 1)
+            (statement_of body.now) }
+        requires room { p + 1 + size_of self.now.book.now.universe binder.sort *
+            count_nodes self.now.book.now.universe (statement_of body.now) < 2 ^ 32 }
+        requires pieces { piece + size_of self.now.book.now.universe binder.sort *
+            piece_count self.now.book.now.universe (statement_of body.now) < 2 ^ 32 }
+        ensures clauses { OnOk result (draft.new.nodes.clauses ≡ draft.old.nodes.clauses ++
+            (joined_clauses p true
+            (roots_of_values (p + 1)
+            (count_nodes self.now.book.now.universe (statement_of body.now))
+            (size_of self.now.book.now.universe binder.entry.sort)) ++
+            instances_clauses self.now.book.now.universe self.now.cells.now (p + 1)
+            binder.entry.scope.now binder.entry.sort (statement_of body.now)
+            (size_of self.now.book.now.universe binder.entry.sort))) }
+        ensures names { OnOk result (draft.new.nodes.names ≡ named draft.old.nodes.names
+            (node path.now.rule path.now.steps.items ∷
+            flat_map (λ v. nodes_below self.now.book.now.universe path.now.rule
+            (path.now.steps.items ++ v.0 ∷ []) (statement_of body.now))
+            (values_below (size_of self.now.book.now.universe binder.entry.sort)))
+            (own_names path.now.rule path.now.steps.items
+            (size_of self.now.book.now.universe binder.entry.sort + 1) ++
+            map name_of
+            (flat_map (λ v. node_axioms self.now.book.now.universe path.now.rule
+            (path.now.steps.items ++ v.0 ∷ []) (binder.entry.scope.now ++ (binder.entry.sort, v) ∷
+            []) (statement_of body.now))
+            (values_below (size_of self.now.book.now.universe binder.entry.sort))))) }
+        ensures owners { OnOk result (draft.new.owners.items ≡ draft.old.owners.items ++
+            ((map (span_at piece (piece_count self.now.book.now.universe (statement_of body.now)))
+            (values_below (size_of self.now.book.now.universe binder.entry.sort)) ++
+            no_groups piece ∷ []) ++ spans_of_values self.now.book.now.universe piece path.now.rule
+            path.now.steps.items binder.entry.scope.now binder.entry.sort (statement_of body.now)
+            (size_of self.now.book.now.universe binder.entry.sort))) }
+        ensures reads { OnOk result (draft.new.reads ≡ draft.old.reads ++
+            flat_map (λ v. piece_cells self.now.book.now.universe (binder.entry.scope.now ++
+            (binder.entry.sort, v) ∷ []) (statement_of body.now))
+            (values_below (size_of self.now.book.now.universe binder.entry.sort))) }
     {
         let size = self.book.size_of(binder.sort);
         if size == 0 {
@@ -306,13 +404,33 @@ impl Grounding<'_> {
         requires sort { binder.sort.0 < length self.now.book.now.universe.sorts }
         requires some { 0 < size_of self.now.book.now.universe binder.sort }
         requires depth { length binder.scope.now < most_depth }
-        requires sorted { IsSortedIn self.now.book.now.universe (length binder.scope.now + 1) (statement_of body.now) }
-        requires room { first + size_of self.now.book.now.universe binder.sort * count_nodes self.now.book.now.universe (statement_of body.now) < 2 ^ 32 }
-        requires pieces { piece + size_of self.now.book.now.universe binder.sort * piece_count self.now.book.now.universe (statement_of body.now) < 2 ^ 32 }
-        ensures clauses { OnOk result (draft.new.nodes.clauses ≡ draft.old.nodes.clauses ++ instances_clauses self.now.book.now.universe self.now.cells.now first binder.entry.scope.now binder.entry.sort (statement_of body.now) (size_of self.now.book.now.universe binder.entry.sort)) }
-        ensures names { OnOk result (draft.new.nodes.names ≡ named draft.old.nodes.names (flat_map (λ v. nodes_below self.now.book.now.universe path.now.rule (path.now.steps.items ++ v.0 ∷ []) (statement_of body.now)) (values_below (size_of self.now.book.now.universe binder.entry.sort))) (map name_of (flat_map (λ v. node_axioms self.now.book.now.universe path.now.rule (path.now.steps.items ++ v.0 ∷ []) (binder.entry.scope.now ++ (binder.entry.sort, v) ∷ []) (statement_of body.now)) (values_below (size_of self.now.book.now.universe binder.entry.sort))))) }
-        ensures owners { OnOk result (draft.new.owners.items ≡ draft.old.owners.items ++ spans_of_values self.now.book.now.universe piece path.now.rule path.now.steps.items binder.entry.scope.now binder.entry.sort (statement_of body.now) (size_of self.now.book.now.universe binder.entry.sort)) }
-        ensures reads { OnOk result (draft.new.reads ≡ draft.old.reads ++ flat_map (λ v. piece_cells self.now.book.now.universe (binder.entry.scope.now ++ (binder.entry.sort, v) ∷ []) (statement_of body.now)) (values_below (size_of self.now.book.now.universe binder.entry.sort))) }
+        requires sorted { IsSortedIn self.now.book.now.universe (length binder.scope.now + 1)
+            (statement_of body.now) }
+        requires room { first + size_of self.now.book.now.universe binder.sort *
+            count_nodes self.now.book.now.universe (statement_of body.now) < 2 ^ 32 }
+        requires pieces { piece + size_of self.now.book.now.universe binder.sort *
+            piece_count self.now.book.now.universe (statement_of body.now) < 2 ^ 32 }
+        ensures clauses { OnOk result (draft.new.nodes.clauses ≡ draft.old.nodes.clauses ++
+            instances_clauses self.now.book.now.universe self.now.cells.now first
+            binder.entry.scope.now binder.entry.sort (statement_of body.now)
+            (size_of self.now.book.now.universe binder.entry.sort)) }
+        ensures names { OnOk result (draft.new.nodes.names ≡ named draft.old.nodes.names
+            (flat_map (λ v. nodes_below self.now.book.now.universe path.now.rule
+            (path.now.steps.items ++ v.0 ∷ []) (statement_of body.now))
+            (values_below (size_of self.now.book.now.universe binder.entry.sort)))
+            (map name_of
+            (flat_map (λ v. node_axioms self.now.book.now.universe path.now.rule
+            (path.now.steps.items ++ v.0 ∷ []) (binder.entry.scope.now ++ (binder.entry.sort, v) ∷
+            []) (statement_of body.now))
+            (values_below (size_of self.now.book.now.universe binder.entry.sort))))) }
+        ensures owners { OnOk result (draft.new.owners.items ≡ draft.old.owners.items ++
+            spans_of_values self.now.book.now.universe piece path.now.rule path.now.steps.items
+            binder.entry.scope.now binder.entry.sort (statement_of body.now)
+            (size_of self.now.book.now.universe binder.entry.sort)) }
+        ensures reads { OnOk result (draft.new.reads ≡ draft.old.reads ++
+            flat_map (λ v. piece_cells self.now.book.now.universe (binder.entry.scope.now ++
+            (binder.entry.sort, v) ∷ []) (statement_of body.now))
+            (values_below (size_of self.now.book.now.universe binder.entry.sort))) }
     {
         let count = count_nodes(self.book, body);
         let pieces = count_pieces(self.book, body);
@@ -339,13 +457,28 @@ impl Grounding<'_> {
         piece: u32,
     ) -> Result<(), AllocError>
         requires depth { length binder.scope.now < most_depth }
-        requires sorted { IsSortedIn self.now.book.now.universe (length binder.scope.now + 1) (statement_of body.now) }
-        requires room { p + count_nodes self.now.book.now.universe (statement_of body.now) < 2 ^ 32 }
-        requires pieces { piece + piece_count self.now.book.now.universe (statement_of body.now) < 2 ^ 32 }
-        ensures clauses { OnOk result (draft.new.nodes.clauses ≡ draft.old.nodes.clauses ++ node_clauses self.now.book.now.universe self.now.cells.now p (binder.entry.scope.now ++ (binder.entry.sort, value) ∷ []) (statement_of body.now)) }
-        ensures names { OnOk result (draft.new.nodes.names ≡ named draft.old.nodes.names (nodes_below self.now.book.now.universe path.now.rule (path.now.steps.items ++ value.0 ∷ []) (statement_of body.now)) (map name_of (node_axioms self.now.book.now.universe path.now.rule (path.now.steps.items ++ value.0 ∷ []) (binder.entry.scope.now ++ (binder.entry.sort, value) ∷ []) (statement_of body.now)))) }
-        ensures owners { OnOk result (draft.new.owners.items ≡ draft.old.owners.items ++ spans self.now.book.now.universe piece path.now.rule (path.now.steps.items ++ value.0 ∷ []) (binder.entry.scope.now ++ (binder.entry.sort, value) ∷ []) (statement_of body.now)) }
-        ensures reads { OnOk result (draft.new.reads ≡ draft.old.reads ++ piece_cells self.now.book.now.universe (binder.entry.scope.now ++ (binder.entry.sort, value) ∷ []) (statement_of body.now)) }
+        requires sorted { IsSortedIn self.now.book.now.universe (length binder.scope.now + 1)
+            (statement_of body.now) }
+        requires room { p + count_nodes self.now.book.now.universe (statement_of body.now) <
+            2 ^ 32 }
+        requires pieces { piece + piece_count self.now.book.now.universe (statement_of body.now) <
+            2 ^ 32 }
+        ensures clauses { OnOk result (draft.new.nodes.clauses ≡ draft.old.nodes.clauses ++
+            node_clauses self.now.book.now.universe self.now.cells.now p (binder.entry.scope.now ++
+            (binder.entry.sort, value) ∷ []) (statement_of body.now)) }
+        ensures names { OnOk result (draft.new.nodes.names ≡ named draft.old.nodes.names
+            (nodes_below self.now.book.now.universe path.now.rule (path.now.steps.items ++ value.0 ∷
+            []) (statement_of body.now))
+            (map name_of (node_axioms self.now.book.now.universe path.now.rule
+            (path.now.steps.items ++ value.0 ∷ []) (binder.entry.scope.now ++
+            (binder.entry.sort, value) ∷ []) (statement_of body.now)))) }
+        ensures owners { OnOk result (draft.new.owners.items ≡ draft.old.owners.items ++
+            spans self.now.book.now.universe piece path.now.rule (path.now.steps.items ++ value.0 ∷
+            []) (binder.entry.scope.now ++ (binder.entry.sort, value) ∷ [])
+            (statement_of body.now)) }
+        ensures reads { OnOk result (draft.new.reads ≡ draft.old.reads ++
+            piece_cells self.now.book.now.universe (binder.entry.scope.now ++
+            (binder.entry.sort, value) ∷ []) (statement_of body.now)) }
     {
         let child = child_path(self.alloc, path, u32::from(value.0))?;
         let inner = extended(binder.scope, binder.sort, value);
@@ -368,13 +501,23 @@ impl Grounding<'_> {
         p: u32,
         piece: u32,
     ) -> Result<(), AllocError>
-        requires sorted { IsWellSorted self.now.book.now.universe [] (statement_of rule.now.formula) }
-        requires room { p + count_nodes self.now.book.now.universe (statement_of rule.now.formula) < 2 ^ 32 }
-        requires pieces { piece + piece_count self.now.book.now.universe (statement_of rule.now.formula) < 2 ^ 32 }
-        ensures clauses { OnOk result (draft.new.nodes.clauses ≡ draft.old.nodes.clauses ++ ((lit p true ∷ []) ∷ node_clauses self.now.book.now.universe self.now.cells.now p [] (statement_of rule.now.formula))) }
-        ensures names { OnOk result (draft.new.nodes.names ≡ named draft.old.nodes.names (nodes_below self.now.book.now.universe r [] (statement_of rule.now.formula)) (map name_of (rule_axioms self.now.book.now.universe r (rule_of rule.now)))) }
-        ensures owners { OnOk result (draft.new.owners.items ≡ draft.old.owners.items ++ (span piece (piece_count self.now.book.now.universe (statement_of rule.now.formula)) ∷ spans self.now.book.now.universe piece r [] [] (statement_of rule.now.formula))) }
-        ensures reads { OnOk result (draft.new.reads ≡ draft.old.reads ++ piece_cells self.now.book.now.universe [] (statement_of rule.now.formula)) }
+        requires sorted { IsWellSorted self.now.book.now.universe []
+            (statement_of rule.now.formula) }
+        requires room { p + count_nodes self.now.book.now.universe (statement_of rule.now.formula) <
+            2 ^ 32 }
+        requires pieces { piece + piece_count self.now.book.now.universe
+            (statement_of rule.now.formula) < 2 ^ 32 }
+        ensures clauses { OnOk result (draft.new.nodes.clauses ≡ draft.old.nodes.clauses ++
+            ((lit p true ∷ []) ∷ node_clauses self.now.book.now.universe self.now.cells.now p []
+            (statement_of rule.now.formula))) }
+        ensures names { OnOk result (draft.new.nodes.names ≡ named draft.old.nodes.names
+            (nodes_below self.now.book.now.universe r [] (statement_of rule.now.formula))
+            (map name_of (rule_axioms self.now.book.now.universe r (rule_of rule.now)))) }
+        ensures owners { OnOk result (draft.new.owners.items ≡ draft.old.owners.items ++
+            (span piece (piece_count self.now.book.now.universe (statement_of rule.now.formula)) ∷
+            spans self.now.book.now.universe piece r [] [] (statement_of rule.now.formula))) }
+        ensures reads { OnOk result (draft.new.reads ≡ draft.old.reads ++
+            piece_cells self.now.book.now.universe [] (statement_of rule.now.formula)) }
     {
         draft.nodes.clauses.push(&[literal(p, true)])?;
         draft.nodes.names.add_axiom(AxiomRef::Rule(r))?;
@@ -400,13 +543,23 @@ impl Grounding<'_> {
     ) -> Result<u32, AllocError>
         requires sorted { AreRulesSorted self.now.book.now.universe (map rule_of rules.now) }
         requires few { length rules.now ≤ most_rules }
-        requires room { first + sum_by (nodes_of_rule self.now.book.now.universe) (map rule_of rules.now) < 2 ^ 32 }
-        requires pieces { piece + piece_count_of_rules self.now.book.now.universe (map rule_of rules.now) < 2 ^ 32 }
-        ensures clauses { OnOk result (draft.new.nodes.clauses ≡ draft.old.nodes.clauses ++ rules_clauses self.now.book.now.universe self.now.cells.now first (map rule_of rules.now)) }
-        ensures names { OnOk result (draft.new.nodes.names ≡ named draft.old.nodes.names (nodes_from self.now.book.now.universe 0 (map rule_of rules.now)) (map name_of (rules_axioms self.now.book.now.universe 0 (map rule_of rules.now)))) }
-        ensures owners { OnOk result (draft.new.owners.items ≡ draft.old.owners.items ++ spans_of_rules self.now.book.now.universe piece 0 (map rule_of rules.now)) }
-        ensures reads { OnOk result (draft.new.reads ≡ draft.old.reads ++ piece_cells_of_rules self.now.book.now.universe (map rule_of rules.now)) }
-        ensures next { IfOk result (λ n. n ≡ first + sum_by (nodes_of_rule self.now.book.now.universe) (map rule_of rules.now)) }
+        requires room { first + sum_by (nodes_of_rule self.now.book.now.universe)
+            (map rule_of rules.now) < 2 ^ 32 }
+        requires pieces { piece + piece_count_of_rules self.now.book.now.universe
+            (map rule_of rules.now) < 2 ^ 32 }
+        ensures clauses { OnOk result (draft.new.nodes.clauses ≡ draft.old.nodes.clauses ++
+            rules_clauses self.now.book.now.universe self.now.cells.now first
+            (map rule_of rules.now)) }
+        ensures names { OnOk result (draft.new.nodes.names ≡ named draft.old.nodes.names
+            (nodes_from self.now.book.now.universe 0 (map rule_of rules.now))
+            (map name_of (rules_axioms self.now.book.now.universe 0 (map rule_of rules.now)))) }
+        ensures owners { OnOk result (draft.new.owners.items ≡ draft.old.owners.items ++
+            spans_of_rules self.now.book.now.universe piece 0 (map rule_of rules.now)) }
+        ensures reads { OnOk result (draft.new.reads ≡ draft.old.reads ++ piece_cells_of_rules
+            self.now.book.now.universe (map rule_of rules.now)) }
+        ensures next { IfOk result
+            (λ n. n ≡ first + sum_by (nodes_of_rule self.now.book.now.universe)
+            (map rule_of rules.now)) }
     {
         let mut next = first;
         let mut at = piece;

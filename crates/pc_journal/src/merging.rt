@@ -21,7 +21,8 @@ use std::alloc::Global;
 
 // Writes a journal's text: in one piece where there is room for it, and else piece by piece.
 fn write_gathered<O: Sink>(alloc: Global, journal: &Journal, out: &mut O) -> Result<(), Failed>
-    ensures bytes { WriteGives (O.given out.old) (O.given out.new) result (journal_text journal.now) }
+    ensures bytes { WriteGives (O.given out.old) (O.given out.new) result
+        (journal_text journal.now) }
     ensures cause { HasCause (O.faults out.old) (O.faults out.new) result }
 {
     let mut room = take_room(alloc);
@@ -33,7 +34,8 @@ fn write_gathered<O: Sink>(alloc: Global, journal: &Journal, out: &mut O) -> Res
 
 // Ends a run by a journal's text.
 fn tell_journal<O: Sink>(alloc: Global, journal: &Journal, out: &mut O) -> Status
-    ensures told { TellsAtEnd Status.Done (journal_text journal.now) result (O.given out.old) (O.given out.new) }
+    ensures told { TellsAtEnd Status.Done (journal_text journal.now) result (O.given out.old)
+        (O.given out.new) }
     ensures fault { result ≡ Status.WriteFault → Rose (O.faults out.old) (O.faults out.new) }
     ensures no_fault { result ≢ Status.WriteFault → O.faults out.new ≡ O.faults out.old }
 {
@@ -58,8 +60,11 @@ fn merge_both<O: Sink>(alloc: Global, a: &Journal, b: &Journal, out: &mut O) -> 
 
 // Merges a journal with the input's.
 fn merge_input<I: Source, O: Sink>(alloc: Global, a: &Journal, input: &mut I, out: &mut O) -> Status
-    ensures did { Did (FromInput (MergeBoth a.now) tt) result tt (streams (I.left input.old) (I.faults input.old) (O.given out.old) (O.faults out.old)) (streams (I.left input.new) (I.faults input.new) (O.given out.new) (O.faults out.new)) }
-    ensures read_fault { result ≡ Status.ReadFault → Rose (I.faults input.old) (I.faults input.new) }
+    ensures did { Did (FromInput (MergeBoth a.now) tt) result tt
+        (streams (I.left input.old) (I.faults input.old) (O.given out.old) (O.faults out.old))
+        (streams (I.left input.new) (I.faults input.new) (O.given out.new) (O.faults out.new)) }
+    ensures read_fault { result ≡ Status.ReadFault →
+        Rose (I.faults input.old) (I.faults input.new) }
     ensures no_read_fault { result ≢ Status.ReadFault → I.faults input.new ≡ I.faults input.old }
     ensures write_fault { result ≡ Status.WriteFault → Rose (O.faults out.old) (O.faults out.new) }
     ensures no_write_fault { result ≢ Status.WriteFault → O.faults out.new ≡ O.faults out.old }
@@ -73,8 +78,11 @@ fn merge_input<I: Source, O: Sink>(alloc: Global, a: &Journal, input: &mut I, ou
 // Merges the journal of a file's text with the input's.
 fn merge_text<I: Source, O: Sink>(alloc: Global, text: &[u8], input: &mut I, out: &mut O) -> Status
     requires { length text.now ≤ JOURNAL_LIMIT }
-    ensures did { Did (MergeText text.now) result tt (streams (I.left input.old) (I.faults input.old) (O.given out.old) (O.faults out.old)) (streams (I.left input.new) (I.faults input.new) (O.given out.new) (O.faults out.new)) }
-    ensures read_fault { result ≡ Status.ReadFault → Rose (I.faults input.old) (I.faults input.new) }
+    ensures did { Did (MergeText text.now) result tt
+        (streams (I.left input.old) (I.faults input.old) (O.given out.old) (O.faults out.old))
+        (streams (I.left input.new) (I.faults input.new) (O.given out.new) (O.faults out.new)) }
+    ensures read_fault { result ≡ Status.ReadFault →
+        Rose (I.faults input.old) (I.faults input.new) }
     ensures no_read_fault { result ≢ Status.ReadFault → I.faults input.new ≡ I.faults input.old }
     ensures write_fault { result ≡ Status.WriteFault → Rose (O.faults out.old) (O.faults out.new) }
     ensures no_write_fault { result ≢ Status.WriteFault → O.faults out.new ≡ O.faults out.old }
@@ -96,13 +104,18 @@ pub fn merge_file<I: Source, H: Shelf, O: Sink>(
     shelf: &mut H,
     out: &mut O,
 ) -> Status
-    ensures ran { Ran (Merge file.now) 0 result tt (outside (H.kept shelf.old) (H.asked shelf.old) (H.faults shelf.old) (streams (I.left input.old) (I.faults input.old) (O.given out.old) (O.faults out.old))) (outside (H.kept shelf.new) (H.asked shelf.new) (H.faults shelf.new) (streams (I.left input.new) (I.faults input.new) (O.given out.new) (O.faults out.new))) }
+    ensures ran { Ran (Merge file.now) 0 result tt (outside (H.kept shelf.old) (H.asked shelf.old)
+        (H.faults shelf.old) (streams (I.left input.old) (I.faults input.old) (O.given out.old)
+        (O.faults out.old))) (outside (H.kept shelf.new) (H.asked shelf.new) (H.faults shelf.new)
+        (streams (I.left input.new) (I.faults input.new) (O.given out.new) (O.faults out.new))) }
     ensures asked { AsksOnce file.now (H.asked shelf.old) (H.asked shelf.new) }
     ensures kept { H.kept shelf.new ≡ H.kept shelf.old }
 
     // A read fault is the shelf's, before the input is read, or the input's, after the shelf gave its file.
-    ensures read_fault { result ≡ Status.ReadFault → FailsToRead I.faults input.old input.new (H.faults shelf.old) (H.faults shelf.new) }
-    ensures no_read_fault { result ≢ Status.ReadFault → (I.faults input.new ≡ I.faults input.old) × (H.faults shelf.new ≡ H.faults shelf.old) }
+    ensures read_fault { result ≡ Status.ReadFault →
+        FailsToRead I.faults input.old input.new (H.faults shelf.old) (H.faults shelf.new) }
+    ensures no_read_fault { result ≢ Status.ReadFault → (I.faults input.new ≡ I.faults input.old) ×
+        (H.faults shelf.new ≡ H.faults shelf.old) }
     ensures write_fault { result ≡ Status.WriteFault → Rose (O.faults out.old) (O.faults out.new) }
     ensures no_write_fault { result ≢ Status.WriteFault → O.faults out.new ≡ O.faults out.old }
 {

@@ -25,7 +25,10 @@ fn answer_posts<M: Machine, O: Sink>(
     out: &mut O,
 ) -> Status
     requires { IsJournal journal.now }
-    ensures did { (l : Option (List ℕ)) (n : ℕ) → Did (AnswersPosts M.Allows (machine.old, notes.old) journal.now) result (machine.new, notes.new) (streams l n (O.given out.old) (O.faults out.old)) (streams l n (O.given out.new) (O.faults out.new)) }
+    ensures did { (l : Option (List ℕ)) (n : ℕ) →
+        Did (AnswersPosts M.Allows (machine.old, notes.old) journal.now) result
+        (machine.new, notes.new) (streams l n (O.given out.old) (O.faults out.old))
+        (streams l n (O.given out.new) (O.faults out.new)) }
     ensures read { result ≢ Status.ReadFault }
     ensures write_fault { result ≡ Status.WriteFault → Rose (O.faults out.old) (O.faults out.new) }
     ensures no_write_fault { result ≢ Status.WriteFault → O.faults out.new ≡ O.faults out.old }
@@ -51,8 +54,12 @@ fn answer_input<M: Machine, I: Source, O: Sink>(
     input: &mut I,
     out: &mut O,
 ) -> Status
-    ensures did { Did (FromInput (AnswersPosts M.Allows (machine.old, notes.old)) (machine.old, notes.old)) result (machine.new, notes.new) (streams (I.left input.old) (I.faults input.old) (O.given out.old) (O.faults out.old)) (streams (I.left input.new) (I.faults input.new) (O.given out.new) (O.faults out.new)) }
-    ensures read_fault { result ≡ Status.ReadFault → Rose (I.faults input.old) (I.faults input.new) }
+    ensures did { Did (FromInput (AnswersPosts M.Allows (machine.old, notes.old))
+        (machine.old, notes.old)) result (machine.new, notes.new)
+        (streams (I.left input.old) (I.faults input.old) (O.given out.old) (O.faults out.old))
+        (streams (I.left input.new) (I.faults input.new) (O.given out.new) (O.faults out.new)) }
+    ensures read_fault { result ≡ Status.ReadFault →
+        Rose (I.faults input.old) (I.faults input.new) }
     ensures no_read_fault { result ≢ Status.ReadFault → I.faults input.new ≡ I.faults input.old }
     ensures write_fault { result ≡ Status.WriteFault → Rose (O.faults out.old) (O.faults out.new) }
     ensures no_write_fault { result ≢ Status.WriteFault → O.faults out.new ≡ O.faults out.old }
@@ -72,8 +79,12 @@ fn post_text<M: Machine, I: Source, O: Sink>(
     notes: &mut M::Notes,
 ) -> Status
     requires { length text.now ≤ SHEET_LIMIT }
-    ensures did { Did (PostText (M.IsSheet resources.budget) (M.RefusesText resources.budget) M.Allows notes.old text.now) result notes.new (streams (I.left input.old) (I.faults input.old) (O.given out.old) (O.faults out.old)) (streams (I.left input.new) (I.faults input.new) (O.given out.new) (O.faults out.new)) }
-    ensures read_fault { result ≡ Status.ReadFault → Rose (I.faults input.old) (I.faults input.new) }
+    ensures did { Did (PostText (M.IsSheet resources.budget) (M.RefusesText resources.budget)
+        M.Allows notes.old text.now) result notes.new
+        (streams (I.left input.old) (I.faults input.old) (O.given out.old) (O.faults out.old))
+        (streams (I.left input.new) (I.faults input.new) (O.given out.new) (O.faults out.new)) }
+    ensures read_fault { result ≡ Status.ReadFault →
+        Rose (I.faults input.old) (I.faults input.new) }
     ensures no_read_fault { result ≢ Status.ReadFault → I.faults input.new ≡ I.faults input.old }
     ensures write_fault { result ≡ Status.WriteFault → Rose (O.faults out.old) (O.faults out.new) }
     ensures no_write_fault { result ≢ Status.WriteFault → O.faults out.new ≡ O.faults out.old }
@@ -98,13 +109,19 @@ pub fn post_file<M: Machine, I: Source, H: Shelf, O: Sink>(
     out: &mut O,
     notes: &mut M::Notes,
 ) -> Status
-    ensures ran { Ran (Posts (M.IsSheet resources.budget) (M.RefusesText resources.budget) M.Allows file.now notes.old) 0 result notes.new (outside (H.kept shelf.old) (H.asked shelf.old) (H.faults shelf.old) (streams (I.left input.old) (I.faults input.old) (O.given out.old) (O.faults out.old))) (outside (H.kept shelf.new) (H.asked shelf.new) (H.faults shelf.new) (streams (I.left input.new) (I.faults input.new) (O.given out.new) (O.faults out.new))) }
+    ensures ran { Ran (Posts (M.IsSheet resources.budget) (M.RefusesText resources.budget) M.Allows
+        file.now notes.old) 0 result notes.new (outside (H.kept shelf.old) (H.asked shelf.old)
+        (H.faults shelf.old) (streams (I.left input.old) (I.faults input.old) (O.given out.old)
+        (O.faults out.old))) (outside (H.kept shelf.new) (H.asked shelf.new) (H.faults shelf.new)
+        (streams (I.left input.new) (I.faults input.new) (O.given out.new) (O.faults out.new))) }
     ensures asked { AsksOnce file.now (H.asked shelf.old) (H.asked shelf.new) }
     ensures kept { H.kept shelf.new ≡ H.kept shelf.old }
 
     // A read fault is the shelf's, before the input is read, or the input's, after the shelf gave its file.
-    ensures read_fault { result ≡ Status.ReadFault → FailsToRead I.faults input.old input.new (H.faults shelf.old) (H.faults shelf.new) }
-    ensures no_read_fault { result ≢ Status.ReadFault → (I.faults input.new ≡ I.faults input.old) × (H.faults shelf.new ≡ H.faults shelf.old) }
+    ensures read_fault { result ≡ Status.ReadFault →
+        FailsToRead I.faults input.old input.new (H.faults shelf.old) (H.faults shelf.new) }
+    ensures no_read_fault { result ≢ Status.ReadFault → (I.faults input.new ≡ I.faults input.old) ×
+        (H.faults shelf.new ≡ H.faults shelf.old) }
     ensures write_fault { result ≡ Status.WriteFault → Rose (O.faults out.old) (O.faults out.new) }
     ensures no_write_fault { result ≢ Status.WriteFault → O.faults out.new ≡ O.faults out.old }
 {

@@ -22,7 +22,8 @@ pub(crate) enum JournalStop {
 // Reads a journal's text.
 fn read_text(alloc: Global, text: &[u8]) -> Result<Journal, JournalStop>
     requires { length text.now ≤ JOURNAL_LIMIT }
-    ensures { MatchResult result (IsTextOf text.now) (λ stop. (fault : JournalFault) × (stop ≡ JournalStop.Text fault) × ReadGives text.now (Err fault)) }
+    ensures { MatchResult result (IsTextOf text.now) (λ stop. (fault : JournalFault) ×
+        (stop ≡ JournalStop.Text fault) × ReadGives text.now (Err fault)) }
 {
     match read_journal(alloc, text) {
         Ok(journal) => Ok(journal),
@@ -35,8 +36,10 @@ pub(crate) fn take_journal<I: Source>(alloc: Global, input: &mut I) -> Result<Jo
     ensures gives { JournalGives result (I.left input.old) (I.left input.new) }
 
     // A fault is told exactly where the input was at fault.
-    ensures cause { result ≡ Err (JournalStop.Input InputStop.Failed) → Rose (I.faults input.old) (I.faults input.new) }
-    ensures kept { result ≢ Err (JournalStop.Input InputStop.Failed) → I.faults input.new ≡ I.faults input.old }
+    ensures cause { result ≡ Err (JournalStop.Input InputStop.Failed) →
+        Rose (I.faults input.old) (I.faults input.new) }
+    ensures kept { result ≢ Err (JournalStop.Input InputStop.Failed) →
+        I.faults input.new ≡ I.faults input.old }
 {
     match take_all(alloc, JOURNAL_LIMIT, input) {
         Ok(text) => read_text(alloc, &text),

@@ -22,7 +22,8 @@ fn write_number<O: Sink>(word: &[u8], number: u32, out: &mut O) -> Result<(), Fa
 
 // Writes what a line of a text from there is at fault for.
 fn write_fault<O: Sink>(words: &[u8], place: &[u8], line: u32, out: &mut O) -> Result<(), Failed>
-    ensures { Writes O.given O.faults out.old out.new result (words.now ++ (place.now ++ ((codes " line " ++ decimal line) ++ codes "\n"))) }
+    ensures { Writes O.given O.faults out.old out.new result
+        (words.now ++ (place.now ++ ((codes " line " ++ decimal line) ++ codes "\n"))) }
 {
     write_text(words, out)?;
     write_text(place, out)?;
@@ -41,7 +42,9 @@ fn write_differ<O: Sink>(author: u32, number: u32, out: &mut O) -> Result<(), Fa
 
 // Ends a run at a line at fault.
 fn tell_line<O: Sink>(words: &[u8], place: &[u8], line: u32, out: &mut O) -> Status
-    ensures told { TellsAtEnd Status.SheetRefused (words.now ++ (place.now ++ ((codes " line " ++ decimal line) ++ codes "\n"))) result (O.given out.old) (O.given out.new) }
+    ensures told { TellsAtEnd Status.SheetRefused
+        (words.now ++ (place.now ++ ((codes " line " ++ decimal line) ++ codes "\n"))) result
+        (O.given out.old) (O.given out.new) }
     ensures fault { result ≡ Status.WriteFault → Rose (O.faults out.old) (O.faults out.new) }
     ensures no_fault { result ≢ Status.WriteFault → O.faults out.new ≡ O.faults out.old }
 {
@@ -77,7 +80,8 @@ pub(crate) fn tell_fault<O: Sink>(place: &[u8], fault: JournalFault, out: &mut O
 
 /// Ends a run at two journals that have different posts of this author and number.
 pub(crate) fn tell_differ<O: Sink>(author: u16, number: u32, out: &mut O) -> Status
-    ensures told { TellsAtEnd Status.SheetRefused (differ_text author number) result (O.given out.old) (O.given out.new) }
+    ensures told { TellsAtEnd Status.SheetRefused (differ_text author number) result
+        (O.given out.old) (O.given out.new) }
     ensures fault { result ≡ Status.WriteFault → Rose (O.faults out.old) (O.faults out.new) }
     ensures no_fault { result ≢ Status.WriteFault → O.faults out.new ≡ O.faults out.old }
 {

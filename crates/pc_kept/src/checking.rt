@@ -16,7 +16,8 @@ use std::alloc::{AllocError, Global};
 pub(crate) fn is_of_node(names: &Names, number: usize) -> bool
     requires few { number < 2 ^ 32 }
     requires within { number < length names.now.axioms }
-    ensures { OnTrue result ((x : Axiom) → slice_get names.now.axioms number ≡ Some x → IsOfNode x) }
+    ensures { OnTrue result ((x : Axiom) → slice_get names.now.axioms number ≡ Some x →
+        IsOfNode x) }
 {
     match names.axiom(number as u32) {
         AxiomRef::Any(_) => false,
@@ -70,7 +71,8 @@ pub(crate) fn has_constant(clause: &[Lit], pairs: u32, constants: &Values, named
 fn is_constant(literal: Lit, pairs: u32, constants: &Values, named: &Values) -> bool
     requires constants { literal.variable.0 < length constants.now }
     requires named { literal.variable.0 < length named.now }
-    ensures { OnTrue result ((pairs ≤ literal.variable.0) × MakesTrue constants.now literal × (¬ IsNamed named.now literal.variable.0)) }
+    ensures { OnTrue result ((pairs ≤ literal.variable.0) × MakesTrue constants.now literal ×
+        (¬ IsNamed named.now literal.variable.0)) }
 {
     if literal.variable.0 < pairs {
         return false;
@@ -106,7 +108,9 @@ fn may_go(clause: &[Lit], pairs: u32, values: &Values, constants: &Values, named
     requires values { All (λ l. l.variable.0 < length values.now) clause.now }
     requires constants { All (λ l. l.variable.0 < length constants.now) clause.now }
     requires named { All (λ l. l.variable.0 < length named.now) clause.now }
-    ensures { OnTrue result (HasTrue values.now clause.now ⊎ (NoneIsNamed pairs named.now clause.now ⊎ HasConstant pairs constants.now named.now clause.now)) }
+    ensures { OnTrue result (HasTrue values.now clause.now ⊎
+        (NoneIsNamed pairs named.now clause.now ⊎
+        HasConstant pairs constants.now named.now clause.now)) }
 {
     if has_true(clause, values) {
         return true;
@@ -125,7 +129,8 @@ fn is_fine(stored: Stored<'_>, constants: &Values, trial: &Trial, number: usize)
     requires few { length stored.store.now < 2 ^ 32 }
     requires names { length stored.names.now.axioms ≡ length stored.store.now }
     requires within { number < length stored.store.now }
-    ensures { OnTrue result (IsFine stored.entry.pairs stored.entry.store.now stored.entry.names.now.axioms trial.now.values constants.now trial.now.named number) }
+    ensures { OnTrue result (IsFine stored.entry.pairs stored.entry.store.now
+        stored.entry.names.now.axioms trial.now.values constants.now trial.now.named number) }
 {
     if !is_of_node(stored.names, number) {
         return false;
@@ -149,7 +154,9 @@ pub(crate) fn are_fine(
     requires names { length stored.names.now.axioms ≡ length stored.store.now }
     requires within { All (λ k. k < length stored.store.now) used.now }
     requires marks { length marks.now ≡ length used.now }
-    ensures { OnTrue result (AreFine stored.entry.pairs stored.entry.store.now stored.entry.names.now.axioms trial.now.values constants.now trial.now.named used.now marks.now) }
+    ensures { OnTrue result (AreFine stored.entry.pairs stored.entry.store.now
+        stored.entry.names.now.axioms trial.now.values constants.now trial.now.named used.now
+        marks.now) }
 {
     for i in 0..used.len() {
         if !marks[i] && !is_fine(stored, constants, trial, used[i]) {

@@ -55,7 +55,9 @@ fn kept_rows(
     requires names { length stored.names.now.axioms ≡ length stored.store.now }
     requires many { length whole.now.axioms ≡ length whole.now.cells }
     requires within { All (All (λ k. k < length stored.store.now)) whole.now.axioms }
-    ensures { IfOk result (AllZip (AreKeptStored stored.entry.pairs stored.entry.store.now stored.entry.names.now.axioms) whole.now.axioms) }
+    ensures { IfOk result
+        (AllZip (AreKeptStored stored.entry.pairs stored.entry.store.now
+        stored.entry.names.now.axioms) whole.now.axioms) }
 {
     let mut rows = Rows::new(alloc);
     for i in 0..whole.len() {

@@ -9,7 +9,8 @@ use pc_lits::{ClauseStore, Left, Lit, Values, left_of};
 /// Makes the clause's last literal true, where all others are false.
 fn force_by(clause: &[Lit], values: &mut Values)
     requires { All (λ l. l.variable.0 < length values.old) clause.now }
-    ensures forced { (store : List (List Lit)) (kept : List ℕ) → IsAmong store kept clause.now → AreRight store kept values.old → AreRight store kept values.new }
+    ensures forced { (store : List (List Lit)) (kept : List ℕ) → IsAmong store kept clause.now →
+        AreRight store kept values.old → AreRight store kept values.new }
     ensures room { length values.new ≡ length values.old }
 {
     if let Left::Last(literal) = left_of(clause, values) {
@@ -21,7 +22,8 @@ fn force_by(clause: &[Lit], values: &mut Values)
 pub(crate) fn force_back(store: &ClauseStore, kept: &[usize], values: &mut Values)
     requires room { IsRoom values.old store.now }
     requires kept { All (λ k. k < length store.now) kept.now }
-    ensures forced { AreRight store.now kept.now values.old → AreRight store.now kept.now values.new }
+    ensures forced { AreRight store.now kept.now values.old →
+        AreRight store.now kept.now values.new }
     ensures room { length values.new ≡ length values.old }
 {
     for i in 0..kept.len() {
@@ -34,7 +36,8 @@ pub(crate) fn force_back(store: &ClauseStore, kept: &[usize], values: &mut Value
 pub(crate) fn force_on(store: &ClauseStore, kept: &[usize], values: &mut Values)
     requires room { IsRoom values.old store.now }
     requires kept { All (λ k. k < length store.now) kept.now }
-    ensures forced { AreRight store.now kept.now values.old → AreRight store.now kept.now values.new }
+    ensures forced { AreRight store.now kept.now values.old →
+        AreRight store.now kept.now values.new }
     ensures room { length values.new ≡ length values.old }
 {
     for i in 0..kept.len() {

@@ -40,7 +40,8 @@ fn look_at_meanings(
     requires few { length store.now < 2 ^ 32 }
     requires names { length names.now.axioms ≡ length store.now }
     requires within { All (λ k. k < length store.now) used.now }
-    ensures right { OnOk result ((meanings : List ℕ) × AreMeaningsStored names.now.axioms meanings × AreRight store.now meanings constants.new) }
+    ensures right { OnOk result ((meanings : List ℕ) × AreMeaningsStored names.now.axioms meanings ×
+        AreRight store.now meanings constants.new) }
     ensures room { length constants.new ≡ length constants.old }
 {
     let meanings = meanings_of(alloc, names, used)?;
@@ -73,9 +74,13 @@ fn try_marks(
     requires few { length stored.store.now < 2 ^ 32 }
     requires names { length stored.names.now.axioms ≡ length stored.store.now }
     requires within { All (λ k. k < length stored.store.now) used.now }
-    requires right { (meanings : List ℕ) × AreMeaningsStored stored.names.now.axioms meanings × AreRight stored.store.now meanings constants.now }
+    requires right { (meanings : List ℕ) × AreMeaningsStored stored.names.now.axioms meanings ×
+        AreRight stored.store.now meanings constants.now }
     requires marks { length marks.old.items ≡ length used.now }
-    ensures kept { IfOk result (λ o. IfSome o (λ kept. AreKeptStored stored.entry.pairs stored.entry.store.now stored.entry.names.now.axioms used.now kept.items)) }
+    ensures kept { IfOk result
+        (λ o.
+        IfSome o (λ kept. AreKeptStored stored.entry.pairs stored.entry.store.now
+        stored.entry.names.now.axioms used.now kept.items)) }
     ensures values { length trial.new.values ≡ length trial.old.values }
     ensures named { length trial.new.named ≡ length trial.old.named }
     ensures marks { length marks.new.items ≡ length marks.old.items }
@@ -111,7 +116,8 @@ pub(crate) fn kept_axioms(
     requires few { length stored.store.now < 2 ^ 32 }
     requires names { length stored.names.now.axioms ≡ length stored.store.now }
     requires within { All (λ k. k < length stored.store.now) used.now }
-    ensures kept { IfOk result (λ kept. AreKeptStored stored.entry.pairs stored.entry.store.now stored.entry.names.now.axioms used.now kept.items) }
+    ensures kept { IfOk result (λ kept. AreKeptStored stored.entry.pairs stored.entry.store.now
+        stored.entry.names.now.axioms used.now kept.items) }
     ensures values { length trial.new.values ≡ length trial.old.values }
     ensures constants { length constants.new ≡ length constants.old }
     ensures named { length trial.new.named ≡ length trial.old.named }

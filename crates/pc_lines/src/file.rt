@@ -30,7 +30,8 @@ impl From<AllocError> for SheetStop {
 
 /// All bytes of the shelf's file of that name, at most as many as a sheet may have. The shelf is read once.
 pub fn take_file<H: Shelf>(alloc: Global, file: &str, shelf: &mut H) -> Result<Vec<u8>, SheetStop>
-    ensures gives { FileGives (H.kept shelf.old) file.now result (H.asked shelf.old) (H.asked shelf.new) }
+    ensures gives { FileGives (H.kept shelf.old) file.now result (H.asked shelf.old)
+        (H.asked shelf.new) }
     ensures asked { AsksOnce file.now (H.asked shelf.old) (H.asked shelf.new) }
     ensures kept { H.kept shelf.new ≡ H.kept shelf.old }
 

@@ -117,11 +117,14 @@ impl LineReader {
     fn fill<S: Source>(&mut self, source: &mut S) -> Result<bool, Failed>
         ensures line { self.new.line ≡ self.old.line }
         ensures longest { self.new.longest ≡ self.old.longest }
-        ensures bytes { Keeps (coming self.old (S.left source.old)) (coming self.new (S.left source.new)) }
-        ensures some { IfOk result (λ more. MatchBool more (0 < length self.new.held) (IsAtEnd (coming self.new (S.left source.new)))) }
+        ensures bytes { Keeps (coming self.old (S.left source.old))
+            (coming self.new (S.left source.new)) }
+        ensures some { IfOk result (λ more. MatchBool more (0 < length self.new.held)
+            (IsAtEnd (coming self.new (S.left source.new)))) }
         ensures fault { OnErr result (self.new.held ≡ []) }
         ensures few { length self.new.held ≤ CHUNK }
-        ensures waits { 0 < length self.old.held → (self.new.held ≡ self.old.held) × (source.new ≡ source.old) }
+        ensures waits { 0 < length self.old.held → (self.new.held ≡ self.old.held) ×
+            (source.new ≡ source.old) }
         ensures cause { HasCause (S.faults source.old) (S.faults source.new) result }
     {
         if self.from < self.to {
@@ -137,9 +140,13 @@ impl LineReader {
     /// the line, also where that is too long or a read failed.
     pub fn next<S: Source>(&mut self, source: &mut S, limit: usize) -> Result<Taken, Failed>
         requires { limit ≤ self.old.longest }
-        ensures takes { Consumes (coming self.old (S.left source.old)) (coming self.new (S.left source.new)) self.new.line }
-        ensures taken { MatchResult result (λ taken. IsTaken taken limit self.new.line (coming self.new (S.left source.new))) (λ _. IsOpenLine limit self.new.line) }
-        ensures lines { IfOk result (λ taken. IsNextLine taken limit self.new.line (coming self.old (S.left source.old)) (coming self.new (S.left source.new))) }
+        ensures takes { Consumes (coming self.old (S.left source.old))
+            (coming self.new (S.left source.new)) self.new.line }
+        ensures taken { MatchResult result (λ taken.
+            IsTaken taken limit self.new.line (coming self.new (S.left source.new)))
+            (λ _. IsOpenLine limit self.new.line) }
+        ensures lines { IfOk result (λ taken. IsNextLine taken limit self.new.line
+            (coming self.old (S.left source.old)) (coming self.new (S.left source.new))) }
         ensures longest { self.new.longest ≡ self.old.longest }
 
         // No more is held than one read gives, and at a fault all that was read before it has been taken.

@@ -5,7 +5,9 @@ ghost use Rattle.pc_lines.specs.Lines.{HasNoEnd};
 
 // The index of the first line feed.
 pub(crate) fn line_end(bytes: &[u8]) -> Option<usize>
-    ensures found { IfSome result (λ i. (bytes.now ≡ (take i bytes.now ++ 10 ∷ []) ++ drop (i + 1) bytes.now) × (i < length bytes.now)) }
+    ensures found { IfSome result
+        (λ i. (bytes.now ≡ (take i bytes.now ++ 10 ∷ []) ++ drop (i + 1) bytes.now) ×
+        (i < length bytes.now)) }
     ensures first { IfSome result (λ i. HasNoEnd (take i bytes.now)) }
     ensures none { IfNone result (HasNoEnd bytes.now) }
 {
@@ -25,7 +27,8 @@ pub(crate) fn without_return(line: &[u8]) -> &[u8]
 
 /// The first line of the text, and what follows it.
 pub fn next_line(bytes: &[u8]) -> Option<(&[u8], &[u8])>
-    ensures first { MatchOption result (lines bytes.now ≡ []) (λ p. lines bytes.now ≡ p.0.now ∷ lines p.1.now) }
+    ensures first { MatchOption result (lines bytes.now ≡ []) (λ p. lines bytes.now ≡ p.0.now ∷
+        lines p.1.now) }
     ensures short { IfSome result (λ p. length p.0.now ≤ length bytes.now) }
     ensures shorter { IfSome result (λ p. length p.1.now < length bytes.now) }
 {

@@ -49,7 +49,8 @@ fn deny_all(clause: &[Lit], values: &mut Values) -> bool
 // Takes the hints in order, with the literals false that are so at the start.
 fn refutes<H: Hints>(hints: &H, values: &mut Values) -> bool
     requires hints { All (All (IsInRange values.old)) (H.clauses hints.now) }
-    ensures answer { (falses : List Lit) → Agrees values.old falses → (IsTrue result ↔ Refutes negated falses (H.clauses hints.now)) }
+    ensures answer { (falses : List Lit) → Agrees values.old falses →
+        (IsTrue result ↔ Refutes negated falses (H.clauses hints.now)) }
     ensures room { length values.new ≡ length values.old }
 {
     let count = hints.count();

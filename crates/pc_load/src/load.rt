@@ -33,7 +33,8 @@ fn read_book(alloc: Global, text: &[u8]) -> Result<Book, LoadFault>
 /// names and sorts.
 pub fn load_book(alloc: Global, text: &[u8]) -> Result<Book, LoadFault>
     requires { length text.now ≤ SHEET_LIMIT }
-    ensures { MatchResult result (ReadsAs text.now) (RefusesBy (λ why. HasFault text.now why × ((sheet : Sheet) → ¬ ReadsAs text.now sheet))) }
+    ensures { MatchResult result (ReadsAs text.now) (RefusesBy (λ why. HasFault text.now why ×
+        ((sheet : Sheet) → ¬ ReadsAs text.now sheet))) }
 {
     texts_have_one_outcome();
     read_book(alloc, text)

@@ -15,10 +15,12 @@ pub fn append_span(alloc: Global, log: &Log, span: Span, into: &mut Log) -> Resu
     requires { IsSpanOf log.now span }
     ensures first { IfOk result (λ placed. placed.first.0 ≡ length into.old) }
     ensures last { IfOk result (λ placed. placed.last.0 + 1 ≡ length into.new) }
-    ensures ok { OnOk result (into.new ≡ into.old ++ placed_at (length into.old) (lines_of_span log.now span)) }
+    ensures ok { OnOk result (into.new ≡ into.old ++ placed_at (length into.old)
+        (lines_of_span log.now span)) }
     ensures same { IfOk result (λ placed. IsSameSpan log.now into.new span placed) }
     ensures extends { Extends into.old into.new }
-    ensures bytes { OnOk result (bytes_of into.new ≡ bytes_of into.old + bytes_of (lines_of_span log.now span)) }
+    ensures bytes { OnOk result (bytes_of into.new ≡ bytes_of into.old +
+        bytes_of (lines_of_span log.now span)) }
     ensures err { OnErr result (into.new ≡ into.old) }
 {
     let before = into.len();
@@ -35,7 +37,8 @@ pub fn append_span(alloc: Global, log: &Log, span: Span, into: &mut Log) -> Resu
 // Appends the lines of a span. After an error some of them may have been appended.
 fn append_lines(alloc: Global, log: &Log, span: Span, into: &mut Log) -> Result<(), AllocError>
     requires { IsSpanOf log.now span }
-    ensures ok { OnOk result (into.new ≡ into.old ++ placed_at (length into.old) (lines_of_span log.now span)) }
+    ensures ok { OnOk result (into.new ≡ into.old ++ placed_at (length into.old)
+        (lines_of_span log.now span)) }
     ensures extends { Extends into.old into.new }
 {
     let base = into.len();
@@ -58,7 +61,8 @@ fn move_hints(
 ) -> Result<(), AllocError>
     requires from { All (λ h. first ≤ h.0) hints.now }
     requires room { All (λ h. base + (h.0 - first) < 2 ^ 64) hints.now }
-    ensures { OnOk result (moved.new.items ≡ map (λ h. record { 0 = base + (h.0 - first) }) hints.now) }
+    ensures { OnOk result (moved.new.items ≡ map (λ h. record { 0 = base + (h.0 - first) })
+        hints.now) }
 {
     moved.clear();
     for hint in hints {

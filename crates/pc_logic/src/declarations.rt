@@ -86,8 +86,13 @@ impl Declarations {
 
     /// Adds a sort of these values as the last one.
     pub(crate) fn add_list(&mut self, name: Name, values: Vec<Name>) -> Result<(), AllocError>
-        requires { IsWellFormedUniverse (record self.old { sorts = self.old.sorts ++ listed_sort name values.items ∷ [] }) }
-        ensures ok { OnOk result (self.new ≡ record self.old { sorts = self.old.sorts ++ listed_sort name values.items ∷ [] }) }
+        requires { IsWellFormedUniverse
+            (record self.old { sorts = self.old.sorts ++ listed_sort name values.items ∷ [] }) }
+        ensures ok { OnOk result
+            (self.new ≡ record self.old {
+              sorts = self.old.sorts ++ listed_sort name values.items ∷
+                  [];
+            }) }
         ensures err { OnErr result (self.new ≡ self.old) }
     {
         let alloc = *self.scheme.sorts.allocator();
@@ -100,8 +105,13 @@ impl Declarations {
 
     /// Adds the sort of the whole numbers from the low one to the high one, as the last one.
     pub(crate) fn add_range(&mut self, name: Name, low: i32, high: i32) -> Result<(), AllocError>
-        requires { IsWellFormedUniverse (record self.old { sorts = self.old.sorts ++ range_sort name low high ∷ [] }) }
-        ensures ok { OnOk result (self.new ≡ record self.old { sorts = self.old.sorts ++ range_sort name low high ∷ [] }) }
+        requires { IsWellFormedUniverse
+            (record self.old { sorts = self.old.sorts ++ range_sort name low high ∷ [] }) }
+        ensures ok { OnOk result
+            (self.new ≡ record self.old {
+              sorts = self.old.sorts ++ range_sort name low high ∷
+                  [];
+            }) }
         ensures err { OnErr result (self.new ≡ self.old) }
     {
         let alloc = *self.scheme.sorts.allocator();
@@ -113,9 +123,12 @@ impl Declarations {
     }
 
     fn add_sort(&mut self, declared: SortDecl, keys: Vec<(String, Named)>) -> Result<(), AllocError>
-        requires formed { IsWellFormedUniverse (record self.old { sorts = self.old.sorts ++ sort_of declared ∷ [] }) }
-        requires keys { named_texts keys.items ≡ sort_keys (record { 0 = length self.old.sorts }) declared.name (names_of_values (values_of declared.values)) }
-        ensures ok { OnOk result (self.new ≡ record self.old { sorts = self.old.sorts ++ sort_of declared ∷ [] }) }
+        requires formed { IsWellFormedUniverse
+            (record self.old { sorts = self.old.sorts ++ sort_of declared ∷ [] }) }
+        requires keys { named_texts keys.items ≡ sort_keys (record { 0 = length self.old.sorts })
+            declared.name (names_of_values (values_of declared.values)) }
+        ensures ok { OnOk result
+            (self.new ≡ record self.old { sorts = self.old.sorts ++ sort_of declared ∷ [] }) }
         ensures err { OnErr result (self.new ≡ self.old) }
     {
         self.scheme.sorts.reserve(1)?;
@@ -126,8 +139,13 @@ impl Declarations {
 
     /// Adds a table without rows as the last one.
     pub(crate) fn add_table(&mut self, name: Name, sorts: Vec<SortId>) -> Result<(), AllocError>
-        requires { IsWellFormedUniverse (record self.old { tables = self.old.tables ++ table_from name sorts.items ∷ [] }) }
-        ensures ok { OnOk result (self.new ≡ record self.old { tables = self.old.tables ++ table_from name sorts.items ∷ [] }) }
+        requires { IsWellFormedUniverse
+            (record self.old { tables = self.old.tables ++ table_from name sorts.items ∷ [] }) }
+        ensures ok { OnOk result
+            (self.new ≡ record self.old {
+              tables = self.old.tables ++ table_from name sorts.items ∷
+                  [];
+            }) }
         ensures err { OnErr result (self.new ≡ self.old) }
     {
         let alloc = *self.scheme.sorts.allocator();
@@ -145,9 +163,13 @@ impl Declarations {
 
     /// Adds a row to a table as its last one. A row that stands already changes nothing.
     pub(crate) fn add_row(&mut self, table: TableId, values: &[ValueId]) -> Result<(), AllocError>
-        requires formed { IsWellFormedUniverse (record self.old { tables = tables_with self.old.tables table.0 values.now }) }
+        requires formed { IsWellFormedUniverse
+            (record self.old { tables = tables_with self.old.tables table.0 values.now }) }
         requires table { table.0 < length self.old.tables }
-        ensures ok { OnOk result (self.new ≡ record self.old { tables = tables_with self.old.tables table.0 values.now }) }
+        ensures ok { OnOk result
+            (self.new ≡ record self.old {
+              tables = tables_with self.old.tables table.0 values.now;
+            }) }
         ensures err { OnErr result (self.new ≡ self.old) }
     {
         let alloc = *self.scheme.sorts.allocator();
@@ -162,8 +184,16 @@ impl Declarations {
         sorts: Vec<SortId>,
         result_sort: SortId,
     ) -> Result<(), AllocError>
-        requires { IsWellFormedUniverse (record self.old { families = self.old.families ++ family_from name sorts.items result_sort ∷ [] }) }
-        ensures ok { OnOk result (self.new ≡ record self.old { families = self.old.families ++ family_from name sorts.items result_sort ∷ [] }) }
+        requires { IsWellFormedUniverse
+            (record self.old {
+              families = self.old.families ++ family_from name sorts.items
+                  result_sort ∷ [];
+            }) }
+        ensures ok { OnOk result
+            (self.new ≡ record self.old {
+              families = self.old.families ++
+                  family_from name sorts.items result_sort ∷ [];
+            }) }
         ensures err { OnErr result (self.new ≡ self.old) }
     {
         let alloc = *self.scheme.sorts.allocator();
@@ -193,7 +223,8 @@ fn add_row(
     row: &[ValueId],
 ) -> Result<(), AllocError>
     requires { place < length tables.old }
-    ensures ok { OnOk result (map table_of tables.new ≡ tables_with (map table_of tables.old) place row.now) }
+    ensures ok { OnOk result (map table_of tables.new ≡ tables_with (map table_of tables.old) place
+        row.now) }
     ensures err { OnErr result (map table_of tables.new ≡ map table_of tables.old) }
 {
     tables[place].rows.add(alloc, row)?;

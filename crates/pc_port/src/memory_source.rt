@@ -72,7 +72,8 @@ impl Source for MemorySource {
         ensures cause { HasCause self.old.faults self.new.faults result }
 
         ensures fails { IsErr result ↔ SourceFails self.old }
-        ensures count { IfOk result (λ count. count ≡ min self.old.most (min (length into.old) (length self.old.left))) }
+        ensures count { IfOk result (λ count.
+            count ≡ min self.old.most (min (length into.old) (length self.old.left))) }
         ensures faults { self.new.faults ≡ count_after result self.old.faults }
         ensures goes_on { SourceGoesOn self.old self.new }
     {

@@ -36,9 +36,12 @@ impl<R: Read> Source for RealSource<R> {
 
     fn read(&mut self, into: &mut [u8]) -> Result<usize, Failed>
         ensures bound { ReadsAtMost result into.new }
-        ensures bytes { ReadConsumes (⟦<RealSource<R> as Source>⟧.left self.old) (⟦<RealSource<R> as Source>⟧.left self.new) result into.new }
-        ensures cause { HasCause (⟦<RealSource<R> as Source>⟧.faults self.old) (⟦<RealSource<R> as Source>⟧.faults self.new) result }
-        ensures faults { ⟦<RealSource<R> as Source>⟧.faults self.new ≡ count_after result (⟦<RealSource<R> as Source>⟧.faults self.old) }
+        ensures bytes { ReadConsumes (⟦<RealSource<R> as Source>⟧.left self.old)
+            (⟦<RealSource<R> as Source>⟧.left self.new) result into.new }
+        ensures cause { HasCause (⟦<RealSource<R> as Source>⟧.faults self.old)
+            (⟦<RealSource<R> as Source>⟧.faults self.new) result }
+        ensures faults { ⟦<RealSource<R> as Source>⟧.faults self.new ≡
+            count_after result (⟦<RealSource<R> as Source>⟧.faults self.old) }
     {
         for _ in 0..u64::MAX {
             match self.reader.read(into) {
@@ -77,9 +80,12 @@ impl<W: Write> Sink for RealSink<W> {
     ghost faults = { λ s. s.faults };
 
     fn write(&mut self, piece: &[u8]) -> Result<(), Failed>
-        ensures bytes { WriteGives (⟦<RealSink<W> as Sink>⟧.given self.old) (⟦<RealSink<W> as Sink>⟧.given self.new) result piece.now }
-        ensures cause { HasCause (⟦<RealSink<W> as Sink>⟧.faults self.old) (⟦<RealSink<W> as Sink>⟧.faults self.new) result }
-        ensures faults { ⟦<RealSink<W> as Sink>⟧.faults self.new ≡ count_after result (⟦<RealSink<W> as Sink>⟧.faults self.old) }
+        ensures bytes { WriteGives (⟦<RealSink<W> as Sink>⟧.given self.old)
+            (⟦<RealSink<W> as Sink>⟧.given self.new) result piece.now }
+        ensures cause { HasCause (⟦<RealSink<W> as Sink>⟧.faults self.old)
+            (⟦<RealSink<W> as Sink>⟧.faults self.new) result }
+        ensures faults { ⟦<RealSink<W> as Sink>⟧.faults self.new ≡
+            count_after result (⟦<RealSink<W> as Sink>⟧.faults self.old) }
     {
         let mut at = 0;
         for _ in 0..u64::MAX {
@@ -126,7 +132,8 @@ impl<F: Files> RealShelf<F> {
 fn take_start<S: Source>(source: &mut S, into: &mut Vec<u8>) -> Result<(), ShelfFault>
     requires { into.old.items ≡ [] }
     ensures short { length into.new.items ≤ READ_LIMIT }
-    ensures bytes { OnOk result (IfSome (S.left source.old) (λ left. into.new.items ≡ readable left)) }
+    ensures bytes { OnOk result
+        (IfSome (S.left source.old) (λ left. into.new.items ≡ readable left)) }
 
     // A fault is told exactly where the source was at fault.
     ensures cause { HasShelfCause (S.faults source.old) (S.faults source.new) result }
@@ -145,7 +152,8 @@ fn take_start<S: Source>(source: &mut S, into: &mut Vec<u8>) -> Result<(), Shelf
 
 // Opens a file and takes its start.
 fn read_file<F: Files>(files: &F, name: &str, into: &mut Vec<u8>) -> Result<(), ShelfFault>
-    ensures { MatchResult result (λ _. length into.new.items ≤ READ_LIMIT) (λ _. into.new.items ≡ []) }
+    ensures { MatchResult result (λ _. length into.new.items ≤ READ_LIMIT) (λ _. into.new.items ≡
+        []) }
 {
     into.clear();
     let Ok(file) = File::open(files, name) else {
@@ -170,10 +178,14 @@ impl<F: Files> Shelf for RealShelf<F> {
 
     fn read(&mut self, alloc: Global, name: &str, into: &mut Vec<u8>) -> Result<(), ShelfFault>
         ensures bytes { ShelfGives None name.now result into.new.items }
-        ensures keeps { ⟦<RealShelf<F> as Shelf>⟧.kept self.new ≡ ⟦<RealShelf<F> as Shelf>⟧.kept self.old }
-        ensures asks { ⟦<RealShelf<F> as Shelf>⟧.asked self.new ≡ asked_after result (⟦<RealShelf<F> as Shelf>⟧.asked self.old) name.now }
-        ensures cause { HasShelfCause (⟦<RealShelf<F> as Shelf>⟧.faults self.old) (⟦<RealShelf<F> as Shelf>⟧.faults self.new) result }
-        ensures faults { ⟦<RealShelf<F> as Shelf>⟧.faults self.new ≡ faults_after result (⟦<RealShelf<F> as Shelf>⟧.faults self.old) }
+        ensures keeps { ⟦<RealShelf<F> as Shelf>⟧.kept self.new ≡ ⟦<RealShelf<F> as Shelf>⟧.kept
+            self.old }
+        ensures asks { ⟦<RealShelf<F> as Shelf>⟧.asked self.new ≡
+            asked_after result (⟦<RealShelf<F> as Shelf>⟧.asked self.old) name.now }
+        ensures cause { HasShelfCause (⟦<RealShelf<F> as Shelf>⟧.faults self.old)
+            (⟦<RealShelf<F> as Shelf>⟧.faults self.new) result }
+        ensures faults { ⟦<RealShelf<F> as Shelf>⟧.faults self.new ≡
+            faults_after result (⟦<RealShelf<F> as Shelf>⟧.faults self.old) }
     {
         into.clear();
         let asked = String::from_str(alloc, name)?;

@@ -82,7 +82,8 @@ impl Bodies {
         requires number { number < length self.old }
         requires first { first < length (body_in self.old number) }
         requires second { second < length (body_in self.old number) }
-        ensures { self.new ≡ slice_set self.old number (swap (body_in self.old number) first second) }
+        ensures { self.new ≡ slice_set self.old number
+            (swap (body_in self.old number) first second) }
     {
         let (start, _) = span(&self.ends, number, self.literals.len());
         self.literals.swap(start + first, start + second);

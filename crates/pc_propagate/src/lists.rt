@@ -59,7 +59,10 @@ impl Lists {
 
     /// One more place, which is in no list. Without memory there is none.
     pub(crate) fn add(&mut self) -> Result<(), AllocError>
-        ensures ok { OnOk result (self.new ≡ record self.old { list_of = self.old.list_of ++ None ∷ [] }) }
+        ensures ok { OnOk result (self.new ≡ record self.old {
+          list_of = self.old.list_of ++ None ∷
+              [];
+        }) }
         ensures err { OnErr result (self.new ≡ self.old) }
     {
         if self.places.len() >= MOST - 1 {
@@ -76,7 +79,8 @@ impl Lists {
     /// Forgets the last place, which is in no list.
     pub(crate) fn drop_last(&mut self)
         requires { (front : List (Option ℕ)) × (self.old.list_of ≡ front ++ None ∷ []) }
-        ensures { (front : List (Option ℕ)) → self.old.list_of ≡ front ++ None ∷ [] → self.new ≡ record self.old { list_of = front } }
+        ensures { (front : List (Option ℕ)) → self.old.list_of ≡ front ++ None ∷ [] →
+            self.new ≡ record self.old { list_of = front } }
     {
         let _ = self.places.pop();
     }
@@ -94,10 +98,13 @@ impl Lists {
     pub(crate) fn take_first(&mut self, list: usize) -> Option<usize>
         requires { list < self.old.count }
         ensures within { IfSome result (λ place. place < length self.old.list_of) }
-        ensures was { IfSome result (λ place. slice_index_or self.old.list_of place None ≡ Some list) }
-        ensures taken { IfSome result (λ place. self.new ≡ record self.old { list_of = slice_set self.old.list_of place None }) }
+        ensures was { IfSome result (λ place. slice_index_or self.old.list_of place None ≡
+            Some list) }
+        ensures taken { IfSome result (λ place.
+            self.new ≡ record self.old { list_of = slice_set self.old.list_of place None }) }
         ensures same { IfNone result (self.new ≡ self.old) }
-        ensures none { IfNone result ((place : ℕ) → slice_index_or self.old.list_of place None ≢ Some list) }
+        ensures none { IfNone result ((place : ℕ) → slice_index_or self.old.list_of place None ≢
+            Some list) }
     {
         let ends = self.ends[list];
         let place = linked(ends.first)?;
@@ -118,7 +125,8 @@ impl Lists {
         requires list { list < self.old.count }
         requires within { place < length self.old.list_of }
         requires free { slice_index_or self.old.list_of place None ≡ None }
-        ensures { self.new ≡ record self.old { list_of = slice_set self.old.list_of place (Some list) } }
+        ensures { self.new ≡
+            record self.old { list_of = slice_set self.old.list_of place (Some list) } }
     {
         let ends = self.ends[list];
         self.places[place] = Place {

@@ -131,8 +131,9 @@ impl Trail {
         requires { AreInRange self.old.variables lits.now }
         ensures ok { OnOk result (IsAttached clause self.old self.new) }
         ensures err { OnErr result (self.new ≡ self.old) }
-        ensures over { (axioms more : List (List Lit)) → IsOver axioms more self.old → IsRef axioms more clause → clause_at axioms more clause ≡ lits.now
-            → IsOver axioms more self.new }
+        ensures over { (axioms more : List (List Lit)) → IsOver axioms more self.old →
+            IsRef axioms more clause → clause_at axioms more clause ≡ lits.now →
+            IsOver axioms more self.new }
     {
         let first = self.best(lits);
         let second = self.best_after(lits, first);
@@ -145,8 +146,13 @@ impl Trail {
     /// The variable's value, if it has one.
     pub fn value(&self, variable: Var) -> Option<bool>
         requires { variable.0 < self.now.variables }
-        ensures some { IfSome result (λ b. Contains (literals self.now.entries) (record { variable = variable; sign = b })) }
-        ensures opposite { IfSome result (λ b. Contains (falses self.now.entries) (record { variable = variable; sign = not b })) }
+        ensures some { IfSome result (λ b. Contains (literals self.now.entries)
+            (record { variable = variable; sign = b })) }
+        ensures opposite { IfSome result
+            (λ b. Contains (falses self.now.entries) (record {
+              variable = variable;
+              sign = not b;
+            })) }
         ensures known { IfSome result (λ _. HasValue self.now.entries variable) }
         ensures none { IfNone result (¬ HasValue self.now.entries variable) }
     {
@@ -260,8 +266,10 @@ impl Trail {
     pub fn place(&mut self, lit: Lit, tally: &mut Tally) -> Placed
         requires in_range { lit.variable.0 < self.old.variables }
         requires unset { ¬ HasValue self.old.entries lit.variable }
-        ensures placed { PlacesEntry (record { literal = lit; reason = None }) self.old self.new tally.old tally.new result }
-        ensures over { (axioms more : List (List Lit)) → IsOver axioms more self.old → IsOver axioms more self.new }
+        ensures placed { PlacesEntry (record { literal = lit; reason = None }) self.old self.new
+            tally.old tally.new result }
+        ensures over { (axioms more : List (List Lit)) → IsOver axioms more self.old →
+            IsOver axioms more self.new }
     {
         let entry = TrailEntry {
             literal: lit,
@@ -274,9 +282,12 @@ impl Trail {
     pub fn imply(&mut self, lit: Lit, reason: ClauseRef, tally: &mut Tally) -> Placed
         requires in_range { lit.variable.0 < self.old.variables }
         requires unset { ¬ HasValue self.old.entries lit.variable }
-        ensures placed { PlacesEntry (record { literal = lit; reason = Some reason }) self.old self.new tally.old tally.new result }
-        ensures over { (axioms more : List (List Lit)) → IsOver axioms more self.old
-            → Contains self.old.attached reason → IsLastOpen negated (falses self.old.entries) (clause_at axioms more reason) lit → IsOver axioms more self.new }
+        ensures placed { PlacesEntry (record { literal = lit; reason = Some reason }) self.old
+            self.new tally.old tally.new result }
+        ensures over { (axioms more : List (List Lit)) → IsOver axioms more self.old →
+            Contains self.old.attached reason →
+            IsLastOpen negated (falses self.old.entries) (clause_at axioms more reason) lit →
+            IsOver axioms more self.new }
     {
         let entry = TrailEntry {
             literal: lit,
@@ -289,8 +300,11 @@ impl Trail {
     pub fn justify(&mut self, variable: Var, reason: ClauseRef)
         requires { (before : ClauseRef) × IsReasonOf self.old.entries variable (Some before) }
         ensures justified { IsJustified variable reason self.old self.new }
-        ensures over { (axioms more : List (List Lit)) (place : ℕ) (is : IsEntryOfVariable self.old.entries variable place) → IsOver axioms more self.old
-            → Contains self.old.attached reason → IsLastOpen negated (falses (take place self.old.entries)) (clause_at axioms more reason) is.entry.literal → IsOver axioms more self.new }
+        ensures over { (axioms more : List (List Lit)) (place : ℕ)
+            (is : IsEntryOfVariable self.old.entries variable place) → IsOver axioms more self.old →
+            Contains self.old.attached reason →
+            IsLastOpen negated (falses (take place self.old.entries)) (clause_at axioms more reason)
+            is.entry.literal → IsOver axioms more self.new }
     {
         let place = self.slot_of(variable).place;
         let literal = self.entries[place].literal;
@@ -332,7 +346,8 @@ impl Trail {
     /// Takes the levels after this one back, all their literals with them.
     pub fn back_to(&mut self, level: u32)
         ensures back { IsBackTo level self.old self.new }
-        ensures over { (axioms more : List (List Lit)) → IsOver axioms more self.old → IsOver axioms more self.new }
+        ensures over { (axioms more : List (List Lit)) → IsOver axioms more self.old →
+            IsOver axioms more self.new }
     {
         self.pop_levels(level);
         self.head = self.head.min(self.entries.len());
@@ -399,7 +414,13 @@ impl Trail {
     // One more entry is propagated.
     pub(crate) fn advance(&mut self)
         requires { self.old.watching.head < length self.old.entries }
-        ensures { self.new ≡ record self.old { watching = record self.old.watching { head = self.old.watching.head + 1 } } }
+        ensures { self.new ≡
+            record self.old {
+              watching = record self.old.watching {
+                head = self.old.watching.head +
+                    1;
+              };
+            } }
     {
         self.head += 1;
     }
@@ -470,7 +491,8 @@ impl Trail {
         requires unwatched { 2 ≤ other }
         requires within { other < length (body_at self.old.watching (watch.place / 2)) }
         requires blocker { Contains (body_at self.old.watching (watch.place / 2)) blocker }
-        ensures shifted { IsShifted (code_of lit) index other watch blocker self.old.watching.watched self.new.watching.watched }
+        ensures shifted { IsShifted (code_of lit) index other watch blocker
+            self.old.watching.watched self.new.watching.watched }
         ensures same { self.new ≡ record self.old {
           watching = record self.old.watching { watched = self.new.watching.watched };
         } }
@@ -492,7 +514,13 @@ impl Trail {
     pub(crate) fn wait_again(&mut self, number: usize)
         requires within { number < length self.old.watching.waiting }
         requires free { wait_at self.old.watching number ≡ None }
-        ensures { self.new ≡ record self.old { watching = record self.old.watching { waiting = slice_set self.old.watching.waiting number (Some 0) } } }
+        ensures { self.new ≡
+            record self.old {
+              watching = record self.old.watching {
+                waiting = slice_set
+                    self.old.watching.waiting number (Some 0);
+              };
+            } }
     {
         self.waiting.put(number, NEXT);
     }
@@ -509,7 +537,15 @@ impl Trail {
     pub(crate) fn take_waiting(&mut self) -> Option<usize>
         ensures within { IfSome result (λ n. n < length self.old.watching.waiting) }
         ensures was { IfSome result (λ n. wait_at self.old.watching n ≡ Some 1) }
-        ensures taken { IfSome result (λ n. self.new ≡ record self.old { watching = record self.old.watching { waiting = slice_set self.old.watching.waiting n None } }) }
+        ensures taken { IfSome result
+            (λ n.
+            self.new ≡
+            record self.old {
+              watching = record self.old.watching {
+                waiting = slice_set
+                    self.old.watching.waiting n None;
+              };
+            }) }
         ensures same { IfNone result (self.new ≡ self.old) }
         ensures none { IfNone result ((n : ℕ) → wait_at self.old.watching n ≢ Some 1) }
     {
@@ -531,7 +567,11 @@ fn add_waiting(
     requires second { 2 ≤ length lits.now → second < length lits.now }
     requires lists { waiting.old.count ≡ 2 }
     ensures added { OnOk result (IsAdded lits.now watched.old watched.new) }
-    ensures waits { OnOk result (waiting.new ≡ record waiting.old { list_of = slice_set (waiting.old.list_of ++ None ∷ []) (length waiting.old.list_of) (Some 0) }) }
+    ensures waits { OnOk result
+        (waiting.new ≡ record waiting.old {
+          list_of = slice_set (waiting.old.list_of ++ None ∷ [])
+              (length waiting.old.list_of) (Some 0);
+        }) }
     ensures no_clause { OnErr result (watched.new ≡ watched.old) }
     ensures no_place { OnErr result (waiting.new ≡ waiting.old) }
 {

@@ -40,7 +40,10 @@ impl Model for WatchLists {
 impl WatchLists {
     /// So many empty lists, without room.
     pub fn new(alloc: Global, count: usize) -> Result<WatchLists, AllocError>
-        ensures { IfOk result (λ w. w ≡ record { lists = replicate count []; room = replicate count 0 }) }
+        ensures { IfOk result (λ w. w ≡ record {
+          lists = replicate count [];
+          room = replicate count 0;
+        }) }
     {
         let mut lists = Vec::with_capacity(alloc, count)?;
         'lists: for _ in 0..count {
@@ -71,7 +74,11 @@ impl WatchLists {
     pub fn replace(&mut self, list: usize, index: usize, watch: Watch)
         requires list { list < length self.old.lists }
         requires index { index < length (list_in self.old list) }
-        ensures { self.new ≡ record self.old { lists = slice_set self.old.lists list (slice_set (list_in self.old list) index watch) } }
+        ensures { self.new ≡
+            record self.old {
+              lists = slice_set self.old.lists list
+                  (slice_set (list_in self.old list) index watch);
+            } }
     {
         self.lists[list][index] = watch;
     }
@@ -81,7 +88,11 @@ impl WatchLists {
         requires list { list < length self.old.lists }
         requires index { index < length (list_in self.old list) }
         ensures was { slice_get (list_in self.old list) index ≡ Some result }
-        ensures taken { self.new ≡ record self.old { lists = slice_set self.old.lists list (swap_remove (list_in self.old list) index result) } }
+        ensures taken { self.new ≡
+            record self.old {
+              lists = slice_set self.old.lists list
+                  (swap_remove (list_in self.old list) index result);
+            } }
     {
         self.lists[list].swap_remove(index)
     }
@@ -90,7 +101,11 @@ impl WatchLists {
     pub fn put(&mut self, list: usize, watch: Watch)
         requires list { list < length self.old.lists }
         requires room { length (list_in self.old list) < room_in self.old list }
-        ensures { self.new ≡ record self.old { lists = slice_set self.old.lists list (list_in self.old list ++ watch ∷ []) } }
+        ensures { self.new ≡
+            record self.old {
+              lists = slice_set self.old.lists list (list_in self.old list ++
+                  watch ∷ []);
+            } }
     {
         let _ = self.lists[list].push(watch);
     }
@@ -98,7 +113,9 @@ impl WatchLists {
     /// Promises room for one watch more. Without memory there is as much as before.
     pub fn promise(&mut self, list: usize) -> Result<(), AllocError>
         requires { list < length self.old.lists }
-        ensures ok { OnOk result (self.new ≡ record self.old { room = slice_set self.old.room list (room_in self.old list + 1) }) }
+        ensures ok { OnOk result
+            (self.new ≡
+            record self.old { room = slice_set self.old.room list (room_in self.old list + 1) }) }
         ensures err { OnErr result (self.new ≡ self.old) }
     {
         let room = self.room[list];
@@ -114,7 +131,10 @@ impl WatchLists {
     /// Empties the list, and takes its promises back. The memory stays for later ones.
     pub fn forget(&mut self, list: usize)
         requires { list < length self.old.lists }
-        ensures { self.new ≡ record { lists = slice_set self.old.lists list []; room = slice_set self.old.room list 0 } }
+        ensures { self.new ≡ record {
+          lists = slice_set self.old.lists list [];
+          room = slice_set self.old.room list 0;
+        } }
     {
         self.lists[list].clear();
         self.room[list] = 0;

@@ -48,7 +48,10 @@ pub fn code_of(lit: Lit) -> usize
 impl Watched {
     /// No clauses, over so many variables.
     pub fn new(alloc: Global, variables: u32) -> Result<Watched, AllocError>
-        ensures { IfOk result (λ w. w ≡ record { bodies = []; lists = replicate (2 * variables) [] }) }
+        ensures { IfOk result (λ w. w ≡ record {
+          bodies = [];
+          lists = replicate (2 * variables) [];
+        }) }
     {
         let lists = WatchLists::new(alloc, 2 * variables as usize)?;
         Ok(Watched {
@@ -94,9 +97,12 @@ impl Watched {
 
     /// Recalls that each literal of a clause has a list, and that the first two of each clause of two or more watch.
     pub fn recall(&self)
-        ensures in_range { (n : ℕ) (l : Lit) → Contains (body_in self.now.bodies n) l → code_of l < length self.now.lists }
-        ensures listed { (place : ℕ) → place / 2 < length self.now.bodies → 2 ≤ length (body_in self.now.bodies (place / 2))
-            → HasPlace (slice_index_or self.now.lists (code_of (literal_of self.now.bodies place)) []) place }
+        ensures in_range { (n : ℕ) (l : Lit) → Contains (body_in self.now.bodies n) l →
+            code_of l < length self.now.lists }
+        ensures listed { (place : ℕ) → place / 2 < length self.now.bodies →
+            2 ≤ length (body_in self.now.bodies (place / 2)) →
+            HasPlace (slice_index_or self.now.lists (code_of (literal_of self.now.bodies place)) [])
+            place }
     {
         let _count = self.bodies.len();
     }
@@ -108,7 +114,9 @@ impl Watched {
         requires first { 2 ≤ length clause.now → first < length clause.now }
         requires second { 2 ≤ length clause.now → second < length clause.now }
         ensures ok { OnOk result (IsAdded clause.now self.old self.new) }
-        ensures front { OnOk result (2 ≤ length clause.now → body_in self.new.bodies (length self.old.bodies) ≡ swap (swap clause.now 0 first) 1 second) }
+        ensures front { OnOk result (2 ≤ length clause.now →
+            body_in self.new.bodies (length self.old.bodies) ≡ swap (swap clause.now 0 first) 1
+            second) }
         ensures err { OnErr result (self.new ≡ self.old) }
     {
         let number = self.bodies.len();
@@ -142,7 +150,13 @@ impl Watched {
         requires list { code_of lit < length self.old.lists }
         requires is { slice_get (watchers self.old lit) index ≡ Some watch }
         requires blocker { Contains (body_in self.old.bodies (watch.place / 2)) blocker }
-        ensures { self.new ≡ record self.old { lists = slice_set self.old.lists (code_of lit) (slice_set (watchers self.old lit) index (record { place = watch.place; blocker = blocker })) } }
+        ensures { self.new ≡ record self.old {
+          lists = slice_set self.old.lists (code_of lit)
+              (slice_set (watchers self.old lit) index (record {
+                place = watch.place;
+                blocker = blocker;
+              }));
+        } }
     {
         let blocked = Watch {
             place: watch.place,
@@ -193,8 +207,10 @@ fn promise_all(lists: &mut WatchLists, clause: &[Lit]) -> Result<(), AllocError>
     requires size { length lists.old.room ≡ length lists.old.lists }
     ensures same { lists.new.lists ≡ lists.old.lists }
     ensures size { length lists.new.room ≡ length lists.old.room }
-    ensures room { (d : ℕ) → d < length lists.old.lists → room_in lists.old d ≤ room_in lists.new d }
-    ensures ok { OnOk result ((d : ℕ) → d < length lists.old.lists → room_in lists.old d + occurrences d clause.now ≤ room_in lists.new d) }
+    ensures room { (d : ℕ) → d < length lists.old.lists →
+        room_in lists.old d ≤ room_in lists.new d }
+    ensures ok { OnOk result ((d : ℕ) → d < length lists.old.lists →
+        room_in lists.old d + occurrences d clause.now ≤ room_in lists.new d) }
 {
     for lit in clause {
         lists.promise(code_of(*lit))?;

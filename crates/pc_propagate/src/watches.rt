@@ -70,7 +70,8 @@ impl Trail {
     // Whether the clause needs no look unless one of its first two literals becomes false.
     fn is_kept(&self, number: usize) -> bool
         requires { number < length self.now.watching.watched.bodies }
-        ensures { OnTrue result ((head : ℕ) → IsSure self.now.entries head (body_at self.now.watching number)) }
+        ensures { OnTrue result ((head : ℕ) →
+            IsSure self.now.entries head (body_at self.now.watching number)) }
     {
         let body = self.body(number);
         if body.is_empty() {

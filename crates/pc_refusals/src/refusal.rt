@@ -191,7 +191,8 @@ pub fn write_refusal<O: Sink>(
     line: Option<u32>,
     out: &mut O,
 ) -> Result<(), Failed>
-    ensures { Writes O.given O.faults out.old out.new result (told_text beginning.now refusal line) }
+    ensures { Writes O.given O.faults out.old out.new result
+        (told_text beginning.now refusal line) }
 {
     write_text(beginning, out)?;
     write_text(refusal.words(), out)?;

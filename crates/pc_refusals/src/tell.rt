@@ -23,7 +23,8 @@ pub fn end_with<O: Sink>(status: Status, line: &[u8], out: &mut O) -> Status
 
 /// Ends a run by the refusal of its sheet.
 pub fn refuse<O: Sink>(refused: SheetRefusal, out: &mut O) -> Status
-    ensures told { TellsAtEnd Status.SheetRefused (sheet_refusal_text refused) result (O.given out.old) (O.given out.new) }
+    ensures told { TellsAtEnd Status.SheetRefused (sheet_refusal_text refused) result
+        (O.given out.old) (O.given out.new) }
     ensures fault { result ≡ Status.WriteFault → Rose (O.faults out.old) (O.faults out.new) }
     ensures no_fault { result ≢ Status.WriteFault → O.faults out.new ≡ O.faults out.old }
 {
@@ -35,7 +36,8 @@ pub fn refuse<O: Sink>(refused: SheetRefusal, out: &mut O) -> Status
 
 /// Ends a run that passed a limit.
 pub fn tell_too_long<O: Sink>(out: &mut O) -> Status
-    ensures told { TellsAtEnd Status.TooLong too_long_text result (O.given out.old) (O.given out.new) }
+    ensures told { TellsAtEnd Status.TooLong too_long_text result (O.given out.old)
+        (O.given out.new) }
     ensures fault { result ≡ Status.WriteFault → Rose (O.faults out.old) (O.faults out.new) }
     ensures no_fault { result ≢ Status.WriteFault → O.faults out.new ≡ O.faults out.old }
 {
@@ -53,7 +55,8 @@ pub fn tell_no_memory<O: Sink>(out: &mut O) -> Status
 
 /// Ends a run that wanted memory for its sheet.
 pub fn tell_no_memory_for_sheet<O: Sink>(out: &mut O) -> Status
-    ensures told { TellsAtEnd Status.Memory sheet_memory_text result (O.given out.old) (O.given out.new) }
+    ensures told { TellsAtEnd Status.Memory sheet_memory_text result (O.given out.old)
+        (O.given out.new) }
     ensures fault { result ≡ Status.WriteFault → Rose (O.faults out.old) (O.faults out.new) }
     ensures no_fault { result ≢ Status.WriteFault → O.faults out.new ≡ O.faults out.old }
 {

@@ -35,7 +35,8 @@ fn assumptions(task: Task<'_>, set: &[Entry], target: Target) -> Result<Vec<Lit>
     requires set { All (λ e. IsValueOfCell task.ground.now.sizes e.cell e.value) set.now }
     requires target { IsValueOfCell task.ground.now.sizes target.cell target.value }
     requires holds { target.holds ≡ true }
-    ensures { IfOk result (λ lits. lits.items ≡ map (entry_literal task.entry.ground.now.sizes) set.now ++ negated (target_literal task.entry.ground.now.sizes target) ∷ []) }
+    ensures { IfOk result (λ lits. lits.items ≡ map (entry_literal task.entry.ground.now.sizes)
+        set.now ++ negated (target_literal task.entry.ground.now.sizes target) ∷ []) }
 {
     let mut lits = Vec::new(task.alloc);
     for entry in set {
@@ -56,7 +57,8 @@ pub(crate) fn ask(
     log: &mut Log,
     tally: &mut Tally,
 ) -> Result<bool, Stop>
-    requires task { IsTask task.book.now task.ground.now task.axioms.now task.variables.now task.cells.now }
+    requires task { IsTask task.book.now task.ground.now task.axioms.now task.variables.now
+        task.cells.now }
     requires set { All (λ e. IsValueOfCell task.ground.now.sizes e.cell e.value) set.now }
     requires target { IsValueOfCell task.ground.now.sizes target.cell target.value }
     requires holds { target.holds ≡ true }
@@ -66,7 +68,8 @@ pub(crate) fn ask(
     requires few_calls { tally.old.calls < 2 ^ 126 }
     ensures asked { IsAsked task.entry.book.now [] solver.new log.new }
     ensures shown { IsAssignment task.entry.book.now.universe shown.new }
-    ensures spends { SpendsIn (variable_count task.entry.book.now) 1 tally.old tally.new log.old log.new }
+    ensures spends { SpendsIn (variable_count task.entry.book.now) 1 tally.old tally.new log.old
+        log.new }
     ensures says { IfOk result (AskSays task.entry.book.now set.now target shown.new) }
     ensures stop { IfErr result (StopSays tally.new) }
 {

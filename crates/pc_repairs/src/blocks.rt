@@ -39,7 +39,8 @@ fn is_next(set: &[Entry], next: usize, entry: Entry) -> bool
 
 // The clause of the entries that aren't in the set, whose entries stand in the order of the book's.
 fn block_of(task: Task<'_>, set: &[Entry]) -> Result<Vec<Lit>, AllocError>
-    requires task { IsTask task.book.now task.ground.now task.axioms.now task.variables.now task.cells.now }
+    requires task { IsTask task.book.now task.ground.now task.axioms.now task.variables.now
+        task.cells.now }
     requires among { IsSublist task.book.now.entries set.now }
     ensures { IfOk result (λ block. block.items ≡ block_for task.entry.book.now set.now) }
 {
@@ -62,10 +63,12 @@ pub(crate) fn add_blocks(
     sets: &Worlds,
     solver: &mut Solver<'_>,
 ) -> Result<(), AllocError>
-    requires task { IsTask task.book.now task.ground.now task.axioms.now task.variables.now task.cells.now }
+    requires task { IsTask task.book.now task.ground.now task.axioms.now task.variables.now
+        task.cells.now }
     requires exact { AreExact task.book.now sets.now }
     requires asked { IsAsked task.book.now [] solver.old [] }
-    ensures { OnOk result (IsAsked task.entry.book.now (blocks_for task.entry.book.now sets.now) solver.new []) }
+    ensures { OnOk result (IsAsked task.entry.book.now (blocks_for task.entry.book.now sets.now)
+        solver.new []) }
 {
     whole_is_searched();
     for place in 0..sets.len() {

@@ -92,7 +92,8 @@ fn lay_part(
 ) -> Result<Vec<Assignment>, AllocError>
     requires sized { IsSized count part }
     requires long { All (λ values. length values ≡ count) all.now }
-    ensures { IfOk result (λ laid. laid.items ≡ laid_by_world all.now part.entry.cells.now part.entry.sets.now) }
+    ensures { IfOk result (λ laid. laid.items ≡ laid_by_world all.now part.entry.cells.now
+        part.entry.sets.now) }
 {
     let _count = count;
     let mut laid = Vec::new(alloc);

@@ -66,7 +66,8 @@ fn write_set<O: Sink>(book: &Book, set: &[Entry], out: &mut O) -> Result<(), Fai
 
 fn write_sets<O: Sink>(book: &Book, sets: &[Aged<'_>], out: &mut O) -> Result<(), Failed>
     requires { All (λ a. All (IsEntryOf book.now.universe) (aged_set a)) sets.now }
-    ensures { Writes O.given O.faults out.old out.new result (flat_map (λ a. keep_line book.now.universe (aged_set a)) sets.now) }
+    ensures { Writes O.given O.faults out.old out.new result
+        (flat_map (λ a. keep_line book.now.universe (aged_set a)) sets.now) }
 {
     for aged in sets {
         write_set(book, aged.entries, out)?;
@@ -77,7 +78,8 @@ fn write_sets<O: Sink>(book: &Book, sets: &[Aged<'_>], out: &mut O) -> Result<()
 fn write_part<O: Sink>(book: &Book, part: &ListingPart<'_>, out: &mut O) -> Result<(), Failed>
     requires cell { part.now.cell.0 < length (cell_sizes book.now.universe) }
     requires sets { All (λ a. All (IsEntryOf book.now.universe) (aged_set a)) part.now.sets.items }
-    ensures { Writes O.given O.faults out.old out.new result (part_lines book.now.universe (part_listed part.now)) }
+    ensures { Writes O.given O.faults out.old out.new result
+        (part_lines book.now.universe (part_listed part.now)) }
 {
     write_text(b"part ", out)?;
     write_cell(book, part.cell, out)?;
@@ -92,7 +94,8 @@ fn listing_part<'a>(
     part: PartSets<'a>,
 ) -> Result<ListingPart<'a>, AllocError>
     requires { (p : Part) × (k : ℕ) × IsChosen book.now k p × IsPartSets book.now p part }
-    ensures { (p : Part) (k : ℕ) → IsChosen book.now k p → IsPartSets book.now p part.entry → IfOk result (λ listed. IsListedPart book.now p (part_listed listed)) }
+    ensures { (p : Part) (k : ℕ) → IsChosen book.now k p → IsPartSets book.now p part.entry →
+        IfOk result (λ listed. IsListedPart book.now p (part_listed listed)) }
 {
     well_formed(book);
     let sets = in_order(alloc, book.entries(), part.sets)?;
@@ -120,7 +123,8 @@ impl<'a> Listing<'a> {
     /// Writes what is listed of the book. It takes no memory, and fails only where the sink does: it has then written a front.
     pub fn write<O: Sink>(&self, book: &Book, out: &mut O) -> Result<(), Failed>
         requires { IsListing book.now (listed_in self.now) }
-        ensures { Writes O.given O.faults out.old out.new result (listing_text book.now.universe (listed_in self.now)) }
+        ensures { Writes O.given O.faults out.old out.new result
+            (listing_text book.now.universe (listed_in self.now)) }
     {
         well_formed(book);
         for part in self.parts.iter() {
@@ -135,7 +139,8 @@ impl<'a> Listing<'a> {
 /// written alone; the sink's failure leaves a front written.
 pub fn list<C: Choices, O: Sink>(alloc: Global, view: &C, out: &mut O) -> Result<(), ListFault>
     ensures memory { result ≡ Err Memory → out.new ≡ out.old }
-    ensures listed { result ≢ Err Memory → (text : List ℕ) × IsListed (C.sheet view.now) text × Writes O.given O.faults out.old out.new result text }
+    ensures listed { result ≢ Err Memory → (text : List ℕ) × IsListed (C.sheet view.now) text ×
+        Writes O.given O.faults out.old out.new result text }
 {
     let Ok(listing) = Listing::new(alloc, view) else {
         return Err(ListFault::Memory);

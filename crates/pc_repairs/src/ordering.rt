@@ -88,7 +88,8 @@ pub(crate) fn in_order<'a>(
     requires apart { AreApart worlds.now }
     ensures worlds { IfOk result (λ aged. IsPermutation worlds.now (map world_of aged.items)) }
     ensures has { IfOk result (λ aged. All HasItsSet aged.items) }
-    ensures order { IfOk result (λ aged. AllPairs (ComesFirst entries.now) (map aged_set aged.items)) }
+    ensures order { IfOk result (λ aged.
+        AllPairs (ComesFirst entries.now) (map aged_set aged.items)) }
 {
     let mut aged = aged_sets(alloc, entries, worlds)?;
     sort_by_age(&mut aged)?;

@@ -17,7 +17,8 @@ pub struct PartSets<'a> {
 
 /// Each part that has an entry on its cells, in the order of parts.
 pub fn sets_by_part<C: Choices>(alloc: Global, view: &C) -> Result<Vec<PartSets<'_>>, AllocError>
-    ensures { IfOk result (λ parts. AllZip (IsPartSets (C.sheet view.now)) (chosen_parts (C.sheet view.now)) parts.items) }
+    ensures { IfOk result (λ parts. AllZip (IsPartSets (C.sheet view.now))
+        (chosen_parts (C.sheet view.now)) parts.items) }
 {
     let mut parts = Vec::new(alloc);
     for part in 0..view.parts() {

@@ -29,7 +29,8 @@ fn refute_blocked(
     log: &mut Log,
     tally: &mut Tally,
 ) -> Result<StepId, Stop>
-    requires task { IsTask task.book.now task.ground.now task.axioms.now task.variables.now task.cells.now }
+    requires task { IsTask task.book.now task.ground.now task.axioms.now task.variables.now
+        task.cells.now }
     requires exact { AreExact task.book.now sets.now }
     requires asked { IsAsked task.book.now [] solver.old [] }
     requires new_log { log.old ≡ [] }
@@ -37,7 +38,8 @@ fn refute_blocked(
     requires few_calls { tally.old.calls < 2 ^ 126 }
     ensures refuted { IfOk result (IsRefutedAt task.entry.book.now log.new) }
     ensures stop { IfErr result (StopSays tally.new) }
-    ensures search { IsWholeSearch task.entry.book.now (blocks_for task.entry.book.now sets.now) 1 tally.old tally.new log.new }
+    ensures search { IsWholeSearch task.entry.book.now (blocks_for task.entry.book.now sets.now) 1
+        tally.old tally.new log.new }
 {
     whole_is_searched();
     consistent_is_in_maximal();
@@ -59,14 +61,16 @@ fn refute_task(
     log: &mut Log,
     tally: &mut Tally,
 ) -> Result<StepId, Stop>
-    requires task { IsTask task.book.now task.ground.now task.axioms.now task.variables.now task.cells.now }
+    requires task { IsTask task.book.now task.ground.now task.axioms.now task.variables.now
+        task.cells.now }
     requires exact { AreExact task.book.now sets.now }
     requires new_log { log.old ≡ [] }
     requires few_learned { tally.old.learned < 2 ^ 126 }
     requires few_calls { tally.old.calls < 2 ^ 126 }
     ensures refuted { IfOk result (IsRefutedAt task.entry.book.now log.new) }
     ensures stop { IfErr result (StopSays tally.new) }
-    ensures search { IsWholeSearch task.entry.book.now (blocks_for task.entry.book.now sets.now) 1 tally.old tally.new log.new }
+    ensures search { IsWholeSearch task.entry.book.now (blocks_for task.entry.book.now sets.now) 1
+        tally.old tally.new log.new }
 {
     let mut solver = task.solver()?;
     refute_blocked(task, sets, &mut solver, log, tally)
@@ -90,7 +94,8 @@ pub fn refute(
     requires few_calls { tally.old.calls < 2 ^ 126 }
     ensures refuted { IfOk result (IsRefutedAt book.now log.new) }
     ensures stop { IfErr result (StopSays tally.new) }
-    ensures search { IsWholeSearch book.now (blocks_for book.now sets.now) 1 tally.old tally.new log.new }
+    ensures search { IsWholeSearch book.now (blocks_for book.now sets.now) 1 tally.old tally.new
+        log.new }
 {
     let numbers = Numbers::of(alloc, book, ground)?;
     let task = Task {

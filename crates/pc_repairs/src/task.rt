@@ -50,7 +50,8 @@ fn axioms_below(alloc: Global, count: usize) -> Result<Vec<u32>, AllocError>
 }
 
 fn variables_below(alloc: Global, count: u32) -> Result<Vec<Var>, AllocError>
-    ensures { IfOk result (λ variables. variables.items ≡ map variable_of (range_with_len 0 count)) }
+    ensures { IfOk result (λ variables. variables.items ≡
+        map variable_of (range_with_len 0 count)) }
 {
     let mut variables = Vec::new(alloc);
     for number in 0..count {
@@ -74,7 +75,8 @@ impl Numbers {
     /// All that a book has.
     pub fn of(alloc: Global, book: &Book, ground: &Ground) -> Result<Numbers, AllocError>
         requires { ground.now ≡ grounded book.now }
-        ensures { IfOk result (λ n. IsTask book.now ground.now n.axioms.items n.variables.items n.cells.items) }
+        ensures { IfOk result (λ n. IsTask book.now ground.now n.axioms.items n.variables.items
+            n.cells.items) }
     {
         well_formed(book);
         few_cells(book);
@@ -94,7 +96,8 @@ impl<'g> Task<'g> {
     /// A solver over all of the book, which has no blocks and has derived nothing yet. The pairs are decided first,
     /// and none is to be shown true.
     pub fn solver(self) -> Result<Solver<'g>, AllocError>
-        requires { IsTask self.book.now self.ground.now self.axioms.now self.variables.now self.cells.now }
+        requires { IsTask self.book.now self.ground.now self.axioms.now self.variables.now
+            self.cells.now }
         ensures { IfOk result (λ s. IsAsked self.entry.book.now [] s []) }
     {
         whole_is_searched();

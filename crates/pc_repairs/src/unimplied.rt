@@ -63,7 +63,8 @@ fn add_lacking(
     log: &mut Log,
     tally: &mut Tally,
 ) -> Result<bool, Stop>
-    requires task { IsTask task.book.now task.ground.now task.axioms.now task.variables.now task.cells.now }
+    requires task { IsTask task.book.now task.ground.now task.axioms.now task.variables.now
+        task.cells.now }
     requires exact { AreExact task.book.now sets.now }
     requires place { place < length sets.now }
     requires target { IsTargetIn task.book.now.universe target }
@@ -74,8 +75,10 @@ fn add_lacking(
     requires few_calls { tally.old.calls < 2 ^ 126 }
     ensures asked { IsAsked task.entry.book.now [] search.new.solver log.new }
     ensures shown { IsAssignment task.entry.book.now.universe search.new.shown }
-    ensures spends { SpendsIn (variable_count task.entry.book.now) 1 tally.old tally.new log.old log.new }
-    ensures adds { IfOk result (AddsLacking task.entry.book.now (set_at sets.now place) target search.old.found search.new.found) }
+    ensures spends { SpendsIn (variable_count task.entry.book.now) 1 tally.old tally.new log.old
+        log.new }
+    ensures adds { IfOk result (AddsLacking task.entry.book.now (set_at sets.now place) target
+        search.old.found search.new.found) }
     ensures stop { IfErr result (StopSays tally.new) }
 {
     if !has_target(sets.shown(place), target) {
@@ -107,7 +110,8 @@ fn add_all(
     log: &mut Log,
     tally: &mut Tally,
 ) -> Result<bool, Stop>
-    requires task { IsTask task.book.now task.ground.now task.axioms.now task.variables.now task.cells.now }
+    requires task { IsTask task.book.now task.ground.now task.axioms.now task.variables.now
+        task.cells.now }
     requires exact { AreExact task.book.now sets.now }
     requires target { IsTargetIn task.book.now.universe target }
     requires holds { target.holds ≡ true }
@@ -117,7 +121,8 @@ fn add_all(
     requires few_learned { tally.old.learned < 2 ^ 120 }
     requires few_calls { tally.old.calls < 2 ^ 120 }
     ensures asked { IsAsked task.entry.book.now [] search.new.solver log.new }
-    ensures spends { SpendsIn (variable_count task.entry.book.now) (length sets.now) tally.old tally.new log.old log.new }
+    ensures spends { SpendsIn (variable_count task.entry.book.now) (length sets.now) tally.old
+        tally.new log.old log.new }
     ensures says { IfOk result (AllSay task.entry.book.now sets.now target search.new.found) }
     ensures stop { IfErr result (StopSays tally.new) }
 {
@@ -132,7 +137,8 @@ fn add_all(
 
 // A search of all of the book, which has found nothing.
 fn new_search<'g>(task: Task<'g>) -> Result<Search<'g>, AllocError>
-    requires { IsTask task.book.now task.ground.now task.axioms.now task.variables.now task.cells.now }
+    requires { IsTask task.book.now task.ground.now task.axioms.now task.variables.now
+        task.cells.now }
     ensures asked { IfOk result (λ s. IsAsked task.entry.book.now [] s.solver []) }
     ensures shown { IfOk result (λ s. IsAssignment task.entry.book.now.universe s.shown) }
     ensures found { IfOk result (λ s. s.found ≡ []) }
@@ -154,7 +160,8 @@ fn lacking_by_search(
     log: &mut Log,
     tally: &mut Tally,
 ) -> Result<Option<Worlds>, Stop>
-    requires task { IsTask task.book.now task.ground.now task.axioms.now task.variables.now task.cells.now }
+    requires task { IsTask task.book.now task.ground.now task.axioms.now task.variables.now
+        task.cells.now }
     requires exact { AreExact task.book.now sets.now }
     requires target { IsTargetIn task.book.now.universe target }
     requires holds { target.holds ≡ true }
@@ -163,7 +170,8 @@ fn lacking_by_search(
     requires few_calls { tally.old.calls < 2 ^ 120 }
     ensures says { IfOk result (LackSays task.entry.book.now sets.now target) }
     ensures stop { IfErr result (StopSays tally.new) }
-    ensures search { IsWholeSearch task.entry.book.now [] (length sets.now) tally.old tally.new log.new }
+    ensures search { IsWholeSearch task.entry.book.now [] (length sets.now) tally.old tally.new
+        log.new }
 {
     implied_is_by_maximal_set();
     well_formed(task.book);

@@ -33,41 +33,54 @@ pub fn events_add_up()
 
 /// What a run from the input says by its status follows from its events.
 pub fn replays_are_said_by_status<M: Machine>()
-    ensures { (budget : ℕ) (status : AStatus) (notes notes' : M.Notes) (a b : Outside)
-        → Ran (Replay (M.IsSheet budget) (M.RefusesText budget) M.Allows notes) CHUNK status notes' a b
-        → Replayed (M.IsSheet budget) (M.RefusesText budget) M.Allows status (moment a notes) (moment b notes') }
+    ensures { (budget : ℕ) (status : AStatus) (notes notes' : M.Notes) (a b : Outside) →
+        Ran (Replay (M.IsSheet budget) (M.RefusesText budget) M.Allows notes) CHUNK status notes' a
+        b → Replayed (M.IsSheet budget) (M.RefusesText budget) M.Allows status (moment a notes)
+        (moment b notes') }
 {}
 
 /// What a run on a file's sheet says by its status follows from its events.
 pub fn edits_are_said_by_status<M: Machine>()
-    ensures { (budget : ℕ) (file : List ℕ) (status : AStatus) (notes notes' : M.Notes) (a b : Outside)
-        → Ran (Edit (M.IsSheet budget) (M.RefusesText budget) M.Allows file notes) CHUNK status notes' a b
-        → Edited (M.IsSheet budget) (M.RefusesText budget) M.Allows file status (moment a notes) (moment b notes') }
+    ensures { (budget : ℕ) (file : List ℕ) (status : AStatus) (notes notes' : M.Notes)
+        (a b : Outside) → Ran (Edit (M.IsSheet budget) (M.RefusesText budget) M.Allows file notes)
+        CHUNK status notes' a b → Edited (M.IsSheet budget) (M.RefusesText budget) M.Allows file
+        status (moment a notes) (moment b notes') }
 {}
 
 /// Faults are told exactly where the counts say so, in the modes that answer command lines or take journals.
 pub fn faults_are_counted<M: Machine>()
-    ensures replay { (budget most : ℕ) (status : AStatus) (notes notes' : M.Notes) (a b : Outside)
-        → Ran (Replay (M.IsSheet budget) (M.RefusesText budget) M.Allows notes) most status notes' a b → HasCauses status a b }
-    ensures edit { (budget most : ℕ) (file : List ℕ) (status : AStatus) (notes notes' : M.Notes) (a b : Outside)
-        → Ran (Edit (M.IsSheet budget) (M.RefusesText budget) M.Allows file notes) most status notes' a b → HasCauses status a b }
-    ensures merge { (most : ℕ) (file : List ℕ) (status : AStatus) (a b : Outside) → Ran (Merge file) most status tt a b → HasCauses status a b }
-    ensures posts { (budget most : ℕ) (file : List ℕ) (status : AStatus) (notes notes' : M.Notes) (a b : Outside)
-        → Ran (Posts (M.IsSheet budget) (M.RefusesText budget) M.Allows file notes) most status notes' a b → HasCauses status a b }
+    ensures replay { (budget most : ℕ) (status : AStatus) (notes notes' : M.Notes) (a b : Outside) →
+        Ran (Replay (M.IsSheet budget) (M.RefusesText budget) M.Allows notes) most status notes' a
+        b → HasCauses status a b }
+    ensures edit { (budget most : ℕ) (file : List ℕ) (status : AStatus) (notes notes' : M.Notes)
+        (a b : Outside) → Ran (Edit (M.IsSheet budget) (M.RefusesText budget) M.Allows file notes)
+        most status notes' a b → HasCauses status a b }
+    ensures merge { (most : ℕ) (file : List ℕ) (status : AStatus) (a b : Outside) →
+        Ran (Merge file) most status tt a b → HasCauses status a b }
+    ensures posts { (budget most : ℕ) (file : List ℕ) (status : AStatus) (notes notes' : M.Notes)
+        (a b : Outside) → Ran (Posts (M.IsSheet budget) (M.RefusesText budget) M.Allows file notes)
+        most status notes' a b → HasCauses status a b }
 {}
 
 /// A fault is the last that happens, with `replay` and `edit`.
 pub fn nothing_follows_a_fault<M: Machine>()
-    ensures replay { (budget : ℕ) (status : AStatus) (notes notes' : M.Notes) (events : List Event)
-        → Run (Replay (M.IsSheet budget) (M.RefusesText budget) M.Allows notes) events status notes' → FaultsComeLast events }
-    ensures edit { (budget : ℕ) (file : List ℕ) (status : AStatus) (notes notes' : M.Notes) (events : List Event)
-        → Run (Edit (M.IsSheet budget) (M.RefusesText budget) M.Allows file notes) events status notes' → FaultsComeLast events }
+    ensures replay { (budget : ℕ) (status : AStatus) (notes notes' : M.Notes)
+        (events : List Event) →
+        Run (Replay (M.IsSheet budget) (M.RefusesText budget) M.Allows notes) events status notes' →
+        FaultsComeLast events }
+    ensures edit { (budget : ℕ) (file : List ℕ) (status : AStatus) (notes notes' : M.Notes)
+        (events : List Event) →
+        Run (Edit (M.IsSheet budget) (M.RefusesText budget) M.Allows file notes) events status
+        notes' → FaultsComeLast events }
 {}
 
 /// A run ends in `TooLong` exactly where it took in what passes a limit and no device failed, in these modes.
 pub fn limits_end_runs<M: Machine>()
-    ensures replay { (budget : ℕ) (notes : M.Notes) → EndsTooLongExactly (Replay (M.IsSheet budget) (M.RefusesText budget) M.Allows notes) }
-    ensures edit { (budget : ℕ) (file : List ℕ) (notes : M.Notes) → EndsTooLongExactly (Edit (M.IsSheet budget) (M.RefusesText budget) M.Allows file notes) }
+    ensures replay { (budget : ℕ) (notes : M.Notes) →
+        EndsTooLongExactly (Replay (M.IsSheet budget) (M.RefusesText budget) M.Allows notes) }
+    ensures edit { (budget : ℕ) (file : List ℕ) (notes : M.Notes) →
+        EndsTooLongExactly (Edit (M.IsSheet budget) (M.RefusesText budget) M.Allows file notes) }
     ensures merge { (file : List ℕ) → EndsTooLongExactly (Merge file) }
-    ensures posts { (budget : ℕ) (file : List ℕ) (notes : M.Notes) → EndsTooLongExactly (Posts (M.IsSheet budget) (M.RefusesText budget) M.Allows file notes) }
+    ensures posts { (budget : ℕ) (file : List ℕ) (notes : M.Notes) →
+        EndsTooLongExactly (Posts (M.IsSheet budget) (M.RefusesText budget) M.Allows file notes) }
 {}

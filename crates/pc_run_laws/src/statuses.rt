@@ -37,10 +37,12 @@ pub fn refused_sheets_are_told()
 /// A run ends in `TooLong` exactly where it took in what passes the limit of that, and no device failed; then this is told
 /// last. So do a check and a demonstration, which takes in nothing and never ends so.
 pub fn limits_are_passed()
-    ensures exactly { (words : List (List ℕ)) (notes : Notes) → EndsTooLongExactly (Course words notes) }
+    ensures exactly { (words : List (List ℕ)) (notes : Notes) →
+        EndsTooLongExactly (Course words notes) }
     ensures told { LimitsArePassed }
     ensures check { (file : List ℕ) → EndsTooLongExactly (CheckOf file) }
-    ensures demo { (blocks budget : ℕ) (notes : Notes) → EndsTooLongExactly (Demo blocks budget notes) }
+    ensures demo { (blocks budget : ℕ) (notes : Notes) →
+        EndsTooLongExactly (Demo blocks budget notes) }
 {
     words_fit_one_request();
 }
@@ -59,26 +61,37 @@ pub fn failed_writes_are_told()
 
 /// Want of memory is never told at a line whose one token is `show`.
 pub fn showing_takes_no_memory()
-    ensures { (old new : State × Notes) (line : List ℕ) → IsOneName line (codes "show") → ¬ Allows old line no_memory new }
+    ensures { (old new : State × Notes) (line : List ℕ) → IsOneName line (codes "show") →
+        ¬ Allows old line no_memory new }
 {}
 
 /// A fault is told exactly where the count of that device rose, and it is the last that happens.
 pub fn faults_end_runs()
-    ensures causes { (words : List (List ℕ)) (status : AStatus) (notes notes' : Notes) (before after : Outside) → Runs words status notes notes' before after → HasCauses status before after }
-    ensures last { (words : List (List ℕ)) (status : AStatus) (notes notes' : Notes) (before after : Outside) (runs : Runs words status notes notes' before after) → FaultsComeLast runs.2.events }
-    ensures check { (file : List ℕ) (most : ℕ) (status : AStatus) (before after : Outside) → Ran (CheckOf file) most status tt before after → HasCauses status before after }
-    ensures demo { (blocks budget most : ℕ) (status : AStatus) (notes notes' : Notes) (before after : Outside) → Ran (Demo blocks budget notes) most status notes' before after → HasCauses status before after }
+    ensures causes { (words : List (List ℕ)) (status : AStatus) (notes notes' : Notes)
+        (before after : Outside) → Runs words status notes notes' before after →
+        HasCauses status before after }
+    ensures last { (words : List (List ℕ)) (status : AStatus) (notes notes' : Notes)
+        (before after : Outside) (runs : Runs words status notes notes' before after) →
+        FaultsComeLast runs.2.events }
+    ensures check { (file : List ℕ) (most : ℕ) (status : AStatus) (before after : Outside) →
+        Ran (CheckOf file) most status tt before after → HasCauses status before after }
+    ensures demo { (blocks budget most : ℕ) (status : AStatus) (notes notes' : Notes)
+        (before after : Outside) → Ran (Demo blocks budget notes) most status notes' before after →
+        HasCauses status before after }
 {}
 
 /// What a check says by its status follows from its events: what of the file and the input was taken, what was printed, and
 /// which of the two failed.
 pub fn checks_are_said_by_status()
-    ensures { (file : List ℕ) (status : AStatus) (before after : Outside) → Ran (CheckOf file) 0 status tt before after → Checked file status before after }
+    ensures { (file : List ℕ) (status : AStatus) (before after : Outside) →
+        Ran (CheckOf file) 0 status tt before after → Checked file status before after }
 {}
 
 /// What a demonstration says by its status follows from its events.
 pub fn demonstrations_are_said_by_status()
-    ensures { (blocks budget most : ℕ) (status : AStatus) (notes notes' : Notes) (before after : Outside) → Ran (Demo blocks budget notes) most status notes' before after → Demonstrated blocks budget status notes notes' before after }
+    ensures { (blocks budget most : ℕ) (status : AStatus) (notes notes' : Notes)
+        (before after : Outside) → Ran (Demo blocks budget notes) most status notes' before after →
+        Demonstrated blocks budget status notes notes' before after }
 {}
 
 /// Where the shelf tells the file, the input the certificate, and neither is too long, a check ends as the certificate is

@@ -35,7 +35,8 @@ impl Change {
 pub(crate) fn make(change: Change, book: &mut Book, worlds: &mut Worlds) -> Result<(), AllocError>
     requires { IsChangeOf book.old change }
     ensures book { OnOk result (book.new ≡ made_of book.old change) }
-    ensures worlds { change.added ≡ None → (p : Part) → AreWorldsOf book.old p worlds.old → AreWorldsOf book.new p worlds.new }
+    ensures worlds { change.added ≡ None → (p : Part) → AreWorldsOf book.old p worlds.old →
+        AreWorldsOf book.new p worlds.new }
     ensures rules { rules_alone book.new ≡ rules_alone book.old }
 {
     take_away(change.taken, book, worlds);

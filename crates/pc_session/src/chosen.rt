@@ -39,7 +39,8 @@ fn add_if(mark: bool, number: usize, numbers: &mut Vec<usize>, count: usize) -> 
     requires { count < length numbers.old.items }
     ensures long { length numbers.new.items ≡ length numbers.old.items }
     ensures few { result ≤ count + 1 }
-    ensures added { take result numbers.new.items ≡ take count numbers.old.items ++ cond mark (number ∷ []) [] }
+    ensures added { take result numbers.new.items ≡ take count numbers.old.items ++
+        cond mark (number ∷ []) [] }
 {
     if !mark {
         return count;
@@ -105,7 +106,8 @@ impl Chosen {
 fn is_on(book: &Book, theory: &Theory, part: usize, entry: Entry) -> bool
     requires theory { IsTheory (rules_alone book.now) theory.now }
     requires cell { entry.cell.0 < length (cell_sizes book.now.universe) }
-    ensures { (p : Part) → IsPartNumbered (rules_alone book.now) part p → result ≡ is_on p.cells entry }
+    ensures { (p : Part) → IsPartNumbered (rules_alone book.now) part p →
+        result ≡ is_on p.cells entry }
 {
     theory.part_of(book, entry.cell) == part
 }
@@ -113,7 +115,8 @@ fn is_on(book: &Book, theory: &Theory, part: usize, entry: Entry) -> bool
 // Whether some entry is on the part's cells.
 fn has_entries(book: &Book, theory: &Theory, part: usize) -> bool
     requires { IsTheory (rules_alone book.now) theory.now }
-    ensures { (p : Part) → IsPartNumbered (rules_alone book.now) part p → result ≡ has_entries book.now p }
+    ensures { (p : Part) → IsPartNumbered (rules_alone book.now) part p →
+        result ≡ has_entries book.now p }
 {
     let entries = book.entries();
     for entry in entries {
@@ -128,7 +131,8 @@ fn has_entries(book: &Book, theory: &Theory, part: usize) -> bool
 pub(crate) fn choose(chosen: &mut Chosen, theory: &Theory, book: &Book, part: usize)
     requires theory { IsTheory (rules_alone book.now) theory.now }
     requires part { part < length chosen.old }
-    ensures { (p : Part) → IsPartNumbered (rules_alone book.now) part p → chosen.new ≡ set chosen.old part (has_entries book.now p) }
+    ensures { (p : Part) → IsPartNumbered (rules_alone book.now) part p →
+        chosen.new ≡ set chosen.old part (has_entries book.now p) }
 {
     chosen.mark(part, has_entries(book, theory, part));
 }

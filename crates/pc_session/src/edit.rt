@@ -29,11 +29,17 @@ pub(crate) struct Edit {
 
 /// Puts in place what was found, where the book has the edit. Without memory all stays as it is.
 pub(crate) fn put_in_place(state: &mut State, edit: Edit) -> Result<(), AllocError>
-    requires { (sheet : Sheet) × (c : CellId) × (gone : Entry → Bool) × (added : List Entry) × (limit : ℕ) × HasEdit sheet c gone added state.old × IsMade sheet state.old.cache.rows c gone added limit edit }
-    ensures done { OnOk result ((sheet : Sheet) (c : CellId) (gone : Entry → Bool) (added : List Entry) (limit : ℕ) → HasEdit sheet c gone added state.old → IsMade sheet state.old.cache.rows c gone added limit edit → IsEdited (record state.old { book = sheet }) c gone added limit state.new) }
+    requires { (sheet : Sheet) × (c : CellId) × (gone : Entry → Bool) × (added : List Entry) ×
+        (limit : ℕ) × HasEdit sheet c gone added state.old ×
+        IsMade sheet state.old.cache.rows c gone added limit edit }
+    ensures done { OnOk result ((sheet : Sheet) (c : CellId) (gone : Entry →
+        Bool) (added : List Entry) (limit : ℕ) → HasEdit sheet c gone added state.old →
+        IsMade sheet state.old.cache.rows c gone added limit edit →
+        IsEdited (record state.old { book = sheet }) c gone added limit state.new) }
     ensures theory { state.new.theory ≡ state.old.theory }
     ensures chosen { OnOk result (AreChosen state.new.book state.new.chosen) }
-    ensures bytes { OnOk result (state.new.cache.bytes ≤ state.old.cache.bytes + bytes_of_rows state.new.cache.rows) }
+    ensures bytes { OnOk result (state.new.cache.bytes ≤ state.old.cache.bytes +
+        bytes_of_rows state.new.cache.rows) }
     ensures kept { OnErr result (state.new ≡ state.old) }
 {
     edited_reasons_are_right();

@@ -35,11 +35,14 @@ fn make_searched(
     requires chosen { AreChosen state.old.book state.old.chosen }
     requires change { IsChangeOf state.old.book change }
     requires asked { IsAskedFor state.old change asked }
-    ensures done { OnOk result (IsEdited state.old change.cell (takes change.taken) (as_list change.added) budget state.new) }
+    ensures done { OnOk result (IsEdited state.old change.cell (takes change.taken)
+        (as_list change.added) budget state.new) }
     ensures theory { state.new.theory ≡ state.old.theory }
     ensures chosen { OnOk result (AreChosen state.new.book state.new.chosen) }
-    ensures bytes { OnOk result (state.new.cache.bytes ≤ state.old.cache.bytes + bytes_of_rows state.new.cache.rows) }
-    ensures refused { IfErr result (IsEntryCause (made_of state.old.book change) change.cell budget) }
+    ensures bytes { OnOk result (state.new.cache.bytes ≤ state.old.cache.bytes +
+        bytes_of_rows state.new.cache.rows) }
+    ensures refused { IfErr result (IsEntryCause (made_of state.old.book change) change.cell
+        budget) }
     ensures kept { OnErr result (IsSameBeside state.old state.new) }
 {
     make(change, &mut state.book, &mut asked.worlds)?;
@@ -59,11 +62,14 @@ pub(crate) fn edit(
     requires formed { IsWellFormed state.old.book }
     requires chosen { AreChosen state.old.book state.old.chosen }
     requires change { IsChangeOf state.old.book change }
-    ensures done { OnOk result (IsEdited state.old change.cell (takes change.taken) (as_list change.added) budget state.new) }
+    ensures done { OnOk result (IsEdited state.old change.cell (takes change.taken)
+        (as_list change.added) budget state.new) }
     ensures theory { state.new.theory ≡ state.old.theory }
     ensures chosen { OnOk result (AreChosen state.new.book state.new.chosen) }
-    ensures bytes { OnOk result (state.new.cache.bytes ≤ compacted state.old.cache.rows state.old.cache.bytes + bytes_of_rows state.new.cache.rows) }
-    ensures refused { IfErr result (IsEntryCause (made_of state.old.book change) change.cell budget) }
+    ensures bytes { OnOk result (state.new.cache.bytes ≤ compacted state.old.cache.rows
+        state.old.cache.bytes + bytes_of_rows state.new.cache.rows) }
+    ensures refused { IfErr result (IsEntryCause (made_of state.old.book change) change.cell
+        budget) }
     ensures kept { OnErr result (IsSame state.old state.new) }
 {
     compact_if_due(&mut state.cache)?;

@@ -35,8 +35,10 @@ pub(crate) fn enter(
     ensures left { OnOk result (IsLeftBy entry.cell (is_rival entry) state.old state.new) }
     ensures refused { IfErr result (IsEntryCause (entered state.old.book entry) entry.cell budget) }
     ensures kept { OnErr result (IsSame state.old state.new) }
-    ensures standing { StandsAlone state.old.book.entries entry → (result ≡ Ok tt) × IsSameBut state.old.book budget state.old state.new }
-    ensures spends { OnOk result (¬ StandsAlone state.old.book.entries entry → IsTallyOf state.new.book (Some entry.cell) budget (counts_of state.new.tally)) }
+    ensures standing { StandsAlone state.old.book.entries entry → (result ≡ Ok tt) ×
+        IsSameBut state.old.book budget state.old state.new }
+    ensures spends { OnOk result (¬ StandsAlone state.old.book.entries entry →
+        IsTallyOf state.new.book (Some entry.cell) budget (counts_of state.new.tally)) }
 {
     entering_edits();
     let cell = entry.cell;
@@ -68,10 +70,13 @@ pub(crate) fn also(
     ensures theory { state.new.theory ≡ state.old.theory }
     ensures chosen { OnOk result (AreChosen state.new.book state.new.chosen) }
     ensures left { OnOk result (IsLeftBy entry.cell takes_none state.old state.new) }
-    ensures refused { IfErr result (IsEntryCause (also_entered state.old.book entry) entry.cell budget) }
+    ensures refused { IfErr result (IsEntryCause (also_entered state.old.book entry) entry.cell
+        budget) }
     ensures kept { OnErr result (IsSame state.old state.new) }
-    ensures standing { Contains state.old.book.entries entry → (result ≡ Ok tt) × IsSameBut state.old.book budget state.old state.new }
-    ensures spends { OnOk result (¬ Contains state.old.book.entries entry → IsTallyOf state.new.book (Some entry.cell) budget (counts_of state.new.tally)) }
+    ensures standing { Contains state.old.book.entries entry → (result ≡ Ok tt) ×
+        IsSameBut state.old.book budget state.old state.new }
+    ensures spends { OnOk result (¬ Contains state.old.book.entries entry →
+        IsTallyOf state.new.book (Some entry.cell) budget (counts_of state.new.tally)) }
 {
     adding_edits();
     if stands(state.book.entries(), entry) {

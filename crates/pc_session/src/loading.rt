@@ -19,7 +19,8 @@ use std::alloc::{AllocError, Global};
 fn kept(alloc: Global, book: &Book, patch: Patch) -> Result<Cache, AllocError>
     requires { ArePlaced book.now patch }
     ensures places { IfOk result (λ cache. HavePlaces book.now cache.rows) }
-    ensures rows { IfOk result (λ cache. (t : Target) → row_of cache.rows t ≡ row_after patch t None) }
+    ensures rows { IfOk result (λ cache. (t : Target) →
+        row_of cache.rows t ≡ row_after patch t None) }
 {
     let mut cache = Cache::new(alloc, book)?;
     cache.apply(patch)?;

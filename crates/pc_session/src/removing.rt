@@ -77,10 +77,14 @@ pub(crate) fn remove(
     ensures theory { state.new.theory ≡ state.old.theory }
     ensures chosen { OnOk result (AreChosen state.new.book state.new.chosen) }
     ensures left { OnOk result (IsLeftBy cell (takes taken) state.old state.new) }
-    ensures refused { IfErr result (IsRemovalCause (takes taken) state.old.book.entries (edited state.old.book (takes taken) []) cell budget) }
+    ensures refused { IfErr result (IsRemovalCause (takes taken) state.old.book.entries
+        (edited state.old.book (takes taken) []) cell budget) }
     ensures kept { OnErr result (IsSame state.old state.new) }
-    ensures unused { ¬ HasNone (takes taken) state.old.book.entries → AreUnused (takes taken) state.old.cache.rows → (result ≡ Ok tt) × IsSameBut (edited state.old.book (takes taken) []) budget state.old state.new }
-    ensures spends { OnOk result (¬ AreUnused (takes taken) state.old.cache.rows → IsTallyOf state.new.book (Some cell) budget (counts_of state.new.tally)) }
+    ensures unused { ¬ HasNone (takes taken) state.old.book.entries →
+        AreUnused (takes taken) state.old.cache.rows → (result ≡ Ok tt) ×
+        IsSameBut (edited state.old.book (takes taken) []) budget state.old state.new }
+    ensures spends { OnOk result (¬ AreUnused (takes taken) state.old.cache.rows →
+        IsTallyOf state.new.book (Some cell) budget (counts_of state.new.tally)) }
 {
     if !takes_some(taken, state.book.entries()) {
         return Err(EditRefused::NoEntry);

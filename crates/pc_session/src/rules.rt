@@ -73,7 +73,8 @@ pub(crate) fn add_rule(
     requires state { IsState state.old }
     requires rule { IsWellFormedRule state.old.book.universe (rule_of rule) }
     requires few { length state.old.book.rules < most_rules }
-    ensures loaded { OnOk result (IsLoaded (with_rule state.old.book (rule_of rule)) budget state.new) }
+    ensures loaded { OnOk result (IsLoaded (with_rule state.old.book (rule_of rule)) budget
+        state.new) }
     ensures duplicate { ¬ IsNewName state.old.book.rules rule.name → result ≡ Err DuplicateRule }
     ensures refused { IfErr result (IsAddCause state.old.book (rule_of rule) budget) }
     ensures kept { OnErr result (IsSame state.old state.new) }

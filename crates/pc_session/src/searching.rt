@@ -63,12 +63,19 @@ fn search(
     patch: &mut Patch,
 ) -> Result<Worlds, Stop>
     requires theory { IsTheory (rules_alone asked.book.now) asked.theory.now }
-    requires asked { AreAsked (cell_sizes asked.book.now.universe) asked.theory.now.components asked.part asked.targets.now }
+    requires asked { AreAsked (cell_sizes asked.book.now.universe) asked.theory.now.components
+        asked.part asked.targets.now }
     requires blank { IsBlankOn asked.part place.old }
-    requires left { added ≡ None → (p : Part) → IsPartNumbered (rules_alone asked.book.now) asked.part p → AreWorldsOf asked.book.now p left }
-    ensures worlds { (p : Part) → IsPartNumbered (rules_alone asked.entry.book.now) asked.entry.part p → IfOk result (AreWorldsOf asked.entry.book.now p) }
-    ensures found { OnOk result (Finds asked.entry.book.now (place.new.tally.learned + place.new.tally.calls) asked.entry.targets.now patch.old patch.new) }
-    ensures spends { IsSpentAlone asked.entry.book.now asked.entry.theory.now.components asked.entry.part place.new }
+    requires left { added ≡ None → (p : Part) →
+        IsPartNumbered (rules_alone asked.book.now) asked.part p →
+        AreWorldsOf asked.book.now p left }
+    ensures worlds { (p : Part) → IsPartNumbered (rules_alone asked.entry.book.now) asked.entry.part
+        p → IfOk result (AreWorldsOf asked.entry.book.now p) }
+    ensures found { OnOk result
+        (Finds asked.entry.book.now (place.new.tally.learned + place.new.tally.calls)
+        asked.entry.targets.now patch.old patch.new) }
+    ensures spends { IsSpentAlone asked.entry.book.now asked.entry.theory.now.components
+        asked.entry.part place.new }
     ensures limit { place.new.tally.limit ≡ place.old.tally.limit }
     ensures stop { IfErr result (StopSays place.new.tally) }
 {
@@ -90,11 +97,16 @@ pub(crate) fn find(
     asked: Asked,
 ) -> Result<Edit, EditRefused>
     requires theory { IsTheory (rules_alone state.now.book) state.now.theory }
-    requires asked { AreAsked (cell_sizes state.now.book.universe) state.now.theory.components asked.part asked.targets.items }
+    requires asked { AreAsked (cell_sizes state.now.book.universe) state.now.theory.components
+        asked.part asked.targets.items }
     requires few { asked.part ≤ most_cells }
-    requires part { (p : Part) × IsPartNumbered (rules_alone state.now.book) asked.part p × Contains p.cells change.cell.0 }
-    requires left { change.added ≡ None → (p : Part) → IsPartNumbered (rules_alone state.now.book) asked.part p → AreWorldsOf state.now.book p asked.worlds }
-    ensures edit { IfOk result (IsFoundOf state.now.book change.cell asked.part asked.targets.items budget) }
+    requires part { (p : Part) × IsPartNumbered (rules_alone state.now.book) asked.part p ×
+        Contains p.cells change.cell.0 }
+    requires left { change.added ≡ None → (p : Part) →
+        IsPartNumbered (rules_alone state.now.book) asked.part p →
+        AreWorldsOf state.now.book p asked.worlds }
+    ensures edit { IfOk result (IsFoundOf state.now.book change.cell asked.part asked.targets.items
+        budget) }
     ensures refused { IfErr result (IsEntryCause state.now.book change.cell budget) }
 {
     let Asked {

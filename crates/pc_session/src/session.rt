@@ -151,16 +151,26 @@ impl Session {
     /// stands alone nothing changes, no memory is taken, and the answer is always Ok.
     pub fn enter(&mut self, cell: CellId, value: ValueId) -> Result<(), EditRefused>
         requires { IsEntryOf self.old.sheet.universe (record { cell = cell; value = value }) }
-        ensures sheet { OnOk result (self.new.sheet ≡ entered self.old.sheet (record { cell = cell; value = value })) }
+        ensures sheet { OnOk result
+            (self.new.sheet ≡ entered self.old.sheet (record { cell = cell; value = value })) }
         ensures budget { self.new.budget ≡ self.old.budget }
         ensures parts { self.new.components ≡ self.old.components }
-        ensures refused { IfErr result (IsEntryCause (entered self.old.sheet (record { cell = cell; value = value })) cell self.old.budget) }
+        ensures refused { IfErr result
+            (IsEntryCause (entered self.old.sheet (record { cell = cell; value = value })) cell
+            self.old.budget) }
         ensures unchanged { OnErr result (IsUnchanged self.old self.new) }
-        ensures standing { StandsAlone self.old.sheet.entries (record { cell = cell; value = value }) → (result ≡ Ok tt) × (self.new ≡ record self.old { tally = none_spent self.old.budget }) }
-        ensures spends { OnOk result (¬ StandsAlone self.old.sheet.entries (record { cell = cell; value = value }) → IsTallyOf self.new.sheet (Some cell) self.old.budget self.new.tally) }
-        ensures stays { OnOk result (Stay (is_rival (record { cell = cell; value = value })) self.old.rows self.new.rows) }
-        ensures others { OnOk result (OthersStay cell self.old.components self.old.rows self.new.rows) }
-        ensures arena { OnOk result (IsBounded self.old.rows self.old.bytes self.new.rows self.new.bytes) }
+        ensures standing { StandsAlone self.old.sheet.entries
+            (record { cell = cell; value = value }) → (result ≡ Ok tt) ×
+            (self.new ≡ record self.old { tally = none_spent self.old.budget }) }
+        ensures spends { OnOk result
+            (¬ StandsAlone self.old.sheet.entries (record { cell = cell; value = value }) →
+            IsTallyOf self.new.sheet (Some cell) self.old.budget self.new.tally) }
+        ensures stays { OnOk result (Stay (is_rival (record { cell = cell; value = value }))
+            self.old.rows self.new.rows) }
+        ensures others { OnOk result (OthersStay cell self.old.components self.old.rows
+            self.new.rows) }
+        ensures arena { OnOk result (IsBounded self.old.rows self.old.bytes self.new.rows
+            self.new.bytes) }
         ensures steps { OnOk result (Steps self.old.rows self.new.rows self.new.tally) }
     {
         entering::enter(
@@ -175,17 +185,26 @@ impl Session {
     /// answer is always Ok.
     pub fn also(&mut self, cell: CellId, value: ValueId) -> Result<(), EditRefused>
         requires entry { IsEntryOf self.old.sheet.universe (record { cell = cell; value = value }) }
-        requires place { HasPlaceFor self.old.sheet.entries (record { cell = cell; value = value }) }
-        ensures sheet { OnOk result (self.new.sheet ≡ also_entered self.old.sheet (record { cell = cell; value = value })) }
+        requires place { HasPlaceFor self.old.sheet.entries
+            (record { cell = cell; value = value }) }
+        ensures sheet { OnOk result (self.new.sheet ≡ also_entered self.old.sheet
+            (record { cell = cell; value = value })) }
         ensures budget { self.new.budget ≡ self.old.budget }
         ensures parts { self.new.components ≡ self.old.components }
-        ensures refused { IfErr result (IsEntryCause (also_entered self.old.sheet (record { cell = cell; value = value })) cell self.old.budget) }
+        ensures refused { IfErr result
+            (IsEntryCause (also_entered self.old.sheet (record { cell = cell; value = value })) cell
+            self.old.budget) }
         ensures unchanged { OnErr result (IsUnchanged self.old self.new) }
-        ensures standing { Contains self.old.sheet.entries (record { cell = cell; value = value }) → (result ≡ Ok tt) × (self.new ≡ record self.old { tally = none_spent self.old.budget }) }
-        ensures spends { OnOk result (¬ Contains self.old.sheet.entries (record { cell = cell; value = value }) → IsTallyOf self.new.sheet (Some cell) self.old.budget self.new.tally) }
+        ensures standing { Contains self.old.sheet.entries (record { cell = cell; value = value }) →
+            (result ≡ Ok tt) × (self.new ≡ record self.old { tally = none_spent self.old.budget }) }
+        ensures spends { OnOk result
+            (¬ Contains self.old.sheet.entries (record { cell = cell; value = value }) →
+            IsTallyOf self.new.sheet (Some cell) self.old.budget self.new.tally) }
         ensures stays { OnOk result (Stay takes_none self.old.rows self.new.rows) }
-        ensures others { OnOk result (OthersStay cell self.old.components self.old.rows self.new.rows) }
-        ensures arena { OnOk result (IsBounded self.old.rows self.old.bytes self.new.rows self.new.bytes) }
+        ensures others { OnOk result (OthersStay cell self.old.components self.old.rows
+            self.new.rows) }
+        ensures arena { OnOk result (IsBounded self.old.rows self.old.bytes self.new.rows
+            self.new.bytes) }
         ensures steps { OnOk result (Steps self.old.rows self.new.rows self.new.tally) }
     {
         entering::also(
@@ -203,14 +222,24 @@ impl Session {
         ensures sheet { OnOk result (self.new.sheet ≡ without_cell self.old.sheet cell) }
         ensures budget { self.new.budget ≡ self.old.budget }
         ensures parts { self.new.components ≡ self.old.components }
-        ensures refused { IfErr result (IsRemovalCause (is_of_cell cell) self.old.sheet.entries (without_cell self.old.sheet cell) cell self.old.budget) }
+        ensures refused { IfErr result (IsRemovalCause (is_of_cell cell) self.old.sheet.entries
+            (without_cell self.old.sheet cell) cell self.old.budget) }
         ensures unchanged { OnErr result (IsUnchanged self.old self.new) }
-        ensures unused { (f : Entry) → Contains self.old.sheet.entries f → f.cell ≡ cell → AreUnused (is_of_cell cell) self.old.rows → (result ≡ Ok tt) × (self.new ≡ record self.old { sheet = without_cell self.old.sheet cell; tally = none_spent self.old.budget }) }
-        ensures spare { (f : Entry) → Contains self.old.sheet.entries f → f.cell ≡ cell → AreSpare self.old.sheet (is_of_cell cell) → result ≡ Ok tt }
-        ensures spends { OnOk result (¬ AreUnused (is_of_cell cell) self.old.rows → IsTallyOf self.new.sheet (Some cell) self.old.budget self.new.tally) }
+        ensures unused { (f : Entry) → Contains self.old.sheet.entries f → f.cell ≡ cell →
+            AreUnused (is_of_cell cell) self.old.rows → (result ≡ Ok tt) ×
+            (self.new ≡ record self.old {
+              sheet = without_cell self.old.sheet cell;
+              tally = none_spent self.old.budget;
+            }) }
+        ensures spare { (f : Entry) → Contains self.old.sheet.entries f → f.cell ≡ cell →
+            AreSpare self.old.sheet (is_of_cell cell) → result ≡ Ok tt }
+        ensures spends { OnOk result (¬ AreUnused (is_of_cell cell) self.old.rows →
+            IsTallyOf self.new.sheet (Some cell) self.old.budget self.new.tally) }
         ensures stays { OnOk result (Stay (is_of_cell cell) self.old.rows self.new.rows) }
-        ensures others { OnOk result (OthersStay cell self.old.components self.old.rows self.new.rows) }
-        ensures arena { OnOk result (IsBounded self.old.rows self.old.bytes self.new.rows self.new.bytes) }
+        ensures others { OnOk result (OthersStay cell self.old.components self.old.rows
+            self.new.rows) }
+        ensures arena { OnOk result (IsBounded self.old.rows self.old.bytes self.new.rows
+            self.new.bytes) }
         ensures steps { OnOk result (Steps self.old.rows self.new.rows self.new.tally) }
     {
         clearing_edits();
@@ -226,18 +255,39 @@ impl Session {
     /// Clears one entry of the cell: its others stay. Where no reason rests on it it takes no memory, searches nothing and is
     /// always Ok.
     pub fn clear_one(&mut self, cell: CellId, value: ValueId) -> Result<(), EditRefused>
-        ensures no_entry { ¬ Contains self.old.sheet.entries (record { cell = cell; value = value }) → result ≡ Err NoEntry }
-        ensures sheet { OnOk result (self.new.sheet ≡ without_entry self.old.sheet (record { cell = cell; value = value })) }
+        ensures no_entry { ¬ Contains self.old.sheet.entries
+            (record { cell = cell; value = value }) → result ≡ Err NoEntry }
+        ensures sheet { OnOk result (self.new.sheet ≡ without_entry self.old.sheet
+            (record { cell = cell; value = value })) }
         ensures budget { self.new.budget ≡ self.old.budget }
         ensures parts { self.new.components ≡ self.old.components }
-        ensures refused { IfErr result (IsRemovalCause (is_same_entry (record { cell = cell; value = value })) self.old.sheet.entries (without_entry self.old.sheet (record { cell = cell; value = value })) cell self.old.budget) }
+        ensures refused { IfErr result
+            (IsRemovalCause (is_same_entry (record { cell = cell; value = value }))
+            self.old.sheet.entries
+            (without_entry self.old.sheet (record { cell = cell; value = value })) cell
+            self.old.budget) }
         ensures unchanged { OnErr result (IsUnchanged self.old self.new) }
-        ensures unused { Contains self.old.sheet.entries (record { cell = cell; value = value }) → AreUnused (is_same_entry (record { cell = cell; value = value })) self.old.rows → (result ≡ Ok tt) × (self.new ≡ record self.old { sheet = without_entry self.old.sheet (record { cell = cell; value = value }); tally = none_spent self.old.budget }) }
-        ensures spare { Contains self.old.sheet.entries (record { cell = cell; value = value }) → AreSpare self.old.sheet (is_same_entry (record { cell = cell; value = value })) → result ≡ Ok tt }
-        ensures spends { OnOk result (¬ AreUnused (is_same_entry (record { cell = cell; value = value })) self.old.rows → IsTallyOf self.new.sheet (Some cell) self.old.budget self.new.tally) }
-        ensures stays { OnOk result (Stay (is_same_entry (record { cell = cell; value = value })) self.old.rows self.new.rows) }
-        ensures others { OnOk result (OthersStay cell self.old.components self.old.rows self.new.rows) }
-        ensures arena { OnOk result (IsBounded self.old.rows self.old.bytes self.new.rows self.new.bytes) }
+        ensures unused { Contains self.old.sheet.entries (record { cell = cell; value = value }) →
+            AreUnused (is_same_entry (record { cell = cell; value = value })) self.old.rows →
+            (result ≡ Ok tt) ×
+            (self.new ≡
+            record self.old {
+              sheet = without_entry self.old.sheet
+                  (record { cell = cell; value = value });
+              tally = none_spent self.old.budget;
+            }) }
+        ensures spare { Contains self.old.sheet.entries (record { cell = cell; value = value }) →
+            AreSpare self.old.sheet (is_same_entry (record { cell = cell; value = value })) →
+            result ≡ Ok tt }
+        ensures spends { OnOk result
+            (¬ AreUnused (is_same_entry (record { cell = cell; value = value })) self.old.rows →
+            IsTallyOf self.new.sheet (Some cell) self.old.budget self.new.tally) }
+        ensures stays { OnOk result (Stay (is_same_entry (record { cell = cell; value = value }))
+            self.old.rows self.new.rows) }
+        ensures others { OnOk result (OthersStay cell self.old.components self.old.rows
+            self.new.rows) }
+        ensures arena { OnOk result (IsBounded self.old.rows self.old.bytes self.new.rows
+            self.new.bytes) }
         ensures steps { OnOk result (Steps self.old.rows self.new.rows self.new.tally) }
     {
         removing_edits();
@@ -257,14 +307,16 @@ impl Session {
     pub fn add_rule(&mut self, rule: Rule) -> Result<(), EditRefused>
         requires rule { IsWellFormedRule self.old.sheet.universe (rule_of rule) }
         requires few { length self.old.sheet.rules < most_rules }
-        ensures duplicate { ¬ IsNewName self.old.sheet.rules rule.name → result ≡ Err DuplicateRule }
+        ensures duplicate { ¬ IsNewName self.old.sheet.rules rule.name →
+            result ≡ Err DuplicateRule }
         ensures sheet { OnOk result (self.new.sheet ≡ with_rule self.old.sheet (rule_of rule)) }
         ensures budget { self.new.budget ≡ self.old.budget }
         ensures light { OnOk result (weight self.new.sheet ≤ most_weight) }
         ensures consistent { OnOk result (AreRulesConsistent self.new.sheet) }
         ensures refused { IfErr result (IsAddCause self.old.sheet (rule_of rule) self.old.budget) }
         ensures unchanged { OnErr result (IsUnchanged self.old self.new) }
-        ensures spends { OnOk result (IsTallyOf self.new.sheet None self.old.budget self.new.tally) }
+        ensures spends { OnOk result (IsTallyOf self.new.sheet None self.old.budget
+            self.new.tally) }
         ensures steps { OnOk result (Steps [] self.new.rows self.new.tally) }
     {
         rules::add_rule(self.alloc, &mut self.state, self.budget, rule)
@@ -277,7 +329,8 @@ impl Session {
         ensures budget { self.new.budget ≡ self.old.budget }
         ensures refused { IfErr result (IsDropCause self.old.sheet name.now self.old.budget) }
         ensures unchanged { OnErr result (IsUnchanged self.old self.new) }
-        ensures spends { OnOk result (IsTallyOf self.new.sheet None self.old.budget self.new.tally) }
+        ensures spends { OnOk result (IsTallyOf self.new.sheet None self.old.budget
+            self.new.tally) }
         ensures steps { OnOk result (Steps [] self.new.rows self.new.tally) }
     {
         rules::drop_rule(self.alloc, &mut self.state, self.budget, name)

@@ -61,7 +61,8 @@ impl Spendings {
         spending: &Spending,
     ) -> Result<(), AllocError>
         requires { IsLawful book cell spending.now.tally.limit spending.now }
-        ensures ok { OnOk result (self.new ≡ self.old ++ (record { sheet = book; cell = cell; tally = counts_of spending.now.tally }) ∷ []) }
+        ensures ok { OnOk result (self.new ≡ self.old ++
+            (record { sheet = book; cell = cell; tally = counts_of spending.now.tally }) ∷ []) }
         ensures err { OnErr result (self.new ≡ self.old) }
     {
         self.add(book, cell, spending.tally)
@@ -71,7 +72,8 @@ impl Spendings {
     /// Without memory the list stays as it is.
     pub fn note_whole(&mut self, book: &Book, logs: &[Log], tally: Tally) -> Result<(), AllocError>
         requires { IsSpentWhole book.now logs.now tally }
-        ensures ok { OnOk result (self.new ≡ self.old ++ (record { sheet = book.now; cell = None; tally = counts_of tally }) ∷ []) }
+        ensures ok { OnOk result (self.new ≡ self.old ++
+            (record { sheet = book.now; cell = None; tally = counts_of tally }) ∷ []) }
         ensures err { OnErr result (self.new ≡ self.old) }
     {
         let _logs = logs;
@@ -81,7 +83,8 @@ impl Spendings {
 
     // Adds a note as the last one.
     fn add(&mut self, book: Book, cell: Option<CellId>, tally: Tally) -> Result<(), AllocError>
-        ensures ok { OnOk result (self.new ≡ self.old ++ (record { sheet = book; cell = cell; tally = counts_of tally }) ∷ []) }
+        ensures ok { OnOk result (self.new ≡ self.old ++
+            (record { sheet = book; cell = cell; tally = counts_of tally }) ∷ []) }
         ensures err { OnErr result (self.new ≡ self.old) }
     {
         self.notes.push(Note { book, cell, tally })?;

@@ -35,7 +35,8 @@ fn stale_among(
     taken: Taken,
     added: bool,
 ) -> Result<Vec<Target>, AllocError>
-    ensures { IfOk result (λ ts. ts.items ≡ filter (λ t. is_stale (takes taken) added (row_of cache.now.rows t)) all.now) }
+    ensures { IfOk result (λ ts.
+        ts.items ≡ filter (λ t. is_stale (takes taken) added (row_of cache.now.rows t)) all.now) }
 {
     let mut stale = Vec::new(alloc);
     for target in all {
@@ -55,7 +56,8 @@ pub(crate) fn stale_targets(
     added: bool,
 ) -> Result<Vec<Target>, AllocError>
     requires { All (λ c. c.0 < length (cell_sizes state.now.book.universe)) cells.now }
-    ensures { IfOk result (λ ts. ts.items ≡ stale_on state.now.cache.rows (takes taken) added (cell_sizes state.now.book.universe) cells.now) }
+    ensures { IfOk result (λ ts. ts.items ≡ stale_on state.now.cache.rows (takes taken) added
+        (cell_sizes state.now.book.universe) cells.now) }
 {
     let all = targets_on(alloc, &state.book, cells)?;
     let names = state.theory.ground().names();
@@ -77,8 +79,10 @@ fn target(cell: CellId, value: usize, holds: bool) -> Target
 // Whether the reason of some target on the cell rests on an entry that is taken away.
 fn is_used_on(cache: &Cache, names: &Names, cell: CellId, count: usize, taken: Taken) -> bool
     requires { count ≤ most_values }
-    ensures some { IsTrue result → (t : Target) × Contains (targets_on_cell cell count) t × (is_stale (takes taken) false (row_of cache.now.rows t) ≡ true) }
-    ensures none { (t : Target) → Contains (targets_on_cell cell count) t → is_stale (takes taken) false (row_of cache.now.rows t) ≡ true → IsTrue result }
+    ensures some { IsTrue result → (t : Target) × Contains (targets_on_cell cell count) t ×
+        (is_stale (takes taken) false (row_of cache.now.rows t) ≡ true) }
+    ensures none { (t : Target) → Contains (targets_on_cell cell count) t →
+        is_stale (takes taken) false (row_of cache.now.rows t) ≡ true → IsTrue result }
 {
     for value in 0..count {
         if is_stale(cache, names, target(cell, value, true), taken, false) {
@@ -94,8 +98,12 @@ fn is_used_on(cache: &Cache, names: &Names, cell: CellId, count: usize, taken: T
 /// Whether the reason of some target on these cells rests on an entry that is taken away. It takes no memory.
 pub(crate) fn is_used(state: &State, cells: &[CellId], taken: Taken) -> bool
     requires { All (λ c. c.0 < length (cell_sizes state.now.book.universe)) cells.now }
-    ensures some { IsTrue result → (t : Target) × Contains (targets_on (cell_sizes state.now.book.universe) cells.now) t × (is_stale (takes taken) false (row_of state.now.cache.rows t) ≡ true) }
-    ensures none { (t : Target) → Contains (targets_on (cell_sizes state.now.book.universe) cells.now) t → is_stale (takes taken) false (row_of state.now.cache.rows t) ≡ true → IsTrue result }
+    ensures some { IsTrue result → (t : Target) ×
+        Contains (targets_on (cell_sizes state.now.book.universe) cells.now) t ×
+        (is_stale (takes taken) false (row_of state.now.cache.rows t) ≡ true) }
+    ensures none { (t : Target) →
+        Contains (targets_on (cell_sizes state.now.book.universe) cells.now) t →
+        is_stale (takes taken) false (row_of state.now.cache.rows t) ≡ true → IsTrue result }
 {
     let names = state.theory.ground().names();
     for cell in cells {

@@ -70,7 +70,8 @@ fn first_taken(taken: Taken, entries: &[Entry]) -> Option<Entry>
 /// Takes entries of a book away, and out of the worlds of a part, where these are such. It takes no memory.
 pub(crate) fn take_away(taken: Taken, book: &mut Book, worlds: &mut Worlds)
     ensures book { book.new ≡ edited book.old (takes taken) [] }
-    ensures worlds { (p : Part) → AreWorldsOf book.old p worlds.old → AreWorldsOf book.new p worlds.new }
+    ensures worlds { (p : Part) → AreWorldsOf book.old p worlds.old →
+        AreWorldsOf book.new p worlds.new }
 {
     while let Some(entry) = first_taken(taken, book.entries()) {
         book.remove_entry(entry);

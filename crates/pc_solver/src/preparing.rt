@@ -57,7 +57,8 @@ fn keep_levels(trail: &mut Trail, own: &[Var], preferences: &mut Preferences, as
     requires { AreInRange trail.old.variables assumed.now }
     ensures first { AssumesFirst assumed.now trail.new.entries }
     ensures back { (level : ℕ) × IsBackTo level trail.old trail.new }
-    ensures over { (axioms more : List (List Lit)) → IsOver axioms more trail.old → IsOver axioms more trail.new }
+    ensures over { (axioms more : List (List Lit)) → IsOver axioms more trail.old →
+        IsOver axioms more trail.new }
 {
     let level = assumed_levels(trail, assumed);
     put_back(trail, own, preferences, level);

@@ -56,9 +56,12 @@ impl<T: Copy + Drop> Recent<T> {
 
     /// Keeps a row as the last one, unless it alone has more than 4,194,304 items.
     pub fn push(&mut self, row: &[T]) -> Result<(), AllocError>
-        ensures stays { OnOk result (length self.old < 16384 → sum_by length self.old + length row.now ≤ 4194304 → self.new ≡ self.old ++ row.now ∷ []) }
+        ensures stays { OnOk result (length self.old < 16384 →
+            sum_by length self.old + length row.now ≤ 4194304 →
+            self.new ≡ self.old ++ row.now ∷ []) }
         ensures kept { OnOk result (length row.now ≤ 4194304 → Contains self.new row.now) }
-        ensures only { (kept : List T) → Contains self.new kept → Contains self.old kept ⊎ (kept ≡ row.now) }
+        ensures only { (kept : List T) → Contains self.new kept → Contains self.old kept ⊎
+            (kept ≡ row.now) }
     {
         keep(&mut self.rows, row)
     }
@@ -70,7 +73,8 @@ fn make_room<T: Copy + Drop>(to: &mut Rows<T>, more: usize)
     requires fits { more ≤ 4194304 }
     ensures many { length to.new < 16384 }
     ensures items { sum_by length to.new + more ≤ 4194304 }
-    ensures stays { length to.old < 16384 → sum_by length to.old + more ≤ 4194304 → to.new ≡ to.old }
+    ensures stays { length to.old < 16384 → sum_by length to.old + more ≤ 4194304 →
+        to.new ≡ to.old }
     ensures only { (to.new ≡ to.old) ⊎ (to.new ≡ []) }
 {
     let count = to.len();
@@ -82,9 +86,11 @@ fn make_room<T: Copy + Drop>(to: &mut Rows<T>, more: usize)
 fn keep<T: Copy + Drop>(to: &mut Rows<T>, row: &[T]) -> Result<(), AllocError>
     requires { AreFew to.old }
     ensures few { AreFew to.new }
-    ensures stays { OnOk result (length to.old < 16384 → sum_by length to.old + length row.now ≤ 4194304 → to.new ≡ to.old ++ row.now ∷ []) }
+    ensures stays { OnOk result (length to.old < 16384 → sum_by length to.old + length row.now ≤
+        4194304 → to.new ≡ to.old ++ row.now ∷ []) }
     ensures kept { OnOk result (length row.now ≤ 4194304 → Contains to.new row.now) }
-    ensures only { (kept : List T) → Contains to.new kept → Contains to.old kept ⊎ (kept ≡ row.now) }
+    ensures only { (kept : List T) → Contains to.new kept → Contains to.old kept ⊎
+        (kept ≡ row.now) }
 {
     if row.len() > 4_194_304 {
         return Ok(());

@@ -48,8 +48,16 @@ impl<'g> Solver<'g> {
         own: &'g [Var],
         variables: u32,
     ) -> Result<Solver<'g>, AllocError>
-        requires { IsProblem variables (record { axioms = axioms.now; used = used.now; own = own.now }) }
-        ensures problem { IfOk result (λ s. s.problem ≡ record { axioms = axioms.now; used = used.now; own = own.now }) }
+        requires { IsProblem variables (record {
+          axioms = axioms.now;
+          used = used.now;
+          own = own.now;
+        }) }
+        ensures problem { IfOk result (λ s. s.problem ≡ record {
+          axioms = axioms.now;
+          used = used.now;
+          own = own.now;
+        }) }
         ensures variables { IfOk result (λ s. s.variables ≡ variables) }
         ensures blocks { IfOk result (λ s. s.blocks ≡ []) }
         ensures trues { IfOk result (λ s. s.trues ≡ []) }
@@ -68,8 +76,16 @@ impl<'g> Solver<'g> {
         own: &'g [Var],
         trail: Trail,
     ) -> Result<Solver<'g>, AllocError>
-        requires { IsProblem trail.variables (record { axioms = axioms.now; used = used.now; own = own.now }) }
-        ensures problem { IfOk result (λ s. s.problem ≡ record { axioms = axioms.now; used = used.now; own = own.now }) }
+        requires { IsProblem trail.variables (record {
+          axioms = axioms.now;
+          used = used.now;
+          own = own.now;
+        }) }
+        ensures problem { IfOk result (λ s. s.problem ≡ record {
+          axioms = axioms.now;
+          used = used.now;
+          own = own.now;
+        }) }
         ensures variables { IfOk result (λ s. s.variables ≡ trail.variables) }
         ensures blocks { IfOk result (λ s. s.blocks ≡ []) }
         ensures trues { IfOk result (λ s. s.trues ≡ []) }
@@ -226,7 +242,8 @@ impl<'g> Suspended<'g> {
         ensures variables { IfOk result (λ s. s.variables ≡ trail.variables) }
         ensures blocks { IfOk result (λ s. s.blocks ≡ self.entry.blocks) }
         ensures trues { IfOk result (λ s. s.trues ≡ []) }
-        ensures log { (log : List LogLine) → SuspendedHasLog self.entry log → IfOk result (λ s. HasLog s log) }
+        ensures log { (log : List LogLine) → SuspendedHasLog self.entry log →
+            IfOk result (λ s. HasLog s log) }
     {
         let Suspended {
             alloc,
@@ -264,14 +281,20 @@ fn attach_used(
     own: &[Var],
     trail: &mut Trail,
 ) -> Result<(), AllocError>
-    requires problem { IsProblem trail.old.variables (record { axioms = axioms.now; used = used.now; own = own.now }) }
+    requires problem { IsProblem trail.old.variables (record {
+      axioms = axioms.now;
+      used = used.now;
+      own = own.now;
+    }) }
     requires blank { IsBlank trail.old }
     requires over { (more : List (List Lit)) → IsOver axioms.now more trail.old }
     ensures variables { trail.new.variables ≡ trail.old.variables }
     ensures entries { trail.new.entries ≡ [] }
     ensures over { (more : List (List Lit)) → IsOver axioms.now more trail.new }
-    ensures attached { OnOk result ((n : ℕ) → Contains used.now n → Contains trail.new.attached (Axiom n)) }
-    ensures known { (r : ClauseRef) → Contains trail.new.attached r → (n : ℕ) × Contains used.now n × (r ≡ Axiom n) }
+    ensures attached { OnOk result ((n : ℕ) → Contains used.now n →
+        Contains trail.new.attached (Axiom n)) }
+    ensures known { (r : ClauseRef) → Contains trail.new.attached r → (n : ℕ) ×
+        Contains used.now n × (r ≡ Axiom n) }
 {
     let _own = own;
     for number in used {

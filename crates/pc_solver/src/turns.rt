@@ -30,7 +30,8 @@ impl<'g> Search<'g> {
     pub(crate) fn run(&mut self, assumed: &[Lit], log: &mut Log, tally: &mut Tally) -> Outcome
         requires under_way { IsUnderWay self.old assumed.now log.old }
         requires few { tally.old.learned + tally.old.limit < 2 ^ 127 }
-        ensures advances { Advances self.old self.new tally.old tally.new log.old log.new (extra result) (unmarked result) }
+        ensures advances { Advances self.old self.new tally.old tally.new log.old log.new
+            (extra result) (unmarked result) }
         ensures says { EndSays self.new assumed.now log.new tally.new result }
     {
         match self.turns(assumed, log, tally) {
@@ -48,9 +49,12 @@ impl<'g> Search<'g> {
     ) -> Result<Outcome, AllocError>
         requires under_way { IsUnderWay self.old assumed.now log.old }
         requires few { tally.old.learned + tally.old.limit < 2 ^ 127 }
-        ensures ok { IfOk result (λ outcome. Advances self.old self.new tally.old tally.new log.old log.new (extra outcome) (unmarked outcome)) }
-        ensures err { OnErr result (Advances self.old self.new tally.old tally.new log.old log.new 1 0) }
-        ensures says { IfOk result (λ outcome. EndSays self.new assumed.now log.new tally.new outcome) }
+        ensures ok { IfOk result (λ outcome. Advances self.old self.new tally.old tally.new log.old
+            log.new (extra outcome) (unmarked outcome)) }
+        ensures err { OnErr result (Advances self.old self.new tally.old tally.new log.old log.new 1
+            0) }
+        ensures says { IfOk result (λ outcome. EndSays self.new assumed.now log.new tally.new
+            outcome) }
     {
         'turns: loop {
             match self.turn(assumed, log, tally)? {
@@ -69,8 +73,10 @@ impl<'g> Search<'g> {
     ) -> Result<Option<Outcome>, AllocError>
         requires under_way { IsUnderWay self.old assumed.now log.old }
         requires few { tally.old.learned < 2 ^ 127 }
-        ensures ok { IfOk result (Turns self.old self.new assumed.now tally.old tally.new log.old log.new) }
-        ensures err { OnErr result (Advances self.old self.new tally.old tally.new log.old log.new 1 0) }
+        ensures ok { IfOk result (Turns self.old self.new assumed.now tally.old tally.new log.old
+            log.new) }
+        ensures err { OnErr result (Advances self.old self.new tally.old tally.new log.old log.new 1
+            0) }
     {
         match self.propagate(tally) {
             Step::Spent => Ok(Some(Outcome::Spent)),
@@ -88,11 +94,14 @@ impl<'g> Search<'g> {
         tally: &mut Tally,
     ) -> Result<Option<Outcome>, AllocError>
         requires attached { Contains self.old.trail.attached conflict }
-        requires conflict { IsFalsified self.old.clauses.axioms self.old.clauses.more self.old.trail.entries conflict }
+        requires conflict { IsFalsified self.old.clauses.axioms self.old.clauses.more
+            self.old.trail.entries conflict }
         requires under_way { IsUnderWay self.old assumed.now log.old }
         requires few { tally.old.learned < 2 ^ 127 }
-        ensures ok { IfOk result (Turns self.old self.new assumed.now tally.old tally.new log.old log.new) }
-        ensures err { OnErr result (Advances self.old self.new tally.old tally.new log.old log.new 1 0) }
+        ensures ok { IfOk result (Turns self.old self.new assumed.now tally.old tally.new log.old
+            log.new) }
+        ensures err { OnErr result (Advances self.old self.new tally.old tally.new log.old log.new 1
+            0) }
     {
         if self.level_of_conflict(conflict) > 0 {
             let learnt = self.learn(conflict, assumed, log, tally)?;
@@ -111,8 +120,10 @@ impl<'g> Search<'g> {
     ) -> Result<Option<Outcome>, AllocError>
         requires under_way { IsUnderWay self.old assumed.now log.old }
         requires says { LearntSays self.old learnt }
-        ensures ok { IfOk result (Turns self.old self.new assumed.now tally.old tally.new log.old log.new) }
-        ensures err { OnErr result (Advances self.old self.new tally.old tally.new log.old log.new 1 0) }
+        ensures ok { IfOk result (Turns self.old self.new assumed.now tally.old tally.new log.old
+            log.new) }
+        ensures err { OnErr result (Advances self.old self.new tally.old tally.new log.old log.new 1
+            0) }
         ensures learned { tally.new.learned ≡ tally.old.learned }
     {
         match learnt {
@@ -132,8 +143,10 @@ impl<'g> Search<'g> {
     ) -> Result<Option<Outcome>, AllocError>
         requires under_way { IsUnderWay self.old assumed.now log.old }
         requires quiet { IsQuiet self.old.clauses.axioms self.old.clauses.more self.old.trail }
-        ensures ok { IfOk result (Turns self.old self.new assumed.now tally.old tally.new log.old log.new) }
-        ensures err { OnErr result (Advances self.old self.new tally.old tally.new log.old log.new 1 0) }
+        ensures ok { IfOk result (Turns self.old self.new assumed.now tally.old tally.new log.old
+            log.new) }
+        ensures err { OnErr result (Advances self.old self.new tally.old tally.new log.old log.new 1
+            0) }
         ensures learned { tally.new.learned ≡ tally.old.learned }
     {
         let next = self.next_decision(assumed);

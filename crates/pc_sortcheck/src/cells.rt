@@ -19,7 +19,8 @@ use std::alloc::Global;
 
 /// The tests of a family before its sorts, in their order.
 fn test_family(book: &Book, name: &Name, sorts: &[Name]) -> Result<(), SortFault>
-    ensures { MatchResult result (λ _. FamilyFits book.now name.now sorts.now) (λ e. (t : List ℕ) → IsDeclarationFault book.now (tree.cell name.now sorts.now t) e) }
+    ensures { MatchResult result (λ _. FamilyFits book.now name.now sorts.now) (λ e. (t : List ℕ) →
+        IsDeclarationFault book.now (tree.cell name.now sorts.now t) e) }
 {
     if !is_new(book, name) {
         return Err(SortFault::DuplicateName);
@@ -61,7 +62,9 @@ fn count_tuples(book: &Book, sorts: &[SortId]) -> usize
 fn has_room_for_cells(book: &Book, sorts: &[SortId]) -> bool
     requires arity { length sorts.now ≤ most_arguments }
     requires declared { All (IsDeclaredSort book.now.universe) sorts.now }
-    ensures { IsTrue result ↔ (length (cell_sizes book.now.universe) + product (map (size_of book.now.universe) sorts.now) ≤ most_cells) }
+    ensures { IsTrue result ↔
+        (length (cell_sizes book.now.universe) +
+        product (map (size_of book.now.universe) sorts.now) ≤ most_cells) }
 {
     book.cells() + count_tuples(book, sorts) <= MOST_CELLS
 }
@@ -74,7 +77,9 @@ pub(crate) fn declare_cell(
     result_sort: &Name,
 ) -> Result<(), SortFault>
     requires { book.old.rules ≡ [] }
-    ensures { MatchResult result (λ _. Declares book.old (tree.cell name.now sorts.now result_sort.now) book.new) (IsFaultOf (IsDeclarationFault book.old (tree.cell name.now sorts.now result_sort.now))) }
+    ensures { MatchResult result
+        (λ _. Declares book.old (tree.cell name.now sorts.now result_sort.now) book.new)
+        (IsFaultOf (IsDeclarationFault book.old (tree.cell name.now sorts.now result_sort.now))) }
 {
     keeps_form(book);
     is_name(name);

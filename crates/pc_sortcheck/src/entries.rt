@@ -44,7 +44,9 @@ pub fn has_room_for_entry(book: &Book, entry: Entry) -> bool
 
 /// The entry that a cell and a value stand for, or the first fault, of the cell and then of the value.
 pub fn find_entry(book: &Book, cell: &CellTree, value: &ValueTree) -> Result<Entry, SortFault>
-    ensures { MatchResult result (λ e. IsEntryNamed book.now.universe (cell_of cell.now) (value_of value.now) e × IsEntryOf book.now.universe e) (IsDeclarationFault book.now (tree.enter (cell_of cell.now) (value_of value.now))) }
+    ensures { MatchResult result (λ e. IsEntryNamed book.now.universe (cell_of cell.now)
+        (value_of value.now) e × IsEntryOf book.now.universe e)
+        (IsDeclarationFault book.now (tree.enter (cell_of cell.now) (value_of value.now))) }
 {
     let cell = find_cell(book, cell)?;
     let value = find_value(book, cell, value)?;
@@ -58,7 +60,9 @@ pub fn find_further_entry(
     cell: &CellTree,
     value: &ValueTree,
 ) -> Result<Entry, SortFault>
-    ensures { MatchResult result (λ e. IsEntryNamed book.now.universe (cell_of cell.now) (value_of value.now) e × IsEntryOf book.now.universe e × HasRoomForEntry book.now e) (IsDeclarationFault book.now (tree.also (cell_of cell.now) (value_of value.now))) }
+    ensures { MatchResult result (λ e. IsEntryNamed book.now.universe (cell_of cell.now)
+        (value_of value.now) e × IsEntryOf book.now.universe e × HasRoomForEntry book.now e)
+        (IsDeclarationFault book.now (tree.also (cell_of cell.now) (value_of value.now))) }
 {
     let entry = find_entry(book, cell, value)?;
     if !has_room_for_entry(book, entry) {
@@ -72,7 +76,10 @@ pub(crate) fn declare_entry(
     cell: &CellTree,
     value: &ValueTree,
 ) -> Result<(), SortFault>
-    ensures { MatchResult result (λ _. Declares book.old (tree.enter (cell_of cell.now) (value_of value.now)) book.new) (IsFaultOf (IsDeclarationFault book.old (tree.enter (cell_of cell.now) (value_of value.now)))) }
+    ensures { MatchResult result
+        (λ _. Declares book.old (tree.enter (cell_of cell.now) (value_of value.now)) book.new)
+        (IsFaultOf
+        (IsDeclarationFault book.old (tree.enter (cell_of cell.now) (value_of value.now)))) }
 {
     let entry = find_entry(book, cell, value)?;
     book.set_entry(entry)?;
@@ -85,7 +92,10 @@ pub(crate) fn declare_further_entry(
     cell: &CellTree,
     value: &ValueTree,
 ) -> Result<(), SortFault>
-    ensures { MatchResult result (λ _. Declares book.old (tree.also (cell_of cell.now) (value_of value.now)) book.new) (IsFaultOf (IsDeclarationFault book.old (tree.also (cell_of cell.now) (value_of value.now)))) }
+    ensures { MatchResult result
+        (λ _. Declares book.old (tree.also (cell_of cell.now) (value_of value.now)) book.new)
+        (IsFaultOf
+        (IsDeclarationFault book.old (tree.also (cell_of cell.now) (value_of value.now)))) }
 {
     keeps_form(book);
     let entry = find_further_entry(book, cell, value)?;

@@ -28,10 +28,15 @@ use std::alloc::Global;
 /// has no fault.
 pub fn check_rule(alloc: Global, book: &Book, tree: &RuleTree) -> Result<Rule, SortFault>
     requires sized { IsSized (formula_of tree.now.formula) }
-    ensures told { MatchResult result (λ rule. IsStatement book.now.universe [] (formula_of tree.now.formula) (rule_of rule).states × IsWellSorted book.now.universe [] (rule_of rule).states) (IsFaultOf (IsRuleFault book.now (formula_of tree.now.formula) no_test)) }
+    ensures told { MatchResult result (λ rule.
+        IsStatement book.now.universe [] (formula_of tree.now.formula) (rule_of rule).states ×
+        IsWellSorted book.now.universe [] (rule_of rule).states)
+        (IsFaultOf (IsRuleFault book.now (formula_of tree.now.formula) no_test)) }
     ensures named { IfOk result (λ rule. (rule_of rule).name ≡ tree.now.name) }
-    ensures nested { IfOk result (λ rule. built.nesting_of (rule_of rule).states ≡ written.nesting_of (formula_of tree.now.formula)) }
-    ensures fault { (e : SortFault) → IsRuleFault book.now (formula_of tree.now.formula) no_test e → TellsFault result e }
+    ensures nested { IfOk result (λ rule. built.nesting_of (rule_of rule).states ≡
+        written.nesting_of (formula_of tree.now.formula)) }
+    ensures fault { (e : SortFault) → IsRuleFault book.now (formula_of tree.now.formula) no_test e →
+        TellsFault result e }
 {
     let formula = check_formula(alloc, book, &tree.formula)?;
     if book.rules().len() >= MOST_RULES {
@@ -44,7 +49,10 @@ pub fn check_rule(alloc: Global, book: &Book, tree: &RuleTree) -> Result<Rule, S
 pub(crate) fn declare_rule(alloc: Global, book: &mut Book, tree: &RuleTree) -> Result<(), SortFault>
     requires sized { IsSized (formula_of tree.now.formula) }
     requires nested { written.nesting_of (formula_of tree.now.formula) ≤ most_nesting }
-    ensures { MatchResult result (λ _. Declares book.old (lines.rule tree.now.name (formula_of tree.now.formula)) book.new) (IsFaultOf (IsDeclarationFault book.old (lines.rule tree.now.name (formula_of tree.now.formula)))) }
+    ensures { MatchResult result
+        (λ _. Declares book.old (lines.rule tree.now.name (formula_of tree.now.formula)) book.new)
+        (IsFaultOf
+        (IsDeclarationFault book.old (lines.rule tree.now.name (formula_of tree.now.formula)))) }
 {
     keeps_form(book);
     is_name(&tree.name);

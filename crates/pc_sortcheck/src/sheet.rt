@@ -25,7 +25,8 @@ use std::alloc::Global;
 fn declare(alloc: Global, book: &mut Book, declaration: &Declaration) -> Result<(), SortFault>
     requires first { is_of_universe (declared_of declaration.now) ≡ true → book.old.rules ≡ [] }
     requires written { HasWrittenRule (declared_of declaration.now) }
-    ensures { MatchResult result (λ _. Declares book.old (declared_of declaration.now) book.new) (IsFaultOf (IsDeclarationFault book.old (declared_of declaration.now))) }
+    ensures { MatchResult result (λ _. Declares book.old (declared_of declaration.now) book.new)
+        (IsFaultOf (IsDeclarationFault book.old (declared_of declaration.now))) }
 {
     match declaration {
         Declaration::ListSort { name, values } => declare_list(alloc, book, name, values),
@@ -48,7 +49,8 @@ fn declare_all(alloc: Global, tree: &SheetTree) -> Result<Book, SheetSortFault>
     requires ordered { HasUniverseFirst (sheet_of tree.now) }
     requires sized { HasSizedRules (sheet_of tree.now) }
     requires nested { HasNestedRules (sheet_of tree.now) }
-    ensures { MatchResult result (IsSheetOf (sheet_of tree.now)) (λ why. IsFaultOf (IsSheetFault (sheet_of tree.now) why.line) why.fault) }
+    ensures { MatchResult result (IsSheetOf (sheet_of tree.now)) (λ why.
+        IsFaultOf (IsSheetFault (sheet_of tree.now) why.line) why.fault) }
 {
     let Ok(mut book) = Book::new(alloc) else {
         return Err(SheetSortFault {
@@ -73,9 +75,13 @@ pub fn check_sheet(alloc: Global, tree: &SheetTree) -> Result<Book, SheetSortFau
     requires ordered { HasUniverseFirst (sheet_of tree.now) }
     requires sized { HasSizedRules (sheet_of tree.now) }
     requires nested { HasNestedRules (sheet_of tree.now) }
-    ensures told { MatchResult result (IsSheetOf (sheet_of tree.now)) (λ why. IsFaultOf (IsSheetFault (sheet_of tree.now) why.line) why.fault) }
-    ensures only { (sheet : Sheet) → IsSheetOf (sheet_of tree.now) sheet → MatchResult result (λ book. sheet ≡ book) (λ why. IsWantOfMemory why.fault) }
-    ensures fault { (line : ℕ) (e : SortFault) → IsSheetFault (sheet_of tree.now) line e → MatchResult result (λ book. ⊥) (λ why. IsFaultOf (λ f. (f ≡ e) × (why.line ≡ line)) why.fault) }
+    ensures told { MatchResult result (IsSheetOf (sheet_of tree.now)) (λ why.
+        IsFaultOf (IsSheetFault (sheet_of tree.now) why.line) why.fault) }
+    ensures only { (sheet : Sheet) → IsSheetOf (sheet_of tree.now) sheet →
+        MatchResult result (λ book. sheet ≡ book) (λ why. IsWantOfMemory why.fault) }
+    ensures fault { (line : ℕ) (e : SortFault) → IsSheetFault (sheet_of tree.now) line e →
+        MatchResult result (λ book. ⊥) (λ why. IsFaultOf (λ f. (f ≡ e) × (why.line ≡ line))
+        why.fault) }
 {
     trees_have_one_outcome();
     declare_all(alloc, tree)

@@ -23,7 +23,8 @@ fn has_room_for_sort(book: &Book) -> bool
 
 /// The tests of a listed sort, in their order.
 fn test_list(book: &Book, name: &Name, values: &[Name]) -> Result<(), SortFault>
-    ensures { MatchResult result (λ _. ListFits book.now name.now values.now) (IsDeclarationFault book.now (tree.list_sort name.now values.now)) }
+    ensures { MatchResult result (λ _. ListFits book.now name.now values.now)
+        (IsDeclarationFault book.now (tree.list_sort name.now values.now)) }
 {
     if !is_new(book, name) {
         return Err(SortFault::DuplicateName);
@@ -50,7 +51,8 @@ pub(crate) fn declare_list(
     values: &[Name],
 ) -> Result<(), SortFault>
     requires { book.old.rules ≡ [] }
-    ensures { MatchResult result (λ _. Declares book.old (tree.list_sort name.now values.now) book.new) (IsFaultOf (IsDeclarationFault book.old (tree.list_sort name.now values.now))) }
+    ensures { MatchResult result (λ _. Declares book.old (tree.list_sort name.now values.now)
+        book.new) (IsFaultOf (IsDeclarationFault book.old (tree.list_sort name.now values.now))) }
 {
     keeps_form(book);
     is_name(name);
@@ -79,7 +81,8 @@ fn bound(number: i64) -> i32
 
 /// The tests of a range, in their order.
 fn test_range(book: &Book, name: &Name, low: i64, high: i64) -> Result<(), SortFault>
-    ensures { MatchResult result (λ _. RangeFits book.now name.now low high) (IsDeclarationFault book.now (tree.range_sort name.now low high)) }
+    ensures { MatchResult result (λ _. RangeFits book.now name.now low high)
+        (IsDeclarationFault book.now (tree.range_sort name.now low high)) }
 {
     if !is_new(book, name) {
         return Err(SortFault::DuplicateName);
@@ -109,7 +112,8 @@ pub(crate) fn declare_range(
     high: i64,
 ) -> Result<(), SortFault>
     requires { book.old.rules ≡ [] }
-    ensures { MatchResult result (λ _. Declares book.old (tree.range_sort name.now low high) book.new) (IsFaultOf (IsDeclarationFault book.old (tree.range_sort name.now low high))) }
+    ensures { MatchResult result (λ _. Declares book.old (tree.range_sort name.now low high)
+        book.new) (IsFaultOf (IsDeclarationFault book.old (tree.range_sort name.now low high))) }
 {
     keeps_form(book);
     is_name(name);

@@ -21,7 +21,8 @@ pub(crate) fn find_sorts(
     book: &Book,
     names: &[Name],
 ) -> Result<Vec<SortId>, SortFault>
-    ensures { MatchResult result (λ sorts. AreSortsNamed book.now.universe names.now sorts.items) (IsFaultOf (AreSortNamesFault book.now.universe names.now)) }
+    ensures { MatchResult result (λ sorts. AreSortsNamed book.now.universe names.now sorts.items)
+        (IsFaultOf (AreSortNamesFault book.now.universe names.now)) }
 {
     let mut sorts = Vec::new(alloc);
     for name in names {
@@ -32,7 +33,8 @@ pub(crate) fn find_sorts(
 
 /// The tests of a table before its sorts, in their order.
 fn test_table(book: &Book, name: &Name, sorts: &[Name]) -> Result<(), SortFault>
-    ensures { MatchResult result (λ _. TableFits book.now name.now sorts.now) (IsDeclarationFault book.now (tree.table name.now sorts.now)) }
+    ensures { MatchResult result (λ _. TableFits book.now name.now sorts.now)
+        (IsDeclarationFault book.now (tree.table name.now sorts.now)) }
 {
     if !is_new(book, name) {
         return Err(SortFault::DuplicateName);
@@ -56,7 +58,8 @@ pub(crate) fn declare_table(
     sorts: &[Name],
 ) -> Result<(), SortFault>
     requires { book.old.rules ≡ [] }
-    ensures { MatchResult result (λ _. Declares book.old (tree.table name.now sorts.now) book.new) (IsFaultOf (IsDeclarationFault book.old (tree.table name.now sorts.now))) }
+    ensures { MatchResult result (λ _. Declares book.old (tree.table name.now sorts.now) book.new)
+        (IsFaultOf (IsDeclarationFault book.old (tree.table name.now sorts.now))) }
 {
     keeps_form(book);
     is_name(name);
@@ -82,7 +85,8 @@ fn count_rows(book: &Book) -> usize
 /// Whether the row stands in the table.
 fn stands(book: &Book, table: TableId, row: &[ValueId]) -> bool
     requires { table.0 < length book.now.universe.tables }
-    ensures { IsTrue result ↔ IsSomeAnd (slice_get book.now.universe.tables table.0) (λ declared. Contains declared.rows row.now) }
+    ensures { IsTrue result ↔ IsSomeAnd (slice_get book.now.universe.tables table.0) (λ declared.
+        Contains declared.rows row.now) }
 {
     for i in 0..book.rows(table) {
         if book.row(table, i) == row {
@@ -103,7 +107,8 @@ fn has_room_for_row(book: &Book, table: TableId, row: &[ValueId]) -> bool
 /// The sorts of a table's arguments.
 fn sorts_of_table(book: &Book, table: TableId) -> &[SortId]
     requires { table.0 < length book.now.universe.tables }
-    ensures sorts { IsSomeAnd (slice_get book.now.universe.tables table.0) (λ declared. declared.sorts ≡ result.now) }
+    ensures sorts { IsSomeAnd (slice_get book.now.universe.tables table.0) (λ declared.
+        declared.sorts ≡ result.now) }
     ensures declared { All (IsDeclaredSort book.now.universe) result.now }
 {
     keeps_form(book);
@@ -118,7 +123,8 @@ fn find_row(
     values: &[ValueTree],
 ) -> Result<Vec<ValueId>, SortFault>
     requires { table.0 < length book.now.universe.tables }
-    ensures { MatchResult result (λ row. AreRowOf book.now.universe table (map value_of values.now) row.items) (IsFaultOf (AreNoRowOf book.now.universe table (map value_of values.now))) }
+    ensures { MatchResult result (λ row. AreRowOf book.now.universe table (map value_of values.now)
+        row.items) (IsFaultOf (AreNoRowOf book.now.universe table (map value_of values.now))) }
 {
     let sorts = sorts_of_table(book, table);
     if values.len() != sorts.len() {
@@ -139,7 +145,9 @@ pub(crate) fn declare_row(
     values: &[ValueTree],
 ) -> Result<(), SortFault>
     requires { book.old.rules ≡ [] }
-    ensures { MatchResult result (λ _. Declares book.old (tree.row name.now (map value_of values.now)) book.new) (IsFaultOf (IsDeclarationFault book.old (tree.row name.now (map value_of values.now)))) }
+    ensures { MatchResult result
+        (λ _. Declares book.old (tree.row name.now (map value_of values.now)) book.new)
+        (IsFaultOf (IsDeclarationFault book.old (tree.row name.now (map value_of values.now)))) }
 {
     keeps_form(book);
     let table = find_table(book, name)?;

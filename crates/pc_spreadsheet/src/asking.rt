@@ -54,7 +54,9 @@ fn deny(alloc: Global, formula: Formula) -> Result<Rule, SortFault>
 fn denying(alloc: Global, book: &Book, tree: &FormulaTree) -> Result<Rule, SortFault>
     requires sized { IsSized (formula_of tree.now) }
     requires nested { written.nesting_of (formula_of tree.now) ≤ most_asked_nesting }
-    ensures { MatchResult result (λ rule. (s : Statement) × (rule_of rule ≡ denial s) × IsDenialRule book.now (formula_of tree.now) s) (IsFaultOf (IsRuleFault book.now (not (formula_of tree.now)) no_test)) }
+    ensures { MatchResult result (λ rule. (s : Statement) × (rule_of rule ≡ denial s) ×
+        IsDenialRule book.now (formula_of tree.now) s)
+        (IsFaultOf (IsRuleFault book.now (not (formula_of tree.now)) no_test)) }
 {
     let formula = match check_formula(alloc, book, tree) {
         Ok(formula) => formula,
@@ -69,8 +71,10 @@ fn denying(alloc: Global, book: &Book, tree: &FormulaTree) -> Result<Rule, SortF
 // Makes the certificate of an answer.
 fn certify(alloc: Global, book: Book, answer: Answer, log: &Log) -> Told
     requires lawful { IsLawfulLog (whole_problem book) [] log.now }
-    requires answer { (sheet : Sheet) × (f : Statement) × (book ≡ asked sheet f) × IsAnswer sheet f log.now answer }
-    ensures { (sheet : Sheet) (f : Statement) → book ≡ asked sheet f → IsAnswer sheet f log.now answer → Certified sheet f result }
+    requires answer { (sheet : Sheet) × (f : Statement) × (book ≡ asked sheet f) ×
+        IsAnswer sheet f log.now answer }
+    ensures { (sheet : Sheet) (f : Statement) → book ≡ asked sheet f →
+        IsAnswer sheet f log.now answer → Certified sheet f result }
 {
     match prove(alloc, &book, &answer, log) {
         Ok((lines, span)) => {
@@ -96,7 +100,8 @@ fn certify(alloc: Global, book: Book, answer: Answer, log: &Log) -> Told
 // Answers by the asked book.
 fn answer_by(alloc: Global, session: &Session, book: Book, notes: &mut Spendings) -> Told
     requires { (f : Statement) × (book ≡ asked session.now.sheet f) }
-    ensures { (f : Statement) → book ≡ asked session.now.sheet f → Answers session.now.budget session.now.sheet f notes.old notes.new result }
+    ensures { (f : Statement) → book ≡ asked session.now.sheet f →
+        Answers session.now.budget session.now.sheet f notes.old notes.new result }
 {
     let mut tally = Tally {
         placed: 0,
@@ -118,7 +123,8 @@ fn answer_by(alloc: Global, session: &Session, book: Book, notes: &mut Spendings
 fn answer_with(alloc: Global, session: &Session, rule: Rule, notes: &mut Spendings) -> Told
     requires denies { (f : Statement) × (rule_of rule ≡ denial f) }
     requires formed { IsWellFormed (with_rule session.now.sheet (rule_of rule)) }
-    ensures { (f : Statement) → rule_of rule ≡ denial f → Answers session.now.budget session.now.sheet f notes.old notes.new result }
+    ensures { (f : Statement) → rule_of rule ≡ denial f →
+        Answers session.now.budget session.now.sheet f notes.old notes.new result }
 {
     match session.book().with_rule(alloc, rule) {
         Ok(book) => answer_by(alloc, session, book, notes),
@@ -135,7 +141,8 @@ pub(crate) fn answer(
 ) -> Told
     requires sized { IsSized (formula_of tree.now) }
     requires nested { written.nesting_of (formula_of tree.now) ≤ most_asked_nesting }
-    ensures { Obeys (state_of session.now, notes.old) (asks_ask (formula_of tree.now)) result (state_of session.now, notes.new) }
+    ensures { Obeys (state_of session.now, notes.old) (asks_ask (formula_of tree.now)) result
+        (state_of session.now, notes.new) }
 {
     let book = session.book();
     well_formed(book);

@@ -50,7 +50,8 @@ fn show_json(alloc: Global, session: &Session) -> Told
 
 // Sets the budget.
 fn set_budget(session: &mut Session, number: u64) -> Told
-    ensures { (notes : Notes) → Obeys (state_of session.old, notes) (asks_budget number) result (state_of session.new, notes) }
+    ensures { (notes : Notes) → Obeys (state_of session.old, notes) (asks_budget number) result
+        (state_of session.new, notes) }
 {
     if number < 1 || number > MOST_BUDGET {
         return Reply::Refused(Refusal::Limit(Limited::Budget), None);
@@ -68,7 +69,8 @@ pub(crate) fn obey(
 ) -> Told
     requires sized { IsSizedReading (asks (asked_of command.now)) }
     requires nested { IsNestedReading (asks (asked_of command.now)) }
-    ensures { Obeys (state_of session.old, notes.old) (asked_of command.now) result (state_of session.new, notes.new) }
+    ensures { Obeys (state_of session.old, notes.old) (asked_of command.now) result
+        (state_of session.new, notes.new) }
 {
     match command {
         Command::Show => Reply::Shown(Page::Display),

@@ -25,7 +25,9 @@ pub(crate) fn enter(
     value: &ValueTree,
     notes: &mut Spendings,
 ) -> Told
-    ensures { Obeys (state_of session.old, notes.old) (asks_enter (cell_of cell.now) (value_of value.now)) result (state_of session.new, notes.new) }
+    ensures { Obeys (state_of session.old, notes.old)
+        (asks_enter (cell_of cell.now) (value_of value.now)) result
+        (state_of session.new, notes.new) }
 {
     let entry = match find_entry(session.book(), cell, value) {
         Ok(entry) => entry,
@@ -44,7 +46,9 @@ pub(crate) fn enter_beside(
     value: &ValueTree,
     notes: &mut Spendings,
 ) -> Told
-    ensures { Obeys (state_of session.old, notes.old) (asks_also (cell_of cell.now) (value_of value.now)) result (state_of session.new, notes.new) }
+    ensures { Obeys (state_of session.old, notes.old)
+        (asks_also (cell_of cell.now) (value_of value.now)) result
+        (state_of session.new, notes.new) }
 {
     let entry = match find_further_entry(session.book(), cell, value) {
         Ok(entry) => entry,
@@ -58,7 +62,8 @@ pub(crate) fn enter_beside(
 
 /// Clears the cell: all its entries go.
 pub(crate) fn clear(session: &mut Session, cell: &CellTree, notes: &mut Spendings) -> Told
-    ensures { Obeys (state_of session.old, notes.old) (asks_clear (cell_of cell.now)) result (state_of session.new, notes.new) }
+    ensures { Obeys (state_of session.old, notes.old) (asks_clear (cell_of cell.now)) result
+        (state_of session.new, notes.new) }
 {
     let cell = match find_cell(session.book(), cell) {
         Ok(cell) => cell,
@@ -77,7 +82,9 @@ pub(crate) fn remove(
     value: &ValueTree,
     notes: &mut Spendings,
 ) -> Told
-    ensures { Obeys (state_of session.old, notes.old) (asks_clear_one (cell_of cell.now) (value_of value.now)) result (state_of session.new, notes.new) }
+    ensures { Obeys (state_of session.old, notes.old)
+        (asks_clear_one (cell_of cell.now) (value_of value.now)) result
+        (state_of session.new, notes.new) }
 {
     let entry = match find_entry(session.book(), cell, value) {
         Ok(entry) => entry,
@@ -98,7 +105,9 @@ pub(crate) fn add_rule(
 ) -> Told
     requires sized { IsSized (formula_of tree.now.formula) }
     requires nested { written.nesting_of (formula_of tree.now.formula) ≤ most_nesting }
-    ensures { Obeys (state_of session.old, notes.old) (asks_rule tree.now.name (formula_of tree.now.formula)) result (state_of session.new, notes.new) }
+    ensures { Obeys (state_of session.old, notes.old)
+        (asks_rule tree.now.name (formula_of tree.now.formula)) result
+        (state_of session.new, notes.new) }
 {
     tree.name.as_str();
     let rule = match check_rule(alloc, session.book(), tree) {
@@ -126,7 +135,8 @@ pub(crate) fn place_of(rules: &[Rule], name: &Name) -> Option<usize>
 
 /// Drops the rule of that name.
 pub(crate) fn drop_rule(session: &mut Session, name: &Name, notes: &mut Spendings) -> Told
-    ensures { Obeys (state_of session.old, notes.old) (asks_drop name.now) result (state_of session.new, notes.new) }
+    ensures { Obeys (state_of session.old, notes.old) (asks_drop name.now) result
+        (state_of session.new, notes.new) }
 {
     match session.drop_rule(name.as_str()) {
         Ok(()) => Reply::Accepted,

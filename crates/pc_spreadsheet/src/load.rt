@@ -75,7 +75,8 @@ pub(crate) fn load(
     requires small { length text.now ≤ SHEET_LIMIT }
     requires at_least { 1 ≤ budget }
     requires at_most { budget ≤ MOST_BUDGET }
-    ensures { MatchResult result (λ state. Starts budget text.now state × (notes.new ≡ notes.old)) (IsNotLoaded budget text.now notes.old notes.new) }
+    ensures { MatchResult result (λ state. Starts budget text.now state × (notes.new ≡ notes.old))
+        (IsNotLoaded budget text.now notes.old notes.new) }
 {
     match load_book(alloc, text) {
         Ok(book) => open(alloc, book, budget, notes),

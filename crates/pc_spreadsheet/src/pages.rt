@@ -43,7 +43,8 @@ pub(crate) fn has_displays(book: &Book)
 
 // Writes the display.
 fn write_display<O: Sink>(session: &Session, out: &mut O) -> Result<(), Failed>
-    ensures { (text : List ℕ) × IsShown session.now.sheet text × Writes O.given O.faults out.old out.new result text }
+    ensures { (text : List ℕ) × IsShown session.now.sheet text ×
+        Writes O.given O.faults out.old out.new result text }
 {
     has_displays(session.book());
     show(session, out)
@@ -51,7 +52,8 @@ fn write_display<O: Sink>(session: &Session, out: &mut O) -> Result<(), Failed>
 
 // Writes the display as a table.
 fn write_table<O: Sink>(session: &Session, out: &mut O) -> Result<(), Failed>
-    ensures { (text : List ℕ) × IsGrid session.now.sheet text × Writes O.given O.faults out.old out.new result text }
+    ensures { (text : List ℕ) × IsGrid session.now.sheet text ×
+        Writes O.given O.faults out.old out.new result text }
 {
     has_displays(session.book());
     grid(session, out)
@@ -68,7 +70,8 @@ fn write_line<O: Sink>(text: &String, out: &mut O) -> Result<(), Failed>
 // Writes why the target is implied, or that it isn't.
 fn show_why<O: Sink>(session: &Session, target: Target, out: &mut O) -> Result<(), Failed>
     requires { IsTargetIn session.now.sheet.universe target }
-    ensures { (text : List ℕ) × IsWhy session.now.sheet target text × Writes O.given O.faults out.old out.new result text }
+    ensures { (text : List ℕ) × IsWhy session.now.sheet target text ×
+        Writes O.given O.faults out.old out.new result text }
 {
     match session.reason(target) {
         None => write_text(b"not implied\n", out),
@@ -81,7 +84,9 @@ fn write_proof<O: Sink>(session: &Session, proof: &SetProof, out: &mut O) -> Res
     requires certified { AreCertified session.now.sheet (names_of session.now.sheet) proof.now }
     requires sets { AreMaximalSets session.now.sheet (map set_of proof.now.worlds) }
     requires order { AllPairs (ComesFirst session.now.sheet.entries) (map set_of proof.now.worlds) }
-    ensures { (text : List ℕ) × IsCertificateOnSets session.now.sheet (claim_on_sets proof.now.claim) text × Writes O.given O.faults out.old out.new result text }
+    ensures { (text : List ℕ) ×
+        IsCertificateOnSets session.now.sheet (claim_on_sets proof.now.claim) text ×
+        Writes O.given O.faults out.old out.new result text }
 {
     write_sets(session.book(), session.ground().names(), proof, out)
 }
@@ -89,7 +94,8 @@ fn write_proof<O: Sink>(session: &Session, proof: &SetProof, out: &mut O) -> Res
 // Writes the certificate that the maximal sets are all that there are.
 fn write_repairs<O: Sink>(session: &Session, proof: &SetProof, out: &mut O) -> Result<(), Failed>
     requires { Certifies session.now.sheet Repairs proof.now }
-    ensures { (text : List ℕ) × IsCertificateOnSets session.now.sheet repairs text × Writes O.given O.faults out.old out.new result text }
+    ensures { (text : List ℕ) × IsCertificateOnSets session.now.sheet repairs text ×
+        Writes O.given O.faults out.old out.new result text }
 {
     write_proof(session, proof, out)
 }
@@ -103,7 +109,8 @@ fn write_unimplied<O: Sink>(
 ) -> Result<(), Failed>
     requires unimplied { ¬ IsImplied session.now.sheet target }
     requires certified { Certifies session.now.sheet (Lacking target) proof.now }
-    ensures { (text : List ℕ) × IsWhyNot session.now.sheet target text × Writes O.given O.faults out.old out.new result text }
+    ensures { (text : List ℕ) × IsWhyNot session.now.sheet target text ×
+        Writes O.given O.faults out.old out.new result text }
 {
     write_proof(session, proof, out)
 }
@@ -121,8 +128,11 @@ fn last_rule(book: &Book) -> u32
 // Writes the certificate against the last rule of the asked book.
 fn write_asked<O: Sink>(proof: &AskProof, out: &mut O) -> Result<(), Failed>
     requires some { 0 < length proof.now.book.rules }
-    requires against { GoesAgainst proof.now.book proof.now.names (length proof.now.book.rules - 1) proof.now.support.items proof.now.shown proof.now.lines proof.now.span }
-    ensures { (c : Certificate) × IsAgainstRule proof.now.book (length proof.now.book.rules - 1) proof.now.support.items c × Writes O.given O.faults out.old out.new result (certificate_text proof.now.book c) }
+    requires against { GoesAgainst proof.now.book proof.now.names (length proof.now.book.rules - 1)
+        proof.now.support.items proof.now.shown proof.now.lines proof.now.span }
+    ensures { (c : Certificate) × IsAgainstRule proof.now.book (length proof.now.book.rules - 1)
+        proof.now.support.items c ×
+        Writes O.given O.faults out.old out.new result (certificate_text proof.now.book c) }
 {
     let lines = Proof {
         log: &proof.lines,
@@ -142,7 +152,8 @@ fn write_asked<O: Sink>(proof: &AskProof, out: &mut O) -> Result<(), Failed>
 // Writes why a formula is implied.
 fn write_answer<O: Sink>(session: &Session, proof: &AskProof, out: &mut O) -> Result<(), Failed>
     requires { (f : Statement) × ProvesAsked session.now.sheet f proof.now }
-    ensures { (text : List ℕ) × IsAnsweredIn session.now.sheet proof.now.book text × Writes O.given O.faults out.old out.new result text }
+    ensures { (text : List ℕ) × IsAnsweredIn session.now.sheet proof.now.book text ×
+        Writes O.given O.faults out.old out.new result text }
 {
     let _view = session;
     write_asked(proof, out)
@@ -151,7 +162,8 @@ fn write_answer<O: Sink>(session: &Session, proof: &AskProof, out: &mut O) -> Re
 /// Writes a page.
 pub(crate) fn write_page<O: Sink>(session: &Session, page: &Page, out: &mut O) -> Result<(), Failed>
     requires { CanShow page.now (state_of session.now) }
-    ensures { (text : List ℕ) × IsPage page.now (state_of session.now) text × Writes O.given O.faults out.old out.new result text }
+    ensures { (text : List ℕ) × IsPage page.now (state_of session.now) text ×
+        Writes O.given O.faults out.old out.new result text }
 {
     match page {
         Page::Display => write_display(session, out),
@@ -177,7 +189,8 @@ pub(crate) fn has_certificate(refutation: &Refutation)
 
 /// Writes the certificate of a refutation.
 pub(crate) fn write_certificate<O: Sink>(refutation: &Refutation, out: &mut O) -> Result<(), Failed>
-    ensures { (text : List ℕ) × IsCertificateAgainst refutation.now text × Writes O.given O.faults out.old out.new result text }
+    ensures { (text : List ℕ) × IsCertificateAgainst refutation.now text ×
+        Writes O.given O.faults out.old out.new result text }
 {
     write_refutation(refutation, out)
 }

@@ -44,7 +44,8 @@ pub(crate) fn list_repairs(alloc: Global, session: &Session) -> Told
 
 /// Proves that the maximal sets are all that there are, where they aren't too many.
 pub(crate) fn prove_repairs(alloc: Global, session: &Session, notes: &mut Spendings) -> Told
-    ensures { Obeys (state_of session.now, notes.old) asks_prove_repairs result (state_of session.now, notes.new) }
+    ensures { Obeys (state_of session.now, notes.old) asks_prove_repairs result
+        (state_of session.now, notes.new) }
 {
     match whole(alloc, session) {
         Ok(Some(sets)) => prove_sets(Searched::of(alloc, session), sets, notes),
@@ -61,7 +62,9 @@ pub(crate) fn why_not(
     value: &ValueTree,
     notes: &mut Spendings,
 ) -> Told
-    ensures { Obeys (state_of session.now, notes.old) (asks_whynot (cell_of cell.now) (value_of value.now)) result (state_of session.now, notes.new) }
+    ensures { Obeys (state_of session.now, notes.old)
+        (asks_whynot (cell_of cell.now) (value_of value.now)) result
+        (state_of session.now, notes.new) }
 {
     let target = match find_entry(session.book(), cell, value) {
         Ok(entry) => Target {
@@ -171,7 +174,8 @@ fn find_lacking(
     requires target { IsTargetIn searched.book.now.universe target }
     requires holds { target.holds ≡ true }
     requires unimplied { ¬ IsImplied searched.book.now target }
-    ensures { Doubts searched.entry.budget searched.entry.book.now target notes.old notes.new result }
+    ensures { Doubts searched.entry.budget searched.entry.book.now target notes.old notes.new
+        result }
 {
     let Searched {
         alloc,
@@ -203,7 +207,8 @@ fn prove_lacking(
     requires unimplied { ¬ IsImplied searched.book.now target }
     requires right { IsRightOn searched.book.now sets (Lacking target) }
     requires spent { HasSpent searched.book.now searched.budget (length sets) (first ∷ []) tally }
-    ensures { Doubts searched.entry.budget searched.entry.book.now target notes.old notes.new result }
+    ensures { Doubts searched.entry.budget searched.entry.book.now target notes.old notes.new
+        result }
 {
     let Searched {
         alloc,

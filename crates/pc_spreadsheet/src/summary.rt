@@ -28,7 +28,8 @@ pub struct Summary {
 // Whether the target has a least support.
 fn is_implied(session: &Session, target: Target) -> bool
     requires { IsTargetIn session.now.sheet.universe target }
-    ensures { MatchBool result ((s : List Entry) × IsLeastSupport session.now.sheet s target) (¬ IsImplied session.now.sheet target) }
+    ensures { MatchBool result ((s : List Entry) × IsLeastSupport session.now.sheet s target)
+        (¬ IsImplied session.now.sheet target) }
 {
     match session.reason(target) {
         None => false,
@@ -65,7 +66,8 @@ fn conflicts(session: &Session) -> usize
 // One for a value of the cell that is implied.
 fn implied(session: &Session, cell: CellId, value: ValueId) -> usize
     requires cell { cell.0 < length (cell_sizes session.now.sheet.universe) }
-    requires value { value.0 < size_of session.now.sheet.universe (sort_of session.now.sheet.universe cell) }
+    requires value { value.0 < size_of session.now.sheet.universe
+        (sort_of session.now.sheet.universe cell) }
     ensures exact { IsCount (IsImplied session.now.sheet) (that_has cell value ∷ []) result }
     ensures few { result ≤ 1 }
 {
@@ -80,7 +82,8 @@ fn implied(session: &Session, cell: CellId, value: ValueId) -> usize
 // How many values of the cell are implied.
 fn implied_values(session: &Session, cell: CellId) -> usize
     requires { cell.0 < length (cell_sizes session.now.sheet.universe) }
-    ensures exact { IsCount (IsImplied session.now.sheet) (values_of session.now.sheet.universe cell) result }
+    ensures exact { IsCount (IsImplied session.now.sheet)
+        (values_of session.now.sheet.universe cell) result }
     ensures few { result ≤ most_values }
 {
     let mut count = 0;

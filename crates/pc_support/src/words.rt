@@ -58,7 +58,8 @@ fn put_bit(words: &mut Vec<u64>, place: usize, has: bool)
     requires { place / 64 < length words.old.items }
     ensures len { length words.new.items ≡ length words.old.items }
     ensures same { bit words.new.items place ≡ has }
-    ensures others { (other : ℕ) → other ≢ place → bit words.new.items other ≡ bit words.old.items other }
+    ensures others { (other : ℕ) → other ≢ place →
+        bit words.new.items other ≡ bit words.old.items other }
 {
     let at = place / 64;
     let word = word_at(words, at);
@@ -68,14 +69,16 @@ fn put_bit(words: &mut Vec<u64>, place: usize, has: bool)
 // Whether the second word has each bit of the first from this one on.
 fn covers(part: u64, word: u64, first: usize) -> bool
     requires { first < 64 }
-    ensures { IsTrue result ↔ ((i : ℕ) → first ≤ i → i < 64 → bit_at part i ≡ 1 → bit_at word i ≡ 1) }
+    ensures { IsTrue result ↔ ((i : ℕ) → first ≤ i → i < 64 → bit_at part i ≡ 1 →
+        bit_at word i ≡ 1) }
 {
     (part & !word) >> first == 0
 }
 
 // Whether the second set has each place of the first from this one on.
 fn are_within(part: &[u64], words: &[u64], from: usize) -> bool
-    ensures { IsTrue result ↔ ((place : ℕ) → from ≤ place → bit part.now place ≡ true → bit words.now place ≡ true) }
+    ensures { IsTrue result ↔ ((place : ℕ) → from ≤ place → bit part.now place ≡ true →
+        bit words.now place ≡ true) }
 {
     let start = from / 64;
     if !covers(word_at(part, start), word_at(words, start), from % 64) {
@@ -92,7 +95,8 @@ fn are_within(part: &[u64], words: &[u64], from: usize) -> bool
 // The bits that are in both.
 fn meet(alloc: Global, some: &[u64], others: &[u64]) -> Result<Vec<u64>, AllocError>
     ensures len { IfOk result (λ words. length words.items ≡ length some.now) }
-    ensures both { IfOk result (λ words. (place : ℕ) → (bit words.items place ≡ true) ↔ (bit some.now place ≡ true) × (bit others.now place ≡ true)) }
+    ensures both { IfOk result (λ words. (place : ℕ) → (bit words.items place ≡ true) ↔
+        (bit some.now place ≡ true) × (bit others.now place ≡ true)) }
 {
     let mut words = Vec::with_capacity(alloc, some.len())?;
     for at in 0..some.len() {
@@ -192,7 +196,8 @@ impl Words {
 
     /// The places that are in both sets.
     pub(crate) fn both(&self, alloc: Global, other: &Words) -> Result<Words, AllocError>
-        ensures { IfOk result (λ common. (place : ℕ) → HasPlace common place ↔ HasBoth self.now other.now place) }
+        ensures { IfOk result (λ common. (place : ℕ) → HasPlace common place ↔
+            HasBoth self.now other.now place) }
     {
         let words = meet(alloc, &self.words, &other.words)?;
         Ok(Words {

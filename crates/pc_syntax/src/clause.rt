@@ -57,7 +57,8 @@ pub fn last_formula(alloc: Global, words: &mut Words<'_>) -> Result<FormulaTree,
 /// Reads NAME : FORMULA and the end.
 pub fn rule(alloc: Global, words: &mut Words<'_>) -> Result<RuleTree, Refusal>
     ensures told { IfOk result (λ t. IsRule words.old t.name (formula_of t.formula)) }
-    ensures none { result ≡ Err Refusal.Syntax → (n : List ℕ) (f : Formula) → IsRule words.old n f → ⊥ }
+    ensures none { result ≡ Err Refusal.Syntax → (n : List ℕ) (f : Formula) → IsRule words.old n f →
+        ⊥ }
 {
     let Some(text) = words.take_name() else {
         return Err(Refusal::Syntax);

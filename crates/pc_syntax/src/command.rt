@@ -52,7 +52,9 @@ pub fn parse_command(alloc: Global, line: &[u8]) -> Result<Option<Command>, Comm
 
 // The command that is one word and takes no memory, where the line is one.
 fn lone_command(line: &str) -> Option<Command>
-    ensures { MatchOption result (IsLone line.now → ⊥) (λ c. IsOneName line.now (command_keyword (asked_of c)) × FollowsCommand (asked_of c) []) }
+    ensures { MatchOption result (IsLone line.now →
+        ⊥) (λ c. IsOneName line.now (command_keyword (asked_of c)) ×
+        FollowsCommand (asked_of c) []) }
 {
     if is_one_name(line, "show") {
         return Some(Command::Show);
@@ -120,7 +122,8 @@ enum Keyword {
 
 // The word that the text is, where that starts a command of several words.
 fn keyword_of(start: &str) -> Option<Keyword>
-    ensures { MatchOption result ((a : Asked) → command_keyword a ≡ start.now → IsAlone a) (λ k. keyword_text k ≡ start.now) }
+    ensures { MatchOption result ((a : Asked) → command_keyword a ≡ start.now →
+        IsAlone a) (λ k. keyword_text k ≡ start.now) }
 {
     if is_word(start, "enter") {
         return Some(Keyword::Enter);
@@ -177,7 +180,8 @@ fn command_behind(
     words: &mut Words<'_>,
 ) -> Result<Command, Refusal>
     ensures told { IfOk result (λ c. Asks (keyword_text keyword) (asked_of c) words.old) }
-    ensures none { result ≡ Err Refusal.Syntax → (a : Asked) → Asks (keyword_text keyword) a words.old → ⊥ }
+    ensures none { result ≡ Err Refusal.Syntax → (a : Asked) →
+        Asks (keyword_text keyword) a words.old → ⊥ }
 {
     match keyword {
         Keyword::Enter => entering(alloc, words),
@@ -196,7 +200,8 @@ fn command_behind(
 // Reads CELL = VALUE, and the end.
 fn entering(alloc: Global, words: &mut Words<'_>) -> Result<Command, Refusal>
     ensures told { IfOk result (λ c. Asks (codes "enter") (asked_of c) words.old) }
-    ensures none { result ≡ Err Refusal.Syntax → (a : Asked) → Asks (codes "enter") a words.old → ⊥ }
+    ensures none { result ≡ Err Refusal.Syntax → (a : Asked) → Asks (codes "enter") a words.old →
+        ⊥ }
 {
     let (cell, value) = read_equation(alloc, words)?;
     Ok(Command::Enter(cell, value))
@@ -214,7 +219,8 @@ fn entering_also(alloc: Global, words: &mut Words<'_>) -> Result<Command, Refusa
 // Reads CELL or CELL = VALUE, and the end.
 fn clearing(alloc: Global, words: &mut Words<'_>) -> Result<Command, Refusal>
     ensures told { IfOk result (λ c. Asks (codes "clear") (asked_of c) words.old) }
-    ensures none { result ≡ Err Refusal.Syntax → (a : Asked) → Asks (codes "clear") a words.old → ⊥ }
+    ensures none { result ≡ Err Refusal.Syntax → (a : Asked) → Asks (codes "clear") a words.old →
+        ⊥ }
 {
     let cell = read_cell(alloc, words)?;
     if words.is_empty() {
@@ -248,7 +254,8 @@ fn dropping_rule(alloc: Global, words: &mut Words<'_>) -> Result<Command, Refusa
 // Reads NUMBER, and the end.
 fn setting_budget(words: &mut Words<'_>) -> Result<Command, Refusal>
     ensures told { IfOk result (λ c. Asks (codes "budget") (asked_of c) words.old) }
-    ensures none { result ≡ Err Refusal.Syntax → (a : Asked) → Asks (codes "budget") a words.old → ⊥ }
+    ensures none { result ≡ Err Refusal.Syntax → (a : Asked) → Asks (codes "budget") a words.old →
+        ⊥ }
 {
     let budget = number(words)?;
     Ok(Command::Budget(budget))
@@ -266,7 +273,8 @@ fn asking_why(alloc: Global, words: &mut Words<'_>) -> Result<Command, Refusal>
 // Reads the word `repairs`, and the end.
 fn proving(words: &mut Words<'_>) -> Result<Command, Refusal>
     ensures told { IfOk result (λ c. Asks (codes "prove") (asked_of c) words.old) }
-    ensures none { result ≡ Err Refusal.Syntax → (a : Asked) → Asks (codes "prove") a words.old → ⊥ }
+    ensures none { result ≡ Err Refusal.Syntax → (a : Asked) → Asks (codes "prove") a words.old →
+        ⊥ }
     ensures no_memory { result ≡ Err Refusal.Memory → ⊥ }
 {
     let Some(word) = words.take_name() else {
@@ -282,7 +290,8 @@ fn proving(words: &mut Words<'_>) -> Result<Command, Refusal>
 // Reads CELL = VALUE, and the end.
 fn asking_why_not(alloc: Global, words: &mut Words<'_>) -> Result<Command, Refusal>
     ensures told { IfOk result (λ c. Asks (codes "whynot") (asked_of c) words.old) }
-    ensures none { result ≡ Err Refusal.Syntax → (a : Asked) → Asks (codes "whynot") a words.old → ⊥ }
+    ensures none { result ≡ Err Refusal.Syntax → (a : Asked) → Asks (codes "whynot") a words.old →
+        ⊥ }
 {
     let (cell, value) = read_equation(alloc, words)?;
     Ok(Command::WhyNot(cell, value))
@@ -299,7 +308,8 @@ fn asking(alloc: Global, words: &mut Words<'_>) -> Result<Command, Refusal>
 
 // The command that is this one word.
 fn one_word(start: &str) -> Option<Command>
-    ensures { MatchOption result ((a : Asked) → IsAlone a → command_keyword a ≡ start.now → ⊥) (λ c. IsAlone (asked_of c) × (command_keyword (asked_of c) ≡ start.now)) }
+    ensures { MatchOption result ((a : Asked) → IsAlone a → command_keyword a ≡ start.now →
+        ⊥) (λ c. IsAlone (asked_of c) × (command_keyword (asked_of c) ≡ start.now)) }
 {
     if is_word(start, "show") {
         return Some(Command::Show);

@@ -21,7 +21,8 @@ pub fn declaration(
     words: &mut Words<'_>,
 ) -> Result<Declaration, Refusal>
     ensures told { IfOk result (λ d. IsDeclarationOf start.now (declared_of d) words.old) }
-    ensures none { result ≡ Err Refusal.Syntax → (d : Declared) → IsDeclarationOf start.now d words.old → ⊥ }
+    ensures none { result ≡ Err Refusal.Syntax → (d : Declared) →
+        IsDeclarationOf start.now d words.old → ⊥ }
 {
     if is_word(start, "sort") {
         return sort(alloc, words);
@@ -50,7 +51,8 @@ pub fn declaration(
 // Reads NAME = { NAME } or NAME = INT .. INT, and the end.
 fn sort(alloc: Global, words: &mut Words<'_>) -> Result<Declaration, Refusal>
     ensures told { IfOk result (λ d. IsDeclarationOf (codes "sort") (declared_of d) words.old) }
-    ensures none { result ≡ Err Refusal.Syntax → (d : Declared) → IsDeclarationOf (codes "sort") d words.old → ⊥ }
+    ensures none { result ≡ Err Refusal.Syntax → (d : Declared) →
+        IsDeclarationOf (codes "sort") d words.old → ⊥ }
 {
     let Some(text) = words.take_name() else {
         return Err(Refusal::Syntax);
@@ -73,7 +75,8 @@ fn sort(alloc: Global, words: &mut Words<'_>) -> Result<Declaration, Refusal>
 // Reads as many names as stand there.
 fn names(alloc: Global, words: &mut Words<'_>) -> Result<Vec<Name>, Refusal>
     ensures told { IfOk result (λ found. words.old ≡ map name found.items ++ words.new) }
-    ensures all { IfOk result (λ found. (text : List ℕ) (more : List Word) → words.new ≡ name text ∷ more → ⊥) }
+    ensures all { IfOk result (λ found. (text : List ℕ) (more : List Word) →
+        words.new ≡ name text ∷ more → ⊥) }
     ensures none { result ≡ Err Refusal.Syntax → ⊥ }
 {
     let mut found = Vec::new(alloc);
@@ -106,7 +109,8 @@ fn bounds(words: &mut Words<'_>) -> Result<(i64, i64), Refusal>
 // Reads NAME ( NAME { , NAME } ) and the end.
 fn table(alloc: Global, words: &mut Words<'_>) -> Result<Declaration, Refusal>
     ensures told { IfOk result (λ d. IsDeclarationOf (codes "table") (declared_of d) words.old) }
-    ensures none { result ≡ Err Refusal.Syntax → (d : Declared) → IsDeclarationOf (codes "table") d words.old → ⊥ }
+    ensures none { result ≡ Err Refusal.Syntax → (d : Declared) →
+        IsDeclarationOf (codes "table") d words.old → ⊥ }
 {
     let Some(text) = words.take_name() else {
         return Err(Refusal::Syntax);
@@ -120,7 +124,8 @@ fn table(alloc: Global, words: &mut Words<'_>) -> Result<Declaration, Refusal>
 // Reads NAME ( VALUE { , VALUE } ) and the end.
 fn row(alloc: Global, words: &mut Words<'_>) -> Result<Declaration, Refusal>
     ensures told { IfOk result (λ d. IsDeclarationOf (codes "row") (declared_of d) words.old) }
-    ensures none { result ≡ Err Refusal.Syntax → (d : Declared) → IsDeclarationOf (codes "row") d words.old → ⊥ }
+    ensures none { result ≡ Err Refusal.Syntax → (d : Declared) →
+        IsDeclarationOf (codes "row") d words.old → ⊥ }
 {
     let Some(text) = words.take_name() else {
         return Err(Refusal::Syntax);
@@ -134,7 +139,8 @@ fn row(alloc: Global, words: &mut Words<'_>) -> Result<Declaration, Refusal>
 // Reads NAME [ ( NAME { , NAME } ) ] : NAME and the end.
 fn family(alloc: Global, words: &mut Words<'_>) -> Result<Declaration, Refusal>
     ensures told { IfOk result (λ d. IsDeclarationOf (codes "cell") (declared_of d) words.old) }
-    ensures none { result ≡ Err Refusal.Syntax → (d : Declared) → IsDeclarationOf (codes "cell") d words.old → ⊥ }
+    ensures none { result ≡ Err Refusal.Syntax → (d : Declared) →
+        IsDeclarationOf (codes "cell") d words.old → ⊥ }
 {
     let Some(text) = words.take_name() else {
         return Err(Refusal::Syntax);
@@ -155,7 +161,8 @@ fn family(alloc: Global, words: &mut Words<'_>) -> Result<Declaration, Refusal>
 // Reads NAME : FORMULA and the end.
 fn named_rule(alloc: Global, words: &mut Words<'_>) -> Result<Declaration, Refusal>
     ensures told { IfOk result (λ d. IsDeclarationOf (codes "rule") (declared_of d) words.old) }
-    ensures none { result ≡ Err Refusal.Syntax → (d : Declared) → IsDeclarationOf (codes "rule") d words.old → ⊥ }
+    ensures none { result ≡ Err Refusal.Syntax → (d : Declared) →
+        IsDeclarationOf (codes "rule") d words.old → ⊥ }
 {
     Ok(Declaration::Rule(rule(alloc, words)?))
 }
@@ -163,7 +170,8 @@ fn named_rule(alloc: Global, words: &mut Words<'_>) -> Result<Declaration, Refus
 // Reads CELL = VALUE and the end, behind `enter`.
 fn entry(alloc: Global, words: &mut Words<'_>) -> Result<Declaration, Refusal>
     ensures told { IfOk result (λ d. IsDeclarationOf (codes "enter") (declared_of d) words.old) }
-    ensures none { result ≡ Err Refusal.Syntax → (d : Declared) → IsDeclarationOf (codes "enter") d words.old → ⊥ }
+    ensures none { result ≡ Err Refusal.Syntax → (d : Declared) →
+        IsDeclarationOf (codes "enter") d words.old → ⊥ }
 {
     let (cell, value) = read_equation(alloc, words)?;
     Ok(Declaration::Enter(cell, value))
@@ -172,7 +180,8 @@ fn entry(alloc: Global, words: &mut Words<'_>) -> Result<Declaration, Refusal>
 // Reads CELL = VALUE and the end, behind `also`.
 fn further_entry(alloc: Global, words: &mut Words<'_>) -> Result<Declaration, Refusal>
     ensures told { IfOk result (λ d. IsDeclarationOf (codes "also") (declared_of d) words.old) }
-    ensures none { result ≡ Err Refusal.Syntax → (d : Declared) → IsDeclarationOf (codes "also") d words.old → ⊥ }
+    ensures none { result ≡ Err Refusal.Syntax → (d : Declared) →
+        IsDeclarationOf (codes "also") d words.old → ⊥ }
 {
     let (cell, value) = read_equation(alloc, words)?;
     Ok(Declaration::Also(cell, value))

@@ -159,7 +159,8 @@ fn add(
     number: u32,
     line: LineTree,
 ) -> Result<(), AllocError>
-    ensures { IfOk result (λ _. declared declarations.new.items ≡ declared declarations.old.items ++ declared_from number (form_of line ∷ [])) }
+    ensures { IfOk result (λ _. declared declarations.new.items ≡ declared declarations.old.items ++
+        declared_from number (form_of line ∷ [])) }
 {
     if let LineTree::Declares(declared) = line {
         declarations.push((number, declared))?;
@@ -176,7 +177,8 @@ fn take_line(
     declarations: &mut Vec<(u32, Declaration)>,
 ) -> Result<Part, SheetFault>
     requires { length line.now ≤ most_name_bytes }
-    ensures { IsLineTaken part number line.now (declared declarations.old.items) (declared declarations.new.items) result }
+    ensures { IsLineTaken part number line.now (declared declarations.old.items)
+        (declared declarations.new.items) result }
 {
     let form = match read_line(alloc, line) {
         Ok(form) => form,

@@ -14,7 +14,8 @@ use std::io;
 
 // The words behind the program's own name.
 fn words_behind_name(alloc: Global, mut args: Args) -> Result<Vec<String>, AllocError>
-    ensures { IfOk result (λ words. map string_bytes words.items ≡ behind_name (map string_bytes (into_iter_items args))) }
+    ensures { IfOk result (λ words. map string_bytes words.items ≡
+        behind_name (map string_bytes (into_iter_items args))) }
 {
     let mut words = Vec::new(alloc);
     args.next();
@@ -33,7 +34,9 @@ fn run_words<I: Source, H: Shelf, O: Sink>(
     out: &mut O,
     spent: &mut Spendings,
 ) -> Status
-    ensures { IsRunOf H.kept H.asked H.faults I.left I.faults O.given O.faults shelf.old shelf.new input.old input.new out.old out.new (map string_bytes words.now) result spent.old spent.new }
+    ensures { IsRunOf H.kept H.asked H.faults I.left I.faults O.given O.faults shelf.old shelf.new
+        input.old input.new out.old out.new (map string_bytes words.now) result spent.old
+        spent.new }
 {
     run(alloc, words, input, shelf, out, spent)
 }
@@ -45,7 +48,8 @@ fn tell_lacking<I: Source, H: Shelf, O: Sink>(
     out: &mut O,
     spent: &mut Spendings,
 ) -> Status
-    ensures { IsWithoutWords H.kept H.asked H.faults I.left I.faults O.given O.faults shelf.old shelf.new input.old input.new out.old out.new result spent.old spent.new }
+    ensures { IsWithoutWords H.kept H.asked H.faults I.left I.faults O.given O.faults shelf.old
+        shelf.new input.old input.new out.old out.new result spent.old spent.new }
 {
     tell_no_memory(out)
 }
@@ -59,8 +63,11 @@ fn run_args<I: Source, H: Shelf, O: Sink>(
     out: &mut O,
     spent: &mut Spendings,
 ) -> Status
-    ensures { IsRunOf H.kept H.asked H.faults I.left I.faults O.given O.faults shelf.old shelf.new input.old input.new out.old out.new (behind_name (map string_bytes (into_iter_items args))) result spent.old spent.new
-        ⊎ IsWithoutWords H.kept H.asked H.faults I.left I.faults O.given O.faults shelf.old shelf.new input.old input.new out.old out.new result spent.old spent.new }
+    ensures { IsRunOf H.kept H.asked H.faults I.left I.faults O.given O.faults shelf.old shelf.new
+        input.old input.new out.old out.new (behind_name (map string_bytes (into_iter_items args)))
+        result spent.old spent.new ⊎ IsWithoutWords H.kept H.asked H.faults I.left I.faults O.given
+        O.faults shelf.old shelf.new input.old input.new out.old out.new result spent.old
+        spent.new }
 {
     match words_behind_name(alloc, args) {
         Ok(words) => run_words(alloc, &words, input, shelf, out, spent),
@@ -79,7 +86,10 @@ pub fn start<I: Source, H: Shelf, O: Sink>(
     out: &mut O,
     spent: &mut Spendings,
 ) -> Status
-    ensures { StartsSo H.kept H.asked H.faults I.left I.faults O.given O.faults shelf.old shelf.new input.old input.new out.old out.new (words_read (λ read. map string_bytes (into_iter_items read)) error_kind args) result spent.old spent.new }
+    ensures { StartsSo H.kept H.asked H.faults I.left I.faults O.given O.faults shelf.old shelf.new
+        input.old input.new out.old out.new
+        (words_read (λ read. map string_bytes (into_iter_items read)) error_kind args) result
+        spent.old spent.new }
 {
     match args {
         Ok(args) => run_args(alloc, args, input, shelf, out, spent),

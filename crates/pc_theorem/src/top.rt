@@ -22,18 +22,34 @@ pub fn run<I: Source, H: Shelf, O: Sink>(
     out: &mut O,
     spent: &mut Spendings,
 ) -> Status
-    ensures word { KeepsItsWord (map string_bytes words.now) result (outside_of H.kept H.asked H.faults I.left I.faults O.given O.faults shelf.old input.old out.old) (outside_of H.kept H.asked H.faults I.left I.faults O.given O.faults shelf.new input.new out.new) }
-    ensures journals { KeepsJournals (map string_bytes words.now) result (outside_of H.kept H.asked H.faults I.left I.faults O.given O.faults shelf.old input.old out.old) (outside_of H.kept H.asked H.faults I.left I.faults O.given O.faults shelf.new input.new out.new) }
-    ensures demo { Demonstrates (map string_bytes words.now) result (outside_of H.kept H.asked H.faults I.left I.faults O.given O.faults shelf.old input.old out.old) (outside_of H.kept H.asked H.faults I.left I.faults O.given O.faults shelf.new input.new out.new) }
+    ensures word { KeepsItsWord (map string_bytes words.now) result
+        (outside_of H.kept H.asked H.faults I.left I.faults O.given O.faults shelf.old input.old
+        out.old) (outside_of H.kept H.asked H.faults I.left I.faults O.given O.faults shelf.new
+        input.new out.new) }
+    ensures journals { KeepsJournals (map string_bytes words.now) result
+        (outside_of H.kept H.asked H.faults I.left I.faults O.given O.faults shelf.old input.old
+        out.old) (outside_of H.kept H.asked H.faults I.left I.faults O.given O.faults shelf.new
+        input.new out.new) }
+    ensures demo { Demonstrates (map string_bytes words.now) result
+        (outside_of H.kept H.asked H.faults I.left I.faults O.given O.faults shelf.old input.old
+        out.old) (outside_of H.kept H.asked H.faults I.left I.faults O.given O.faults shelf.new
+        input.new out.new) }
 
     // What the pages are silent about: each event, status, refusal and spending, as `pc_replay` says it.
-    ensures runs { Runs (map string_bytes words.now) result spent.old spent.new (outside_of H.kept H.asked H.faults I.left I.faults O.given O.faults shelf.old input.old out.old) (outside_of H.kept H.asked H.faults I.left I.faults O.given O.faults shelf.new input.new out.new) }
+    ensures runs { Runs (map string_bytes words.now) result spent.old spent.new
+        (outside_of H.kept H.asked H.faults I.left I.faults O.given O.faults shelf.old input.old
+        out.old) (outside_of H.kept H.asked H.faults I.left I.faults O.given O.faults shelf.new
+        input.new out.new) }
 
     // It went as the words ask, or the input and the shelf were left as they were.
-    ensures asked { RunsAsAsked (map string_bytes words.now) result spent.old spent.new (outside_of H.kept H.asked H.faults I.left I.faults O.given O.faults shelf.old input.old out.old) (outside_of H.kept H.asked H.faults I.left I.faults O.given O.faults shelf.new input.new out.new) ⊎ ((input.new ≡ input.old) × (shelf.new ≡ shelf.old)) }
+    ensures asked { RunsAsAsked (map string_bytes words.now) result spent.old spent.new
+        (outside_of H.kept H.asked H.faults I.left I.faults O.given O.faults shelf.old input.old
+        out.old) (outside_of H.kept H.asked H.faults I.left I.faults O.given O.faults shelf.new
+        input.new out.new) ⊎ ((input.new ≡ input.old) × (shelf.new ≡ shelf.old)) }
 
     // What a device keeps to itself.
-    ensures devices { AreUsedAsAsked (map string_bytes words.now) result H.kept H.faults I.faults O.faults shelf.old shelf.new input.old input.new out.old out.new }
+    ensures devices { AreUsedAsAsked (map string_bytes words.now) result H.kept H.faults I.faults
+        O.faults shelf.old shelf.new input.old input.new out.old out.new }
 {
     runs_keep_their_word();
     pc_replay::run(alloc, words, input, shelf, out, spent)

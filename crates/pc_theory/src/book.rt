@@ -139,9 +139,12 @@ fn list_parts(
     requires none { parts.old.items ≡ [] }
     requires nothing { spent.old ≡ 0 }
     ensures base { IfOk result (λ l. IsFitting task.entry.book.now l.base) }
-    ensures searched { IfOk result (λ l. AreSearched task.entry.book.now task.entry.components.now (length task.entry.components.now.cells) l.worlds.items patch.new spent.new parts.new.items) }
+    ensures searched { IfOk result (λ l. AreSearched task.entry.book.now task.entry.components.now
+        (length task.entry.components.now.cells) l.worlds.items patch.new spent.new
+        parts.new.items) }
     ensures within { spent.new ≤ task.entry.budget }
-    ensures halt { IfErr result (HaltSays task.entry.book.now task.entry.components.now task.entry.budget spent.new parts.new.items) }
+    ensures halt { IfErr result (HaltSays task.entry.book.now task.entry.components.now
+        task.entry.budget spent.new parts.new.items) }
 {
     divisions_divide();
     let mut solvers = Vec::new(task.alloc);
@@ -163,7 +166,8 @@ fn search_task(task: Task<'_>, patch: &mut Patch) -> Result<Searched, PartFault>
     requires ready { IsReady task.book.now task.ground.now task.components.now }
     requires few { length task.components.now.cells ≤ 4097 }
     requires blank { patch.old ≡ [] }
-    ensures found { IfOk result (λ s. IsFoundIn task.entry.book.now task.entry.components.now task.entry.budget s.base s.worlds.items patch.new s.spending) }
+    ensures found { IfOk result (λ s. IsFoundIn task.entry.book.now task.entry.components.now
+        task.entry.budget s.base s.worlds.items patch.new s.spending) }
     ensures fault { IfErr result (IsPartCause task.entry.book.now task.entry.budget) }
 {
     none_of_the_used_is_contained();
@@ -237,7 +241,8 @@ pub fn search_book(
     patch: &mut Patch,
 ) -> Result<Found, Fault>
     requires blank { patch.old ≡ [] }
-    ensures found { IfOk result (λ f. AreFound book.now budget f.theory f.worlds.items patch.new f.spending) }
+    ensures found { IfOk result (λ f. AreFound book.now budget f.theory f.worlds.items patch.new
+        f.spending) }
     ensures light { IfOk result (λ _. weight book.now ≤ most_weight) }
     ensures fault { IfErr result (IsCause book.now budget) }
 {

@@ -38,11 +38,17 @@ impl PartTargets<'_> {
     /// goes to the place, which is blank.
     pub fn search_part(self, place: &mut PartSpending, patch: &mut Patch) -> Result<Worlds, Stop>
         requires theory { IsTheory (rules_alone self.book.now) self.theory.now }
-        requires asked { AreAsked (cell_sizes self.book.now.universe) self.theory.now.components self.part self.targets.now }
+        requires asked { AreAsked (cell_sizes self.book.now.universe) self.theory.now.components
+            self.part self.targets.now }
         requires blank { IsBlankOn self.part place.old }
-        ensures worlds { (p : Part) → IsPartNumbered (rules_alone self.entry.book.now) self.entry.part p → IfOk result (AreWorldsOf self.entry.book.now p) }
-        ensures found { OnOk result (Finds self.entry.book.now (place.new.tally.learned + place.new.tally.calls) self.entry.targets.now patch.old patch.new) }
-        ensures spends { IsSpentAlone self.entry.book.now self.entry.theory.now.components self.entry.part place.new }
+        ensures worlds { (p : Part) →
+            IsPartNumbered (rules_alone self.entry.book.now) self.entry.part p →
+            IfOk result (AreWorldsOf self.entry.book.now p) }
+        ensures found { OnOk result
+            (Finds self.entry.book.now (place.new.tally.learned + place.new.tally.calls)
+            self.entry.targets.now patch.old patch.new) }
+        ensures spends { IsSpentAlone self.entry.book.now self.entry.theory.now.components
+            self.entry.part place.new }
         ensures limit { place.new.tally.limit ≡ place.old.tally.limit }
         ensures stop { IfErr result (StopSays place.new.tally) }
     {
@@ -77,11 +83,16 @@ impl PartTargets<'_> {
         patch: &mut Patch,
     ) -> Result<(), Stop>
         requires theory { IsTheory (rules_alone self.book.now) self.theory.now }
-        requires asked { AreAsked (cell_sizes self.book.now.universe) self.theory.now.components self.part self.targets.now }
-        requires worlds { (p : Part) → IsPartNumbered (rules_alone self.book.now) self.part p → AreWorldsOf self.book.now p worlds.now }
+        requires asked { AreAsked (cell_sizes self.book.now.universe) self.theory.now.components
+            self.part self.targets.now }
+        requires worlds { (p : Part) → IsPartNumbered (rules_alone self.book.now) self.part p →
+            AreWorldsOf self.book.now p worlds.now }
         requires blank { IsBlankOn self.part place.old }
-        ensures found { OnOk result (Finds self.entry.book.now (place.new.tally.learned + place.new.tally.calls) self.entry.targets.now patch.old patch.new) }
-        ensures spends { IsSpentAlone self.entry.book.now self.entry.theory.now.components self.entry.part place.new }
+        ensures found { OnOk result
+            (Finds self.entry.book.now (place.new.tally.learned + place.new.tally.calls)
+            self.entry.targets.now patch.old patch.new) }
+        ensures spends { IsSpentAlone self.entry.book.now self.entry.theory.now.components
+            self.entry.part place.new }
         ensures limit { place.new.tally.limit ≡ place.old.tally.limit }
         ensures stop { IfErr result (StopSays place.new.tally) }
     {

@@ -20,10 +20,13 @@ use std::alloc::{AllocError, Global};
 fn first_true(book: &Book, ground: &Ground, solver: &Solver<'_>, cell: CellId) -> Option<ValueId>
     requires sizes { ground.now.sizes ≡ cell_sizes book.now.universe }
     requires cell { cell.0 < length ground.now.sizes }
-    requires pairs { (x : ValueId) → x.0 < size_at ground.now.sizes cell → Contains solver.now.problem.own (pair_var ground.now.sizes cell x) }
+    requires pairs { (x : ValueId) → x.0 < size_at ground.now.sizes cell →
+        Contains solver.now.problem.own (pair_var ground.now.sizes cell x) }
     ensures some { IfSome result (λ x. x.0 < size_at ground.now.sizes cell) }
-    ensures true_ { IfSome result (λ x. truth_in solver.now.trues (pair_var ground.now.sizes cell x) ≡ true) }
-    ensures none { IfNone result ((x : ValueId) → x.0 < size_at ground.now.sizes cell → truth_in solver.now.trues (pair_var ground.now.sizes cell x) ≡ false) }
+    ensures true_ { IfSome result
+        (λ x. truth_in solver.now.trues (pair_var ground.now.sizes cell x) ≡ true) }
+    ensures none { IfNone result ((x : ValueId) → x.0 < size_at ground.now.sizes cell →
+        truth_in solver.now.trues (pair_var ground.now.sizes cell x) ≡ false) }
 {
     for number in 0..book.values_of(cell) {
         let value = ValueId(number as u16);
@@ -46,7 +49,9 @@ pub fn read_values(
     requires pairs { HasPairs ground.now.sizes cells.now solver.now }
     requires within { AreWithin ground.now.sizes base.old }
     ensures within { AreWithin ground.now.sizes base.new }
-    ensures reads { (a : List ValueId) → AreWithin ground.now.sizes a → HasValues ground.now.sizes (map number_of cells.now) (truth_in solver.now.trues) a → AgreeAt (Contains (map number_of cells.now)) a base.new }
+    ensures reads { (a : List ValueId) → AreWithin ground.now.sizes a →
+        HasValues ground.now.sizes (map number_of cells.now) (truth_in solver.now.trues) a →
+        AgreeAt (Contains (map number_of cells.now)) a base.new }
     ensures elsewhere { AgreeAt (λ c. ¬ Contains (map number_of cells.now) c) base.old base.new }
 {
     for cell in cells {

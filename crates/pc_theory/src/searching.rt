@@ -38,9 +38,11 @@ struct Asked {
 // What stands on a part's cells, and what is asked of them.
 fn asked_on(task: Task<'_>, cells: &[CellId]) -> Result<Asked, AllocError>
     requires { All (λ c. c.0 < length (cell_sizes task.book.now.universe)) cells.now }
-    ensures on { IfOk result (λ a. a.entries.items ≡ entries_on (map number_of cells.now) task.entry.book.now.entries) }
+    ensures on { IfOk result (λ a. a.entries.items ≡ entries_on (map number_of cells.now)
+        task.entry.book.now.entries) }
     ensures few { IfOk result (λ a. length a.entries.items ≤ most_entries * most_cells) }
-    ensures targets { IfOk result (λ a. a.targets.items ≡ targets_on (cell_sizes task.entry.book.now.universe) cells.now) }
+    ensures targets { IfOk result (λ a. a.targets.items ≡
+        targets_on (cell_sizes task.entry.book.now.universe) cells.now) }
 {
     Ok(Asked {
         entries: entries_on(task.alloc, task.book, cells)?,
@@ -71,18 +73,24 @@ fn search_one(
     trails: &mut SpareTrails,
     patch: &mut Patch,
 ) -> Result<Worlds, Stop>
-    requires ready { IsReady fitted.task.book.now fitted.task.ground.now fitted.task.components.now }
+    requires ready { IsReady fitted.task.book.now fitted.task.ground.now
+        fitted.task.components.now }
     requires trails { trails.old ≡ fitted.task.ground.now.variables }
     requires number { place.old.part < length fitted.task.components.now.cells }
     requires base { IsFitting fitted.task.book.now fitted.base.now }
     requires started { IsStarted fitted.task.book.now fitted.task.components.now place.old solver }
     requires part_of { place.old.tally.placed ≤ spent.old }
     requires within { spent.old ≤ fitted.task.budget }
-    ensures worlds { (p : Part) → IsPartNumbered (rules_alone fitted.entry.task.book.now) place.old.part p → IfOk result (AreWorldsOf fitted.entry.task.book.now p) }
-    ensures found { OnOk result (FindsIn fitted.entry.task.book.now fitted.entry.task.components.now place.new patch.old patch.new) }
-    ensures place { OnOk result (IsMoved fitted.entry.task.book.now fitted.entry.task.components.now spent.old place.old spent.new place.new) }
+    ensures worlds { (p : Part) → IsPartNumbered (rules_alone fitted.entry.task.book.now)
+        place.old.part p → IfOk result (AreWorldsOf fitted.entry.task.book.now p) }
+    ensures found { OnOk result (FindsIn fitted.entry.task.book.now fitted.entry.task.components.now
+        place.new patch.old patch.new) }
+    ensures place { OnOk result (IsMoved fitted.entry.task.book.now fitted.entry.task.components.now
+        spent.old place.old spent.new place.new) }
     ensures within { spent.new ≤ fitted.entry.task.budget }
-    ensures stop { IfErr result (StopMoves fitted.entry.task.book.now fitted.entry.task.components.now fitted.entry.task.budget spent.old place.old spent.new place.new) }
+    ensures stop { IfErr result
+        (StopMoves fitted.entry.task.book.now fitted.entry.task.components.now
+        fitted.entry.task.budget spent.old place.old spent.new place.new) }
     ensures trails { trails.new ≡ trails.old }
 {
     kept_parts_are_searched();
@@ -124,16 +132,22 @@ pub(crate) fn search_parts(
     trails: &mut SpareTrails,
     patch: &mut Patch,
 ) -> Result<Vec<Worlds>, Stop>
-    requires ready { IsReady fitted.task.book.now fitted.task.ground.now fitted.task.components.now }
+    requires ready { IsReady fitted.task.book.now fitted.task.ground.now
+        fitted.task.components.now }
     requires trails { trails.old ≡ fitted.task.ground.now.variables }
-    requires started { AreStarted fitted.task.book.now fitted.task.components.now spent.old fitted.base.now parts.old.items solvers.items }
+    requires started { AreStarted fitted.task.book.now fitted.task.components.now spent.old
+        fitted.base.now parts.old.items solvers.items }
     requires many { length parts.old.items ≡ length fitted.task.components.now.cells }
     requires base { IsFitting fitted.task.book.now fitted.base.now }
     requires blank { patch.old ≡ [] }
     requires within { spent.old ≤ fitted.task.budget }
-    ensures searched { IfOk result (λ worlds. AreSearched fitted.entry.task.book.now fitted.entry.task.components.now (length fitted.entry.task.components.now.cells) worlds.items patch.new spent.new parts.new.items) }
+    ensures searched { IfOk result (λ worlds. AreSearched fitted.entry.task.book.now
+        fitted.entry.task.components.now (length fitted.entry.task.components.now.cells)
+        worlds.items patch.new spent.new parts.new.items) }
     ensures within { spent.new ≤ fitted.entry.task.budget }
-    ensures stop { IfErr result (StopPlaces fitted.entry.task.book.now fitted.entry.task.components.now fitted.entry.task.budget spent.new parts.new.items) }
+    ensures stop { IfErr result
+        (StopPlaces fitted.entry.task.book.now fitted.entry.task.components.now
+        fitted.entry.task.budget spent.new parts.new.items) }
 {
     let mut solvers = solvers;
     let mut worlds = Vec::new(fitted.task.alloc);

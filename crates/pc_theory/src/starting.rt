@@ -32,7 +32,8 @@ struct Derivation {
 fn refuted(task: Task<'_>, log: &Log, last: StepId) -> Result<Derivation, AllocError>
     requires ready { IsReady task.book.now task.ground.now task.components.now }
     requires empty { IsEmptyAt task.book.now log.now last }
-    ensures { IfOk result (λ r. RefutesRules task.entry.book.now (names_of task.entry.book.now) r.log r.span) }
+    ensures { IfOk result (λ r. RefutesRules task.entry.book.now (names_of task.entry.book.now)
+        r.log r.span) }
 {
     names_are_of_their_sheet();
     trimmed_lines_refute();
@@ -133,7 +134,8 @@ fn call_part<'g>(
     requires trails { trails.old ≡ task.ground.now.variables }
     requires number { number < length task.components.now.cells }
     requires few { number ≤ most_cells }
-    ensures called { IfOk result (λ c. IsCalled task.entry.book.now task.entry.components.now number limit c.solver c.place c.end) }
+    ensures called { IfOk result (λ c. IsCalled task.entry.book.now task.entry.components.now number
+        limit c.solver c.place c.end) }
     ensures variables { IfOk result (λ c. c.solver.variables ≡ trails.old) }
     ensures refused { IfErr result (IsRefused task.entry.book.now) }
     ensures trails { trails.new ≡ trails.old }
@@ -196,11 +198,14 @@ fn start_part<'g>(
     requires number { length parts.old.items < length task.components.now.cells }
     requires few { length parts.old.items ≤ most_cells }
     requires within { spent.old ≤ task.budget }
-    requires started { AreStarted task.book.now task.components.now spent.old base.old parts.old.items solvers.old.items }
+    requires started { AreStarted task.book.now task.components.now spent.old base.old
+        parts.old.items solvers.old.items }
     ensures many { OnOk result (length parts.new.items ≡ length parts.old.items + 1) }
     ensures within { spent.new ≤ task.entry.budget }
-    ensures started { OnOk result (AreStarted task.entry.book.now task.entry.components.now spent.new base.new parts.new.items solvers.new.items) }
-    ensures halt { IfErr result (HaltSays task.entry.book.now task.entry.components.now task.entry.budget spent.new parts.new.items) }
+    ensures started { OnOk result (AreStarted task.entry.book.now task.entry.components.now
+        spent.new base.new parts.new.items solvers.new.items) }
+    ensures halt { IfErr result (HaltSays task.entry.book.now task.entry.components.now
+        task.entry.budget spent.new parts.new.items) }
     ensures trails { trails.new ≡ trails.old }
 {
     kept_parts_are_searched();
@@ -236,10 +241,13 @@ pub(crate) fn start_parts<'g>(
     requires none { parts.old.items ≡ [] }
     requires no_solvers { solvers.old.items ≡ [] }
     requires nothing { spent.old ≡ 0 }
-    ensures many { IfOk result (λ _. length parts.new.items ≡ length task.entry.components.now.cells) }
+    ensures many { IfOk result (λ _. length parts.new.items ≡
+        length task.entry.components.now.cells) }
     ensures within { spent.new ≤ task.entry.budget }
-    ensures started { IfOk result (λ base. AreStarted task.entry.book.now task.entry.components.now spent.new base parts.new.items solvers.new.items) }
-    ensures halt { IfErr result (HaltSays task.entry.book.now task.entry.components.now task.entry.budget spent.new parts.new.items) }
+    ensures started { IfOk result (λ base. AreStarted task.entry.book.now task.entry.components.now
+        spent.new base parts.new.items solvers.new.items) }
+    ensures halt { IfErr result (HaltSays task.entry.book.now task.entry.components.now
+        task.entry.budget spent.new parts.new.items) }
     ensures trails { trails.new ≡ trails.old }
 {
     let mut base = Assignment::first(task.alloc, task.book)?;

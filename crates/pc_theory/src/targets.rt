@@ -35,7 +35,8 @@ fn add_targets(cell: CellId, count: usize, targets: &mut Vec<Target>) -> Result<
 /// For each of the cells and each of its values that the cell has the value, and that it hasn't.
 pub fn targets_on(alloc: Global, book: &Book, cells: &[CellId]) -> Result<Vec<Target>, AllocError>
     requires { All (λ c. c.0 < length (cell_sizes book.now.universe)) cells.now }
-    ensures { IfOk result (λ targets. targets.items ≡ targets_on (cell_sizes book.now.universe) cells.now) }
+    ensures { IfOk result (λ targets. targets.items ≡ targets_on (cell_sizes book.now.universe)
+        cells.now) }
 {
     let mut targets = Vec::new(alloc);
     for cell in cells {

@@ -58,7 +58,8 @@ impl Theory {
         requires cell { cell.0 < length (cell_sizes book.now.universe) }
         ensures within { result < length self.now.components.cells }
         ensures few { result ≤ most_cells }
-        ensures has { (p : Part) × IsPartNumbered (rules_alone book.now) result p × Contains p.cells cell.0 }
+        ensures has { (p : Part) × IsPartNumbered (rules_alone book.now) result p ×
+            Contains p.cells cell.0 }
     {
         few_cells(book);
         self.components.of(cell)
@@ -69,7 +70,8 @@ impl Theory {
         requires theory { IsTheory (rules_alone book.now) self.now }
         requires part { part < length self.now.components.cells }
         ensures at { slice_get self.now.components.cells part ≡ Some result.now }
-        ensures are { (p : Part) → IsPartNumbered (rules_alone book.now) part p → p.cells ≡ map number_of result.now }
+        ensures are { (p : Part) → IsPartNumbered (rules_alone book.now) part p →
+            p.cells ≡ map number_of result.now }
         ensures below { All (λ c. c.0 < length (cell_sizes book.now.universe)) result.now }
     {
         let _book = book;

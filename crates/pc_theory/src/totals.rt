@@ -44,7 +44,9 @@ pub(crate) fn total(
 /// The spending of one part alone.
 pub fn alone(alloc: Global, place: PartSpending) -> Result<Spending, AllocError>
     ensures tally { IfOk result (λ s. s.tally ≡ place.tally) }
-    ensures spends { IfOk result (λ s. (sheet : Sheet) (touched : Option CellId) (kept : Kept) → AreComponentsOf (rules_alone sheet) kept → IsSpentOn sheet touched kept place → IsSpendingOf sheet touched s) }
+    ensures spends { IfOk result (λ s. (sheet : Sheet) (touched : Option CellId) (kept : Kept) →
+        AreComponentsOf (rules_alone sheet) kept → IsSpentOn sheet touched kept place →
+        IsSpendingOf sheet touched s) }
 {
     let tally = place.tally;
     let mut parts = Vec::new(alloc);

@@ -48,14 +48,16 @@ pub fn is_one_name(line: &str, name: &str) -> bool
 // Whether the token is the name.
 fn is_name(line: &str, token: Token, name: &str) -> bool
     requires { IsTokenOf line.now token }
-    ensures { IsTrue result ↔ ((token.kind ≡ Kind.Name) × (slice_range line.now token.start token.end ≡ name.now)) }
+    ensures { IsTrue result ↔
+        ((token.kind ≡ Kind.Name) × (slice_range line.now token.start token.end ≡ name.now)) }
 {
     token.kind == Kind::Name && &line[token.start..token.end] == name
 }
 
 // The line's token, where it has one token alone.
 fn one_token(line: &str) -> Option<Token>
-    ensures { MatchOption result ((t : Token) → Splits line.now (t ∷ []) → ⊥) (λ t. Splits line.now (t ∷ [])) }
+    ensures { MatchOption result ((t : Token) → Splits line.now (t ∷ []) →
+        ⊥) (λ t. Splits line.now (t ∷ [])) }
 {
     let bytes = line.as_bytes();
     let start = blanks_end(bytes, 0);

@@ -8,7 +8,8 @@ use pc_name::{continues_name, starts_name};
 // The character that begins at `at`.
 fn char_at(line: &str, at: usize) -> Option<char>
     requires { IsCharBoundary line.now at }
-    ensures { MatchOption result (at ≡ length line.now) (λ c. (more : List ℕ) × (drop at line.now ≡ encode_utf8 c ++ more)) }
+    ensures { MatchOption result (at ≡ length line.now) (λ c. (more : List ℕ) ×
+        (drop at line.now ≡ encode_utf8 c ++ more)) }
 {
     line[at..].chars().next()
 }

@@ -140,9 +140,11 @@ pub fn piece_at(line: &str, at: usize) -> Piece
 pub fn tokens(alloc: Global, line: &str) -> Result<Vec<Token>, TokenFault>
     ensures split { IfOk result (λ found. Splits line.now found.items) }
     ensures each { IfOk result (λ found. AllByRecursion (IsTokenOf line.now) found.items) }
-    ensures bad { (at : ℕ) → IsErrOf result (TokenFault.BadCharacter at) → HasBadCharacter line.now at }
+    ensures bad { (at : ℕ) → IsErrOf result (TokenFault.BadCharacter at) →
+        HasBadCharacter line.now at }
     ensures only { (r : LineReading) → IsReadingOf line.now r → TellsReading result r }
-    ensures long { (at : ℕ) → IsErrOf result (TokenFault.NumberTooLong at) → HasLongNumber line.now at }
+    ensures long { (at : ℕ) → IsErrOf result (TokenFault.NumberTooLong at) →
+        HasLongNumber line.now at }
 {
     let mut found = Vec::new(alloc);
     let mut at = 0;

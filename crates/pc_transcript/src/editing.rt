@@ -28,13 +28,19 @@ pub fn edit<M: Machine, I: Source, H: Shelf, O: Sink>(
     out: &mut O,
     notes: &mut M::Notes,
 ) -> Status
-    ensures ran { Ran (Edit (M.IsSheet resources.budget) (M.RefusesText resources.budget) M.Allows file.now notes.old) CHUNK result notes.new (outside (H.kept shelf.old) (H.asked shelf.old) (H.faults shelf.old) (streams (I.left input.old) (I.faults input.old) (O.given out.old) (O.faults out.old))) (outside (H.kept shelf.new) (H.asked shelf.new) (H.faults shelf.new) (streams (I.left input.new) (I.faults input.new) (O.given out.new) (O.faults out.new))) }
+    ensures ran { Ran (Edit (M.IsSheet resources.budget) (M.RefusesText resources.budget) M.Allows
+        file.now notes.old) CHUNK result notes.new (outside (H.kept shelf.old) (H.asked shelf.old)
+        (H.faults shelf.old) (streams (I.left input.old) (I.faults input.old) (O.given out.old)
+        (O.faults out.old))) (outside (H.kept shelf.new) (H.asked shelf.new) (H.faults shelf.new)
+        (streams (I.left input.new) (I.faults input.new) (O.given out.new) (O.faults out.new))) }
     ensures asked { AsksOnce file.now (H.asked shelf.old) (H.asked shelf.new) }
     ensures kept { H.kept shelf.new ≡ H.kept shelf.old }
 
     // A read fault is the shelf's, before the input is read, or the input's, after the shelf gave its file.
-    ensures read_fault { result ≡ Status.ReadFault → FailsToRead I.faults input.old input.new (H.faults shelf.old) (H.faults shelf.new) }
-    ensures no_read_fault { result ≢ Status.ReadFault → (I.faults input.new ≡ I.faults input.old) × (H.faults shelf.new ≡ H.faults shelf.old) }
+    ensures read_fault { result ≡ Status.ReadFault →
+        FailsToRead I.faults input.old input.new (H.faults shelf.old) (H.faults shelf.new) }
+    ensures no_read_fault { result ≢ Status.ReadFault → (I.faults input.new ≡ I.faults input.old) ×
+        (H.faults shelf.new ≡ H.faults shelf.old) }
     ensures write_fault { result ≡ Status.WriteFault → Rose (O.faults out.old) (O.faults out.new) }
     ensures no_write_fault { result ≢ Status.WriteFault → O.faults out.new ≡ O.faults out.old }
 {
@@ -56,11 +62,17 @@ fn edit_from<M: Machine, I: Source, H: Shelf, O: Sink>(
 ) -> Status
     requires held { reader.old.held ≡ [] }
     requires longest { LINE_LIMIT ≤ reader.old.longest }
-    ensures ran { Ran (Edit (M.IsSheet resources.budget) (M.RefusesText resources.budget) M.Allows file.now notes.old) CHUNK result notes.new (outside (H.kept shelf.old) (H.asked shelf.old) (H.faults shelf.old) (streams (I.left input.old) (I.faults input.old) (O.given out.old) (O.faults out.old))) (outside (H.kept shelf.new) (H.asked shelf.new) (H.faults shelf.new) (streams (I.left input.new) (I.faults input.new) (O.given out.new) (O.faults out.new))) }
+    ensures ran { Ran (Edit (M.IsSheet resources.budget) (M.RefusesText resources.budget) M.Allows
+        file.now notes.old) CHUNK result notes.new (outside (H.kept shelf.old) (H.asked shelf.old)
+        (H.faults shelf.old) (streams (I.left input.old) (I.faults input.old) (O.given out.old)
+        (O.faults out.old))) (outside (H.kept shelf.new) (H.asked shelf.new) (H.faults shelf.new)
+        (streams (I.left input.new) (I.faults input.new) (O.given out.new) (O.faults out.new))) }
     ensures asked { AsksOnce file.now (H.asked shelf.old) (H.asked shelf.new) }
     ensures kept { H.kept shelf.new ≡ H.kept shelf.old }
-    ensures read_fault { result ≡ Status.ReadFault → FailsToRead I.faults input.old input.new (H.faults shelf.old) (H.faults shelf.new) }
-    ensures no_read_fault { result ≢ Status.ReadFault → (I.faults input.new ≡ I.faults input.old) × (H.faults shelf.new ≡ H.faults shelf.old) }
+    ensures read_fault { result ≡ Status.ReadFault →
+        FailsToRead I.faults input.old input.new (H.faults shelf.old) (H.faults shelf.new) }
+    ensures no_read_fault { result ≢ Status.ReadFault → (I.faults input.new ≡ I.faults input.old) ×
+        (H.faults shelf.new ≡ H.faults shelf.old) }
     ensures write_fault { result ≡ Status.WriteFault → Rose (O.faults out.old) (O.faults out.new) }
     ensures no_write_fault { result ≢ Status.WriteFault → O.faults out.new ≡ O.faults out.old }
 {

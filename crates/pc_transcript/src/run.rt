@@ -29,8 +29,13 @@ pub(crate) fn open<M: Machine, I: Source, O: Sink>(
 ) -> Status
     requires longest { LINE_LIMIT ≤ reader.old.longest }
     requires small { length sheet.now ≤ SHEET_LIMIT }
-    ensures goes_on { GoesOn (FromSheet (M.IsSheet resources.budget) (M.RefusesText resources.budget) M.Allows sheet.now notes.old) result notes.new (coming reader.old (I.left input.old)) (streams (I.left input.old) (I.faults input.old) (O.given out.old) (O.faults out.old)) (streams (I.left input.new) (I.faults input.new) (O.given out.new) (O.faults out.new)) }
-    ensures read_fault { result ≡ Status.ReadFault → Rose (I.faults input.old) (I.faults input.new) }
+    ensures goes_on { GoesOn
+        (FromSheet (M.IsSheet resources.budget) (M.RefusesText resources.budget) M.Allows sheet.now
+        notes.old) result notes.new (coming reader.old (I.left input.old))
+        (streams (I.left input.old) (I.faults input.old) (O.given out.old) (O.faults out.old))
+        (streams (I.left input.new) (I.faults input.new) (O.given out.new) (O.faults out.new)) }
+    ensures read_fault { result ≡ Status.ReadFault →
+        Rose (I.faults input.old) (I.faults input.new) }
     ensures no_read_fault { result ≢ Status.ReadFault → I.faults input.new ≡ I.faults input.old }
     ensures write_fault { result ≡ Status.WriteFault → Rose (O.faults out.old) (O.faults out.new) }
     ensures no_write_fault { result ≢ Status.WriteFault → O.faults out.new ≡ O.faults out.old }
@@ -50,8 +55,15 @@ fn replay_from<M: Machine, I: Source, O: Sink>(
     out: &mut O,
 ) -> Status
     requires longest { reader.old.longest ≡ SHEET_LIMIT }
-    ensures ran { (o : Outside) → Ran (Replay (M.IsSheet resources.budget) (M.RefusesText resources.budget) M.Allows notes.old) CHUNK result notes.new (around o (streams (coming reader.old (I.left input.old)) (I.faults input.old) (O.given out.old) (O.faults out.old))) (around o (streams (I.left input.new) (I.faults input.new) (O.given out.new) (O.faults out.new))) }
-    ensures read_fault { result ≡ Status.ReadFault → Rose (I.faults input.old) (I.faults input.new) }
+    ensures ran { (o : Outside) →
+        Ran (Replay (M.IsSheet resources.budget) (M.RefusesText resources.budget) M.Allows
+        notes.old) CHUNK result notes.new
+        (around o (streams (coming reader.old (I.left input.old)) (I.faults input.old)
+        (O.given out.old) (O.faults out.old)))
+        (around o (streams (I.left input.new) (I.faults input.new) (O.given out.new)
+        (O.faults out.new))) }
+    ensures read_fault { result ≡ Status.ReadFault →
+        Rose (I.faults input.old) (I.faults input.new) }
     ensures no_read_fault { result ≢ Status.ReadFault → I.faults input.new ≡ I.faults input.old }
     ensures write_fault { result ≡ Status.WriteFault → Rose (O.faults out.old) (O.faults out.new) }
     ensures no_write_fault { result ≢ Status.WriteFault → O.faults out.new ≡ O.faults out.old }
@@ -75,10 +87,17 @@ pub fn replay<M: Machine, I: Source, O: Sink>(
     out: &mut O,
     notes: &mut M::Notes,
 ) -> Status
-    ensures ran { (o : Outside) → Ran (Replay (M.IsSheet resources.budget) (M.RefusesText resources.budget) M.Allows notes.old) CHUNK result notes.new (around o (streams (I.left input.old) (I.faults input.old) (O.given out.old) (O.faults out.old))) (around o (streams (I.left input.new) (I.faults input.new) (O.given out.new) (O.faults out.new))) }
+    ensures ran { (o : Outside) →
+        Ran (Replay (M.IsSheet resources.budget) (M.RefusesText resources.budget) M.Allows
+        notes.old) CHUNK result notes.new
+        (around o (streams (I.left input.old) (I.faults input.old) (O.given out.old)
+        (O.faults out.old)))
+        (around o (streams (I.left input.new) (I.faults input.new) (O.given out.new)
+        (O.faults out.new))) }
 
     // A fault is told only where that device was at fault.
-    ensures read_fault { result ≡ Status.ReadFault → Rose (I.faults input.old) (I.faults input.new) }
+    ensures read_fault { result ≡ Status.ReadFault →
+        Rose (I.faults input.old) (I.faults input.new) }
     ensures no_read_fault { result ≢ Status.ReadFault → I.faults input.new ≡ I.faults input.old }
     ensures write_fault { result ≡ Status.WriteFault → Rose (O.faults out.old) (O.faults out.new) }
     ensures no_write_fault { result ≢ Status.WriteFault → O.faults out.new ≡ O.faults out.old }

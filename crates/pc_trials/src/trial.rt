@@ -54,7 +54,8 @@ fn are_places(used: &[u32], store: &ClauseStore) -> bool
 // Whether these clauses are over own variables.
 fn are_over(store: &ClauseStore, used: &[u32], own: &[Var]) -> bool
     requires { All (λ n. n < length store.now) used.now }
-    ensures { IsTrue result → All (λ n. IsOverOwn own.now (slice_index_or store.now n [])) used.now }
+    ensures { IsTrue result → All (λ n. IsOverOwn own.now (slice_index_or store.now n []))
+        used.now }
 {
     for number in used {
         if !is_over(store.get(*number as usize), own) {
@@ -78,7 +79,8 @@ fn are_below(own: &[Var], variables: u32) -> bool
 
 // Whether a solver takes these.
 fn fit(store: &ClauseStore, used: &[u32], own: &[Var], variables: u32) -> bool
-    ensures { IsTrue result → IsProblem variables (record { axioms = store.now; used = used.now; own = own.now }) }
+    ensures { IsTrue result →
+        IsProblem variables (record { axioms = store.now; used = used.now; own = own.now }) }
 {
     store.len() <= 1_000_000
         && are_places(used, store)

@@ -42,7 +42,8 @@ fn demo_of(word: &str) -> Option<Mode<'static>>
 
 // The mode, where the word names a file.
 fn if_file<'a>(word: &str, mode: Mode<'a>) -> Option<Mode<'a>>
-    ensures { option_map mode_of result ≡ (if is_file_name word.now then Some (mode_of mode.entry) else None) }
+    ensures { option_map mode_of result ≡ (if is_file_name word.now then Some (mode_of mode.entry)
+        else None) }
 {
     if is_file_name(word) { Some(mode) } else { None }
 }
@@ -93,7 +94,8 @@ fn with_number<'a>(mode: Mode<'a>, number: &str) -> Option<Request<'a>>
 }
 
 fn with_budget<'a>(mode: Mode<'a>, budget: Option<&str>) -> Option<Request<'a>>
-    ensures { option_map request_of result ≡ with_budget (option_map (λ w. w.now) budget.entry) (mode_of mode.entry) }
+    ensures { option_map request_of result ≡ with_budget (option_map (λ w. w.now) budget.entry)
+        (mode_of mode.entry) }
 {
     match budget {
         None => Some(Request {

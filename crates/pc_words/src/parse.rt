@@ -13,7 +13,8 @@ use std::alloc::Global;
 /// for want of memory alone.
 pub fn matches<'a>(alloc: Global, words: &'a [String]) -> Result<ArgMatches<'a>, Error>
     requires { FitSomething (map string_bytes words.now) }
-    ensures ok { (p : Parts) → parts_of (map string_bytes words.entry.now) ≡ Some p → IfOk result (λ m. HasParts m p) }
+    ensures ok { (p : Parts) → parts_of (map string_bytes words.entry.now) ≡ Some p →
+        IfOk result (λ m. HasParts m p) }
     ensures err { IfErr result (λ e. kind_of e ≡ ErrorKind.OutOfMemory) }
 {
     let mode = Arg::new(alloc, "mode").required(true);

@@ -31,7 +31,8 @@ fn plain_parts<'a>(
     after: &'a [String],
     budget: Option<&'a str>,
 ) -> Option<Parts<'a>>
-    ensures { option_map seen result ≡ plain_parts (map string_bytes before.now ++ map string_bytes after.now) (option_map (λ w. w.now) budget.entry) }
+    ensures { option_map seen result ≡ plain_parts (map string_bytes before.now ++
+        map string_bytes after.now) (option_map (λ w. w.now) budget.entry) }
 {
     match (before, after) {
         ([mode], []) => Some(Parts {
@@ -65,7 +66,8 @@ fn plain_parts<'a>(
 
 // The parts where the option's value is a word of its own.
 fn valued_parts<'a>(before: &'a [String], rest: &'a [String]) -> Option<Parts<'a>>
-    ensures { option_map seen result ≡ valued_parts (map string_bytes before.now) (map string_bytes rest.now) }
+    ensures { option_map seen result ≡ valued_parts (map string_bytes before.now)
+        (map string_bytes rest.now) }
 {
     match rest {
         [] => None,
@@ -75,7 +77,8 @@ fn valued_parts<'a>(before: &'a [String], rest: &'a [String]) -> Option<Parts<'a
 
 // The parts, where `rest` is empty or begins with the option.
 fn option_parts<'a>(before: &'a [String], rest: &'a [String]) -> Option<Parts<'a>>
-    ensures { option_map seen result ≡ option_parts (map string_bytes before.now) (map string_bytes rest.now) }
+    ensures { option_map seen result ≡ option_parts (map string_bytes before.now)
+        (map string_bytes rest.now) }
 {
     match rest {
         [] => plain_parts(before, rest, None),

@@ -27,8 +27,10 @@ fn fit(words: &[String]) -> bool
 /// FILE isn't empty and doesn't start with `-`, N has at most three digits and K at most 13. `Usage` comes exactly where the
 /// words aren't so, and takes no memory. Words that fit are read by clap, which may want some.
 pub fn read<'a>(alloc: Global, words: &'a [String]) -> Result<Request<'a>, WordsFault>
-    ensures ok { IfOk result (λ found. FitOnly (map string_bytes words.entry.now) (request_of found)) }
-    ensures usage { IsErrOf result WordsFault.Usage ↔ FitNothing (map string_bytes words.entry.now) }
+    ensures ok { IfOk result (λ found. FitOnly (map string_bytes words.entry.now)
+        (request_of found)) }
+    ensures usage { IsErrOf result WordsFault.Usage ↔
+        FitNothing (map string_bytes words.entry.now) }
 {
     if !fit(words) {
         return Err(WordsFault::Usage);

@@ -25,7 +25,8 @@ pub fn is_file_name(word: &str) -> bool
 }
 
 fn are_digits(bytes: &[u8]) -> bool
-    ensures { IsTrue result ↔ EachIndex bytes.now (λ k. is_ascii_digit (slice_index bytes.now k) ≡ true) }
+    ensures { IsTrue result ↔
+        EachIndex bytes.now (λ k. is_ascii_digit (slice_index bytes.now k) ≡ true) }
 {
     bytes.iter().all(|byte| byte.is_ascii_digit())
 }

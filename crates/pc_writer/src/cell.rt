@@ -30,7 +30,9 @@ fn write_list<O: Sink>(
     requires cell { cell.0 < length (cell_sizes book.now.universe) }
     requires sorts { sorts.now ≡ argument_sorts (family_of book.now.universe cell) }
     ensures { Writes O.given O.faults out.old out.new result
-        (joined separator.now (value_texts book.now.universe sorts.now (application_of book.now.universe cell).arguments)) }
+        (joined separator.now
+        (value_texts book.now.universe sorts.now
+        (application_of book.now.universe cell).arguments)) }
 {
     for (i, sort) in sorts.iter().enumerate() {
         let value = book.cell_arg(cell, i);
@@ -51,7 +53,8 @@ fn write_arguments<O: Sink>(
     requires cell { cell.0 < length (cell_sizes book.now.universe) }
     requires sorts { sorts.now ≡ argument_sorts (family_of book.now.universe cell) }
     ensures { Writes O.given O.faults out.old out.new result
-        (separated_arguments separator.now book.now.universe sorts.now (application_of book.now.universe cell).arguments) }
+        (separated_arguments separator.now book.now.universe sorts.now
+        (application_of book.now.universe cell).arguments) }
 {
     if sorts.is_empty() {
         return Ok(());
@@ -69,7 +72,8 @@ pub fn write_separated_cell<O: Sink>(
     out: &mut O,
 ) -> Result<(), Failed>
     requires { cell.0 < length (cell_sizes book.now.universe) }
-    ensures { Writes O.given O.faults out.old out.new result (separated_cell separator.now book.now.universe cell) }
+    ensures { Writes O.given O.faults out.old out.new result
+        (separated_cell separator.now book.now.universe cell) }
 {
     let family = book.cell_family(cell);
     write_text(book.family_name(family).as_bytes(), out)?;

@@ -23,7 +23,8 @@ pub(crate) fn write_table_name<O: Sink>(
     out: &mut O,
 ) -> Result<(), Failed>
     requires { table.0 < length book.now.universe.tables }
-    ensures { Writes O.given O.faults out.old out.new result (table_at book.now.universe table).name }
+    ensures { Writes O.given O.faults out.old out.new result
+        (table_at book.now.universe table).name }
 {
     write_text(book.table_name(table).as_bytes(), out)
 }
@@ -34,7 +35,8 @@ pub(crate) fn write_family_name<O: Sink>(
     out: &mut O,
 ) -> Result<(), Failed>
     requires { family.0 < length book.now.universe.families }
-    ensures { Writes O.given O.faults out.old out.new result (family_at book.now.universe family).name }
+    ensures { Writes O.given O.faults out.old out.new result
+        (family_at book.now.universe family).name }
 {
     write_text(book.family_name(family).as_bytes(), out)
 }
@@ -46,7 +48,8 @@ pub(crate) fn write_argument_sorts<O: Sink>(
     out: &mut O,
 ) -> Result<(), Failed>
     requires { All (IsDeclaredSort book.now.universe) sorts.now }
-    ensures { Writes O.given O.faults out.old out.new result (in_parentheses (map (sort_name book.now.universe) sorts.now)) }
+    ensures { Writes O.given O.faults out.old out.new result
+        (in_parentheses (map (sort_name book.now.universe) sorts.now)) }
 {
     if sorts.is_empty() {
         return Ok(());
@@ -59,7 +62,8 @@ pub(crate) fn write_argument_sorts<O: Sink>(
 /// Writes the names of sorts with a comma and a space between each two.
 fn write_sort_names<O: Sink>(book: &Book, sorts: &[SortId], out: &mut O) -> Result<(), Failed>
     requires { All (IsDeclaredSort book.now.universe) sorts.now }
-    ensures { Writes O.given O.faults out.old out.new result (joined (codes ", ") (map (sort_name book.now.universe) sorts.now)) }
+    ensures { Writes O.given O.faults out.old out.new result
+        (joined (codes ", ") (map (sort_name book.now.universe) sorts.now)) }
 {
     for (i, sort) in sorts.iter().enumerate() {
         write_separator(i, out)?;

@@ -24,7 +24,8 @@ pub fn write_entry<O: Sink>(book: &Book, entry: Entry, out: &mut O) -> Result<()
 /// Writes entries with a comma and a space between each two.
 pub fn write_entries<O: Sink>(book: &Book, entries: &[Entry], out: &mut O) -> Result<(), Failed>
     requires { All (IsEntryOf book.now.universe) entries.now }
-    ensures { Writes O.given O.faults out.old out.new result (entries_text book.now.universe entries.now) }
+    ensures { Writes O.given O.faults out.old out.new result
+        (entries_text book.now.universe entries.now) }
 {
     for (i, entry) in entries.iter().enumerate() {
         write_separator(i, out)?;

@@ -80,8 +80,11 @@ fn write_rest<O: Sink>(
     rest: &[(Sign, Term)],
     out: &mut O,
 ) -> Result<(), Failed>
-    requires { All (IsWritablePart book.now.universe (length variables.now)) (map added_of rest.now) }
-    ensures { Writes O.given O.faults out.old out.new result (flat_map (added_text book.now.universe (variables_of variables.now)) (map added_of rest.now)) }
+    requires { All (IsWritablePart book.now.universe (length variables.now))
+        (map added_of rest.now) }
+    ensures { Writes O.given O.faults out.old out.new result
+        (flat_map (added_text book.now.universe (variables_of variables.now))
+        (map added_of rest.now)) }
 {
     for (sign, term) in rest {
         write_text(sign_text(*sign).as_bytes(), out)?;
@@ -98,7 +101,8 @@ fn write_side<O: Sink>(
     out: &mut O,
 ) -> Result<(), Failed>
     requires { IsWritableSum book.now.universe (length variables.now) (sum_of side.now) }
-    ensures { Writes O.given O.faults out.old out.new result (sum_text book.now.universe (variables_of variables.now) (sum_of side.now)) }
+    ensures { Writes O.given O.faults out.old out.new result
+        (sum_text book.now.universe (variables_of variables.now) (sum_of side.now)) }
 {
     write_term(book, variables, &side.first, out)?;
     write_rest(book, variables, &side.rest, out)
@@ -114,7 +118,10 @@ fn write_comparison<O: Sink>(
 ) -> Result<(), Failed>
     requires left { IsWritableSum book.now.universe (length variables.now) (sum_of left.now) }
     requires right { IsWritableSum book.now.universe (length variables.now) (sum_of right.now) }
-    ensures { Writes O.given O.faults out.old out.new result (sum_text book.now.universe (variables_of variables.now) (sum_of left.now) ++ (op_text op ++ sum_text book.now.universe (variables_of variables.now) (sum_of right.now))) }
+    ensures { Writes O.given O.faults out.old out.new result
+        (sum_text book.now.universe (variables_of variables.now) (sum_of left.now) ++
+        (op_text op ++ sum_text book.now.universe (variables_of variables.now)
+        (sum_of right.now))) }
 {
     write_side(book, variables, left, out)?;
     write_text(op_text(op).as_bytes(), out)?;
@@ -129,8 +136,12 @@ fn write_in_table<O: Sink>(
     out: &mut O,
 ) -> Result<(), Failed>
     requires table { table.0 < length book.now.universe.tables }
-    requires args { AreWritable book.now.universe (length variables.now) (items_of (map item_of args.now)) }
-    ensures { Writes O.given O.faults out.old out.new result ((table_at book.now.universe table).name ++ in_parentheses (item_texts book.now.universe (variables_of variables.now) (items_of (map item_of args.now)))) }
+    requires args { AreWritable book.now.universe (length variables.now)
+        (items_of (map item_of args.now)) }
+    ensures { Writes O.given O.faults out.old out.new result
+        ((table_at book.now.universe table).name ++
+        in_parentheses (item_texts book.now.universe (variables_of variables.now)
+        (items_of (map item_of args.now)))) }
 {
     write_table_name(book, table, out)?;
     write_arguments(book, variables, args, out)
@@ -145,7 +156,8 @@ fn write_quantifier<O: Sink>(
     out: &mut O,
 ) -> Result<(), Failed>
     requires { sort.0 < length book.now.universe.sorts }
-    ensures { Writes O.given O.faults out.old out.new result (quantifier_text book.now.universe word.now name.now sort) }
+    ensures { Writes O.given O.faults out.old out.new result
+        (quantifier_text book.now.universe word.now name.now sort) }
 {
     write_text(word, out)?;
     write_text(name.as_str().as_bytes(), out)?;
@@ -164,7 +176,8 @@ fn write_count<O: Sink>(
     out: &mut O,
 ) -> Result<(), Failed>
     requires { sort.0 < length book.now.universe.sorts }
-    ensures { Writes O.given O.faults out.old out.new result (count_text book.now.universe (counting_of at_most bound) name.now sort) }
+    ensures { Writes O.given O.faults out.old out.new result
+        (count_text book.now.universe (counting_of at_most bound) name.now sort) }
 {
     write_text(count_word(at_most).as_bytes(), out)?;
     write_number(i32::from(bound), out)?;
@@ -179,8 +192,10 @@ pub(crate) fn write_formula<'a, O: Sink>(
     formula: &'a Formula,
     out: &mut O,
 ) -> Result<(), Failed>
-    requires { IsWellSorted book.now.universe (variables_of variables.now) (statement_of formula.now) }
-    ensures { Writes O.given O.faults out.old out.new result (statement_text book.now.universe (variables_of variables.now) (statement_of formula.now)) }
+    requires { IsWellSorted book.now.universe (variables_of variables.now)
+        (statement_of formula.now) }
+    ensures { Writes O.given O.faults out.old out.new result
+        (statement_text book.now.universe (variables_of variables.now) (statement_of formula.now)) }
 {
     match formula {
         Formula::Compare { left, op, right } => {
@@ -235,8 +250,11 @@ fn write_body<'a, O: Sink>(
     out: &mut O,
 ) -> Result<(), Failed>
     requires variable { IsNewVariable book.now.universe (variables_of variables.now) name.now sort }
-    requires body { IsWellSorted book.now.universe (variables_of variables.now ++ (name.now, sort) ∷ []) (statement_of body.now) }
-    ensures { Writes O.given O.faults out.old out.new result (statement_text book.now.universe (variables_of variables.now ++ (name.now, sort) ∷ []) (statement_of body.now)) }
+    requires body { IsWellSorted book.now.universe (variables_of variables.now ++ (name.now, sort) ∷
+        []) (statement_of body.now) }
+    ensures { Writes O.given O.faults out.old out.new result
+        (statement_text book.now.universe (variables_of variables.now ++ (name.now, sort) ∷ [])
+        (statement_of body.now)) }
 {
     let inner = extended(variables, name, sort);
     write_formula(book, &inner[..variables.len() + 1], body, out)
@@ -252,7 +270,8 @@ fn write_part<'a, O: Sink>(
     out: &mut O,
 ) -> Result<(), Failed>
     requires { IsWellSorted book.now.universe (variables_of variables.now) (statement_of part.now) }
-    ensures { Writes O.given O.faults out.old out.new result (part_text book.now.universe (variables_of variables.now) asked (statement_of part.now)) }
+    ensures { Writes O.given O.faults out.old out.new result
+        (part_text book.now.universe (variables_of variables.now) asked (statement_of part.now)) }
 {
     if tightness(part) >= asked {
         return write_formula(book, variables, part, out);
@@ -272,8 +291,11 @@ fn write_parts<'a, O: Sink>(
     parts: &'a [Formula],
     out: &mut O,
 ) -> Result<(), Failed>
-    requires { AreWellSorted book.now.universe (variables_of variables.now) (statements_of (map statement_of parts.now)) }
-    ensures { Writes O.given O.faults out.old out.new result (joined separator.now (part_texts book.now.universe (variables_of variables.now) asked (statements_of (map statement_of parts.now)))) }
+    requires { AreWellSorted book.now.universe (variables_of variables.now)
+        (statements_of (map statement_of parts.now)) }
+    ensures { Writes O.given O.faults out.old out.new result
+        (joined separator.now (part_texts book.now.universe (variables_of variables.now) asked
+        (statements_of (map statement_of parts.now)))) }
 {
     for (i, part) in parts.iter().enumerate() {
         write_between(separator, i, out)?;

@@ -37,7 +37,8 @@ fn write_names<O: Sink>(book: &Book, sort: SortId, out: &mut O) -> Result<(), Fa
     requires formed { IsWellFormedUniverse book.now.universe }
     requires sort { sort.0 < length book.now.universe.sorts }
     requires listed { bounds_of (values_at book.now.universe sort) ≡ None }
-    ensures { Writes O.given O.faults out.old out.new result (flat_map spaced (names_of_values (values_at book.now.universe sort))) }
+    ensures { Writes O.given O.faults out.old out.new result
+        (flat_map spaced (names_of_values (values_at book.now.universe sort))) }
 {
     for i in 0..book.size_of(sort) {
         write_text(b" ", out)?;
@@ -50,7 +51,8 @@ fn write_names<O: Sink>(book: &Book, sort: SortId, out: &mut O) -> Result<(), Fa
 fn write_values<O: Sink>(book: &Book, sort: SortId, out: &mut O) -> Result<(), Failed>
     requires formed { IsWellFormedUniverse book.now.universe }
     requires sort { sort.0 < length book.now.universe.sorts }
-    ensures { Writes O.given O.faults out.old out.new result (values_text (values_at book.now.universe sort)) }
+    ensures { Writes O.given O.faults out.old out.new result
+        (values_text (values_at book.now.universe sort)) }
 {
     match book.range_of(sort) {
         Some((low, high)) => write_range(low, high, out),
@@ -61,7 +63,8 @@ fn write_values<O: Sink>(book: &Book, sort: SortId, out: &mut O) -> Result<(), F
 pub(crate) fn write_sort<O: Sink>(book: &Book, sort: SortId, out: &mut O) -> Result<(), Failed>
     requires formed { IsWellFormedUniverse book.now.universe }
     requires sort { sort.0 < length book.now.universe.sorts }
-    ensures { Writes O.given O.faults out.old out.new result (sort_line (sort_at book.now.universe sort)) }
+    ensures { Writes O.given O.faults out.old out.new result
+        (sort_line (sort_at book.now.universe sort)) }
 {
     write_text(b"sort ", out)?;
     write_sort_name(book, sort, out)?;
@@ -72,7 +75,8 @@ pub(crate) fn write_sort<O: Sink>(book: &Book, sort: SortId, out: &mut O) -> Res
 pub(crate) fn write_table<O: Sink>(book: &Book, table: TableId, out: &mut O) -> Result<(), Failed>
     requires formed { IsWellFormedUniverse book.now.universe }
     requires table { table.0 < length book.now.universe.tables }
-    ensures { Writes O.given O.faults out.old out.new result (table_line book.now.universe (table_at book.now.universe table)) }
+    ensures { Writes O.given O.faults out.old out.new result
+        (table_line book.now.universe (table_at book.now.universe table)) }
 {
     write_text(b"table ", out)?;
     write_table_name(book, table, out)?;
@@ -87,7 +91,8 @@ fn write_row_values<O: Sink>(
     out: &mut O,
 ) -> Result<(), Failed>
     requires { AreWithin (map (size_of book.now.universe) sorts.now) row.now }
-    ensures { Writes O.given O.faults out.old out.new result (joined (codes ", ") (value_texts book.now.universe sorts.now row.now)) }
+    ensures { Writes O.given O.faults out.old out.new result
+        (joined (codes ", ") (value_texts book.now.universe sorts.now row.now)) }
 {
     for (i, sort) in sorts.iter().enumerate() {
         write_separator(i, out)?;
@@ -103,8 +108,10 @@ pub(crate) fn write_row<O: Sink>(
     out: &mut O,
 ) -> Result<(), Failed>
     requires table { table.0 < length book.now.universe.tables }
-    requires row { AreWithin (map (size_of book.now.universe) (table_at book.now.universe table).sorts) row.now }
-    ensures { Writes O.given O.faults out.old out.new result (row_line book.now.universe (table_at book.now.universe table) row.now) }
+    requires row { AreWithin
+        (map (size_of book.now.universe) (table_at book.now.universe table).sorts) row.now }
+    ensures { Writes O.given O.faults out.old out.new result
+        (row_line book.now.universe (table_at book.now.universe table) row.now) }
 {
     write_text(b"row ", out)?;
     write_table_name(book, table, out)?;
@@ -120,7 +127,8 @@ pub(crate) fn write_family<O: Sink>(
 ) -> Result<(), Failed>
     requires formed { IsWellFormedUniverse book.now.universe }
     requires family { family.0 < length book.now.universe.families }
-    ensures { Writes O.given O.faults out.old out.new result (family_line book.now.universe (family_at book.now.universe family)) }
+    ensures { Writes O.given O.faults out.old out.new result
+        (family_line book.now.universe (family_at book.now.universe family)) }
 {
     write_text(b"cell ", out)?;
     write_family_name(book, family, out)?;
@@ -131,7 +139,8 @@ pub(crate) fn write_family<O: Sink>(
 
 pub(crate) fn write_rule<O: Sink>(book: &Book, rule: &Rule, out: &mut O) -> Result<(), Failed>
     requires { IsWellFormedRule book.now.universe (rule_of rule.now) }
-    ensures { Writes O.given O.faults out.old out.new result (rule_line book.now.universe (rule_of rule.now)) }
+    ensures { Writes O.given O.faults out.old out.new result
+        (rule_line book.now.universe (rule_of rule.now)) }
 {
     write_text(b"rule ", out)?;
     write_text(rule.name.as_str().as_bytes(), out)?;
@@ -163,7 +172,8 @@ pub(crate) fn write_entry_line<O: Sink>(
     out: &mut O,
 ) -> Result<(), Failed>
     requires { IsEntryOf book.now.universe entry }
-    ensures { Writes O.given O.faults out.old out.new result (if later then also_line book.now.universe entry else enter_line book.now.universe entry) }
+    ensures { Writes O.given O.faults out.old out.new result (if later
+        then also_line book.now.universe entry else enter_line book.now.universe entry) }
 {
     if later {
         return write_also(book, entry, out);

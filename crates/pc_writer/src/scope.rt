@@ -19,7 +19,8 @@ pub(crate) fn extended<'a>(
     sort: SortId,
 ) -> [Variable<'a>; 16]
     requires { length variables.now < most_depth }
-    ensures { variables_of (take (length variables.now + 1) result) ≡ variables_of variables.now ++ (name.now, sort) ∷ [] }
+    ensures { variables_of (take (length variables.now + 1) result) ≡ variables_of variables.now ++
+        (name.now, sort) ∷ [] }
 {
     let none = Variable {
         name: "",

@@ -18,7 +18,8 @@ use pc_sheet::{FamilyId, MOST_CELLS, SortId, TableId};
 
 fn write_sorts<O: Sink>(book: &Book, out: &mut O) -> Result<(), Failed>
     requires { IsWellFormed book.now }
-    ensures { Writes O.given O.faults out.old out.new result (lines_text (map sort_line book.now.universe.sorts)) }
+    ensures { Writes O.given O.faults out.old out.new result
+        (lines_text (map sort_line book.now.universe.sorts)) }
 {
     for i in 0..book.sorts() {
         write_sort(book, SortId(i as u16), out)?;
@@ -29,7 +30,8 @@ fn write_sorts<O: Sink>(book: &Book, out: &mut O) -> Result<(), Failed>
 
 fn write_tables<O: Sink>(book: &Book, out: &mut O) -> Result<(), Failed>
     requires { IsWellFormed book.now }
-    ensures { Writes O.given O.faults out.old out.new result (lines_text (map (table_line book.now.universe) book.now.universe.tables)) }
+    ensures { Writes O.given O.faults out.old out.new result
+        (lines_text (map (table_line book.now.universe) book.now.universe.tables)) }
 {
     for i in 0..book.tables() {
         write_table(book, TableId(i as u16), out)?;
@@ -42,7 +44,8 @@ fn write_tables<O: Sink>(book: &Book, out: &mut O) -> Result<(), Failed>
 fn write_rows_of<O: Sink>(book: &Book, table: TableId, out: &mut O) -> Result<(), Failed>
     requires formed { IsWellFormed book.now }
     requires table { table.0 < length book.now.universe.tables }
-    ensures { Writes O.given O.faults out.old out.new result (lines_text (row_lines book.now.universe (table_at book.now.universe table))) }
+    ensures { Writes O.given O.faults out.old out.new result
+        (lines_text (row_lines book.now.universe (table_at book.now.universe table))) }
 {
     for i in 0..book.rows(table) {
         write_row(book, table, book.row(table, i), out)?;
@@ -53,7 +56,8 @@ fn write_rows_of<O: Sink>(book: &Book, table: TableId, out: &mut O) -> Result<()
 
 fn write_rows<O: Sink>(book: &Book, out: &mut O) -> Result<(), Failed>
     requires { IsWellFormed book.now }
-    ensures { Writes O.given O.faults out.old out.new result (lines_text (flat_map (row_lines book.now.universe) book.now.universe.tables)) }
+    ensures { Writes O.given O.faults out.old out.new result
+        (lines_text (flat_map (row_lines book.now.universe) book.now.universe.tables)) }
 {
     for i in 0..book.tables() {
         write_rows_of(book, TableId(i as u16), out)?;
@@ -63,7 +67,8 @@ fn write_rows<O: Sink>(book: &Book, out: &mut O) -> Result<(), Failed>
 
 fn write_families<O: Sink>(book: &Book, out: &mut O) -> Result<(), Failed>
     requires { IsWellFormed book.now }
-    ensures { Writes O.given O.faults out.old out.new result (lines_text (map (family_line book.now.universe) book.now.universe.families)) }
+    ensures { Writes O.given O.faults out.old out.new result
+        (lines_text (map (family_line book.now.universe) book.now.universe.families)) }
 {
     for i in 0..book.families() {
         write_family(book, FamilyId(i as u16), out)?;
@@ -74,7 +79,8 @@ fn write_families<O: Sink>(book: &Book, out: &mut O) -> Result<(), Failed>
 
 fn write_rules<O: Sink>(book: &Book, out: &mut O) -> Result<(), Failed>
     requires { IsWellFormed book.now }
-    ensures { Writes O.given O.faults out.old out.new result (lines_text (map (rule_line book.now.universe) book.now.rules)) }
+    ensures { Writes O.given O.faults out.old out.new result
+        (lines_text (map (rule_line book.now.universe) book.now.rules)) }
 {
     for rule in book.rules() {
         write_rule(book, rule, out)?;
@@ -86,7 +92,8 @@ fn write_rules<O: Sink>(book: &Book, out: &mut O) -> Result<(), Failed>
 /// Writes the entries, the oldest first.
 fn write_entry_lines<O: Sink>(book: &Book, out: &mut O) -> Result<(), Failed>
     requires { IsWellFormed book.now }
-    ensures { Writes O.given O.faults out.old out.new result (lines_text (entry_lines book.now.universe book.now.entries)) }
+    ensures { Writes O.given O.faults out.old out.new result
+        (lines_text (entry_lines book.now.universe book.now.entries)) }
 {
     let mut noted = [false; MOST_CELLS];
     for entry in book.entries() {
@@ -119,7 +126,8 @@ fn write_heading<O: Sink>(book: &Book, out: &mut O) -> Result<(), Failed>
 /// Writes the declarations of the universe.
 fn write_universe<O: Sink>(book: &Book, out: &mut O) -> Result<(), Failed>
     requires { IsWellFormed book.now }
-    ensures { Writes O.given O.faults out.old out.new result (lines_text (universe_lines book.now.universe)) }
+    ensures { Writes O.given O.faults out.old out.new result
+        (lines_text (universe_lines book.now.universe)) }
 {
     write_sorts(book, out)?;
     write_tables(book, out)?;

@@ -25,7 +25,8 @@ pub(crate) fn write_term<O: Sink>(
     out: &mut O,
 ) -> Result<(), Failed>
     requires { IsWritable book.now.universe (length variables.now) (item_of term.now) }
-    ensures { Writes O.given O.faults out.old out.new result (item_text book.now.universe (variables_of variables.now) (item_of term.now)) }
+    ensures { Writes O.given O.faults out.old out.new result
+        (item_text book.now.universe (variables_of variables.now) (item_of term.now)) }
 {
     match term {
         Term::Variable(k) => write_text(variables[usize::from(*k)].name.as_bytes(), out),
@@ -46,8 +47,11 @@ pub(crate) fn write_arguments<O: Sink>(
     terms: &[Term],
     out: &mut O,
 ) -> Result<(), Failed>
-    requires { AreWritable book.now.universe (length variables.now) (items_of (map item_of terms.now)) }
-    ensures { Writes O.given O.faults out.old out.new result (in_parentheses (item_texts book.now.universe (variables_of variables.now) (items_of (map item_of terms.now)))) }
+    requires { AreWritable book.now.universe (length variables.now)
+        (items_of (map item_of terms.now)) }
+    ensures { Writes O.given O.faults out.old out.new result
+        (in_parentheses (item_texts book.now.universe (variables_of variables.now)
+        (items_of (map item_of terms.now)))) }
 {
     if terms.is_empty() {
         return Ok(());
@@ -65,8 +69,11 @@ fn write_terms<O: Sink>(
     terms: &[Term],
     out: &mut O,
 ) -> Result<(), Failed>
-    requires { AreWritable book.now.universe (length variables.now) (items_of (map item_of terms.now)) }
-    ensures { Writes O.given O.faults out.old out.new result (joined (codes ", ") (item_texts book.now.universe (variables_of variables.now) (items_of (map item_of terms.now)))) }
+    requires { AreWritable book.now.universe (length variables.now)
+        (items_of (map item_of terms.now)) }
+    ensures { Writes O.given O.faults out.old out.new result
+        (joined (codes ", ") (item_texts book.now.universe (variables_of variables.now)
+        (items_of (map item_of terms.now)))) }
 {
     for (i, term) in terms.iter().enumerate() {
         write_separator(i, out)?;

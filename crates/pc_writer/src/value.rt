@@ -18,7 +18,8 @@ pub fn write_value<O: Sink>(
     out: &mut O,
 ) -> Result<(), Failed>
     requires { value.0 < size_of book.now.universe sort }
-    ensures { Writes O.given O.faults out.old out.new result (value_text book.now.universe sort value) }
+    ensures { Writes O.given O.faults out.old out.new result
+        (value_text book.now.universe sort value) }
 {
     match book.range_of(sort) {
         Some((low, _)) => write_integer(i64::from(low) + i64::from(value.0), out),
