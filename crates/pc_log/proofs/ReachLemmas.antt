@@ -14,7 +14,8 @@ use Rattle.std.proofs.lemmas.Map.Views.{Contains-from_any}
 use Rattle.pc_log.specs.declared.log.StepId.{StepId}
 use Rattle.pc_log.specs.Lines.{LogLine}
 use Rattle.pc_log.specs.Rests.{Rests, on_itself, on_hint, HasHint, HasHints}
-use Rattle.pc_log.specs.inside.Reached.{AreSlotted, AreReached, AreFound, AreRested}
+use Rattle.pc_log.specs.Sparse.{AreRested}
+use Rattle.pc_log.specs.inside.Reached.{AreSlotted, AreReached, AreFound}
 
 -- ---- slots
 

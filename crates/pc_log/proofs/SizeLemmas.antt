@@ -64,7 +64,7 @@ bytes_before_are kinds clauses hints lines n whole view within =
     ∙ ap (λ k. 16 * k + 4 * literals (take n clauses) + 8 * hints_in (take n hints)) count
 
 -- lines that moved count for as much
-bytes_of_moved : (to : ℕ → ℕ) (line : LogLine) → line_bytes (moved to line) ≡ line_bytes line
+pub bytes_of_moved : (to : ℕ → ℕ) (line : LogLine) → line_bytes (moved to line) ≡ line_bytes line
 bytes_of_moved to (AxiomLine number) = refl
 bytes_of_moved to (BlockLine number clause) = refl
 bytes_of_moved to (StepLine clause hints learned) = ap (λ n. 16 + 4 * length clause + 8 * n) (length-map hints (λ (h : StepId). let x : StepId = record { 0 = to h.0 } in x))

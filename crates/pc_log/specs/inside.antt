@@ -1,3 +1,5 @@
 pub mod Parts
 pub mod Marks
 pub mod Reached
+pub mod Spots
+pub mod Bits

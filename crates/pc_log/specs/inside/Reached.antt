@@ -1,9 +1,9 @@
 -- The lines that `trim` reaches, and how it appends them.
-use Rattle.std.specs.Prelude.{◌≡◌, ℕ, suc, ◌+◌, ◌<◌, ◌≤◌, ◌⊎◌, ◌↔◌, ◌==◌, List, [], ◌∷◌, Contains, cond, map, take, length, slice_index_or}
-use Rattle.std.specs.List.Sorted.{IsStrictlyIncreasing}
+use Rattle.std.specs.Prelude.{◌≡◌, ℕ, ◌+◌, ◌<◌, ◌≤◌, ◌⊎◌, ◌↔◌, List, Contains, map, take, length, slice_index_or}
 use Rattle.pc_log.specs.declared.log.StepId.{StepId}
 use Rattle.pc_log.specs.Lines.{LogLine, AxiomLine, BlockLine, StepLine}
 use Rattle.pc_log.specs.Rests.{Rests}
+use Rattle.pc_log.specs.Sparse.{index_of, line_at}
 use Rattle.pc_log.specs.Trimmed.{moved}
 
 -- the slot of each reached line says where the line stands among them
@@ -22,12 +22,6 @@ pub record AreFound (lines : List LogLine) (last : ℕ) (reached slots : List �
   pub exactly : (j : ℕ) → Contains reached j ↔ Rests lines last j
   pub up_to : (j : ℕ) → Contains reached j → j ≤ last
 
--- the same in their order
-pub record AreRested (lines : List LogLine) (last : ℕ) (places : List ℕ) : Type 0 where
-  pub rise : IsStrictlyIncreasing places
-  pub exactly : (j : ℕ) → Contains places j ↔ Rests lines last j
-  pub up_to : (j : ℕ) → Contains places j → j ≤ last
-
 -- ---- appended
 
 -- a line with these hints, where it has hints
@@ -36,17 +30,9 @@ with_hints (AxiomLine number) hints = AxiomLine number
 with_hints (BlockLine number clause) hints = BlockLine number clause
 with_hints (StepLine clause before learned) hints = StepLine clause hints learned
 
--- where a number stands in a list
-abbrev pub index_of : ℕ → List ℕ → ℕ
-index_of i [] = 0
-index_of i (x ∷ xs) = cond (x == i) 0 (suc (index_of i xs))
-
 -- where a line comes to stand: behind the lines of the other log and those before it among these places
 abbrev pub new_place : List ℕ → ℕ → ℕ → ℕ
 new_place places base i = base + index_of i places
-
-abbrev pub line_at : List LogLine → ℕ → LogLine
-line_at lines i = slice_index_or lines i (AxiomLine 0)
 
 -- the lines at these places, moved behind others
 abbrev pub renumbered : List LogLine → List ℕ → ℕ → List LogLine
