@@ -1,5 +1,5 @@
 -- The empty slots of a book's targets.
-use Rattle.std.proofs.Common.{◌≡◌, ℕ, zero, suc, ◌+◌, ◌*◌, ◌^◌, ◌<◌, ◌≤◌, ◌↔◌, Bool, true, false, List, [], ◌∷◌, ◌++◌, None, Some, length, slice_get, take, get_or, refl, sym, ap, ◌∙◌, subst, arith, inl, inr, ◌⊎◌, IsSomeAnd, ⊎_elim, length-append, append_assoc, cond}
+use Rattle.std.proofs.Common.{◌≡◌, ℕ, zero, suc, ◌+◌, ◌*◌, ◌^◌, ◌<◌, ◌≤◌, ◌↔◌, Bool, true, false, List, [], ◌∷◌, ◌++◌, Option, None, Some, length, slice_get, take, get_or, refl, sym, ap, ◌∙◌, subst, arith, inl, inr, ◌⊎◌, IsSomeAnd, ⊎_elim, length-append, append_assoc, cond}
 use Rattle.std.proofs.lemmas.List.{take_more, take_all, length-take, append-nil}
 use Rattle.std.specs.Option.{option_map}
 use Rattle.std.proofs.lemmas.Option.{get_or_from_slice_get, slice_get_within}
@@ -82,13 +82,13 @@ small_at c place (n ∷ ns) (suc k) d few below =
 all_small : (c place : ℕ) (ns : List ℕ) → place + length (slots_of c ns) < 2 ^ 32 → AreSmall (starts_of place ns)
 all_small c place ns few = λ k d below. small_at c place ns k d few below
 
-pub placed_once : (lines : List LogLine) (starts : List ℕ) (place : ℕ) (slots : List Slot) → ArePlaced starts place slots → AreDistinct (rows_in lines slots)
-placed_once lines starts place [] placed = tt
-placed_once lines starts place (s ∷ ss) placed = (
+pub placed_once : (blocks : List (List (Option LogLine))) (starts : List ℕ) (place : ℕ) (slots : List Slot) → ArePlaced starts place slots → AreDistinct (rows_in blocks slots)
+placed_once blocks starts place [] placed = tt
+placed_once blocks starts place (s ∷ ss) placed = (
   λ has.
-      let there = slot_stands starts (place + 1) ss s.target placed.1 (has_target lines ss s.target has) in
+      let there = slot_stands starts (place + 1) ss s.target placed.1 (has_target blocks ss s.target has) in
       omega (arith, some_place place (place + 1 + there.0) (sym placed.0 ∙ there.1)),
-  placed_once lines starts (place + 1) ss placed.1,
+  placed_once blocks starts (place + 1) ss placed.1,
 )
 
 -- ---- no rows
@@ -112,12 +112,12 @@ unfolding AreBare
 all_bare c [] = tt
 all_bare c (n ∷ ns) = AreBare-append (cell_slots c n) (slots_of (c + 1) ns) (cell_bare c n) (all_bare (c + 1) ns)
 
-bare_rows : (lines : List LogLine) (slots : List Slot) → AreBare slots → AreRowsIn lines slots × AreEmpty (rows_in lines slots)
+bare_rows : (blocks : List (List (Option LogLine))) (slots : List Slot) → AreBare slots → AreRowsIn blocks slots × AreEmpty (rows_in blocks slots)
 unfolding AreBare
-bare_rows lines [] bare = (tt, tt)
-bare_rows lines (s ∷ ss) bare =
-    let rest = bare_rows lines ss bare.1 in
-    ((subst (IsRowIn lines) (sym bare.0) tt, rest.0), (ap (kept_or_none lines) bare.0, rest.1))
+bare_rows blocks [] bare = (tt, tt)
+bare_rows blocks (s ∷ ss) bare =
+    let rest = bare_rows blocks ss bare.1 in
+    ((subst (IsRowIn blocks) (sym bare.0) tt, rest.0), (ap (kept_or_none blocks) bare.0, rest.1))
 
 -- ---- whose they are
 
@@ -190,31 +190,31 @@ slot_targets c [] = refl
 slot_targets c (n ∷ ns) =
     targets_in-append (cell_slots c n) (slots_of (c + 1) ns) ∙ ap (λ (ts : List Target). ts ++ targets_in (slots_of (c + 1) ns)) (cell_targets c n) ∙ ap (λ (ts : List Target). targets_of_cell c n ++ ts) (slot_targets (c + 1) ns)
 
-pub fresh_targets : (lines : List LogLine) (sizes : List ℕ) (slots : List Slot) (cells : ℕ) → slots ≡ slots_of 0 (take cells sizes) → length sizes ≤ cells → targets_of (rows_in lines slots) ≡ targets sizes
-fresh_targets lines sizes slots cells slots_are all =
-    targets_are lines slots ∙ ap targets_in (slots_are ∙ ap (slots_of 0) (take_all cells sizes all)) ∙ slot_targets 0 sizes
+pub fresh_targets : (blocks : List (List (Option LogLine))) (sizes : List ℕ) (slots : List Slot) (cells : ℕ) → slots ≡ slots_of 0 (take cells sizes) → length sizes ≤ cells → targets_of (rows_in blocks slots) ≡ targets sizes
+fresh_targets blocks sizes slots cells slots_are all =
+    targets_are blocks slots ∙ ap targets_in (slots_are ∙ ap (slots_of 0) (take_all cells sizes all)) ∙ slot_targets 0 sizes
 
 -- ---- all of them
 
-pub fresh_is_kept : (lines : List LogLine) (sizes starts : List ℕ) (slots : List Slot) (cells : ℕ) → starts ≡ starts_of 0 (take cells sizes) → slots ≡ slots_of 0 (take cells sizes) → length slots ≤ 2 ^ 21 → IsKept lines starts slots
-fresh_is_kept lines sizes starts slots cells starts_are slots_are few =
+pub fresh_is_kept : (blocks : List (List (Option LogLine))) (sizes starts : List ℕ) (slots : List Slot) (cells : ℕ) → starts ≡ starts_of 0 (take cells sizes) → slots ≡ slots_of 0 (take cells sizes) → length slots ≤ 2 ^ 21 → IsKept blocks starts slots
+fresh_is_kept blocks sizes starts slots cells starts_are slots_are few =
     let ns : List ℕ = take cells sizes in
     record {
       small = rw starts_are (all_small 0 0 ns (omega (arith, few, ap length slots_are)));
       placed = rw (starts_are, slots_are) (all_placed (starts_of 0 ns) 0 0 ns (λ k s at. ap (slice_get (starts_of 0 ns)) (let e : 0 + k ≡ k = omega arith in e) ∙ at));
-      rows = rw slots_are (bare_rows lines (slots_of 0 ns) (all_bare 0 ns)).0;
+      rows = rw slots_are (bare_rows blocks (slots_of 0 ns) (all_bare 0 ns)).0;
       few = few;
     }
 
-pub fresh_rows : (lines : List LogLine) (u : Universe) (starts : List ℕ) (slots : List Slot) (cells : ℕ) → IsKept lines starts slots → slots ≡ slots_of 0 (take cells (cell_sizes u)) → length (cell_sizes u) ≤ cells
-    → ((t : Target) → HasRowOf (rows_in lines slots) t ↔ IsTargetIn u t) × AreDistinct (rows_in lines slots) × AreEmpty (rows_in lines slots)
-fresh_rows lines u starts slots cells kept slots_are all =
+pub fresh_rows : (blocks : List (List (Option LogLine))) (u : Universe) (starts : List ℕ) (slots : List Slot) (cells : ℕ) → IsKept blocks starts slots → slots ≡ slots_of 0 (take cells (cell_sizes u)) → length (cell_sizes u) ≤ cells
+    → ((t : Target) → HasRowOf (rows_in blocks slots) t ↔ IsTargetIn u t) × AreDistinct (rows_in blocks slots) × AreEmpty (rows_in blocks slots)
+fresh_rows blocks u starts slots cells kept slots_are all =
     let whole : slots ≡ slots_of 0 (cell_sizes u) = slots_are ∙ ap (slots_of 0) (take_all cells (cell_sizes u) all) in (
       λ t. (
-        λ has. let is = of_cells 0 (cell_sizes u) t (subst (λ (ss : List Slot). HasSlot ss t) whole (has_target lines slots t has)) in
+        λ has. let is = of_cells 0 (cell_sizes u) t (subst (λ (ss : List Slot). HasSlot ss t) whole (has_target blocks slots t has)) in
             let cell : is.0 ≡ t.cell.0 = omega (arith, is.1) in subst (λ k. IsSomeAnd (slice_get (cell_sizes u) k) (λ n. t.value.0 < n)) cell is.2,
-        λ is. to_target lines slots t (subst (λ (ss : List Slot). HasSlot ss t) (sym whole) (to_cells 0 (cell_sizes u) t t.cell.0 (omega arith) is)),
+        λ is. to_target blocks slots t (subst (λ (ss : List Slot). HasSlot ss t) (sym whole) (to_cells 0 (cell_sizes u) t t.cell.0 (omega arith) is)),
       ),
-      placed_once lines starts 0 slots kept.placed,
-      subst (λ (ss : List Slot). AreEmpty (rows_in lines ss)) (sym whole) (bare_rows lines (slots_of 0 (cell_sizes u)) (all_bare 0 (cell_sizes u))).1,
+      placed_once blocks starts 0 slots kept.placed,
+      subst (λ (ss : List Slot). AreEmpty (rows_in blocks ss)) (sym whole) (bare_rows blocks (slots_of 0 (cell_sizes u)) (all_bare 0 (cell_sizes u))).1,
     )

@@ -1,45 +1,58 @@
 -- Rows that are put into a patch.
-use Rattle.std.proofs.Common.{◌≡◌, ℕ, ◌+◌, ◌≤◌, List, [], ◌∷◌, ◌++◌, None, length, take, refl, sym, ap, ◌∙◌, arith}
-use Rattle.std.proofs.lemmas.List.{take_all}
-use Rattle.pc_log.specs.declared.trimming.Span.{Span}
-use Rattle.pc_log.specs.Laws.{SpansStay}
+use Rattle.std.proofs.Common.{◌≡◌, ℕ, ◌+◌, ◌<◌, ◌≤◌, Bool, false, IsTrue, refl, List, [], ◌∷◌, ◌++◌, Option, None, length, map, sym, ap, ◌∙◌, subst, arith}
 use Rattle.pc_log.specs.Lines.{LogLine}
 use Rattle.pc_log.specs.Sizes.{bytes_of}
-use Rattle.pc_log.specs.Spans.{Extends, IsSpanOf, lines_of_span}
-use Rattle.pc_log.proofs.SizeLemmas.{bytes_of_span}
-use Rattle.pc_cache.specs.Rows.{bytes_of_rows, row_bytes}
-use Rattle.pc_cache.specs.inside.Kept.{kept_or_none, IsRowIn}
+use Rattle.pc_log.specs.Sparse.{line_at, picked, AreRested, IsPicked, LinesStand}
+use Rattle.pc_log.specs.Trimmed.{IsTrimmed}
+use Rattle.pc_cache.specs.Rows.{TargetRow, bytes_of_rows, row_bytes}
+use Rattle.pc_cache.specs.inside.Kept.{block_at, bytes_of_blocks, kept_or_none, rows_in, IsRowIn, KeepsBlocks}
 use Rattle.pc_cache.specs.inside.Patched.{IsOfRows}
 use Rattle.pc_cache.specs.declared.row.Slot.{Slot}
-use Rattle.pc_cache.proofs.SlotLemmas.{put_row, rows_in-stay, AreRowsIn-push, bytes_of_rows-push}
+use Rattle.pc_cache.proofs.BlockLemmas.{put_is, put_size, put_trimmed}
+use Rattle.pc_cache.proofs.SlotLemmas.{put_row, rows_in-stay, AreRowsIn-push, AreRowsIn-stay, bytes_of_rows-push}
 
--- a span that stands behind all others
-span_behind : (old new : List LogLine) (span : Span) → Extends old new → IsSpanOf new span → span.first.0 ≡ length old → span.last.0 + 1 ≡ length new → bytes_of new ≡ bytes_of old + bytes_of (lines_of_span new span)
-span_behind old new span extends is first last =
-    ap bytes_of (sym (take_all (span.last.0 + 1) new (omega (arith, last)))) ∙ bytes_of_span new span is
-    ∙ ap (λ (n : ℕ). bytes_of (take n new) + bytes_of (lines_of_span new span)) first ∙ ap (λ (ls : List LogLine). bytes_of ls + bytes_of (lines_of_span new span)) extends
-
--- a row whose span does
-pub put_alone : SpansStay → (old new : List LogLine) (slots : List Slot) (s : Slot) → IsOfRows old slots → Extends old new → IsRowIn new s.row → bytes_of new ≡ bytes_of old + row_bytes (kept_or_none new s.row) → IsOfRows new (slots ++ s ∷ [])
-put_alone stay old new slots s of extends is grown = record {
-  are = (put_row stay old new slots s extends of.are is).0;
-  alone = omega (arith, grown, of.alone, bytes_of_rows-push new slots s, ap bytes_of_rows (rows_in-stay stay old new slots extends of.are));
+-- a row whose lines were added
+pub put_alone : (whole : Bool) (old new : List (List (Option LogLine))) (slots : List Slot) (s : Slot) → IsOfRows whole old slots → KeepsBlocks old new → IsRowIn new s.row
+    → bytes_of_blocks new ≤ bytes_of_blocks old + row_bytes (kept_or_none new s.row) → IsOfRows whole new (slots ++ s ∷ [])
+put_alone whole old new slots s of keeps is grown = record {
+  are = (put_row old new slots s keeps of.are is).0;
+  alone = λ yes. omega (arith, grown, of.alone yes, bytes_of_rows-push new slots s, ap bytes_of_rows (rows_in-stay old new slots keeps of.are));
 }
 
-pub put_span : SpansStay → (old new : List LogLine) (slots : List Slot) (s : Slot) (span : Span) → IsOfRows old slots → Extends old new → IsSpanOf new span → span.first.0 ≡ length old → span.last.0 + 1 ≡ length new
-    → IsRowIn new s.row → row_bytes (kept_or_none new s.row) ≡ bytes_of (lines_of_span new span) → IsOfRows new (slots ++ s ∷ [])
-put_span stay old new slots s span of extends is first last row size =
-    put_alone stay old new slots s of extends row (span_behind old new span extends is first last ∙ ap (λ n. bytes_of old + n) (sym size))
+-- the places of a row, of which the lines of the log were put
+module _ (log : List LogLine) (last : ℕ) (list read places : List ℕ) (old new : List (List (Option LogLine))) (b : ℕ) (within : last < length log) (rested : AreRested log last list) (same : read ≡ list) (is : places ≡ list)
+    (low : b < length new) (stand : LinesStand (line_at log) read (block_at new b)) (grown : bytes_of_blocks new ≤ bytes_of_blocks old + bytes_of (map (line_at log) read)) where
+  here : LinesStand (line_at log) list (block_at new b)
+  here = subst (λ (ps : List ℕ). LinesStand (line_at log) ps (block_at new b)) same stand
 
-pub put_nothing : (lines : List LogLine) (slots : List Slot) (s : Slot) → s.row ≡ None → IsRowIn lines s.row → IsOfRows lines slots → IsOfRows lines (slots ++ s ∷ [])
-put_nothing lines slots s none is of = record {
-  are = AreRowsIn-push lines slots s of.are is;
-  alone = omega (arith, of.alone, bytes_of_rows-push lines slots s, ap (λ r. row_bytes (kept_or_none lines r)) none);
+  pub row_is : (b < length new) × IsPicked (block_at new b) places
+  row_is = subst (λ (ps : List ℕ). (b < length new) × IsPicked (block_at new b) ps) (sym is) (put_is log last list new b within rested low here)
+
+  pub row_trimmed : IsTrimmed log last [] (picked (block_at new b) places)
+  row_trimmed = subst (λ (ps : List ℕ). IsTrimmed log last [] (picked (block_at new b) ps)) (sym is) (put_trimmed log last list new b within rested low here)
+
+  pub row_grown : bytes_of_blocks new ≤ bytes_of_blocks old + bytes_of (picked (block_at new b) places)
+  row_grown =
+      omega (
+        arith,
+        grown,
+        ap (λ (ps : List ℕ). bytes_of (map (line_at log) ps)) same,
+        put_size log last list new b within rested low here,
+        ap (λ (ps : List ℕ). bytes_of (picked (block_at new b) ps)) is,
+      )
+
+-- lines of no row, where memory ran out
+pub put_partly : (whole : Bool) (old new : List (List (Option LogLine))) (slots : List Slot) → IsOfRows whole old slots → KeepsBlocks old new → IsOfRows false new slots
+put_partly whole old new slots of keeps = record {
+  are = AreRowsIn-stay old new slots keeps of.are;
+  alone = λ yes. absurd (cc);
 }
 
-pub no_lines : (lines : List LogLine) → length lines ≤ 0 → lines ≡ []
-no_lines [] none = refl
-no_lines (line ∷ lines) none = absurd (omega (arith, none))
+pub same_rows : (whole : Bool) (old new : List (List (Option LogLine))) (slots : List Slot) (rows : List TargetRow) → IsOfRows whole old slots → KeepsBlocks old new → rows_in old slots ≡ rows → rows_in new slots ≡ rows
+same_rows whole old new slots rows of keeps were = rows_in-stay old new slots keeps of.are ∙ were
 
-pub with_none : (a b : ℕ) → a ≡ b → a ≡ bytes_of [] + b
-with_none a b is = omega (arith, is)
+pub put_nothing : (whole : Bool) (blocks : List (List (Option LogLine))) (slots : List Slot) (s : Slot) → s.row ≡ None → IsRowIn blocks s.row → IsOfRows whole blocks slots → IsOfRows whole blocks (slots ++ s ∷ [])
+put_nothing whole blocks slots s none is of = record {
+  are = AreRowsIn-push blocks slots s of.are is;
+  alone = λ yes. omega (arith, of.alone yes, bytes_of_rows-push blocks slots s, ap (λ r. row_bytes (kept_or_none blocks r)) none);
+}

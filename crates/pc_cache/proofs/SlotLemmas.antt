@@ -1,22 +1,18 @@
 -- Slots by their places, and as rows.
-use Rattle.std.proofs.Common.{◌≡◌, ℕ, zero, suc, ◌+◌, ◌<◌, Bool, true, false, List, [], ◌∷◌, ◌++◌, Option, Some, None, length, slice_get, refl, sym, ap, ◌∙◌, subst, arith, cond, inl, inr, IsSomeAnd, ⊎_elim, get_or, take, drop, map, ◌≤◌, filter}
+use Rattle.std.proofs.Common.{◌≡◌, ℕ, zero, suc, ◌+◌, ◌<◌, Bool, true, false, List, [], ◌∷◌, ◌++◌, Option, Some, None, length, slice_get, refl, sym, ap, ◌∙◌, subst, arith, cond, inl, inr, IsSomeAnd, ⊎_elim, get_or, take, map, filter}
 use Rattle.pc_sheet.specs.declared.ids.Entry.{Entry}
-use Rattle.std.proofs.Math.ListN.{set}
 use Rattle.std.specs.Prelude.{slice_set, ◌||◌}
 use Rattle.std.specs.List.{list_any}
 use Rattle.std.proofs.lemmas.Bool.{false≢true, or_left, or_right, true_from_ne_false}
 use Rattle.std.proofs.lemmas.Option.{slice_get-get_or}
-use Rattle.std.proofs.lemmas.List.{append-nil, take_more_set, take_more, take_all, take-take, length-take, drop-set-lt, get_or-drop}
-use Rattle.std.proofs.lemmas.Grind.{drop_more_same}
+use Rattle.std.proofs.lemmas.List.{append-nil, take_more}
 use Rattle.pc_cache.specs.inside.Cached.{IsKept}
 use Rattle.pc_sheet.specs.declared.ids.Target.{Target}
 use Rattle.pc_log.specs.Lines.{LogLine}
-use Rattle.pc_log.specs.Spans.{Extends}
-use Rattle.pc_log.specs.Laws.{SpansStay}
+use Rattle.pc_log.proofs.PickedLemmas.{picked_stays}
 use Rattle.pc_reason.specs.Reasons.{Justification}
 use Rattle.pc_cache.specs.Rows.{TargetRow, is_same_target, row_of, row_after, HasRowOf, HaveTargets, target_of, is_used_in, is_nothing, lacks_row, uses_entry, row_bytes, bytes_of_rows}
-use Rattle.pc_log.specs.Sizes.{bytes_of}
-use Rattle.pc_cache.specs.inside.Kept.{kept_or_none, rows_in, IsRowIn, AreRowsIn, HasSlot, HasSlots, with_slot, with_slots, targets_in, slot_target, slot_is_missing, slot_rests_on, is_row_over, is_no_row}
+use Rattle.pc_cache.specs.inside.Kept.{block_at, kept_or_none, KeepsBlocks, rows_in, IsRowIn, AreRowsIn, HasSlot, HasSlots, with_slot, with_slots, targets_in, slot_target, slot_is_missing, slot_rests_on, is_row_over, is_no_row}
 use Rattle.pc_cache.specs.inside.Places.{place_of, ArePlaced, IsSlotOf}
 use Rattle.pc_cache.specs.declared.row.Row.{Row}
 use Rattle.pc_cache.specs.declared.row.Slot.{Slot}
@@ -69,33 +65,33 @@ other_target starts place s ss t k placed is same =
 -- ---- rows
 
 -- the row of the target whose slot stands there
-pub row_at : (lines : List LogLine) (starts : List ℕ) (place : ℕ) (slots : List Slot) (k : ℕ) (s : Slot) (t : Target) → ArePlaced starts place slots → slice_get slots k ≡ Some s → s.target ≡ t
-    → row_of (rows_in lines slots) t ≡ kept_or_none lines s.row
-row_at lines starts place [] k s t placed at is = cc
-row_at lines starts place (x ∷ xs) zero s t placed at is =
+pub row_at : (blocks : List (List (Option LogLine))) (starts : List ℕ) (place : ℕ) (slots : List Slot) (k : ℕ) (s : Slot) (t : Target) → ArePlaced starts place slots → slice_get slots k ≡ Some s → s.target ≡ t
+    → row_of (rows_in blocks slots) t ≡ kept_or_none blocks s.row
+row_at blocks starts place [] k s t placed at is = cc
+row_at blocks starts place (x ∷ xs) zero s t placed at is =
     let same : x ≡ s = cc in
-    rw (same_by x.target t (ap (λ (y : Slot). y.target) same ∙ is)) (ap (λ (y : Slot). kept_or_none lines y.row) same)
-row_at lines starts place (x ∷ xs) (suc k) s t placed at is =
+    rw (same_by x.target t (ap (λ (y : Slot). y.target) same ∙ is)) (ap (λ (y : Slot). kept_or_none blocks y.row) same)
+row_at blocks starts place (x ∷ xs) (suc k) s t placed at is =
     let other = other_target starts place x xs t k placed (slot_at xs k s t at is) in
-    rw (different_by x.target t other) (row_at lines starts (place + 1) xs k s t placed.1 at is)
+    rw (different_by x.target t other) (row_at blocks starts (place + 1) xs k s t placed.1 at is)
 
 -- a target without a slot has no row
-pub no_row : (lines : List LogLine) (slots : List Slot) (t : Target) → ¬ HasSlot slots t → row_of (rows_in lines slots) t ≡ None
-no_row lines [] t none = refl
-no_row lines (x ∷ xs) t none = rw (different_by x.target t (λ same. none (inl same))) (no_row lines xs t (λ later. none (inr later)))
+pub no_row : (blocks : List (List (Option LogLine))) (slots : List Slot) (t : Target) → ¬ HasSlot slots t → row_of (rows_in blocks slots) t ≡ None
+no_row blocks [] t none = refl
+no_row blocks (x ∷ xs) t none = rw (different_by x.target t (λ same. none (inl same))) (no_row blocks xs t (λ later. none (inr later)))
 
-pub has_target : (lines : List LogLine) (slots : List Slot) (t : Target) → HasRowOf (rows_in lines slots) t → HasSlot slots t
-has_target lines [] t has = absurd has
-has_target lines (x ∷ xs) t (inl same) = inl same
-has_target lines (x ∷ xs) t (inr later) = inr (has_target lines xs t later)
+pub has_target : (blocks : List (List (Option LogLine))) (slots : List Slot) (t : Target) → HasRowOf (rows_in blocks slots) t → HasSlot slots t
+has_target blocks [] t has = absurd has
+has_target blocks (x ∷ xs) t (inl same) = inl same
+has_target blocks (x ∷ xs) t (inr later) = inr (has_target blocks xs t later)
 
-pub rows_in-push : (lines : List LogLine) (slots : List Slot) (s : Slot) → rows_in lines (slots ++ s ∷ []) ≡ rows_in lines slots ++ record { target = s.target; row = kept_or_none lines s.row } ∷ []
-rows_in-push lines [] s = refl
-rows_in-push lines (x ∷ xs) s = ap (λ (rs : List TargetRow). record { target = x.target; row = kept_or_none lines x.row } ∷ rs) (rows_in-push lines xs s)
+pub rows_in-push : (blocks : List (List (Option LogLine))) (slots : List Slot) (s : Slot) → rows_in blocks (slots ++ s ∷ []) ≡ rows_in blocks slots ++ record { target = s.target; row = kept_or_none blocks s.row } ∷ []
+rows_in-push blocks [] s = refl
+rows_in-push blocks (x ∷ xs) s = ap (λ (rs : List TargetRow). record { target = x.target; row = kept_or_none blocks x.row } ∷ rs) (rows_in-push blocks xs s)
 
-pub AreRowsIn-push : (lines : List LogLine) (slots : List Slot) (s : Slot) → AreRowsIn lines slots → IsRowIn lines s.row → AreRowsIn lines (slots ++ s ∷ [])
-AreRowsIn-push lines [] s each is = (is, tt)
-AreRowsIn-push lines (x ∷ xs) s each is = (each.0, AreRowsIn-push lines xs s each.1 is)
+pub AreRowsIn-push : (blocks : List (List (Option LogLine))) (slots : List Slot) (s : Slot) → AreRowsIn blocks slots → IsRowIn blocks s.row → AreRowsIn blocks (slots ++ s ∷ [])
+AreRowsIn-push blocks [] s each is = (is, tt)
+AreRowsIn-push blocks (x ∷ xs) s each is = (each.0, AreRowsIn-push blocks xs s each.1 is)
 
 -- ---- a slot in place of another
 
@@ -120,10 +116,10 @@ ArePlaced-with starts place (s ∷ ss) c placed =
     (λ same. (ap (place_of starts) (sym same) ∙ placed.0, placed.1))
     (λ other. (placed.0, ArePlaced-with starts (place + 1) ss c placed.1))
 
-pub AreRowsIn-with : (lines : List LogLine) (slots : List Slot) (c : Slot) → AreRowsIn lines slots → IsRowIn lines c.row → AreRowsIn lines (with_slot slots c)
-AreRowsIn-with lines [] c each is = tt
-AreRowsIn-with lines (s ∷ ss) c each is =
-    by_same s.target c.target (λ b. AreRowsIn lines (cond b (c ∷ ss) (s ∷ with_slot ss c))) (λ same. (is, each.1)) (λ other. (each.0, AreRowsIn-with lines ss c each.1 is))
+pub AreRowsIn-with : (blocks : List (List (Option LogLine))) (slots : List Slot) (c : Slot) → AreRowsIn blocks slots → IsRowIn blocks c.row → AreRowsIn blocks (with_slot slots c)
+AreRowsIn-with blocks [] c each is = tt
+AreRowsIn-with blocks (s ∷ ss) c each is =
+    by_same s.target c.target (λ b. AreRowsIn blocks (cond b (c ∷ ss) (s ∷ with_slot ss c))) (λ same. (is, each.1)) (λ other. (each.0, AreRowsIn-with blocks ss c each.1 is))
 
 pub HasSlot-with : (slots : List Slot) (c : Slot) (t : Target) → HasSlot slots t → HasSlot (with_slot slots c) t
 HasSlot-with [] c t has = absurd has
@@ -154,18 +150,18 @@ cond_swap false true x y z none = refl
 cond_swap false false x y z none = refl
 
 -- the row of a target, after a slot was put in place of the one of its target
-pub row-with : (lines : List LogLine) (slots : List Slot) (c : Slot) (t : Target) → HasSlot slots c.target
-    → row_of (rows_in lines (with_slot slots c)) t ≡ cond (is_same_target c.target t) (kept_or_none lines c.row) (row_of (rows_in lines slots) t)
-row-with lines [] c t has = absurd has
-row-with lines (s ∷ ss) c t has =
-    by_same s.target c.target (λ b. row_of (rows_in lines (cond b (c ∷ ss) (s ∷ with_slot ss c))) t ≡ cond (is_same_target c.target t) (kept_or_none lines c.row) (row_of (rows_in lines (s ∷ ss)) t))
+pub row-with : (blocks : List (List (Option LogLine))) (slots : List Slot) (c : Slot) (t : Target) → HasSlot slots c.target
+    → row_of (rows_in blocks (with_slot slots c)) t ≡ cond (is_same_target c.target t) (kept_or_none blocks c.row) (row_of (rows_in blocks slots) t)
+row-with blocks [] c t has = absurd has
+row-with blocks (s ∷ ss) c t has =
+    by_same s.target c.target (λ b. row_of (rows_in blocks (cond b (c ∷ ss) (s ∷ with_slot ss c))) t ≡ cond (is_same_target c.target t) (kept_or_none blocks c.row) (row_of (rows_in blocks (s ∷ ss)) t))
     (λ same.
-    cond_twice (is_same_target c.target t) (kept_or_none lines c.row) (kept_or_none lines s.row) (row_of (rows_in lines ss) t)
-    ∙ ap (λ (u : Target). cond (is_same_target c.target t) (kept_or_none lines c.row) (cond (is_same_target u t) (kept_or_none lines s.row) (row_of (rows_in lines ss) t))) (sym same))
+    cond_twice (is_same_target c.target t) (kept_or_none blocks c.row) (kept_or_none blocks s.row) (row_of (rows_in blocks ss) t)
+    ∙ ap (λ (u : Target). cond (is_same_target c.target t) (kept_or_none blocks c.row) (cond (is_same_target u t) (kept_or_none blocks s.row) (row_of (rows_in blocks ss) t))) (sym same))
     (λ other.
     let later : HasSlot ss c.target = ⊎_elim (λ here. absurd (other here)) (λ there. there) has in
-    ap (cond (is_same_target s.target t) (kept_or_none lines s.row)) (row-with lines ss c t later)
-    ∙ cond_swap (is_same_target s.target t) (is_same_target c.target t) (kept_or_none lines s.row) (kept_or_none lines c.row) (row_of (rows_in lines ss) t)
+    ap (cond (is_same_target s.target t) (kept_or_none blocks s.row)) (row-with blocks ss c t later)
+    ∙ cond_swap (is_same_target s.target t) (is_same_target c.target t) (kept_or_none blocks s.row) (kept_or_none blocks c.row) (row_of (rows_in blocks ss) t)
     (λ one. λ two. other (same_target s.target t one ∙ sym (same_target c.target t two))))
 
 -- ---- many slots in place of others
@@ -182,19 +178,19 @@ pub HasSlot-withs : (slots cs : List Slot) (t : Target) → HasSlot slots t → 
 HasSlot-withs slots [] t has = has
 HasSlot-withs slots (c ∷ cs) t has = HasSlot-withs (with_slot slots c) cs t (HasSlot-with slots c t has)
 
-pub AreRowsIn-withs : (lines : List LogLine) (slots cs : List Slot) → AreRowsIn lines slots → AreRowsIn lines cs → AreRowsIn lines (with_slots slots cs)
-AreRowsIn-withs lines slots [] each are = each
-AreRowsIn-withs lines slots (c ∷ cs) each are = AreRowsIn-withs lines (with_slot slots c) cs (AreRowsIn-with lines slots c each are.0) are.1
+pub AreRowsIn-withs : (blocks : List (List (Option LogLine))) (slots cs : List Slot) → AreRowsIn blocks slots → AreRowsIn blocks cs → AreRowsIn blocks (with_slots slots cs)
+AreRowsIn-withs blocks slots [] each are = each
+AreRowsIn-withs blocks slots (c ∷ cs) each are = AreRowsIn-withs blocks (with_slot slots c) cs (AreRowsIn-with blocks slots c each are.0) are.1
 
 pub targets-withs : (slots cs : List Slot) → targets_in (with_slots slots cs) ≡ targets_in slots
 targets-withs slots [] = refl
 targets-withs slots (c ∷ cs) = targets-withs (with_slot slots c) cs ∙ targets-with slots c
 
-pub row-withs : (lines : List LogLine) (slots cs : List Slot) (t : Target) → HasSlots slots cs
-    → row_of (rows_in lines (with_slots slots cs)) t ≡ row_after (rows_in lines cs) t (row_of (rows_in lines slots) t)
-row-withs lines slots [] t have = refl
-row-withs lines slots (c ∷ cs) t have =
-    row-withs lines (with_slot slots c) cs t (HasSlots-with slots c cs have.1) ∙ ap (row_after (rows_in lines cs) t) (row-with lines slots c t have.0)
+pub row-withs : (blocks : List (List (Option LogLine))) (slots cs : List Slot) (t : Target) → HasSlots slots cs
+    → row_of (rows_in blocks (with_slots slots cs)) t ≡ row_after (rows_in blocks cs) t (row_of (rows_in blocks slots) t)
+row-withs blocks slots [] t have = refl
+row-withs blocks slots (c ∷ cs) t have =
+    row-withs blocks (with_slot slots c) cs t (HasSlots-with slots c cs have.1) ∙ ap (row_after (rows_in blocks cs) t) (row-with blocks slots c t have.0)
 
 pub have_at : (slots cs : List Slot) (k : ℕ) (c : Slot) → HasSlots slots cs → slice_get cs k ≡ Some c → HasSlot slots c.target
 have_at slots [] k c have at = cc
@@ -203,28 +199,28 @@ have_at slots (d ∷ ds) (suc k) c have at = have_at slots ds k c have.1 at
 
 -- ---- rows over more lines
 
-IsRowIn-stays : SpansStay → (old new : List LogLine) (row : Option Row) → Extends old new → IsRowIn old row → IsRowIn new row
-IsRowIn-stays stay old new None extends is = tt
-IsRowIn-stays stay old new (Some r) extends is = (stay old new r.span extends is).is_span
+IsRowIn-stays : (old new : List (List (Option LogLine))) (row : Option Row) → KeepsBlocks old new → IsRowIn old row → IsRowIn new row
+IsRowIn-stays old new None keeps is = tt
+IsRowIn-stays old new (Some r) keeps is = (omega (arith, is.0, keeps.0), (picked_stays (block_at old r.block) (block_at new r.block) r.places (keeps.1 r.block is.0) is.1).0)
 
-pub AreRowsIn-stay : SpansStay → (old new : List LogLine) (slots : List Slot) → Extends old new → AreRowsIn old slots → AreRowsIn new slots
-AreRowsIn-stay stay old new [] extends each = tt
-AreRowsIn-stay stay old new (s ∷ ss) extends each = (IsRowIn-stays stay old new s.row extends each.0, AreRowsIn-stay stay old new ss extends each.1)
+pub AreRowsIn-stay : (old new : List (List (Option LogLine))) (slots : List Slot) → KeepsBlocks old new → AreRowsIn old slots → AreRowsIn new slots
+AreRowsIn-stay old new [] keeps each = tt
+AreRowsIn-stay old new (s ∷ ss) keeps each = (IsRowIn-stays old new s.row keeps each.0, AreRowsIn-stay old new ss keeps each.1)
 
-row-stays : SpansStay → (old new : List LogLine) (row : Option Row) → Extends old new → IsRowIn old row → kept_or_none new row ≡ kept_or_none old row
-row-stays stay old new None extends is = refl
-row-stays stay old new (Some r) extends is = ap (λ (ls : List LogLine). Some (let j : Justification = record { support = r.support.items; shown = r.shown.value; lines = ls } in j)) (stay old new r.span extends is).same
+row-stays : (old new : List (List (Option LogLine))) (row : Option Row) → KeepsBlocks old new → IsRowIn old row → kept_or_none new row ≡ kept_or_none old row
+row-stays old new None keeps is = refl
+row-stays old new (Some r) keeps is = ap (λ (ls : List LogLine). Some (let j : Justification = record { support = r.support.items; shown = r.shown.value; lines = ls } in j)) (picked_stays (block_at old r.block) (block_at new r.block) r.places (keeps.1 r.block is.0) is.1).1
 
-pub rows_in-stay : SpansStay → (old new : List LogLine) (slots : List Slot) → Extends old new → AreRowsIn old slots → rows_in new slots ≡ rows_in old slots
-rows_in-stay stay old new [] extends each = refl
-rows_in-stay stay old new (s ∷ ss) extends each = rw (row-stays stay old new s.row extends each.0, rows_in-stay stay old new ss extends each.1) refl
+pub rows_in-stay : (old new : List (List (Option LogLine))) (slots : List Slot) → KeepsBlocks old new → AreRowsIn old slots → rows_in new slots ≡ rows_in old slots
+rows_in-stay old new [] keeps each = refl
+rows_in-stay old new (s ∷ ss) keeps each = rw (row-stays old new s.row keeps each.0, rows_in-stay old new ss keeps each.1) refl
 
--- one more row, whose lines were added behind the others
-pub put_row : SpansStay → (old new : List LogLine) (slots : List Slot) (s : Slot) → Extends old new → AreRowsIn old slots → IsRowIn new s.row
+-- one more row, whose lines were added to the blocks
+pub put_row : (old new : List (List (Option LogLine))) (slots : List Slot) (s : Slot) → KeepsBlocks old new → AreRowsIn old slots → IsRowIn new s.row
     → AreRowsIn new (slots ++ s ∷ []) × (rows_in new (slots ++ s ∷ []) ≡ rows_in old slots ++ record { target = s.target; row = kept_or_none new s.row } ∷ [])
-put_row stay old new slots s extends each is = (
-  AreRowsIn-push new slots s (AreRowsIn-stay stay old new slots extends each) is,
-  rows_in-push new slots s ∙ ap (λ (rs : List TargetRow). rs ++ record { target = s.target; row = kept_or_none new s.row } ∷ []) (rows_in-stay stay old new slots extends each),
+put_row old new slots s keeps each is = (
+  AreRowsIn-push new slots s (AreRowsIn-stay old new slots keeps each) is,
+  rows_in-push new slots s ∙ ap (λ (rs : List TargetRow). rs ++ record { target = s.target; row = kept_or_none new s.row } ∷ []) (rows_in-stay old new slots keeps each),
 )
 
 pub nothing_left : {X : Type 0} (xs : List X) → length xs ≡ 0 → xs ≡ []
@@ -232,10 +228,13 @@ nothing_left [] e = refl
 nothing_left (x ∷ xs) e = absurd (omega (arith, e))
 
 -- the row of a slot that stands
-pub row_in_at : (lines : List LogLine) (slots : List Slot) (k : ℕ) (s : Slot) → AreRowsIn lines slots → slice_get slots k ≡ Some s → IsRowIn lines s.row
-row_in_at lines [] k s each at = cc
-row_in_at lines (x ∷ xs) zero s each at = let same : x ≡ s = cc in subst (λ (y : Slot). IsRowIn lines y.row) same each.0
-row_in_at lines (x ∷ xs) (suc k) s each at = row_in_at lines xs k s each.1 at
+pub row_in_at : (blocks : List (List (Option LogLine))) (slots : List Slot) (k : ℕ) (s : Slot) → AreRowsIn blocks slots → slice_get slots k ≡ Some s → IsRowIn blocks s.row
+row_in_at blocks [] k s each at = cc
+row_in_at blocks (x ∷ xs) zero s each at = let same : x ≡ s = cc in subst (λ (y : Slot). IsRowIn blocks y.row) same each.0
+row_in_at blocks (x ∷ xs) (suc k) s each at = row_in_at blocks xs k s each.1 at
+
+pub row_there : (blocks : List (List (Option LogLine))) (slots : List Slot) (i : ℕ) (d : Slot) → AreRowsIn blocks slots → i < length slots → IsRowIn blocks (get_or slots i d).row
+row_there blocks slots i d are within = row_in_at blocks slots i (get_or slots i d) are (slice_get-get_or slots i d within)
 
 -- a slot that was read
 pub found_slot : (slots : List Slot) (k : ℕ) (s : Slot) (t : Target) → IsSlotOf slots t k → s ≡ get_or slots k s → (slice_get slots k ≡ Some s) × (s.target ≡ t)
@@ -243,24 +242,24 @@ found_slot slots k s t is read =
     let at : slice_get slots k ≡ Some s = slice_get-get_or slots k s (within_slots slots k t is) ∙ ap Some (sym read) in
     (at, target_at slots k s t at is)
 
-pub to_target : (lines : List LogLine) (slots : List Slot) (t : Target) → HasSlot slots t → HasRowOf (rows_in lines slots) t
-to_target lines [] t has = absurd has
-to_target lines (x ∷ xs) t (inl same) = inl same
-to_target lines (x ∷ xs) t (inr later) = inr (to_target lines xs t later)
+pub to_target : (blocks : List (List (Option LogLine))) (slots : List Slot) (t : Target) → HasSlot slots t → HasRowOf (rows_in blocks slots) t
+to_target blocks [] t has = absurd has
+to_target blocks (x ∷ xs) t (inl same) = inl same
+to_target blocks (x ∷ xs) t (inr later) = inr (to_target blocks xs t later)
 
 -- ---- changes
 
-have_slots : (old new : List LogLine) (slots cs : List Slot) → HaveTargets (rows_in old slots) (rows_in new cs) → HasSlots slots cs
+have_slots : (old new : List (List (Option LogLine))) (slots cs : List Slot) → HaveTargets (rows_in old slots) (rows_in new cs) → HasSlots slots cs
 have_slots old new slots [] have = tt
 have_slots old new slots (c ∷ cs) have = (has_target old slots c.target have.0, have_slots old new slots cs have.1)
 
-pub have_slots_by : (old new : List LogLine) (slots cs : List Slot) (rows patch : List TargetRow) → rows_in old slots ≡ rows → rows_in new cs ≡ patch → HaveTargets rows patch → HasSlots slots cs
+pub have_slots_by : (old new : List (List (Option LogLine))) (slots cs : List Slot) (rows patch : List TargetRow) → rows_in old slots ≡ rows → rows_in new cs ≡ patch → HaveTargets rows patch → HasSlots slots cs
 have_slots_by old new slots cs rows patch rows_are patch_is have =
     have_slots old new slots cs (subst (λ (p : List TargetRow). HaveTargets (rows_in old slots) p) (sym patch_is) (subst (λ (r : List TargetRow). HaveTargets r patch) (sym rows_are) have))
 
-pub targets_are : (lines : List LogLine) (slots : List Slot) → map target_of (rows_in lines slots) ≡ targets_in slots
-targets_are lines [] = refl
-targets_are lines (s ∷ ss) = ap (λ (ts : List Target). s.target ∷ ts) (targets_are lines ss)
+pub targets_are : (blocks : List (List (Option LogLine))) (slots : List Slot) → map target_of (rows_in blocks slots) ≡ targets_in slots
+targets_are blocks [] = refl
+targets_are blocks (s ∷ ss) = ap (λ (ts : List Target). s.target ∷ ts) (targets_are blocks ss)
 
 length_targets : (slots : List Slot) → length (targets_in slots) ≡ length slots
 length_targets [] = refl
@@ -269,132 +268,69 @@ length_targets (s ∷ ss) = ap suc (length_targets ss)
 length-withs : (slots cs : List Slot) → length (with_slots slots cs) ≡ length slots
 length-withs slots cs = sym (length_targets (with_slots slots cs)) ∙ ap length (targets-withs slots cs) ∙ length_targets slots
 
-pub kept_after : SpansStay → (old new : List LogLine) (starts : List ℕ) (slots cs after : List Slot) → IsKept old starts slots → Extends old new → AreRowsIn new cs → after ≡ with_slots slots cs → IsKept new starts after
-kept_after stay old new starts slots cs after kept extends are put = record {
+pub kept_after : (old new : List (List (Option LogLine))) (starts : List ℕ) (slots cs after : List Slot) → IsKept old starts slots → KeepsBlocks old new → AreRowsIn new cs → after ≡ with_slots slots cs → IsKept new starts after
+kept_after old new starts slots cs after kept keeps are put = record {
   small = kept.small;
   placed = rw put (ArePlaced-withs starts 0 slots cs kept.placed);
-  rows = rw put (AreRowsIn-withs new slots cs (AreRowsIn-stay stay old new slots extends kept.rows) are);
+  rows = rw put (AreRowsIn-withs new slots cs (AreRowsIn-stay old new slots keeps kept.rows) are);
   few = omega (arith, kept.few, ap length put, length-withs slots cs);
 }
 
-pub rows_after : SpansStay → (old new : List LogLine) (starts : List ℕ) (slots cs after : List Slot) (rows patch : List TargetRow) → IsKept old starts slots → Extends old new → after ≡ with_slots slots cs
+pub rows_after : (old new : List (List (Option LogLine))) (starts : List ℕ) (slots cs after : List Slot) (rows patch : List TargetRow) → IsKept old starts slots → KeepsBlocks old new → after ≡ with_slots slots cs
     → rows_in old slots ≡ rows → rows_in new cs ≡ patch → HaveTargets rows patch → (t : Target) → row_of (rows_in new after) t ≡ row_after patch t (row_of rows t)
-rows_after stay old new starts slots cs after rows patch kept extends put rows_are patch_is have t =
+rows_after old new starts slots cs after rows patch kept keeps put rows_are patch_is have t =
     ap (λ (ss : List Slot). row_of (rows_in new ss) t) put
     ∙ row-withs new slots cs t (have_slots_by old new slots cs rows patch rows_are patch_is have)
     ∙ ap (λ (p : List TargetRow). row_after p t (row_of (rows_in new slots) t)) patch_is
-    ∙ ap (λ (rs : List TargetRow). row_after patch t (row_of rs t)) (rows_in-stay stay old new slots extends kept.rows ∙ rows_are)
+    ∙ ap (λ (rs : List TargetRow). row_after patch t (row_of rs t)) (rows_in-stay old new slots keeps kept.rows ∙ rows_are)
 
-pub targets_after : (old new : List LogLine) (slots cs after : List Slot) (rows : List TargetRow) → after ≡ with_slots slots cs → rows_in old slots ≡ rows → map target_of (rows_in new after) ≡ map target_of rows
+pub targets_after : (old new : List (List (Option LogLine))) (slots cs after : List Slot) (rows : List TargetRow) → after ≡ with_slots slots cs → rows_in old slots ≡ rows → map target_of (rows_in new after) ≡ map target_of rows
 targets_after old new slots cs after rows put rows_are =
     targets_are new after ∙ ap targets_in put ∙ targets-withs slots cs ∙ sym (targets_are old slots) ∙ ap (map target_of) rows_are
 
--- ---- rows that move to another log
+-- ---- bytes of rows
 
-pub bytes_of_rows-push : (lines : List LogLine) (slots : List Slot) (s : Slot) → bytes_of_rows (rows_in lines (slots ++ s ∷ [])) ≡ bytes_of_rows (rows_in lines slots) + row_bytes (kept_or_none lines s.row)
-bytes_of_rows-push lines [] s = omega arith
-bytes_of_rows-push lines (x ∷ xs) s = omega (arith, bytes_of_rows-push lines xs s)
-
-pub record Moved (from start into : List LogLine) (old slots : List Slot) (i : ℕ) : Type 0 where
-  pub extends : Extends start into
-  pub are : AreRowsIn into (take i slots)
-  pub same : rows_in into (take i slots) ≡ rows_in from (take i old)
-  pub rest : drop i slots ≡ drop i old
-  pub bytes : bytes_of into ≡ bytes_of start + bytes_of_rows (rows_in from (take i old))
-
-AreRowsIn-take : (lines : List LogLine) (slots : List Slot) (k : ℕ) (s : Slot) → AreRowsIn lines slots → k < length slots → IsRowIn lines (get_or slots k s).row
-AreRowsIn-take lines slots k s each within = row_in_at lines slots k (get_or slots k s) each (slice_get-get_or slots k s within)
-
--- the slot that comes next is still the old one
-next_is_old : (old slots : List Slot) (i : ℕ) (d : Slot) → drop i slots ≡ drop i old → get_or slots i d ≡ get_or old i d
-next_is_old old slots i d rest =
-    let zero_at : (xs : List Slot) → get_or (drop i xs) 0 d ≡ get_or xs i d = λ xs. get_or-drop i xs 0 d ∙ ap (λ n. get_or xs n d) (let e : i + 0 ≡ i = omega arith in e) in
-    sym (zero_at slots) ∙ ap (λ (xs : List Slot). get_or xs 0 d) rest ∙ zero_at old
-
-pub next_row : (from start into : List LogLine) (old slots : List Slot) (i : ℕ) (d : Slot) → Moved from start into old slots i → AreRowsIn from old → i < length old → IsRowIn from (get_or slots i d).row
-next_row from start into old slots i d state each within =
-    subst (λ (s : Slot). IsRowIn from s.row) (sym (next_is_old old slots i d state.rest)) (AreRowsIn-take from old i d each within)
-
-extends_more : (a b c : List LogLine) → Extends a b → Extends b c → Extends a c
-extends_more a b c one two =
-    let shorter : length a ≤ length b = omega (arith, ap length one, length-take (length a) b) in
-    sym (take-take (length a) (length b) c shorter) ∙ ap (take (length a)) two ∙ one
-
-pub moved_more : SpansStay → (from start into after : List LogLine) (old slots : List Slot) (i : ℕ) (d s : Slot) → Moved from start into old slots i → i < length slots → i < length old → Extends into after
-    → s.target ≡ (get_or slots i d).target → IsRowIn after s.row → kept_or_none after s.row ≡ kept_or_none from (get_or slots i d).row
-    → bytes_of after ≡ bytes_of into + row_bytes (kept_or_none from (get_or slots i d).row) → Moved from start after old (set slots i s) (i + 1)
-moved_more stay from start into after old slots i d s state within within_old extends target is same grown =
-    let more = put_row stay into after (take i slots) s extends state.are is in
-    let taken = take_more_set slots i s within in
-    let next = next_is_old old slots i d state.rest in
-    record {
-      extends = extends_more start into after state.extends extends;
-      are = rw taken more.0;
-      same = ap (rows_in after) taken ∙ more.1
-          ∙ ap (λ (rs : List TargetRow). rs ++ record { target = s.target; row = kept_or_none after s.row } ∷ []) state.same
-          ∙ ap (λ (r : TargetRow). rows_in from (take i old) ++ r ∷ []) (row_eq s.target (get_or slots i d).target (kept_or_none after s.row) (kept_or_none from (get_or slots i d).row) target same)
-          ∙ ap (λ (x : Slot). rows_in from (take i old) ++ record { target = x.target; row = kept_or_none from x.row } ∷ []) next
-          ∙ sym (ap (rows_in from) (take_more old i d within_old) ∙ rows_in-push from (take i old) (get_or old i d));
-      rest = drop-set-lt (i + 1) slots i s (omega arith) ∙ drop_more_same slots old i state.rest;
-      bytes = omega (
-        arith,
-        grown,
-        state.bytes,
-        ap (λ (x : Slot). row_bytes (kept_or_none from x.row)) next,
-        ap (λ (xs : List Slot). bytes_of_rows (rows_in from xs)) (take_more old i d within_old),
-        bytes_of_rows-push from (take i old) (get_or old i d),
-      );
-    }
-  where
-    row_eq : (t u : Target) (a b : Option Justification) → t ≡ u → a ≡ b → (let r : TargetRow = record { target = t; row = a } in r) ≡ record { target = u; row = b }
-    row_eq t u a b e f = rw (e, f) refl
-
-pub moved_all : (from start into : List LogLine) (old slots : List Slot) (i : ℕ) → Moved from start into old slots i → length slots ≤ i → length old ≤ i
-    → Extends start into × AreRowsIn into slots × (rows_in into slots ≡ rows_in from old) × (bytes_of into ≡ bytes_of start + bytes_of_rows (rows_in from old))
-moved_all from start into old slots i state all all_old = (
-  state.extends,
-  subst (AreRowsIn into) (take_all i slots all) state.are,
-  sym (ap (rows_in into) (take_all i slots all)) ∙ state.same ∙ ap (rows_in from) (take_all i old all_old),
-  state.bytes ∙ ap (λ (xs : List Slot). bytes_of start + bytes_of_rows (rows_in from xs)) (take_all i old all_old),
-)
+pub bytes_of_rows-push : (blocks : List (List (Option LogLine))) (slots : List Slot) (s : Slot) → bytes_of_rows (rows_in blocks (slots ++ s ∷ [])) ≡ bytes_of_rows (rows_in blocks slots) + row_bytes (kept_or_none blocks s.row)
+bytes_of_rows-push blocks [] s = omega arith
+bytes_of_rows-push blocks (x ∷ xs) s = omega (arith, bytes_of_rows-push blocks xs s)
 
 -- ---- which are still to be searched
 
-missing_row : (lines : List LogLine) (row : Option Row) → is_nothing (kept_or_none lines row) ≡ is_no_row row
-missing_row lines None = refl
-missing_row lines (Some r) = refl
+missing_row : (blocks : List (List (Option LogLine))) (row : Option Row) → is_nothing (kept_or_none blocks row) ≡ is_no_row row
+missing_row blocks None = refl
+missing_row blocks (Some r) = refl
 
-over_row : (lines : List LogLine) (e : Entry) (row : Option Row) → is_used_in e (kept_or_none lines row) ≡ is_row_over e row
-over_row lines e None = refl
-over_row lines e (Some r) = refl
+over_row : (blocks : List (List (Option LogLine))) (e : Entry) (row : Option Row) → is_used_in e (kept_or_none blocks row) ≡ is_row_over e row
+over_row blocks e None = refl
+over_row blocks e (Some r) = refl
 
 -- the slots whose rows pass a test are of the targets whose rows do
-told_slots : (lines : List LogLine) (all : List TargetRow) (p : Option Justification → Bool) (q : Slot → Bool) (slots : List Slot)
-    → ((k : ℕ) (s : Slot) → slice_get slots k ≡ Some s → row_of all s.target ≡ kept_or_none lines s.row) → ((s : Slot) → p (kept_or_none lines s.row) ≡ q s)
-    → map slot_target (filter q slots) ≡ filter (λ t. p (row_of all t)) (map target_of (rows_in lines slots))
-told_slots lines all p q [] told same = refl
-told_slots lines all p q (s ∷ ss) told same =
-    let rest = told_slots lines all p q ss (λ k x at. told (suc k) x at) same in
+told_slots : (blocks : List (List (Option LogLine))) (all : List TargetRow) (p : Option Justification → Bool) (q : Slot → Bool) (slots : List Slot)
+    → ((k : ℕ) (s : Slot) → slice_get slots k ≡ Some s → row_of all s.target ≡ kept_or_none blocks s.row) → ((s : Slot) → p (kept_or_none blocks s.row) ≡ q s)
+    → map slot_target (filter q slots) ≡ filter (λ t. p (row_of all t)) (map target_of (rows_in blocks slots))
+told_slots blocks all p q [] told same = refl
+told_slots blocks all p q (s ∷ ss) told same =
+    let rest = told_slots blocks all p q ss (λ k x at. told (suc k) x at) same in
     let test : (t : Target) → Bool = λ t. p (row_of all t) in
     rw (told zero s refl, same s)
-    (elim (q s) as (λ b. map slot_target (cond b (s ∷ filter q ss) (filter q ss)) ≡ cond b (s.target ∷ filter test (map target_of (rows_in lines ss))) (filter test (map target_of (rows_in lines ss)))) [
+    (elim (q s) as (λ b. map slot_target (cond b (s ∷ filter q ss) (filter q ss)) ≡ cond b (s.target ∷ filter test (map target_of (rows_in blocks ss))) (filter test (map target_of (rows_in blocks ss)))) [
       | true ↦ ap (λ (ts : List Target). s.target ∷ ts) rest
       | false ↦ rest
     ])
 
-told : (lines : List LogLine) (starts : List ℕ) (slots : List Slot) → ArePlaced starts 0 slots → (k : ℕ) (s : Slot) → slice_get slots k ≡ Some s → row_of (rows_in lines slots) s.target ≡ kept_or_none lines s.row
-told lines starts slots placed k s at = row_at lines starts 0 slots k s s.target placed at refl
+told : (blocks : List (List (Option LogLine))) (starts : List ℕ) (slots : List Slot) → ArePlaced starts 0 slots → (k : ℕ) (s : Slot) → slice_get slots k ≡ Some s → row_of (rows_in blocks slots) s.target ≡ kept_or_none blocks s.row
+told blocks starts slots placed k s at = row_at blocks starts 0 slots k s s.target placed at refl
 
-pub missing_are : (lines : List LogLine) (starts : List ℕ) (slots : List Slot) (rows : List TargetRow) → ArePlaced starts 0 slots → rows_in lines slots ≡ rows
+pub missing_are : (blocks : List (List (Option LogLine))) (starts : List ℕ) (slots : List Slot) (rows : List TargetRow) → ArePlaced starts 0 slots → rows_in blocks slots ≡ rows
     → map slot_target (filter slot_is_missing slots) ≡ filter (lacks_row rows) (map target_of rows)
-missing_are lines starts slots rows placed are =
-    told_slots lines (rows_in lines slots) is_nothing slot_is_missing slots (told lines starts slots placed) (λ s. missing_row lines s.row)
+missing_are blocks starts slots rows placed are =
+    told_slots blocks (rows_in blocks slots) is_nothing slot_is_missing slots (told blocks starts slots placed) (λ s. missing_row blocks s.row)
     ∙ ap (λ (rs : List TargetRow). filter (lacks_row rs) (map target_of rs)) are
 
-pub resting_are : (lines : List LogLine) (starts : List ℕ) (e : Entry) (slots : List Slot) (rows : List TargetRow) → ArePlaced starts 0 slots → rows_in lines slots ≡ rows
+pub resting_are : (blocks : List (List (Option LogLine))) (starts : List ℕ) (e : Entry) (slots : List Slot) (rows : List TargetRow) → ArePlaced starts 0 slots → rows_in blocks slots ≡ rows
     → map slot_target (filter (slot_rests_on e) slots) ≡ filter (uses_entry e rows) (map target_of rows)
-resting_are lines starts e slots rows placed are =
-    told_slots lines (rows_in lines slots) (is_used_in e) (slot_rests_on e) slots (told lines starts slots placed) (λ s. over_row lines e s.row)
+resting_are blocks starts e slots rows placed are =
+    told_slots blocks (rows_in blocks slots) (is_used_in e) (slot_rests_on e) slots (told blocks starts slots placed) (λ s. over_row blocks e s.row)
     ∙ ap (λ (rs : List TargetRow). filter (uses_entry e rs) (map target_of rs)) are
 
 -- ---- whether an entry is in some support
@@ -422,35 +358,35 @@ used_row : (e : Entry) (row : Option Justification) → is_used_in e row ≡ tru
 used_row e None is none = false≢true is
 used_row e (Some j) is none = cc
 
-pub used_somewhere : (lines : List LogLine) (starts : List ℕ) (e : Entry) (slots : List Slot) (rows : List TargetRow) → ArePlaced starts 0 slots → rows_in lines slots ≡ rows
+pub used_somewhere : (blocks : List (List (Option LogLine))) (starts : List ℕ) (e : Entry) (slots : List Slot) (rows : List TargetRow) → ArePlaced starts 0 slots → rows_in blocks slots ≡ rows
     → list_any (slot_rests_on e) slots ≡ true → (t : Target) × (uses_entry e rows t ≡ true)
-used_somewhere lines starts e slots rows placed are is =
+used_somewhere blocks starts e slots rows placed are is =
     let found = any_at (slot_rests_on e) slots is in
     let s : Slot = found.1 in
-    (s.target, ap (λ (rs : List TargetRow). is_used_in e (row_of rs s.target)) (sym are) ∙ ap (is_used_in e) (told lines starts slots placed found.0 s found.2) ∙ over_row lines e s.row ∙ found.3)
+    (s.target, ap (λ (rs : List TargetRow). is_used_in e (row_of rs s.target)) (sym are) ∙ ap (is_used_in e) (told blocks starts slots placed found.0 s found.2) ∙ over_row blocks e s.row ∙ found.3)
 
 slot_read : (slots : List Slot) (k : ℕ) (t : Target) → IsSlotOf slots t k → (s : Slot) × (slice_get slots k ≡ Some s)
 slot_read [] k t is = absurd is
 slot_read (s ∷ ss) zero t is = (s, refl)
 slot_read (s ∷ ss) (suc k) t is = slot_read ss k t is
 
-pub used_by : (lines : List LogLine) (starts : List ℕ) (e : Entry) (slots : List Slot) (rows : List TargetRow) (t : Target) → ArePlaced starts 0 slots → rows_in lines slots ≡ rows
+pub used_by : (blocks : List (List (Option LogLine))) (starts : List ℕ) (e : Entry) (slots : List Slot) (rows : List TargetRow) (t : Target) → ArePlaced starts 0 slots → rows_in blocks slots ≡ rows
     → uses_entry e rows t ≡ true → list_any (slot_rests_on e) slots ≡ true
-used_by lines starts e slots rows t placed are used =
-    let here : is_used_in e (row_of (rows_in lines slots) t) ≡ true = ap (λ (rs : List TargetRow). is_used_in e (row_of rs t)) are ∙ used in
+used_by blocks starts e slots rows t placed are used =
+    let here : is_used_in e (row_of (rows_in blocks slots) t) ≡ true = ap (λ (rs : List TargetRow). is_used_in e (row_of rs t)) are ∙ used in
     let by_slot : HasSlot slots t → list_any (slot_rests_on e) slots ≡ true = λ has.
     let stands = slot_stands starts 0 slots t placed has in
     let read = slot_read slots stands.0 t stands.2 in
-    let row = row_at lines starts 0 slots stands.0 read.0 t placed read.1 (target_at slots stands.0 read.0 t read.1 stands.2) in
-    any_by (slot_rests_on e) slots stands.0 read.0 read.1 (sym (over_row lines e read.0.row) ∙ ap (is_used_in e) (sym row) ∙ here) in
-    true_from_ne_false (list_any (slot_rests_on e) slots) (λ none. used_row e (row_of (rows_in lines slots) t) here (no_row lines slots t (λ has. false≢true (sym none ∙ by_slot has))))
+    let row = row_at blocks starts 0 slots stands.0 read.0 t placed read.1 (target_at slots stands.0 read.0 t read.1 stands.2) in
+    any_by (slot_rests_on e) slots stands.0 read.0 read.1 (sym (over_row blocks e read.0.row) ∙ ap (is_used_in e) (sym row) ∙ here) in
+    true_from_ne_false (list_any (slot_rests_on e) slots) (λ none. used_row e (row_of (rows_in blocks slots) t) here (no_row blocks slots t (λ has. false≢true (sym none ∙ by_slot has))))
 
-all_slots : (lines : List LogLine) (slots : List Slot) → map slot_target slots ≡ map target_of (rows_in lines slots)
-all_slots lines [] = refl
-all_slots lines (s ∷ ss) = ap (λ (ts : List Target). s.target ∷ ts) (all_slots lines ss)
+all_slots : (blocks : List (List (Option LogLine))) (slots : List Slot) → map slot_target slots ≡ map target_of (rows_in blocks slots)
+all_slots blocks [] = refl
+all_slots blocks (s ∷ ss) = ap (λ (ts : List Target). s.target ∷ ts) (all_slots blocks ss)
 
-pub all_are : (lines : List LogLine) (slots : List Slot) (rows : List TargetRow) → rows_in lines slots ≡ rows → map slot_target slots ≡ map target_of rows
-all_are lines slots rows are = all_slots lines slots ∙ ap (map target_of) are
+pub all_are : (blocks : List (List (Option LogLine))) (slots : List Slot) (rows : List TargetRow) → rows_in blocks slots ≡ rows → map slot_target slots ≡ map target_of rows
+all_are blocks slots rows are = all_slots blocks slots ∙ ap (map target_of) are
 
 filter_push : (p : Slot → Bool) (xs : List Slot) (s : Slot) → map slot_target (filter p (xs ++ s ∷ [])) ≡ map slot_target (filter p xs) ++ cond (p s) (s.target ∷ []) []
 filter_push p [] s = elim (p s) as (λ b. map slot_target (cond b (s ∷ []) []) ≡ cond b (s.target ∷ []) []) [ true ↦ refl | false ↦ refl ]

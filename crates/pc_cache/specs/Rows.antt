@@ -77,10 +77,12 @@ abbrev pub HaveTargets : List TargetRow → List TargetRow → Type 0
 HaveTargets rows [] = Unit {0}
 HaveTargets rows (c ∷ cs) = HasRowOf rows c.target × HaveTargets rows cs
 
--- the rows of all targets of a book, and the bytes that the lines count for in which the derivations are kept
+-- the rows of all targets of a book, the bytes that the lines count for in which the derivations are kept, and those of the lines on
+-- which no row rests
 pub record Cached : Type 0 where
   pub rows : List TargetRow
   pub bytes : ℕ
+  pub spare : ℕ
 
 -- ---- how many bytes rows count for
 

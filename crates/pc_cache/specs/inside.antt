@@ -3,4 +3,6 @@ pub mod Patched
 pub mod Places
 pub mod Slots
 pub mod Cached
-pub mod Spans
+pub mod Moved
+pub mod Spare
+pub mod Rested

@@ -1,10 +1,10 @@
 //! The rows of all targets of a book.
 //!
 //! Each target has its place in one vector: the places of a cell lie together, two for each of its values, so that a target
-//! is found without a search. The derivations of all rows lie in one log, each in a span of its own. A row that is replaced
-//! leaves its lines behind, until the log is compacted.
+//! is found without a search. The lines of all rows lie in blocks: rows of one search share one, in which each line stands once.
+//! A row that is replaced leaves its lines behind, until they are compacted.
 
-ghost use Rattle.std.specs.Prelude.{◌≡◌, ◌+◌, ◌↔◌, IfOk, IfSome, IsTrue, OnErr, OnOk, filter, option_map, true};
+ghost use Rattle.std.specs.Prelude.{◌≡◌, ◌+◌, ◌≤◌, ◌↔◌, IfOk, IfSome, IsTrue, OnErr, OnOk, filter, option_map, true};
 ghost use Rattle.pc_sheet.specs.Entailment.{cell_sizes};
 ghost use Rattle.pc_sheet.specs.declared.ids.Target.{Target};
 ghost use Rattle.pc_reason.specs.Reasons.{justification_of};
@@ -14,26 +14,32 @@ ghost use Rattle.pc_cache.specs.Targets.{targets};
 ghost use Rattle.pc_cache.specs.Lent.{IsLentFor};
 ghost use Rattle.pc_cache.specs.inside.Kept.{kept_or_none, IsRowIn};
 
+use crate::blocks::{blocks_bytes, rested, rows_bytes};
 use crate::listing::{add_slots, all_targets, is_used, targets_resting_on, targets_without_row};
-use crate::moving::take_rows;
+use crate::moving::{free_places, take_blocks};
 use crate::patch::Patch;
 use crate::row::{Row, Slot};
 use crate::slots::{find, put_slots};
-use crate::spans::{rows_bytes, set_spans, spans_of};
 use pc_axiom_names::Names;
-use pc_log::Log;
-use pc_log::laws::spans_stay;
+use pc_log::{Derivation, SparseLog};
 use pc_logic::{Assignment, Book};
-use pc_reason::{Proof, Reason};
+use pc_reason::Reason;
 use pc_sheet::{CellId, Entry, Target};
 use std::alloc::{AllocError, Global};
+use std::cmp::min;
 use std::marker::Model;
 
-/// Of each target of a book why it is implied, or nothing. It is seen as the list of these rows, with the bytes that the
-/// log counts for in which all derivations lie.
+/// Of each target of a book why it is implied, or nothing. It is seen as the list of these rows, with the bytes that the lines
+/// count for in which all derivations lie.
 #[derive(Drop)]
 pub struct Cache {
-    log: Log,
+    blocks: Vec<SparseLog>,
+    // How many bytes their lines count for.
+    bytes: u128,
+    // The same after the first rows were put, or after the last compaction.
+    live: u128,
+    // Places of blocks that had no line after the last compaction, where others may be put.
+    free: Vec<usize>,
     // Where the slots of each cell begin.
     starts: Vec<usize>,
     // Of each cell, of each of its values, that the cell has it and that the cell lacks it.
@@ -45,11 +51,14 @@ impl Model for Cache {
 
     ghost Value = { Cached };
 
+    ghost use Rattle.std.specs.Prelude.{◌≡◌};
     ghost use Rattle.pc_cache.specs.inside.Cached.{cached_in, IsKept};
+    ghost use Rattle.pc_cache.specs.inside.Kept.{bytes_of_blocks};
 
-    ghost view = { λ c. cached_in c.log c.slots.items };
+    ghost view = { λ c. cached_in c.blocks.items c.slots.items };
 
-    ghost invariant = { λ c. IsKept c.log c.starts.items c.slots.items };
+    ghost invariant = { λ c. (c.bytes ≡ bytes_of_blocks c.blocks.items) ×
+        IsKept c.blocks.items c.starts.items c.slots.items };
 }
 
 impl Cache {
@@ -71,7 +80,10 @@ impl Cache {
             add_slots(cell, book.values_of(cell), &mut slots)?;
         }
         Ok(Cache {
-            log: Log::new(alloc),
+            blocks: Vec::new(alloc),
+            bytes: 0,
+            live: 0,
+            free: Vec::new(alloc),
             starts,
             slots,
         })
@@ -84,7 +96,7 @@ impl Cache {
     {
         match find(&self.starts, &self.slots, target) {
             None => None,
-            Some(place) => lent(&self.log, names, &self.slots[place]),
+            Some(place) => lent(&self.blocks, names, &self.slots[place]),
         }
     }
 
@@ -125,55 +137,74 @@ impl Cache {
         ensures rows { OnOk result ((t : Target) →
             row_of self.new.rows t ≡ row_after patch t (row_of self.old.rows t)) }
         ensures targets { targets_of self.new.rows ≡ targets_of self.old.rows }
-        ensures bytes { OnOk result (self.new.bytes ≡ self.old.bytes + bytes_of_rows patch) }
+        ensures bytes { OnOk result (self.new.bytes ≤ self.old.bytes + bytes_of_rows patch) }
         ensures err { OnErr result (self.new ≡ self.old) }
     {
-        spans_stay();
-        let alloc = *self.slots.allocator();
-        let from = patch.log;
-        let mut changes = patch.slots;
-        let before = self.log.len();
-        if let Err(error) = take_rows(alloc, from, &mut changes, &mut self.log) {
-            self.log.truncate(before);
-            return Err(error);
+        if !patch.whole {
+            return Err(AllocError);
         }
+        let bytes = total_of(self.bytes, blocks_bytes(&patch.blocks))?;
+        let first = self.blocks.len() == 0;
+        let mut changes = patch.slots;
+        take_blocks(patch.blocks, &mut changes, &mut self.free, &mut self.blocks)?;
+        self.bytes = bytes;
+        self.live = live_after(first, self.live, bytes);
         put_slots(&self.starts, &mut self.slots, changes);
         Ok(())
     }
 
-    /// Keeps the lines of the rows' derivations alone: each row stays as it is, line for line, and the log has no line outside
-    /// of the rows. Without memory all stays as it is.
+    /// Keeps the lines on which rows rest alone: each row stays as it is, line for line. Without memory all stays as it is.
     pub fn compact(&mut self) -> Result<(), AllocError>
         ensures rows { self.new.rows ≡ self.old.rows }
-        ensures bytes { OnOk result (self.new.bytes ≡ bytes_of_rows self.old.rows) }
+        ensures bytes { OnOk result (self.new.bytes ≤ bytes_of_rows self.old.rows) }
+        ensures less { OnOk result (self.new.bytes ≤ self.old.bytes) }
+        ensures spare { OnOk result (self.new.spare ≡ 0) }
         ensures err { OnErr result (self.new ≡ self.old) }
     {
         let alloc = *self.slots.allocator();
-        let mut spans = spans_of(alloc, &self.slots)?;
-        self.log.compact(&mut spans)?;
-        set_spans(&mut self.slots, &spans);
+        let kept = rested(alloc, &self.blocks, &self.slots)?;
+        let free = free_places(alloc, &kept)?;
+        self.bytes = blocks_bytes(&kept);
+        self.live = self.bytes;
+        self.blocks = kept;
+        self.free = free;
         Ok(())
     }
 
-    /// How many bytes the lines of the log count for: 16 each, and 4 for each literal and 8 for each hint. It takes no memory.
+    /// How many bytes the kept lines count for: 16 each, and 4 for each literal and 8 for each hint. It takes no memory.
     pub fn arena_bytes(&self) -> u128
         ensures { result ≡ self.now.bytes }
     {
-        self.log.bytes()
+        self.bytes
     }
 
-    /// How many bytes the lines of the rows alone count for. It takes no memory.
+    /// How many bytes the lines of the rows alone may count for: at most those of each row counted by itself. It takes no memory.
     pub fn live_bytes(&self) -> u128
-        ensures { result ≡ bytes_of_rows self.now.rows }
+        ensures { result ≤ bytes_of_rows self.now.rows }
     {
-        rows_bytes(&self.log, &self.slots)
+        min(self.live, rows_bytes(&self.slots))
+    }
+}
+
+// After the first rows, how many bytes the lines count for.
+fn live_after(first: bool, live: u128, bytes: u128) -> u128 {
+    if first { bytes } else { live }
+}
+
+// The sum. Past the largest number the answer is want of memory.
+fn total_of(bytes: u128, more: u128) -> Result<u128, AllocError>
+    ensures { IfOk result (λ total. total ≡ bytes + more) }
+{
+    match bytes.checked_add(more) {
+        None => Err(AllocError),
+        Some(total) => Ok(total),
     }
 }
 
 // The row of a slot, if there is one.
-fn lent<'a>(log: &'a Log, names: &'a Names, slot: &'a Slot) -> Option<Reason<'a>>
-    requires { IsRowIn log.now slot.now.row }
-    ensures row { option_map justification_of result ≡ kept_or_none log.now slot.now.row }
+fn lent<'a>(blocks: &'a [SparseLog], names: &'a Names, slot: &'a Slot) -> Option<Reason<'a>>
+    requires { IsRowIn blocks.now slot.now.row }
+    ensures row { option_map justification_of result ≡ kept_or_none blocks.now slot.now.row }
     ensures lent { IfSome result (IsLentFor names.now slot.now.target) }
 {
     match &slot.row {
@@ -182,10 +213,10 @@ fn lent<'a>(log: &'a Log, names: &'a Names, slot: &'a Slot) -> Option<Reason<'a>
             target: slot.target,
             support: &row.support,
             shown: row.shown.as_ref(),
-            proof: Proof {
-                log,
-                names,
-                span: row.span,
+            names,
+            proof: Derivation {
+                lines: &blocks[row.block],
+                places: &row.places,
             },
         }),
     }

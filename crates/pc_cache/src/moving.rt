@@ -1,76 +1,143 @@
-//! Rows whose derivations move to another log.
-ghost use Rattle.std.specs.Prelude.{◌≡◌, ◌+◌, OnOk};
-ghost use Rattle.pc_log.specs.Sizes.{bytes_of};
-ghost use Rattle.pc_cache.specs.Rows.{bytes_of_rows, row_bytes};
-ghost use Rattle.pc_log.specs.Spans.{Extends};
-ghost use Rattle.pc_cache.specs.inside.Kept.{kept_or_none, rows_in, targets_in, AreRowsIn, IsRowIn};
+//! Blocks that move among others, and the rows with them.
+
+ghost use Rattle.std.specs.Prelude.{◌≡◌, ◌+◌, ◌<◌, [], IfOk, IfSome, IsTrue, OnErr, OnOk, length, set};
+ghost use Rattle.pc_cache.specs.inside.Kept.{block_at, bytes_of_blocks, rows_in, AreRowsIn, KeepsBlocks};
+ghost use Rattle.pc_cache.specs.inside.Moved.{moved_row, moved_rows};
 
 use crate::row::{Row, Slot};
-use pc_log::laws::spans_stay;
-use pc_log::{Log, append_span};
+use pc_log::SparseLog;
 use std::alloc::{AllocError, Global};
 
-/// Appends the derivations of all rows to another log, whose rows they become. Where memory runs out, some of them may have
-/// been appended, and the rows are of no use.
-pub(crate) fn move_rows(
-    alloc: Global,
-    from: &Log,
+/// Puts blocks among others, and the rows with them: a block alone where no line stands, if there is such a place among those that
+/// are named as free, and others behind the last. Without memory the others stay as they are.
+pub(crate) fn take_blocks(
+    from: Vec<SparseLog>,
     slots: &mut [Slot],
-    into: &mut Log,
+    free: &mut Vec<usize>,
+    into: &mut Vec<SparseLog>,
 ) -> Result<(), AllocError>
-    requires { AreRowsIn from.now slots.old }
-    ensures extends { Extends into.old into.new }
-    ensures are { OnOk result (AreRowsIn into.new slots.new) }
-    ensures same { OnOk result (rows_in into.new slots.new ≡ rows_in from.now slots.old) }
-    ensures bytes { OnOk result (bytes_of into.new ≡ bytes_of into.old +
-        bytes_of_rows (rows_in from.now slots.old)) }
+    requires { AreRowsIn from.items slots.old }
+    ensures keeps { OnOk result (KeepsBlocks into.old.items into.new.items) }
+    ensures are { OnOk result (AreRowsIn into.new.items slots.new) }
+    ensures same { OnOk result (rows_in into.new.items slots.new ≡ rows_in from.items slots.old) }
+    ensures bytes { OnOk result (bytes_of_blocks into.new.items ≡
+        bytes_of_blocks into.old.items + bytes_of_blocks from.items) }
+    ensures err { OnErr result (into.new.items ≡ into.old.items) }
 {
-    spans_stay();
+    if from.len() == 1 {
+        if let Some(place) = free_place(free, into) {
+            return take_alone(from, place, slots, into);
+        }
+    }
+    take_behind(from, slots, into)
+}
+
+// Puts a block alone at a place where no line stands.
+fn take_alone(
+    from: Vec<SparseLog>,
+    place: usize,
+    slots: &mut [Slot],
+    into: &mut Vec<SparseLog>,
+) -> Result<(), AllocError>
+    requires rows { AreRowsIn from.items slots.old }
+    requires one { length from.items ≡ 1 }
+    requires within { place < length into.old.items }
+    requires empty { block_at into.old.items place ≡ [] }
+    ensures keeps { OnOk result (KeepsBlocks into.old.items into.new.items) }
+    ensures are { OnOk result (AreRowsIn into.new.items slots.new) }
+    ensures same { OnOk result (rows_in into.new.items slots.new ≡ rows_in from.items slots.old) }
+    ensures bytes { OnOk result (bytes_of_blocks into.new.items ≡
+        bytes_of_blocks into.old.items + bytes_of_blocks from.items) }
+    ensures err { OnErr result (into.new.items ≡ into.old.items) }
+{
+    let mut blocks = from;
+    move_rows(place, slots)?;
+    let block = blocks.swap_remove(0);
+    put_at(block, place, into);
+    Ok(())
+}
+
+// Puts a block in the place of another.
+fn put_at(block: SparseLog, place: usize, into: &mut Vec<SparseLog>)
+    requires { place < length into.old.items }
+    ensures { into.new.items ≡ set into.old.items place block }
+{
+    into[place] = block;
+}
+
+// Puts blocks behind the last.
+fn take_behind(
+    from: Vec<SparseLog>,
+    slots: &mut [Slot],
+    into: &mut Vec<SparseLog>,
+) -> Result<(), AllocError>
+    requires { AreRowsIn from.items slots.old }
+    ensures keeps { OnOk result (KeepsBlocks into.old.items into.new.items) }
+    ensures are { OnOk result (AreRowsIn into.new.items slots.new) }
+    ensures same { OnOk result (rows_in into.new.items slots.new ≡ rows_in from.items slots.old) }
+    ensures bytes { OnOk result (bytes_of_blocks into.new.items ≡
+        bytes_of_blocks into.old.items + bytes_of_blocks from.items) }
+    ensures err { OnErr result (into.new.items ≡ into.old.items) }
+{
+    let mut blocks = from;
+    move_rows(into.len(), slots)?;
+    into.append(&mut blocks)?;
+    Ok(())
+}
+
+// The next of the places that are named as free at which there is a block without a line.
+fn free_place(free: &mut Vec<usize>, blocks: &[SparseLog]) -> Option<usize>
+    ensures within { IfSome result (λ place. place < length blocks.now) }
+    ensures empty { IfSome result (λ place. block_at blocks.now place ≡ []) }
+{
+    match free.pop() {
+        Some(place) if is_free(place, blocks) => Some(place),
+        _ => None,
+    }
+}
+
+fn is_free(place: usize, blocks: &[SparseLog]) -> bool
+    ensures within { IsTrue result → place < length blocks.now }
+    ensures empty { IsTrue result → block_at blocks.now place ≡ [] }
+{
+    place < blocks.len() && blocks[place].len() == 0
+}
+
+/// The places of the blocks without a line.
+pub(crate) fn free_places(alloc: Global, blocks: &[SparseLog]) -> Result<Vec<usize>, AllocError> {
+    let mut free = Vec::new(alloc);
+    for place in 0..blocks.len() {
+        if is_free(place, blocks) {
+            free.push(place)?;
+        }
+    }
+    Ok(free)
+}
+
+// Counts each row's block behind so many others. Past the largest number the answer is want of memory.
+fn move_rows(base: usize, slots: &mut [Slot]) -> Result<(), AllocError>
+    ensures { OnOk result (slots.new ≡ moved_rows base slots.old) }
+{
     for slot in slots.iter_mut() {
-        move_row(alloc, from, &mut slot.row, into)?;
+        move_row(base, &mut slot.row)?;
     }
     Ok(())
 }
 
-/// As `move_rows`, from a log that holds the rows' lines alone. Where the other one has no line yet, the log takes its place, and
-/// nothing is copied.
-pub(crate) fn take_rows(
-    alloc: Global,
-    from: Log,
-    slots: &mut [Slot],
-    into: &mut Log,
-) -> Result<(), AllocError>
-    requires are { AreRowsIn from slots.old }
-    requires alone { bytes_of from ≡ bytes_of_rows (rows_in from slots.old) }
-    ensures extends { Extends into.old into.new }
-    ensures are { OnOk result (AreRowsIn into.new slots.new) }
-    ensures same { OnOk result (rows_in into.new slots.new ≡ rows_in from slots.old) }
-    ensures bytes { OnOk result (bytes_of into.new ≡ bytes_of into.old +
-        bytes_of_rows (rows_in from slots.old)) }
-{
-    if into.len() > 0 {
-        return move_rows(alloc, &from, slots, into);
-    }
-    *into = from;
-    Ok(())
-}
-
-// Appends the derivation of a row, if there is one.
-fn move_row(
-    alloc: Global,
-    from: &Log,
-    row: &mut Option<Row>,
-    into: &mut Log,
-) -> Result<(), AllocError>
-    requires { IsRowIn from.now row.old }
-    ensures extends { Extends into.old into.new }
-    ensures is { OnOk result (IsRowIn into.new row.new) }
-    ensures same { OnOk result (kept_or_none into.new row.new ≡ kept_or_none from.now row.old) }
-    ensures bytes { OnOk result (bytes_of into.new ≡ bytes_of into.old +
-        row_bytes (kept_or_none from.now row.old)) }
+fn move_row(base: usize, row: &mut Option<Row>) -> Result<(), AllocError>
+    ensures { OnOk result (row.new ≡ moved_row base row.old) }
 {
     if let Some(row) = row {
-        row.span = append_span(alloc, from, row.span, into)?;
+        row.block = sum_of(base, row.block)?;
     }
     Ok(())
+}
+
+fn sum_of(base: usize, block: usize) -> Result<usize, AllocError>
+    ensures { IfOk result (λ sum. sum ≡ base + block) }
+{
+    match base.checked_add(block) {
+        None => Err(AllocError),
+        Some(sum) => Ok(sum),
+    }
 }

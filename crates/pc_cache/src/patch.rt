@@ -1,27 +1,29 @@
 //! Changes of rows that are not made yet.
 //!
-//! A row keeps of a log only the lines that its last line rests on. They are copied once, here, and a second time into the
-//! cache's log, unless that has no line yet. Rows that are put one after another often show the same assignment: they share one
-//! copy of it.
+//! A row keeps of a log only the lines that its last line rests on. Rows that are put one after another of the same log share
+//! their lines: they stand in one block, each at its place in the log. Rows that are put one after another often show the same
+//! assignment: they share one copy of it.
 
 ghost use Rattle.std.specs.Prelude.{◌≡◌, ◌<◌, ◌++◌, ◌∷◌, [], List, None, Some, IfOk, IsTrue, OnErr, OnOk, length};
 ghost use Rattle.pc_log.specs.Lines.{LogLine};
 ghost use Rattle.pc_log.specs.Trimmed.{IsTrimmed};
 
+use crate::blocks::share;
 use crate::row::{Row, Slot};
-use pc_log::laws::spans_stay;
-use pc_log::{Log, StepId, Trimmer};
+use pc_log::{Log, Places, SparseLog, StepId, Trimmer};
 use pc_logic::Assignment;
 use pc_sheet::{Entry, Target};
 use std::alloc::{AllocError, Global};
 use std::marker::Model;
 use std::rc::Rc;
 
-/// Rows that targets are to have, or to lose, seen as the list of these changes. It keeps its derivations in a log of its own.
+/// Rows that targets are to have, or to lose, seen as the list of these changes. It keeps its derivations in blocks of its own.
 #[derive(Drop)]
 pub struct Patch {
-    pub(crate) log: Log,
+    pub(crate) blocks: Vec<SparseLog>,
     pub(crate) slots: Vec<Slot>,
+    // Whether the blocks have no line that no row rests on, as one may be left where memory ran out.
+    pub(crate) whole: bool,
     trimmer: Trimmer,
     // The assignment that was put last.
     last_shown: Option<Rc<Assignment>>,
@@ -36,9 +38,9 @@ impl Model for Patch {
     ghost use Rattle.pc_cache.specs.inside.Kept.{rows_in};
     ghost use Rattle.pc_cache.specs.inside.Patched.{IsOfRows};
 
-    ghost view = { λ p. rows_in p.log p.slots.items };
+    ghost view = { λ p. rows_in p.blocks.items p.slots.items };
 
-    ghost invariant = { λ p. IsOfRows p.log p.slots.items };
+    ghost invariant = { λ p. IsOfRows p.whole p.blocks.items p.slots.items };
 }
 
 impl Patch {
@@ -47,8 +49,9 @@ impl Patch {
         ensures { result ≡ [] }
     {
         Patch {
-            log: Log::new(alloc),
+            blocks: Vec::new(alloc),
             slots: Vec::new(alloc),
+            whole: true,
             trimmer: Trimmer::new(alloc),
             last_shown: None,
         }
@@ -83,16 +86,21 @@ impl Patch {
             [])) }
         ensures err { OnErr result (self.new ≡ self.old) }
     {
-        spans_stay();
         let alloc = *self.slots.allocator();
         let support = Vec::from_slice(alloc, support)?;
         let shown = shared(alloc, shown, &mut self.last_shown)?;
         self.slots.reserve(1)?;
-        let span = self.trimmer.trim(log, last, &mut self.log)?;
+        let list = self.trimmer.places(alloc, log, last)?;
+        let places = Places::of(alloc, &list)?;
+        let whole = self.whole;
+        self.whole = false;
+        let block = share(alloc, log, &list, &mut self.blocks)?;
+        self.whole = whole;
         let row = Row {
             support,
             shown,
-            span,
+            block,
+            places,
         };
         self.slots.push(Slot {
             target,

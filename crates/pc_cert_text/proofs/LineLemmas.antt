@@ -24,7 +24,9 @@ use Rattle.pc_reason.specs.Derivation.{IsLineNamedBeside, line_named, literal_na
 use Rattle.pc_writer.proofs.CellLemmas.{entered_cell}
 use Rattle.pc_cert_text.specs.CertificateText.{behind_blank, derivation_line_text, derivation_lines_text, number_text}
 use Rattle.pc_writer.specs.SheetText.{ended}
-use Rattle.pc_cert_text.specs.inside.Steps.{AreNamedAndOfSheet, CanBeWritten, IsLiteralOf}
+use Rattle.pc_cert_text.specs.declared.hint.Numbering.{Numbering}
+use Rattle.pc_cert_text.specs.declared.hint.Numbering.TheVariants.{From}
+use Rattle.pc_cert_text.specs.inside.Steps.{number_in, AreNamedAndOfSheet, CanBeWritten, HasNumber, IsLiteralOf}
 
 pub all_at : {A : Type 0} (P : A → Type 0) (xs : List A) (i : ℕ) (x : A) → All P xs → slice_get xs i ≡ Some x → P x
 all_at P xs i x all at = subst P (get_or_from_slice_get xs i x x at) (all i x (slice_get_within xs i x at))
@@ -94,18 +96,15 @@ module _ (sheet : Sheet) (names : NameLists) where
       (record { named = All-head (λ (m : Lit). m.variable.0 < length names.variables) l ls named; symbol = All-head (λ m. IsSymbolOf sheet m.what) (literal_named names l) (map (literal_named names) ls) written })
       (literals_of ls (All-tail (λ (m : Lit). m.variable.0 < length names.variables) l ls named) (All-tail (λ m. IsSymbolOf sheet m.what) (literal_named names l) (map (literal_named names) ls) written))
 
-  written_line : (sets first last place : ℕ) (line : LogLine) → sets < 10 ^ 18 → IsLineNamedBeside sets names (moved (λ h. h - first) line)
-      → IsLineBeside sheet sets place (line_named names (moved (λ h. h - first) line))
-      → ((h : StepId) → Contains (hints_of line) h → (first ≤ h.0) × (h.0 ≤ last)) → last + 1 < 2 ^ 64 → CanBeWritten sheet names first line
-  written_line sets first last place (AxiomLine a) below named written hints few = (named, written)
-  written_line sets first last place (BlockLine number clause) below named written hints few = omega (arith, named, below)
-  written_line sets first last place (StepLine clause hs learned) below named written hints few = (
-    literals_of clause named written.0,
-    (λ k d below. (hints _ (Contains-get_or hs k d below)).0),
-    (λ k d below. let high = (hints _ (Contains-get_or hs k d below)).1 in omega (arith, high, few)),
-  )
+  -- a named line of a sheet can be written, where its hints have numbers
+  pub written_line : (numbering : Numbering) (sets place : ℕ) (line : LogLine) → sets < 10 ^ 18 → IsLineNamedBeside sets names (moved (number_in numbering) line)
+      → IsLineBeside sheet sets place (line_named names (moved (number_in numbering) line))
+      → ((h : StepId) → Contains (hints_of line) h → HasNumber numbering h.0) → CanBeWritten sheet names numbering line
+  written_line numbering sets place (AxiomLine a) few named written hints = (named, written)
+  written_line numbering sets place (BlockLine number clause) few named written hints = omega (arith, named, few)
+  written_line numbering sets place (StepLine clause hs learned) few named written hints = (literals_of clause named written.0, λ k d below. hints _ (Contains-get_or hs k d below))
 
-  written_at : (sets place : ℕ) (ls : List Line) → AreLinesBeside sheet sets place ls → (i : ℕ) (l : Line) → slice_get ls i ≡ Some l → (k : ℕ) × IsLineBeside sheet sets k l
+  pub written_at : (sets place : ℕ) (ls : List Line) → AreLinesBeside sheet sets place ls → (i : ℕ) (l : Line) → slice_get ls i ≡ Some l → (k : ℕ) × IsLineBeside sheet sets k l
   written_at sets place [] are i l at = absurd (cc)
   written_at sets place (m ∷ ls) are zero l at = (place, subst (IsLineBeside sheet sets place) (let same : m ≡ l = cc in same) are.0)
   written_at sets place (m ∷ ls) are (suc i) l at = written_at sets (place + 1) ls are.1 i l at
@@ -123,12 +122,15 @@ module _ (sheet : Sheet) (names : NameLists) where
     named_line_at k line within at = slice_get-map (line_named names) (lines_of_span log span) k ∙ ap (option_map (line_named names)) (line_at k line within at)
 
     pub can_be_written : AreNamedAndOfSheet sheet names (lines_of_span log span)
-        → (k : ℕ) (line : LogLine) → span.first.0 + k ≤ span.last.0 → span.last.0 + 1 < 2 ^ 64 → slice_get log (span.first.0 + k) ≡ Some line → CanBeWritten sheet names span.first.0 line
+        → (k : ℕ) (line : LogLine) → span.first.0 + k ≤ span.last.0 → span.last.0 + 1 < 2 ^ 64 → slice_get log (span.first.0 + k) ≡ Some line → CanBeWritten sheet names (From span.first.0) line
     can_be_written are k line within few at =
         let own = written_at are.sets 0 (map (line_named names) (lines_of_span log span)) are.written k (line_named names (here line)) (named_line_at k line within at) in
-        written_line are.sets span.first.0 span.last.0 own.0 line are.few
+        written_line (From span.first.0) are.sets own.0 line are.few
         (all_at (IsLineNamedBeside are.sets names) (lines_of_span log span) k (here line) are.named (line_at k line within at)) own.1
-        (λ h there. lies.closed (span.first.0 + k) h.0 (omega arith) within (hints_of line, slice_get-map hints_of log (span.first.0 + k) ∙ ap (option_map hints_of) at, there)) few
+        (λ h there.
+        let inside = lies.closed (span.first.0 + k) h.0 (omega arith) within (hints_of line, slice_get-map hints_of log (span.first.0 + k) ∙ ap (option_map hints_of) at, there) in
+        let high = inside.1 in
+        (inside.0, omega (arith, high, few)))
 
     pub count_of_lines : length (map (line_named names) (lines_of_span log span)) ≡ span.last.0 + 1 - span.first.0
     count_of_lines =

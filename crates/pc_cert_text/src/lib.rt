@@ -10,6 +10,7 @@ mod axiom;
 mod certificate;
 mod claim;
 mod entries;
+mod hint;
 mod law;
 mod line;
 mod literal;

@@ -1,23 +1,26 @@
 // The lines of a derivation.
-ghost use Rattle.std.specs.Prelude.{◌≡◌, ◌+◌, ◌-◌, ◌<◌, ◌≤◌, ◌^◌, ◌++◌, All, length, map};
+ghost use Rattle.std.specs.Prelude.{◌+◌, ◌<◌, ◌^◌, ◌++◌, All, length, map};
 ghost use Rattle.std.specs.List.{flat_map};
 ghost use Rattle.pc_accept.specs.Accepts.{blocked};
 ghost use Rattle.pc_lits.specs.declared.literal.Lit.{Lit};
 ghost use Rattle.pc_log.specs.declared.log.StepId.{StepId};
 ghost use Rattle.pc_log.specs.Shown.{shown_line};
 ghost use Rattle.pc_log.specs.Spans.{IsSpanOf, lines_of_span};
+ghost use Rattle.pc_log.specs.Sparse.{IsPicked};
 ghost use Rattle.pc_reason.specs.Derivation.{line_named};
+ghost use Rattle.pc_reason.specs.Reasons.{lines_of_derivation};
 ghost use Rattle.pc_writer.specs.Writes.{Writes};
 ghost use Rattle.pc_cert_text.specs.CertificateText.{behind_blank, derivation_line_text, derivation_lines_text, number_text};
 ghost use Rattle.pc_writer.specs.SheetText.{ended};
-ghost use Rattle.pc_cert_text.specs.inside.Steps.{AreNamedAndOfSheet, CanBeWritten, hint_text, IsLiteralOf, logged_text, spaced_literal_text, step_text};
+ghost use Rattle.pc_cert_text.specs.inside.Steps.{AreNamedAndOfSheet, CanBeWritten, HasNumber, IsLiteralOf, logged_text, spaced_literal_text, step_text};
 
 use crate::axiom::write_axiom;
+use crate::hint::{Numbering, write_hints};
 use crate::literal::write_literal;
 use crate::number::write_number;
 use pc_axiom_names::Names;
 use pc_lits::Lit;
-use pc_log::{Line, StepId};
+use pc_log::{Derivation, Line, StepId};
 use pc_logic::Book;
 use pc_port::{Failed, Sink};
 use pc_reason::Proof;
@@ -38,7 +41,45 @@ pub(crate) fn write_lines<O: Sink>(book: &Book, proof: Proof<'_>, out: &mut O) -
     prove!(last < proof.log.len());
     for index in 0..last - first + 1 {
         let line = proof.log.line(StepId(first + index));
-        write_ended_line(book, proof.names, line, first, index as u64 + 1, out)?;
+        write_ended_line(
+            book,
+            proof.names,
+            line,
+            Numbering::From(first),
+            index as u64 + 1,
+            out,
+        )?;
+    }
+    Ok(())
+}
+
+/// Writes the lines of a derivation that shares them, numbered from 1, their hints as these numbers.
+pub(crate) fn write_derivation<O: Sink>(
+    book: &Book,
+    names: &Names,
+    derivation: Derivation<'_>,
+    out: &mut O,
+) -> Result<(), Failed>
+    requires picked { IsPicked derivation.lines.now derivation.places.now }
+    requires lines { AreNamedAndOfSheet book.now names.now (lines_of_derivation derivation) }
+    ensures { Writes O.given O.faults out.old out.new result
+        (derivation_lines_text book.now 1
+        (map (line_named names.now) (lines_of_derivation derivation.entry))) }
+{
+    let places = derivation.places;
+    let mut place = 0;
+    for index in 0..places.len() {
+        place = places.next(index, place);
+        let line = derivation.line(place);
+        write_ended_line(
+            book,
+            names,
+            line,
+            Numbering::Among(places),
+            index as u64 + 1,
+            out,
+        )?;
+        place += 1;
     }
     Ok(())
 }
@@ -48,16 +89,16 @@ fn write_ended_line<O: Sink>(
     book: &Book,
     names: &Names,
     line: Line<'_>,
-    first: usize,
+    numbering: Numbering<'_>,
     number: u64,
     out: &mut O,
 ) -> Result<(), Failed>
-    requires { CanBeWritten book.now names.now first (shown_line line) }
+    requires { CanBeWritten book.now names.now numbering (shown_line line) }
     ensures { Writes O.given O.faults out.old out.new result
         (ended (number_text number ++
-        behind_blank (logged_text book.now names.now first (shown_line line.entry)))) }
+        behind_blank (logged_text book.now names.now numbering.entry (shown_line line.entry)))) }
 {
-    write_numbered_line(book, names, line, first, number, out)?;
+    write_numbered_line(book, names, line, numbering, number, out)?;
     write_text(b"\n", out)
 }
 
@@ -65,36 +106,36 @@ fn write_numbered_line<O: Sink>(
     book: &Book,
     names: &Names,
     line: Line<'_>,
-    first: usize,
+    numbering: Numbering<'_>,
     number: u64,
     out: &mut O,
 ) -> Result<(), Failed>
-    requires { CanBeWritten book.now names.now first (shown_line line) }
+    requires { CanBeWritten book.now names.now numbering (shown_line line) }
     ensures { Writes O.given O.faults out.old out.new result (number_text number ++
-        behind_blank (logged_text book.now names.now first (shown_line line.entry))) }
+        behind_blank (logged_text book.now names.now numbering.entry (shown_line line.entry))) }
 {
     write_number(number, out)?;
     write_text(b" ", out)?;
-    write_line(book, names, line, first, out)
+    write_line(book, names, line, numbering, out)
 }
 
-/// Writes a line of a derivation with its hints, which are counted from 1 at the place `first`.
-pub(crate) fn write_line<O: Sink>(
+// Writes a line with the numbers of its hints.
+fn write_line<O: Sink>(
     book: &Book,
     names: &Names,
     line: Line<'_>,
-    first: usize,
+    numbering: Numbering<'_>,
     out: &mut O,
 ) -> Result<(), Failed>
-    requires { CanBeWritten book.now names.now first (shown_line line) }
+    requires { CanBeWritten book.now names.now numbering (shown_line line) }
     ensures { Writes O.given O.faults out.old out.new result
-        (logged_text book.now names.now first (shown_line line.entry)) }
+        (logged_text book.now names.now numbering.entry (shown_line line.entry)) }
 {
     match line {
         Line::Axiom(number) => write_axiom(book, names.axiom(number), out),
         Line::Block { number, .. } => write_block(book, number, out),
         Line::Step { clause, hints, .. } => {
-            write_step_line(book, names, clause, hints, first, out)
+            write_step_line(book, names, clause, hints, numbering, out)
         }
     }
 }
@@ -109,25 +150,23 @@ fn write_block<O: Sink>(book: &Book, number: usize, out: &mut O) -> Result<(), F
     write_number((number + 1) as u64, out)
 }
 
-/// Writes a clause with its hints, which are counted from 1 at the place `first`.
-pub(crate) fn write_step_line<O: Sink>(
+fn write_step_line<O: Sink>(
     book: &Book,
     names: &Names,
     clause: &[Lit],
     hints: &[StepId],
-    first: usize,
+    numbering: Numbering<'_>,
     out: &mut O,
 ) -> Result<(), Failed>
     requires clause { All (IsLiteralOf book.now names.now) clause.now }
-    requires from { All (λ h. first ≤ h.0) hints.now }
-    requires room { All (λ h. h.0 + 1 < 2 ^ 64) hints.now }
+    requires hints { All (λ h. HasNumber numbering h.0) hints.now }
     ensures { Writes O.given O.faults out.old out.new result
-        (step_text book.now names.now first clause.now hints.now) }
+        (step_text book.now names.now numbering.entry clause.now hints.now) }
 {
     write_text(b"step", out)?;
     write_literals(book, names, clause, out)?;
     write_text(b" :", out)?;
-    write_hints(hints, first, out)
+    write_hints(hints, numbering, out)
 }
 
 fn write_literals<O: Sink>(
@@ -158,25 +197,4 @@ fn write_spaced_literal<O: Sink>(
 {
     write_text(b" ", out)?;
     write_literal(book, names, literal, out)
-}
-
-fn write_hints<O: Sink>(hints: &[StepId], first: usize, out: &mut O) -> Result<(), Failed>
-    requires from { All (λ h. first ≤ h.0) hints.now }
-    requires room { All (λ h. h.0 + 1 < 2 ^ 64) hints.now }
-    ensures { Writes O.given O.faults out.old out.new result
-        (flat_map (hint_text first) hints.now) }
-{
-    for hint in hints {
-        write_hint(*hint, first, out)?;
-    }
-    Ok(())
-}
-
-fn write_hint<O: Sink>(hint: StepId, first: usize, out: &mut O) -> Result<(), Failed>
-    requires from { first ≤ hint.0 }
-    requires room { hint.0 + 1 < 2 ^ 64 }
-    ensures { Writes O.given O.faults out.old out.new result (hint_text first hint) }
-{
-    write_text(b" ", out)?;
-    write_number((hint.0 - first + 1) as u64, out)
 }

@@ -1,6 +1,7 @@
 //! A reason, lent in parts from where they are kept.
 
-use crate::proof::Proof;
+use pc_axiom_names::Names;
+use pc_log::Derivation;
 use pc_logic::Assignment;
 use pc_sheet::{Entry, Target};
 
@@ -13,6 +14,8 @@ pub struct Reason<'a> {
     pub support: &'a [Entry],
     /// An assignment that makes every rule true and has these entries.
     pub shown: &'a Assignment,
+    /// What the variables and the axioms of the derivation are.
+    pub names: &'a Names,
     /// A derivation of the target from the rules and these entries.
-    pub proof: Proof<'a>,
+    pub proof: Derivation<'a>,
 }

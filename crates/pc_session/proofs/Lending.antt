@@ -24,6 +24,6 @@ pub reason_right : (sheet : Sheet) (rows : List TargetRow) (names : NameLists) (
 reason_right sheet rows names t None reasons is named row lent = subst (IsRowFor sheet t) (sym row) (reasons t is)
 reason_right sheet rows names t (Some r) reasons is named row lent = record {
   target = lent.target;
-  span = lent.span;
+  picked = lent.picked;
   justifies = subst (λ ns. Justifies sheet ns t (justification_of r)) (sym (lent.names_are ∙ named)) (subst (IsRowFor sheet t) (sym row) (reasons t is));
 }

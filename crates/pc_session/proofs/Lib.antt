@@ -16,3 +16,4 @@ pub mod UsedTargets
 pub mod Lending
 pub mod Choosing
 pub mod Changed
+pub mod Compacted

@@ -9,7 +9,7 @@ use Rattle.pc_justify_laws.specs.Edits.{edited}
 use Rattle.pc_cache.specs.Rows.{Cached, TargetRow, bytes_of_rows, row_of}
 use Rattle.pc_theory.specs.Theories.{TheoryView}
 use Rattle.pc_session.specs.Answers.{IsUnchanged, OthersStay, Stay, Steps}
-use Rattle.pc_session.specs.Arena.{compacted}
+use Rattle.pc_session.specs.Arena.{compacted, IsLeft}
 use Rattle.pc_session.specs.inside.Chosen.{AreChosen}
 use Rattle.pc_session.specs.inside.Sessions.{IsSession}
 use Rattle.pc_session.specs.inside.States.{viewed, IsEdited, IsKept, IsLeftBy, IsState, IsSame, IsSameBut}
@@ -34,8 +34,8 @@ pub same_itself : (s : State) → IsSame s s
 same_itself s = record { book = refl; theory = refl; worlds = refl; rows = refl; bytes = inl refl; tally = refl; chosen = refl }
 
 -- a state whose derivations were to be compacted, and have or haven't been
-pub same_compacted : (s : State) (cache : Cached) → cache.rows ≡ s.cache.rows → cache.bytes ≡ compacted s.cache.rows s.cache.bytes → IsSame s (record s { cache = cache })
-same_compacted s cache rows bytes = record { book = refl; theory = refl; worlds = refl; rows = rows; bytes = inr bytes; tally = refl; chosen = refl }
+pub same_compacted : (s : State) (cache : Cached) → cache.rows ≡ s.cache.rows → IsLeft s.cache.rows s.cache.bytes cache.bytes → IsSame s (record s { cache = cache })
+same_compacted s cache rows left = record { book = refl; theory = refl; worlds = refl; rows = rows; bytes = left; tally = refl; chosen = refl }
 
 pub same_failed : (s : State) (cache : Cached) → cache ≡ s.cache → IsSame s (record s { cache = cache })
 same_failed s cache is =

@@ -1,10 +1,10 @@
 //! When the kept derivations are compacted.
 //!
-//! A reason that is replaced leaves its lines behind. They are dropped at the start of an edit that searches, where the lines
-//! in which the derivations are kept count for more than twice the bytes of the reasons and 1,048,576 more: so the work is
-//! paid for by what was put since the last time.
-ghost use Rattle.std.specs.Prelude.{◌≡◌, ◌+◌, ◌*◌, OnErr, OnOk, nat_lt};
-ghost use Rattle.pc_session.specs.Arena.{compacted};
+//! A reason that is replaced leaves its lines behind. They are dropped at the start of an edit that searches, where all lines
+//! count for 1,048,576 bytes more than twice what was left the last time (or than twice 16 for each line of each reason, where
+//! that is less): so the work is paid for by what was put since then.
+ghost use Rattle.std.specs.Prelude.{◌≡◌, ◌≤◌, ◌+◌, ◌*◌, OnErr, OnOk, nat_lt};
+ghost use Rattle.pc_session.specs.Arena.{compacted, IsLeft};
 
 use pc_cache::Cache;
 use std::alloc::AllocError;
@@ -19,7 +19,8 @@ fn is_due(arena: u128, live: u128) -> bool
 /// Compacts the derivations where it is due. All reasons stay; without memory all stays as it is.
 pub(crate) fn compact_if_due(cache: &mut Cache) -> Result<(), AllocError>
     ensures rows { cache.new.rows ≡ cache.old.rows }
-    ensures ok { OnOk result (cache.new.bytes ≡ compacted cache.old.rows cache.old.bytes) }
+    ensures ok { OnOk result (cache.new.bytes ≤ compacted cache.old.rows cache.old.bytes) }
+    ensures left { OnOk result (IsLeft cache.old.rows cache.old.bytes cache.new.bytes) }
     ensures err { OnErr result (cache.new ≡ cache.old) }
 {
     if is_due(cache.arena_bytes(), cache.live_bytes()) {

@@ -22,6 +22,7 @@ use Rattle.pc_cache.specs.Rows.{TargetRow, is_same_target, row_of}
 use Rattle.pc_justify_laws.specs.Edits.{takes_none, HasNone}
 use Rattle.pc_search.specs.Found.{steps_in}
 use Rattle.pc_session.specs.Views.{SessionView}
+use Rattle.pc_session.specs.Arena.{IsLeft}
 use Rattle.pc_session.specs.Answers.{OthersStay, IsUnchanged, AreSpare, StandsAlone, HasPlaceFor}
 use Rattle.pc_worked_laws.specs.Rows.{a_red, b_red, from, with_row, red_here, not_red_here}
 use Rattle.pc_worked_laws.specs.Several.{cell_of, views, with_views, first_views}
@@ -330,9 +331,16 @@ own_part cells t of_parts has_first lacks_it =
 no_rows : (r : TargetRow) (rs : List TargetRow) → [] ≡ r ∷ rs → ⊥
 no_rows r rs e = absurd (cc)
 
-few_left : ¬ IsUnchanged (seen 5 [] 7) (seen 5 [] 0)
-few_left (all, inl same) = let n : 0 ≡ 7 = same in absurd (omega (arith, n))
-few_left (all, inr same) = let n : 0 ≡ 7 = same in absurd (omega (arith, n))
+many_left : IsLeft [] 1048577 0
+many_left = inr (omega arith, omega arith)
+
+few_left : ¬ IsUnchanged (seen 5 [] 1048576) (seen 5 [] 0)
+few_left (all, inl same) = let n : 0 ≡ 1048576 = same in absurd (omega (arith, n))
+few_left (all, inr left) = let many : 1048576 < 1048576 = left.0 in absurd (omega (arith, many))
+
+some_more : ¬ IsUnchanged (seen 5 [] 1048577) (seen 5 [] 1)
+some_more (all, inl same) = let n : 1 ≡ 1048577 = same in absurd (omega (arith, n))
+some_more (all, inr left) = let few : 1 ≤ 0 = left.1 in absurd (omega (arith, few))
 
 pub worked_sessions : WorkedSessions
 worked_sessions = record {
@@ -340,8 +348,9 @@ worked_sessions = record {
   other_part = λ h. absurd (cc (h first_part third_red (contains_first first_part ((cell_of 2 ∷ []) ∷ [])) (contains_first (cell_of 0) (cell_of 1 ∷ [])) third_is_none));
   other_part_gains = λ h. absurd (cc (h first_part third_red (contains_first first_part ((cell_of 2 ∷ []) ∷ [])) (contains_first (cell_of 0) (cell_of 1 ∷ [])) third_is_none));
   as_it_was = (refl, inl refl);
-  many_dropped = (refl, inr refl);
+  many_dropped = (refl, many_left);
   few_dropped = few_left;
+  some_added = some_more;
   row_dropped = λ h. no_rows _ _ (ap (λ (v : SessionView). v.rows) h.0);
   other_budget = λ h. let n : 6 ≡ 5 = ap (λ (v : SessionView). v.budget) h.0 in absurd (omega (arith, n));
 }

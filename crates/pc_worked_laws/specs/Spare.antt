@@ -119,6 +119,7 @@ pub record WorkedSessions : Type 0 where
   -- a refused edit leaves all as it was, but that derivations that no reason needs are dropped where they are many
   pub as_it_was : IsUnchanged (seen 5 [] 7) (seen 5 [] 7)
   pub many_dropped : IsUnchanged (seen 5 [] 1048577) (seen 5 [] 0)
-  pub few_dropped : ¬ IsUnchanged (seen 5 [] 7) (seen 5 [] 0)
+  pub few_dropped : ¬ IsUnchanged (seen 5 [] 1048576) (seen 5 [] 0)
+  pub some_added : ¬ IsUnchanged (seen 5 [] 1048577) (seen 5 [] 1)
   pub row_dropped : ¬ IsUnchanged (seen 5 (with_row red_here (Some (from a_red)) ∷ []) 0) (seen 5 [] 0)
   pub other_budget : ¬ IsUnchanged (seen 5 [] 0) (seen 6 [] 0)

@@ -25,10 +25,10 @@ pub returns-in_err-compact_if_due-clause-kept : goal.returns-in_err-compact_if_d
 returns-in_err-compact_if_due-clause-kept c = on_err c.from_residual.result (same_failed c.args.state.now c.compact_if_due.new.cache c.in_err-compact_if_due.ensures.err)
 
 pub returns-in_err-asked-clause-kept : goal.returns-in_err-asked-clause-kept
-returns-in_err-asked-clause-kept c = on_err c.from_residual-in_err-asked.result (same_compacted c.args.state.now c.compact_if_due.new.cache c.in_ok-compact_if_due.ensures.rows c.in_ok-compact_if_due.ensures.ok)
+returns-in_err-asked-clause-kept c = on_err c.from_residual-in_err-asked.result (same_compacted c.args.state.now c.compact_if_due.new.cache c.in_ok-compact_if_due.ensures.rows c.in_ok-compact_if_due.ensures.left)
 
 pub returns-in_err-before-clause-kept : goal.returns-in_err-before-clause-kept
-returns-in_err-before-clause-kept c = on_err c.from_residual-in_err-before.result (same_compacted c.args.state.now c.compact_if_due.new.cache c.in_ok-compact_if_due.ensures.rows c.in_ok-compact_if_due.ensures.ok)
+returns-in_err-before-clause-kept c = on_err c.from_residual-in_err-before.result (same_compacted c.args.state.now c.compact_if_due.new.cache c.in_ok-compact_if_due.ensures.rows c.in_ok-compact_if_due.ensures.left)
 
 pub returns-in-Ok-clause-done : goal.returns-in-Ok-clause-done
 returns-in-Ok-clause-done c =
@@ -54,7 +54,7 @@ pub returns-in-Err-clause-kept : goal.returns-in-Err-clause-kept
 returns-in-Err-clause-kept c =
     let s = c.args.state.now in
     let kept = IfErr-at_err (λ _. IsSameBeside (record s { cache = c.compact_if_due.new.cache }) c.make_searched.new.state) c.in-Err.is c.make_searched.ensures.kept in
-    restored_same s c.make_searched.new.state c.compact_if_due.new.cache c.put_entries.new.self c.in_ok-compact_if_due.ensures.rows c.in_ok-compact_if_due.ensures.ok kept
+    restored_same s c.make_searched.new.state c.compact_if_due.new.cache c.put_entries.new.self c.in_ok-compact_if_due.ensures.rows c.in_ok-compact_if_due.ensures.left kept
     (c.put_entries.ensures ∙ restored s.book c.make_searched.new.state.book c.in_ok-before.before.items kept.rules (c.in_ok-before.ensures.items ∙ c.entries.ensures.items))
 
 pub returns-in-Err-clause-refused : goal.returns-in-Err-clause-refused

@@ -9,4 +9,4 @@ pub returns-in-Err-clause-refused : goal.returns-in-Err-clause-refused
 returns-in-Err-clause-refused c = same_cause c.args.book c.args.budget c.in-Err.refused c.refused_edit.result c.refused_edit.ensures c.in-Err.ensures.refused
 
 pub returns-in-Err-clause-kept : goal.returns-in-Err-clause-kept
-returns-in-Err-clause-kept c = same_compacted c.args.state.now c.compact_if_due.new.cache c.in_ok-compact_if_due.ensures.rows c.in_ok-compact_if_due.ensures.ok
+returns-in-Err-clause-kept c = same_compacted c.args.state.now c.compact_if_due.new.cache c.in_ok-compact_if_due.ensures.rows c.in_ok-compact_if_due.ensures.left

@@ -1,6 +1,6 @@
-use Rattle.std.proofs.Common.{◌≤◌, ◌^◌, length, arith, ap, ◌∙◌}
+use Rattle.std.proofs.Common.{◌≤◌, ◌^◌, length, arith, ap, sym, ◌∙◌}
 use Rattle.pc_sheet.specs.Entailment.{cell_sizes}
-use Rattle.pc_log.specs.Sizes.{bytes_of}
+use Rattle.pc_cache.specs.inside.Kept.{bytes_of_blocks}
 use Rattle.pc_cache.proofs.Fresh.{cell_more, fresh_is_kept, fresh_rows, fresh_targets}
 use Rattle.pc_cache.proofs.cache.Cache.new.Goals as goal
 
@@ -11,19 +11,21 @@ loop-cell-preserved c =
     record { slots = more.0; starts = c.in_ok-push.ensures.items ∙ more.1; few = omega (arith, more.2, c.loop-cell.invariant.few, c.values_of.ensures.few) }
 
 pub invariant_of-result : goal.invariant_of-result
-invariant_of-result c =
-    fresh_is_kept c.new.result (cell_sizes c.args.book.now.universe) c.loop-cell.starts.items c.loop-cell.slots.items c.loop-cell.cell c.loop-cell.invariant.starts c.loop-cell.invariant.slots
-    (omega (arith, c.loop-cell.invariant.few, c.loop-cell.auto.cell-end, c.cells-cell-end.ensures.few))
+invariant_of-result c = (
+  sym (ap bytes_of_blocks c.new.ensures.items),
+  fresh_is_kept c.new.result.items (cell_sizes c.args.book.now.universe) c.loop-cell.starts.items c.loop-cell.slots.items c.loop-cell.cell c.loop-cell.invariant.starts c.loop-cell.invariant.slots
+      (omega (arith, c.loop-cell.invariant.few, c.loop-cell.auto.cell-end, c.cells-cell-end.ensures.few)),
+)
 
 pub returns : goal.returns
 returns c =
     let few : length c.loop-cell.slots.items ≤ 2 ^ 21 = omega (arith, c.loop-cell.invariant.few, c.loop-cell.auto.cell-end, c.cells-cell-end.ensures.few) in
-    let kept = fresh_is_kept c.new.result (cell_sizes c.args.book.now.universe) c.loop-cell.starts.items c.loop-cell.slots.items c.loop-cell.cell c.loop-cell.invariant.starts c.loop-cell.invariant.slots few in
-    let rows = fresh_rows c.new.result c.args.book.now.universe c.loop-cell.starts.items c.loop-cell.slots.items c.loop-cell.cell kept c.loop-cell.invariant.slots (omega (arith, c.cells-cell-end.ensures.exact, c.loop-cell-test.false)) in
+    let kept = fresh_is_kept c.new.result.items (cell_sizes c.args.book.now.universe) c.loop-cell.starts.items c.loop-cell.slots.items c.loop-cell.cell c.loop-cell.invariant.starts c.loop-cell.invariant.slots few in
+    let rows = fresh_rows c.new.result.items c.args.book.now.universe c.loop-cell.starts.items c.loop-cell.slots.items c.loop-cell.cell kept c.loop-cell.invariant.slots (omega (arith, c.cells-cell-end.ensures.exact, c.loop-cell-test.false)) in
     record {
-      order = fresh_targets c.new.result (cell_sizes c.args.book.now.universe) c.loop-cell.slots.items c.loop-cell.cell c.loop-cell.invariant.slots (omega (arith, c.cells-cell-end.ensures.exact, c.loop-cell-test.false));
+      order = fresh_targets c.new.result.items (cell_sizes c.args.book.now.universe) c.loop-cell.slots.items c.loop-cell.cell c.loop-cell.invariant.slots (omega (arith, c.cells-cell-end.ensures.exact, c.loop-cell-test.false));
       targets = rows.0;
       once = rows.1;
       empty = rows.2;
-      bytes = ap bytes_of c.new.ensures;
+      bytes = ap bytes_of_blocks c.new.ensures.items;
     }

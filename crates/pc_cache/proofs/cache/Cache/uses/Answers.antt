@@ -10,6 +10,6 @@ pub returns : goal.returns
 returns c =
     let are = ap (λ (r : Cached). r.rows) c.self.view_is in
     let answer = c.is_used.ensures ∙ ap (λ (ss : List Slot). list_any (slot_rests_on c.args.entry) ss) c.deref.ensures.value in (
-      λ is. used_somewhere c.self.inside.log c.self.inside.starts.items c.args.entry c.self.inside.slots.items c.args.self.now.rows c.self.invariant.placed are (sym answer ∙ is),
-      λ some. answer ∙ used_by c.self.inside.log c.self.inside.starts.items c.args.entry c.self.inside.slots.items c.args.self.now.rows some.0 c.self.invariant.placed are some.1,
+      λ is. used_somewhere c.self.inside.blocks.items c.self.inside.starts.items c.args.entry c.self.inside.slots.items c.args.self.now.rows c.self.invariant.1.placed are (sym answer ∙ is),
+      λ some. answer ∙ used_by c.self.inside.blocks.items c.self.inside.starts.items c.args.entry c.self.inside.slots.items c.args.self.now.rows some.0 c.self.invariant.1.placed are some.1,
     )
