@@ -3,7 +3,7 @@ ghost use Rattle.std.specs.Prelude.{◌≡◌, ◌+◌, ◌*◌, ◌^◌, ◌<�
 ghost use Rattle.std.specs.List.{flat_map, range_with_len};
 ghost use Rattle.pc_accept.specs.Rows.{literal, clause_of, counter_part};
 ghost use Rattle.pc_ground.specs.ByNumber.{lit, counted_literal, row_clause, counter_clauses, counters_clauses, count_clauses};
-ghost use Rattle.pc_ground.specs.RowView.{part_of};
+ghost use Rattle.pc_ground.specs.RowView.{end_of, part_of};
 ghost use Rattle.pc_sheet.specs.declared.nodes.NodeKind.TheVariants.{Count};
 
 use crate::clauses::literal;
@@ -60,8 +60,7 @@ fn push_row(alloc: Global, store: &mut ClauseStore, row: &[RowPart]) -> Result<(
 /// The body under the value of number `i`, or its negation.
 fn body_part(counted: Counted, i: u32, sign: bool) -> RowPart
     requires i { i < counted.values }
-    requires room { counted.node + 1 + (counted.values * counted.size + counted.values *
-        counted.threshold) < 2 ^ 32 }
+    requires room { end_of counted < 2 ^ 32 }
     ensures { part_of result ≡ literal (counted_literal counted.node counted.values counted.size i
         sign) }
 {
@@ -73,8 +72,7 @@ fn body_part(counted: Counted, i: u32, sign: bool) -> RowPart
 fn counter_part(counted: Counted, i: u32, j: u32, sign: bool) -> RowPart
     requires i { i ≤ counted.values }
     requires j { j ≤ counted.threshold }
-    requires room { counted.node + 1 + (counted.values * counted.size + counted.values *
-        counted.threshold) < 2 ^ 32 }
+    requires room { end_of counted < 2 ^ 32 }
     ensures { part_of result ≡ counter_part (lit counted.node)
         (counted_literal counted.node counted.values counted.size) counted.values counted.threshold
         i j sign }
@@ -97,8 +95,7 @@ pub(crate) fn push_count(
     counted: Counted,
     at_most: bool,
 ) -> Result<(), AllocError>
-    requires room { counted.node + 1 + (counted.values * counted.size + counted.values *
-        counted.threshold) < 2 ^ 32 }
+    requires room { end_of counted < 2 ^ 32 }
     ensures { OnOk result (store.new ≡ store.old ++ count_clauses counted.node counted.values
         counted.size (Count at_most counted.values counted.threshold)) }
 {
@@ -121,8 +118,7 @@ fn push_counter(
 ) -> Result<(), AllocError>
     requires i { i < counted.values }
     requires j { j < counted.threshold }
-    requires room { counted.node + 1 + (counted.values * counted.size + counted.values *
-        counted.threshold) < 2 ^ 32 }
+    requires room { end_of counted < 2 ^ 32 }
     ensures { OnOk result (store.new ≡ store.old ++ counter_clauses counted.node counted.values
         counted.size counted.threshold i j) }
 {
@@ -149,8 +145,7 @@ fn push_counters_of(
     i: u32,
 ) -> Result<(), AllocError>
     requires i { i < counted.values }
-    requires room { counted.node + 1 + (counted.values * counted.size + counted.values *
-        counted.threshold) < 2 ^ 32 }
+    requires room { end_of counted < 2 ^ 32 }
     ensures { OnOk result (store.new ≡ store.old ++
         flat_map (counter_clauses counted.node counted.values counted.size counted.threshold i)
         (range_with_len 0 counted.threshold)) }
@@ -167,8 +162,7 @@ pub(crate) fn push_counters(
     store: &mut ClauseStore,
     counted: Counted,
 ) -> Result<(), AllocError>
-    requires room { counted.node + 1 + (counted.values * counted.size + counted.values *
-        counted.threshold) < 2 ^ 32 }
+    requires room { end_of counted < 2 ^ 32 }
     ensures { OnOk result (store.new ≡ store.old ++ counters_clauses counted.node counted.values
         counted.size counted.threshold) }
 {

@@ -4,7 +4,7 @@ ghost use Rattle.pc_sheet.specs.Entailment.{cell_sizes};
 
 use crate::cells::Cells;
 use pc_logic::Book;
-use pc_sheet::{SortId, ValueId};
+use pc_sheet::{NodePath, SortId, ValueId};
 use std::alloc::Global;
 
 /// A book with the numbers of its pairs.
@@ -16,9 +16,17 @@ pub(crate) struct Grounding<'a> {
     ghost sized: { cells.now ≡ cell_sizes book.now.universe },
 }
 
-/// A quantifier's variable, by its sort, with the scope around the quantifier.
+/// Where a formula stands: the path to it, the values of the variables around it, and the variable of its node.
+#[derive(Clone, Copy)]
+pub(crate) struct Place<'a> {
+    pub(crate) path: &'a NodePath,
+    pub(crate) scope: &'a [(SortId, ValueId)],
+    pub(crate) first: u32,
+}
+
+/// Where a quantifier stands, with the sort of its variable.
 #[derive(Clone, Copy)]
 pub(crate) struct Binder<'a> {
-    pub(crate) scope: &'a [(SortId, ValueId)],
+    pub(crate) place: Place<'a>,
     pub(crate) sort: SortId,
 }

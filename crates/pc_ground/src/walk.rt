@@ -3,26 +3,24 @@
 //! Clauses, the names of variables and axioms, the groups that each axiom is of and the cells that each piece reads are made
 //! together, node by node. Above the pieces the walk goes from joint node to joint node; a piece's nodes all have one owner.
 ghost use Rattle.std.specs.Prelude.{◌≡◌, ◌+◌, ◌*◌, ◌^◌, ◌<◌, ◌≤◌, ◌++◌, ◌∷◌, [], true, OnOk, IfOk, map, length, sum, sum_by};
-ghost use Rattle.std.specs.List.{flat_map};
 ghost use Rattle.pc_sheet.specs.Limits.{most_depth, most_rules};
 ghost use Rattle.pc_sheet.specs.Cells.{values_below};
 ghost use Rattle.pc_sheet.specs.Sizes.{size_of};
 ghost use Rattle.pc_sheet.specs.Views.{statement_of, statements_of, rule_of};
 ghost use Rattle.pc_sheet.specs.WellSorted.{IsWellSorted};
-ghost use Rattle.pc_accept.specs.Literals.{node};
 ghost use Rattle.pc_axiom_names.specs.Listed.{no_names};
-ghost use Rattle.pc_parts.specs.Leaves.{cells_under};
-ghost use Rattle.pc_ground.specs.Variables.{count_nodes, count_all, nodes_of_rule, nodes_below, parts_below, nodes_from, pairs_from};
-ghost use Rattle.pc_ground.specs.Ground.{node_axioms, parts_axioms, rule_axioms, rules_axioms, cells_axioms};
-ghost use Rattle.pc_ground.specs.ByNumber.{lit, joined_clauses, roots, roots_of_values, node_clauses, parts_clauses, instances_clauses, rules_clauses, cells_clauses, IsSortedIn, AreSortedIn, AreSorted, AreRulesSorted};
-ghost use Rattle.pc_ground.specs.Naming.{name_of, named, own_names};
-ghost use Rattle.pc_ground.specs.Owners.{cells_times, piece_count, piece_count_of_parts, piece_count_of_rules, of_one, span, span_at, spans_of_children, spans, spans_of_parts, spans_of_values, spans_of_rules, no_groups};
-ghost use Rattle.pc_ground.specs.PieceCells.{piece_cells, piece_cells_of_parts, piece_cells_of_rules};
+ghost use Rattle.pc_ground.specs.Variables.{count_nodes, count_all, nodes_of_rule, nodes_below, nodes_from, pairs_from};
+ghost use Rattle.pc_ground.specs.Ground.{rule_axioms, rules_axioms, cells_axioms};
+ghost use Rattle.pc_ground.specs.ByNumber.{lit, joined_clauses, roots_of_values, node_clauses, rules_clauses, cells_clauses, IsSortedIn, AreSortedIn, AreSorted, AreRulesSorted};
+ghost use Rattle.pc_ground.specs.Naming.{name_of, named};
+ghost use Rattle.pc_ground.specs.Owners.{cells_times, piece_count, piece_count_of_parts, piece_count_of_rules, of_one, span, span_at, spans, spans_of_rules, no_groups};
+ghost use Rattle.pc_ground.specs.PieceCells.{piece_cells, piece_cells_of_rules};
+ghost use Rattle.pc_ground.specs.Places.{own_named, spot, value_spot, clauses_at, axioms_at, names_at, cells_at, spans_at, reads_at, clauses_of_parts, names_of_parts, owners_of_parts, reads_of_parts, own_joined, clauses_joined, names_joined, owners_joined, owners_of_joint, clauses_of_values, names_of_values, owners_of_values, reads_of_values, clauses_of_instances, names_of_instances, owners_of_instances};
 
 use crate::cells::Cells;
 use crate::clauses::literal;
 use crate::count::{count_nodes, count_pieces};
-use crate::grounding::{Binder, Grounding};
+use crate::grounding::{Binder, Grounding, Place};
 use crate::naming::child_path;
 use crate::nodes::Nodes;
 use crate::owners::{Span, own, own_cells, own_children, own_values};
@@ -82,38 +80,39 @@ impl Draft {
     }
 }
 
+/// How many instances a quantifier's body has, and how many nodes and pieces each of them.
+#[derive(Clone, Copy)]
+struct Instances {
+    values: usize,
+    nodes: u32,
+    pieces: u32,
+}
+
 impl Grounding<'_> {
-    /// Makes the piece of that number: its nodes, the first of which is `p`.
+    /// Makes the piece of that number: the formula's nodes.
     fn walk_piece(
         &self,
         draft: &mut Draft,
-        path: &NodePath,
-        scope: &[(SortId, ValueId)],
+        place: Place<'_>,
         formula: &Formula,
-        p: u32,
         piece: u32,
     ) -> Result<(), AllocError>
-        requires sorted { IsSortedIn self.now.book.now.universe (length scope.now)
+        requires sorted { IsSortedIn self.now.book.now.universe (length place.scope.now)
             (statement_of formula.now) }
-        requires room { p + count_nodes self.now.book.now.universe (statement_of formula.now) <
-            2 ^ 32 }
+        requires room { place.first + count_nodes self.now.book.now.universe
+            (statement_of formula.now) < 2 ^ 32 }
         ensures clauses { OnOk result (draft.new.nodes.clauses ≡ draft.old.nodes.clauses ++
-            node_clauses self.now.book.now.universe self.now.cells.now p scope.now
-            (statement_of formula.now)) }
-        ensures names { OnOk result (draft.new.nodes.names ≡ named draft.old.nodes.names
-            (nodes_below self.now.book.now.universe path.now.rule path.now.steps.items
-            (statement_of formula.now))
-            (map name_of (node_axioms self.now.book.now.universe path.now.rule path.now.steps.items
-            scope.now (statement_of formula.now)))) }
+            clauses_at self.now (spot place.entry) (statement_of formula.now)) }
+        ensures names { OnOk result (draft.new.nodes.names ≡ names_at self.now (spot place.entry)
+            (statement_of formula.now) draft.old.nodes.names) }
         ensures owners { OnOk result (draft.new.owners.items ≡ draft.old.owners.items ++
-            of_one piece (node_axioms self.now.book.now.universe path.now.rule path.now.steps.items
-            scope.now (statement_of formula.now))) }
+            of_one piece (axioms_at self.now (spot place.entry) (statement_of formula.now))) }
         ensures reads { OnOk result (draft.new.reads ≡ draft.old.reads ++
-            cells_under self.now.book.now.universe scope.now (statement_of formula.now) ∷ []) }
+            cells_at self.now (spot place.entry) (statement_of formula.now) ∷ []) }
     {
         let before = draft.nodes.clauses.len();
         let mut cells = Vec::new(self.alloc);
-        self.add_formula(&mut draft.nodes, &mut cells, path, scope, formula, p)?;
+        self.add_formula(&mut draft.nodes, &mut cells, place, formula)?;
         let count = draft.nodes.clauses.len() - before;
         draft.reads.push(&cells)?;
         let span = Span {
@@ -123,51 +122,44 @@ impl Grounding<'_> {
         own(&mut draft.owners, count, span)
     }
 
-    /// Makes the formula's nodes, the first of which is `p`, and its pieces, the first of which is `piece`.
+    /// Makes the formula's nodes, and its pieces, the first of which is `piece`.
     #[cycle(walk)]
     fn walk(
         &self,
         draft: &mut Draft,
-        path: &NodePath,
-        scope: &[(SortId, ValueId)],
+        place: Place<'_>,
         formula: &Formula,
-        p: u32,
         piece: u32,
     ) -> Result<(), AllocError>
-        requires sorted { IsSortedIn self.now.book.now.universe (length scope.now)
+        requires sorted { IsSortedIn self.now.book.now.universe (length place.scope.now)
             (statement_of formula.now) }
-        requires room { p + count_nodes self.now.book.now.universe (statement_of formula.now) <
-            2 ^ 32 }
+        requires room { place.first + count_nodes self.now.book.now.universe
+            (statement_of formula.now) < 2 ^ 32 }
         requires pieces { piece + piece_count self.now.book.now.universe
             (statement_of formula.now) < 2 ^ 32 }
         ensures clauses { OnOk result (draft.new.nodes.clauses ≡ draft.old.nodes.clauses ++
-            node_clauses self.now.book.now.universe self.now.cells.now p scope.now
-            (statement_of formula.now)) }
-        ensures names { OnOk result (draft.new.nodes.names ≡ named draft.old.nodes.names
-            (nodes_below self.now.book.now.universe path.now.rule path.now.steps.items
-            (statement_of formula.now))
-            (map name_of (node_axioms self.now.book.now.universe path.now.rule path.now.steps.items
-            scope.now (statement_of formula.now)))) }
+            clauses_at self.now (spot place.entry) (statement_of formula.now)) }
+        ensures names { OnOk result (draft.new.nodes.names ≡ names_at self.now (spot place.entry)
+            (statement_of formula.now) draft.old.nodes.names) }
         ensures owners { OnOk result (draft.new.owners.items ≡ draft.old.owners.items ++
-            spans self.now.book.now.universe piece path.now.rule path.now.steps.items scope.now
-            (statement_of formula.now)) }
+            spans_at self.now (spot place.entry) (statement_of formula.now) piece) }
         ensures reads { OnOk result (draft.new.reads ≡ draft.old.reads ++
-            piece_cells self.now.book.now.universe scope.now (statement_of formula.now)) }
+            reads_at self.now (spot place.entry) (statement_of formula.now)) }
     {
         match formula {
-            Formula::Compare { .. } => self.walk_piece(draft, path, scope, formula, p, piece),
-            Formula::InTable { .. } => self.walk_piece(draft, path, scope, formula, p, piece),
-            Formula::Not(_) => self.walk_piece(draft, path, scope, formula, p, piece),
-            Formula::And(parts) => self.walk_joint(draft, path, scope, parts, p, piece),
-            Formula::Or(_) => self.walk_piece(draft, path, scope, formula, p, piece),
-            Formula::Implies(_, _) => self.walk_piece(draft, path, scope, formula, p, piece),
-            Formula::Iff(_, _) => self.walk_piece(draft, path, scope, formula, p, piece),
+            Formula::Compare { .. } => self.walk_piece(draft, place, formula, piece),
+            Formula::InTable { .. } => self.walk_piece(draft, place, formula, piece),
+            Formula::Not(_) => self.walk_piece(draft, place, formula, piece),
+            Formula::And(parts) => self.walk_joint(draft, place, parts, piece),
+            Formula::Or(_) => self.walk_piece(draft, place, formula, piece),
+            Formula::Implies(_, _) => self.walk_piece(draft, place, formula, piece),
+            Formula::Iff(_, _) => self.walk_piece(draft, place, formula, piece),
             Formula::ForAll { sort, body, .. } => {
-                let binder = Binder { scope, sort: *sort };
-                self.walk_universal(draft, path, binder, body, p, piece)
+                let binder = Binder { place, sort: *sort };
+                self.walk_universal(draft, binder, body, piece)
             }
-            Formula::Exists { .. } => self.walk_piece(draft, path, scope, formula, p, piece),
-            Formula::Count { .. } => self.walk_piece(draft, path, scope, formula, p, piece),
+            Formula::Exists { .. } => self.walk_piece(draft, place, formula, piece),
+            Formula::Count { .. } => self.walk_piece(draft, place, formula, piece),
         }
     }
 
@@ -175,33 +167,29 @@ impl Grounding<'_> {
     fn open_joint(
         &self,
         draft: &mut Draft,
-        path: &NodePath,
+        place: Place<'_>,
         parts: &[Formula],
-        p: u32,
         piece: u32,
     ) -> Result<(), AllocError>
         requires sorted { AreSorted self.now.book.now.universe
             (statements_of (map statement_of parts.now)) }
         requires few { length parts.now < 4194304 }
-        requires room { p + 1 + count_all self.now.book.now.universe
+        requires room { place.first + 1 + count_all self.now.book.now.universe
             (statements_of (map statement_of parts.now)) < 2 ^ 32 }
         requires pieces { piece + piece_count_of_parts self.now.book.now.universe
             (statements_of (map statement_of parts.now)) < 2 ^ 32 }
         ensures clauses { OnOk result (draft.new.nodes.clauses ≡ draft.old.nodes.clauses ++
-            joined_clauses p true
-            (roots self.now.book.now.universe (p + 1)
-            (statements_of (map statement_of parts.now)))) }
-        ensures names { OnOk result (draft.new.nodes.names ≡ named draft.old.nodes.names
-            (node path.now.rule path.now.steps.items ∷ [])
-            (own_names path.now.rule path.now.steps.items (length parts.now + 1))) }
+            own_joined self.now.book.now.universe place.entry
+            (statements_of (map statement_of parts.now)) true) }
+        ensures names { OnOk result (draft.new.nodes.names ≡
+            own_named place.entry.path.now (length parts.now + 1) draft.old.nodes.names) }
         ensures owners { OnOk result (draft.new.owners.items ≡ draft.old.owners.items ++
-            (spans_of_children self.now.book.now.universe piece
-            (statements_of (map statement_of parts.now)) ++ no_groups piece ∷ [])) }
+            owners_joined self.now place.entry (statements_of (map statement_of parts.now)) piece) }
         ensures reads { draft.new.reads ≡ draft.old.reads }
     {
         draft
             .nodes
-            .add_all(self.alloc, self.book, path, parts, true, p)?;
+            .add_all(self.alloc, self.book, place, parts, true)?;
         own_children(&mut draft.owners, self.book, parts, piece)?;
         draft.owners.push(Span {
             first: piece,
@@ -215,113 +203,101 @@ impl Grounding<'_> {
     fn walk_joint(
         &self,
         draft: &mut Draft,
-        path: &NodePath,
-        scope: &[(SortId, ValueId)],
+        place: Place<'_>,
         parts: &[Formula],
-        p: u32,
         piece: u32,
     ) -> Result<(), AllocError>
-        requires sorted { AreSortedIn self.now.book.now.universe (length scope.now)
+        requires sorted { AreSortedIn self.now.book.now.universe (length place.scope.now)
             (statements_of (map statement_of parts.now)) }
         requires few { length parts.now < 4194304 }
-        requires room { p + 1 + count_all self.now.book.now.universe
+        requires room { place.first + 1 + count_all self.now.book.now.universe
             (statements_of (map statement_of parts.now)) < 2 ^ 32 }
         requires pieces { piece + piece_count_of_parts self.now.book.now.universe
             (statements_of (map statement_of parts.now)) < 2 ^ 32 }
         ensures clauses { OnOk result (draft.new.nodes.clauses ≡ draft.old.nodes.clauses ++
-            (joined_clauses p true (roots self.now.book.now.universe (p + 1)
-            (statements_of (map statement_of parts.now))) ++
-            parts_clauses self.now.book.now.universe self.now.cells.now (p + 1) scope.now
-            (statements_of (map statement_of parts.now)))) }
-        ensures names { OnOk result (draft.new.nodes.names ≡ named draft.old.nodes.names
-            (node path.now.rule path.now.steps.items ∷ parts_below self.now.book.now.universe
-            path.now.rule path.now.steps.items 0 (statements_of (map statement_of parts.now)))
-            (own_names path.now.rule path.now.steps.items (length parts.now + 1) ++
-            map name_of (parts_axioms self.now.book.now.universe path.now.rule path.now.steps.items
-            scope.now 0 (statements_of (map statement_of parts.now))))) }
+            clauses_joined self.now place.entry (statements_of (map statement_of parts.now))
+            true) }
+        ensures names { OnOk result (draft.new.nodes.names ≡
+            names_joined self.now place.entry (statements_of (map statement_of parts.now))
+            (length parts.now) draft.old.nodes.names) }
         ensures owners { OnOk result (draft.new.owners.items ≡ draft.old.owners.items ++
-            ((spans_of_children self.now.book.now.universe piece
-            (statements_of (map statement_of parts.now)) ++ no_groups piece ∷ []) ++
-            spans_of_parts self.now.book.now.universe piece path.now.rule path.now.steps.items
-            scope.now 0 (statements_of (map statement_of parts.now)))) }
-        ensures reads { OnOk result (draft.new.reads ≡ draft.old.reads ++ piece_cells_of_parts
-            self.now.book.now.universe scope.now (statements_of (map statement_of parts.now))) }
+            owners_of_joint self.now place.entry (statements_of (map statement_of parts.now))
+            piece) }
+        ensures reads { OnOk result (draft.new.reads ≡ draft.old.reads ++
+            reads_of_parts self.now place.entry (statements_of (map statement_of parts.now))) }
     {
-        self.open_joint(draft, path, parts, p, piece)?;
-        self.walk_parts(draft, path, scope, parts, p + 1, piece)?;
+        self.open_joint(draft, place, parts, piece)?;
+        self.walk_parts(draft, place, parts, piece)?;
         Ok(())
     }
 
-    /// Makes the parts of a joint conjunction.
+    /// Makes the parts of the joint conjunction that stands there.
     #[cycle(walk)]
     fn walk_parts(
         &self,
         draft: &mut Draft,
-        path: &NodePath,
-        scope: &[(SortId, ValueId)],
+        place: Place<'_>,
         parts: &[Formula],
-        first: u32,
         piece: u32,
     ) -> Result<(), AllocError>
-        requires sorted { AreSortedIn self.now.book.now.universe (length scope.now)
+        requires sorted { AreSortedIn self.now.book.now.universe (length place.scope.now)
             (statements_of (map statement_of parts.now)) }
         requires few { length parts.now < 4194304 }
-        requires room { first + count_all self.now.book.now.universe
+        requires room { place.first + 1 + count_all self.now.book.now.universe
             (statements_of (map statement_of parts.now)) < 2 ^ 32 }
         requires pieces { piece + piece_count_of_parts self.now.book.now.universe
             (statements_of (map statement_of parts.now)) < 2 ^ 32 }
         ensures clauses { OnOk result (draft.new.nodes.clauses ≡ draft.old.nodes.clauses ++
-            parts_clauses self.now.book.now.universe self.now.cells.now first scope.now
-            (statements_of (map statement_of parts.now))) }
-        ensures names { OnOk result (draft.new.nodes.names ≡ named draft.old.nodes.names
-            (parts_below self.now.book.now.universe path.now.rule path.now.steps.items 0
-            (statements_of (map statement_of parts.now)))
-            (map name_of (parts_axioms self.now.book.now.universe path.now.rule path.now.steps.items
-            scope.now 0 (statements_of (map statement_of parts.now))))) }
+            clauses_of_parts self.now place.entry (statements_of (map statement_of parts.now))) }
+        ensures names { OnOk result (draft.new.nodes.names ≡ names_of_parts self.now place.entry
+            (statements_of (map statement_of parts.now)) draft.old.nodes.names) }
         ensures owners { OnOk result (draft.new.owners.items ≡ draft.old.owners.items ++
-            spans_of_parts self.now.book.now.universe piece path.now.rule path.now.steps.items
-            scope.now 0 (statements_of (map statement_of parts.now))) }
-        ensures reads { OnOk result (draft.new.reads ≡ draft.old.reads ++ piece_cells_of_parts
-            self.now.book.now.universe scope.now (statements_of (map statement_of parts.now))) }
+            owners_of_parts self.now place.entry (statements_of (map statement_of parts.now))
+            piece) }
+        ensures reads { OnOk result (draft.new.reads ≡ draft.old.reads ++
+            reads_of_parts self.now place.entry (statements_of (map statement_of parts.now))) }
     {
-        let mut next = first;
+        let mut next = place.first + 1;
         let mut at = piece;
         for (k, part) in parts.iter().enumerate() {
-            let child = child_path(self.alloc, path, k as u32)?;
-            self.walk(draft, &child, scope, part, next, at)?;
+            let path = child_path(self.alloc, place.path, k as u32)?;
+            let child = Place {
+                path: &path,
+                scope: place.scope,
+                first: next,
+            };
+            self.walk(draft, child, part, at)?;
             next += count_nodes(self.book, part);
             at += count_pieces(self.book, part);
         }
         Ok(())
     }
 
-    /// Makes a joint quantifier's own node, where its body has `count` nodes and `pieces` pieces.
+    /// Makes a joint quantifier's own node.
     fn open_universal(
         &self,
         draft: &mut Draft,
-        path: &NodePath,
-        size: usize,
-        count: u32,
-        pieces: u32,
-        p: u32,
+        place: Place<'_>,
+        each: Instances,
         piece: u32,
     ) -> Result<(), AllocError>
-        requires few { size ≤ 65536 }
-        requires room { p + 1 + size * count < 2 ^ 32 }
-        requires pieces { piece + size * pieces < 2 ^ 32 }
+        requires few { each.values ≤ 65536 }
+        requires room { place.first + 1 + each.values * each.nodes < 2 ^ 32 }
+        requires pieces { piece + each.values * each.pieces < 2 ^ 32 }
         ensures clauses { OnOk result (draft.new.nodes.clauses ≡ draft.old.nodes.clauses ++
-            joined_clauses p true (roots_of_values (p + 1) count size)) }
-        ensures names { OnOk result (draft.new.nodes.names ≡ named draft.old.nodes.names
-            (node path.now.rule path.now.steps.items ∷ [])
-            (own_names path.now.rule path.now.steps.items (size + 1))) }
+            joined_clauses place.entry.first true
+            (roots_of_values (place.entry.first + 1) each.nodes each.values)) }
+        ensures names { OnOk result (draft.new.nodes.names ≡
+            own_named place.entry.path.now (each.values + 1) draft.old.nodes.names) }
         ensures owners { OnOk result (draft.new.owners.items ≡ draft.old.owners.items ++
-            (map (span_at piece pieces) (values_below size) ++ no_groups piece ∷ [])) }
+            (map (span_at piece each.pieces) (values_below each.values) ++
+            no_groups piece ∷ [])) }
         ensures reads { draft.new.reads ≡ draft.old.reads }
     {
         draft
             .nodes
-            .add_each(self.alloc, path, size, count, true, p)?;
-        own_values(&mut draft.owners, piece, pieces, size)?;
+            .add_each(self.alloc, place, each.values, each.nodes, true)?;
+        own_values(&mut draft.owners, piece, each.pieces, each.values)?;
         draft.owners.push(Span {
             first: piece,
             count: 0,
@@ -334,59 +310,43 @@ impl Grounding<'_> {
     fn walk_universal(
         &self,
         draft: &mut Draft,
-        path: &NodePath,
         binder: Binder<'_>,
         body: &Formula,
-        p: u32,
         piece: u32,
     ) -> Result<(), AllocError>
         requires sort { binder.sort.0 < length self.now.book.now.universe.sorts }
-        requires depth { length binder.scope.now < most_depth }
-        requires sorted { IsSortedIn self.now.book.now.universe (length binder.scope.now + 1)
+        requires depth { length binder.place.scope.now < most_depth }
+        requires sorted { IsSortedIn self.now.book.now.universe (length binder.place.scope.now + 1)
             (statement_of body.now) }
-        requires room { p + 1 + size_of self.now.book.now.universe binder.sort *
+        requires room { binder.place.first + 1 + size_of self.now.book.now.universe binder.sort *
             count_nodes self.now.book.now.universe (statement_of body.now) < 2 ^ 32 }
         requires pieces { piece + size_of self.now.book.now.universe binder.sort *
             piece_count self.now.book.now.universe (statement_of body.now) < 2 ^ 32 }
         ensures clauses { OnOk result (draft.new.nodes.clauses ≡ draft.old.nodes.clauses ++
-            (joined_clauses p true
-            (roots_of_values (p + 1)
-            (count_nodes self.now.book.now.universe (statement_of body.now))
-            (size_of self.now.book.now.universe binder.entry.sort)) ++
-            instances_clauses self.now.book.now.universe self.now.cells.now (p + 1)
-            binder.entry.scope.now binder.entry.sort (statement_of body.now)
-            (size_of self.now.book.now.universe binder.entry.sort))) }
-        ensures names { OnOk result (draft.new.nodes.names ≡ named draft.old.nodes.names
-            (node path.now.rule path.now.steps.items ∷
-            flat_map (λ v. nodes_below self.now.book.now.universe path.now.rule
-            (path.now.steps.items ++ v.0 ∷ []) (statement_of body.now))
-            (values_below (size_of self.now.book.now.universe binder.entry.sort)))
-            (own_names path.now.rule path.now.steps.items
-            (size_of self.now.book.now.universe binder.entry.sort + 1) ++
-            map name_of
-            (flat_map (λ v. node_axioms self.now.book.now.universe path.now.rule
-            (path.now.steps.items ++ v.0 ∷ []) (binder.entry.scope.now ++ (binder.entry.sort, v) ∷
-            []) (statement_of body.now))
-            (values_below (size_of self.now.book.now.universe binder.entry.sort))))) }
+            clauses_of_instances self.now binder.entry (statement_of body.now) true) }
+        ensures names { OnOk result (draft.new.nodes.names ≡ names_of_instances self.now
+            binder.entry (statement_of body.now) draft.old.nodes.names) }
         ensures owners { OnOk result (draft.new.owners.items ≡ draft.old.owners.items ++
-            ((map (span_at piece (piece_count self.now.book.now.universe (statement_of body.now)))
-            (values_below (size_of self.now.book.now.universe binder.entry.sort)) ++
-            no_groups piece ∷ []) ++ spans_of_values self.now.book.now.universe piece path.now.rule
-            path.now.steps.items binder.entry.scope.now binder.entry.sort (statement_of body.now)
-            (size_of self.now.book.now.universe binder.entry.sort))) }
+            owners_of_instances self.now binder.entry (statement_of body.now) piece) }
         ensures reads { OnOk result (draft.new.reads ≡ draft.old.reads ++
-            flat_map (λ v. piece_cells self.now.book.now.universe (binder.entry.scope.now ++
-            (binder.entry.sort, v) ∷ []) (statement_of body.now))
-            (values_below (size_of self.now.book.now.universe binder.entry.sort))) }
+            reads_of_values self.now binder.entry (statement_of body.now)) }
     {
-        let size = self.book.size_of(binder.sort);
-        if size == 0 {
-            return self.open_universal(draft, path, 0, 0, 0, p, piece);
+        let values = self.book.size_of(binder.sort);
+        if values == 0 {
+            let none = Instances {
+                values: 0,
+                nodes: 0,
+                pieces: 0,
+            };
+            return self.open_universal(draft, binder.place, none, piece);
         }
-        let count = count_nodes(self.book, body);
-        let pieces = count_pieces(self.book, body);
-        self.open_universal(draft, path, size, count, pieces, p, piece)?;
-        self.walk_values(draft, path, binder, body, p + 1, piece)?;
+        let each = Instances {
+            values,
+            nodes: count_nodes(self.book, body),
+            pieces: count_pieces(self.book, body),
+        };
+        self.open_universal(draft, binder.place, each, piece)?;
+        self.walk_values(draft, binder, body, piece)?;
         Ok(())
     }
 
@@ -395,101 +355,79 @@ impl Grounding<'_> {
     fn walk_values(
         &self,
         draft: &mut Draft,
-        path: &NodePath,
         binder: Binder<'_>,
         body: &Formula,
-        first: u32,
         piece: u32,
     ) -> Result<(), AllocError>
         requires sort { binder.sort.0 < length self.now.book.now.universe.sorts }
         requires some { 0 < size_of self.now.book.now.universe binder.sort }
-        requires depth { length binder.scope.now < most_depth }
-        requires sorted { IsSortedIn self.now.book.now.universe (length binder.scope.now + 1)
+        requires depth { length binder.place.scope.now < most_depth }
+        requires sorted { IsSortedIn self.now.book.now.universe (length binder.place.scope.now + 1)
             (statement_of body.now) }
-        requires room { first + size_of self.now.book.now.universe binder.sort *
+        requires room { binder.place.first + 1 + size_of self.now.book.now.universe binder.sort *
             count_nodes self.now.book.now.universe (statement_of body.now) < 2 ^ 32 }
         requires pieces { piece + size_of self.now.book.now.universe binder.sort *
             piece_count self.now.book.now.universe (statement_of body.now) < 2 ^ 32 }
         ensures clauses { OnOk result (draft.new.nodes.clauses ≡ draft.old.nodes.clauses ++
-            instances_clauses self.now.book.now.universe self.now.cells.now first
-            binder.entry.scope.now binder.entry.sort (statement_of body.now)
-            (size_of self.now.book.now.universe binder.entry.sort)) }
-        ensures names { OnOk result (draft.new.nodes.names ≡ named draft.old.nodes.names
-            (flat_map (λ v. nodes_below self.now.book.now.universe path.now.rule
-            (path.now.steps.items ++ v.0 ∷ []) (statement_of body.now))
-            (values_below (size_of self.now.book.now.universe binder.entry.sort)))
-            (map name_of
-            (flat_map (λ v. node_axioms self.now.book.now.universe path.now.rule
-            (path.now.steps.items ++ v.0 ∷ []) (binder.entry.scope.now ++ (binder.entry.sort, v) ∷
-            []) (statement_of body.now))
-            (values_below (size_of self.now.book.now.universe binder.entry.sort))))) }
+            clauses_of_values self.now binder.entry (statement_of body.now)) }
+        ensures names { OnOk result (draft.new.nodes.names ≡ names_of_values self.now
+            binder.entry (statement_of body.now) draft.old.nodes.names) }
         ensures owners { OnOk result (draft.new.owners.items ≡ draft.old.owners.items ++
-            spans_of_values self.now.book.now.universe piece path.now.rule path.now.steps.items
-            binder.entry.scope.now binder.entry.sort (statement_of body.now)
-            (size_of self.now.book.now.universe binder.entry.sort)) }
+            owners_of_values self.now binder.entry (statement_of body.now) piece) }
         ensures reads { OnOk result (draft.new.reads ≡ draft.old.reads ++
-            flat_map (λ v. piece_cells self.now.book.now.universe (binder.entry.scope.now ++
-            (binder.entry.sort, v) ∷ []) (statement_of body.now))
-            (values_below (size_of self.now.book.now.universe binder.entry.sort))) }
+            reads_of_values self.now binder.entry (statement_of body.now)) }
     {
         let count = count_nodes(self.book, body);
         let pieces = count_pieces(self.book, body);
-        let mut next = first;
+        let mut next = binder.place.first + 1;
         let mut at = piece;
         for v in 0..self.book.size_of(binder.sort) {
-            self.walk_value(draft, path, binder, ValueId(v as u16), body, next, at)?;
+            let value = (binder.sort, ValueId(v as u16));
+            let place = Place {
+                first: next,
+                ..binder.place
+            };
+            self.walk_value(draft, place, value, body, at)?;
             next += count;
             at += pieces;
         }
         Ok(())
     }
 
-    /// Makes the body under that value.
+    /// Makes the body of the joint quantifier that stands there, whose variable has that value.
     #[cycle(walk)]
     fn walk_value(
         &self,
         draft: &mut Draft,
-        path: &NodePath,
-        binder: Binder<'_>,
-        value: ValueId,
+        place: Place<'_>,
+        value: (SortId, ValueId),
         body: &Formula,
-        p: u32,
         piece: u32,
     ) -> Result<(), AllocError>
-        requires depth { length binder.scope.now < most_depth }
-        requires sorted { IsSortedIn self.now.book.now.universe (length binder.scope.now + 1)
+        requires depth { length place.scope.now < most_depth }
+        requires sorted { IsSortedIn self.now.book.now.universe (length place.scope.now + 1)
             (statement_of body.now) }
-        requires room { p + count_nodes self.now.book.now.universe (statement_of body.now) <
-            2 ^ 32 }
+        requires room { place.first + count_nodes self.now.book.now.universe
+            (statement_of body.now) < 2 ^ 32 }
         requires pieces { piece + piece_count self.now.book.now.universe (statement_of body.now) <
             2 ^ 32 }
         ensures clauses { OnOk result (draft.new.nodes.clauses ≡ draft.old.nodes.clauses ++
-            node_clauses self.now.book.now.universe self.now.cells.now p (binder.entry.scope.now ++
-            (binder.entry.sort, value) ∷ []) (statement_of body.now)) }
-        ensures names { OnOk result (draft.new.nodes.names ≡ named draft.old.nodes.names
-            (nodes_below self.now.book.now.universe path.now.rule (path.now.steps.items ++ value.0 ∷
-            []) (statement_of body.now))
-            (map name_of (node_axioms self.now.book.now.universe path.now.rule
-            (path.now.steps.items ++ value.0 ∷ []) (binder.entry.scope.now ++
-            (binder.entry.sort, value) ∷ []) (statement_of body.now)))) }
+            clauses_at self.now (value_spot place.entry value) (statement_of body.now)) }
+        ensures names { OnOk result (draft.new.nodes.names ≡ names_at self.now
+            (value_spot place.entry value) (statement_of body.now) draft.old.nodes.names) }
         ensures owners { OnOk result (draft.new.owners.items ≡ draft.old.owners.items ++
-            spans self.now.book.now.universe piece path.now.rule (path.now.steps.items ++ value.0 ∷
-            []) (binder.entry.scope.now ++ (binder.entry.sort, value) ∷ [])
-            (statement_of body.now)) }
+            spans_at self.now (value_spot place.entry value) (statement_of body.now) piece) }
         ensures reads { OnOk result (draft.new.reads ≡ draft.old.reads ++
-            piece_cells self.now.book.now.universe (binder.entry.scope.now ++
-            (binder.entry.sort, value) ∷ []) (statement_of body.now)) }
+            reads_at self.now (value_spot place.entry value) (statement_of body.now)) }
     {
-        let child = child_path(self.alloc, path, u32::from(value.0))?;
-        let inner = extended(binder.scope, binder.sort, value);
-        self.walk(
-            draft,
-            &child,
-            &inner[..binder.scope.len() + 1],
-            body,
-            p,
-            piece,
-        )
+        let path = child_path(self.alloc, place.path, u32::from(value.1.0))?;
+        let inner = extended(place.scope, value.0, value.1);
+        let instance = Place {
+            path: &path,
+            scope: &inner[..place.scope.len() + 1],
+            first: place.first,
+        };
+        self.walk(draft, instance, body, piece)
     }
 
     /// Makes a rule.
@@ -526,11 +464,16 @@ impl Grounding<'_> {
             first: piece,
             count,
         })?;
-        let root = NodePath {
+        let path = NodePath {
             rule: r,
             steps: Vec::new(self.alloc),
         };
-        self.walk(draft, &root, &[], &rule.formula, p, piece)
+        let root = Place {
+            path: &path,
+            scope: &[],
+            first: p,
+        };
+        self.walk(draft, root, &rule.formula, piece)
     }
 
     /// Makes the rules, whose nodes begin with the variable `first`, and their pieces with the group `piece`.

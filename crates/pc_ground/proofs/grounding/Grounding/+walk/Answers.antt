@@ -14,31 +14,31 @@ pub walk-walk_joint-requires : goal.walk-walk_joint-requires
 walk-walk_joint-requires t c =
     let u = c.args.self.now.book.now.universe in
     let fs = c.deref.result.now in
-    let h = parts_of_and u (length c.args.scope.now) c.args.formula.now c.in-And.parts fs c.in-And.is c.deref.ensures.value c.requires.sorted in
+    let h = parts_of_and u (length c.args.place.scope.now) c.args.formula.now c.in-And.parts fs c.in-And.is c.deref.ensures.value c.requires.sorted in
     let e = and_is c.args.formula.now c.in-And.parts c.in-And.is ∙ ap (λ gs. all_of (statements_of (map statement_of gs))) (sym c.deref.ensures.value) in
     let ss = statements_of (map statement_of fs) in
-    (search (rules, the_lemmas), (h.sorted, (h.few, (joint_room u (statement_of c.args.formula.now) ss c.args.p e c.requires.room, joint_pieces u (statement_of c.args.formula.now) ss c.args.piece e c.requires.pieces))))
+    (search (rules, the_lemmas), (h.sorted, (h.few, (joint_room u (statement_of c.args.formula.now) ss c.args.place.first e c.requires.room, joint_pieces u (statement_of c.args.formula.now) ss c.args.piece e c.requires.pieces))))
 
 pub walk-returns-in-And-clause-names : goal.walk-returns-in-And-clause-names
 walk-returns-in-And-clause-names t c =
     let fs = c.deref.result.now in
     let e = and_is c.args.formula.now c.in-And.parts c.in-And.is ∙ ap (λ gs. all_of (statements_of (map statement_of gs))) (sym c.deref.ensures.value) in
-    on_ok_weaker c.walk_joint.result (joint_named c.args.self.now.book.now.universe c.args.path.now.rule c.args.path.now.steps.items c.args.scope.now c.args.draft.now.nodes.names c.walk_joint.new.draft.nodes.names (statement_of c.args.formula.now) fs e) c.walk_joint.ensures.names
+    on_ok_weaker c.walk_joint.result (joint_named c.args.self.now.book.now.universe c.args.place.path.now.rule c.args.place.path.now.steps.items c.args.place.scope.now c.args.draft.now.nodes.names c.walk_joint.new.draft.nodes.names (statement_of c.args.formula.now) fs e) c.walk_joint.ensures.names
 
 pub walk-returns-in-ForAll-clause-names : goal.walk-returns-in-ForAll-clause-names
 walk-returns-in-ForAll-clause-names t c =
     let body = c.deref-in-ForAll.result.now in
     let e = for_all_is c.args.formula.now c.in-ForAll.name c.in-ForAll.sort c.in-ForAll.body body c.in-ForAll.is c.deref-in-ForAll.ensures in
-    on_ok_weaker c.walk_universal.result (universal_named c.args.self.now.book.now.universe c.args.path.now.rule c.args.path.now.steps.items c.args.scope.now c.args.draft.now.nodes.names c.walk_universal.new.draft.nodes.names (statement_of c.args.formula.now) (statement_of body) c.in-ForAll.name c.in-ForAll.sort e) c.walk_universal.ensures.names
+    on_ok_weaker c.walk_universal.result (universal_named c.args.self.now.book.now.universe c.args.place.path.now.rule c.args.place.path.now.steps.items c.args.place.scope.now c.args.draft.now.nodes.names c.walk_universal.new.draft.nodes.names (statement_of c.args.formula.now) (statement_of body) c.in-ForAll.name c.in-ForAll.sort e) c.walk_universal.ensures.names
 
 pub walk-returns-in-ForAll-clause-owners : goal.walk-returns-in-ForAll-clause-owners
 walk-returns-in-ForAll-clause-owners t c =
     let body = c.deref-in-ForAll.result.now in
     let e = for_all_is c.args.formula.now c.in-ForAll.name c.in-ForAll.sort c.in-ForAll.body body c.in-ForAll.is c.deref-in-ForAll.ensures in
-    on_ok_weaker c.walk_universal.result (λ so. so ∙ ap (λ s. c.args.draft.now.owners.items ++ spans c.args.self.now.book.now.universe c.args.piece c.args.path.now.rule c.args.path.now.steps.items c.args.scope.now s) (sym e)) c.walk_universal.ensures.owners
+    on_ok_weaker c.walk_universal.result (λ so. so ∙ ap (λ s. c.args.draft.now.owners.items ++ spans c.args.self.now.book.now.universe c.args.piece c.args.place.path.now.rule c.args.place.path.now.steps.items c.args.place.scope.now s) (sym e)) c.walk_universal.ensures.owners
 
 pub walk-returns-in-ForAll-clause-reads : goal.walk-returns-in-ForAll-clause-reads
 walk-returns-in-ForAll-clause-reads t c =
     let body = c.deref-in-ForAll.result.now in
     let e = for_all_is c.args.formula.now c.in-ForAll.name c.in-ForAll.sort c.in-ForAll.body body c.in-ForAll.is c.deref-in-ForAll.ensures in
-    on_ok_weaker c.walk_universal.result (λ so. so ∙ ap (λ s. c.args.draft.now.reads ++ piece_cells c.args.self.now.book.now.universe c.args.scope.now s) (sym e)) c.walk_universal.ensures.reads
+    on_ok_weaker c.walk_universal.result (λ so. so ∙ ap (λ s. c.args.draft.now.reads ++ piece_cells c.args.self.now.book.now.universe c.args.place.scope.now s) (sym e)) c.walk_universal.ensures.reads
