@@ -1,10 +1,11 @@
 //! Asking a book's entries whether a formula is so.
-ghost use Rattle.std.specs.Prelude.{◌≡◌, ◌<◌, ◌≤◌, ◌+◌, ◌*◌, ◌^◌, [], All, IfErr, IfOk, ℕ};
-ghost use Rattle.pc_sheet.specs.Sheet.{Statement};
+ghost use Rattle.std.specs.Prelude.{◌≡◌, ◌<◌, ◌≤◌, ◌+◌, ◌*◌, ◌^◌, List, [], All, IfErr, IfOk, ℕ};
+ghost use Rattle.pc_sheet.specs.Sheet.{Sheet, Statement};
 ghost use Rattle.pc_sheet.specs.Limits.{most_weight};
 ghost use Rattle.pc_sheet.specs.Weight.{weight};
 ghost use Rattle.pc_accept.specs.Asked.{asked};
 ghost use Rattle.pc_ground.specs.Grounded.{grounded};
+ghost use Rattle.pc_log.specs.Lines.{LogLine};
 ghost use Rattle.pc_repairs.specs.Searches.{IsWholeSearch};
 ghost use Rattle.pc_solver.specs.Spending.{StopSays};
 ghost use Rattle.pc_ask.specs.Asking.{AreReadSizes, AskSays, AskStops, IsPartSearch};
@@ -16,7 +17,7 @@ use crate::candidates::{Candidates, find_candidates};
 use crate::finding::{Found, find};
 use crate::narrowing::Choosing;
 use crate::part::{Task, asked_part, axioms_over, part_solver};
-use pc_ground::{Ground, ground_book};
+use pc_ground::Ground;
 use pc_laws::different_sublists_are_ordered;
 use pc_lits::Tally;
 use pc_log::Log;
@@ -24,7 +25,7 @@ use pc_logic::{Book, few_entries, well_formed};
 use pc_problem::laws::parts_are_searched;
 use pc_solver::Stop;
 use pc_world_list::Choices;
-use std::alloc::Global;
+use std::alloc::{AllocError, Global};
 
 // Searches the asked book by its ground for what is asked about: the part alone that has what is asked.
 fn search_book<'a, 'b, C: Choices>(
@@ -74,21 +75,86 @@ fn search_book<'a, 'b, C: Choices>(
     Ok(found)
 }
 
-/// Whether the view's entries imply the formula that the last rule of the asked book denies: the asked book is the view's
-/// with that rule. Ok is the formula's least support with what a certificate of it is made of; `None` exactly where the formula
-/// isn't implied. Only the part with the last rule is searched, which ties the parts together that the formula reads. The log
-/// is empty before. Whatever is answered, tally and log have what was done.
-pub fn ask<C: Choices>(
+// What is answered by what was found, with a copy of the ground's names.
+fn answer_of(
+    alloc: Global,
+    ground: &Ground,
+    found: Option<Found>,
+) -> Result<Option<Answer>, AllocError>
+    ensures { (sheet : Sheet) (f : Statement) (log : List LogLine) →
+        ground.now ≡ grounded (asked sheet f) → SearchSays sheet f log found →
+        IfOk result (AskSays sheet f log) }
+{
+    match found {
+        None => Ok(None),
+        Some(
+            Found {
+                support,
+                shown,
+                last,
+            },
+        ) => {
+            let names = ground.names().copy(alloc)?;
+            Ok(Some(Answer {
+                support,
+                shown,
+                names,
+                last,
+            }))
+        }
+    }
+}
+
+// Answers by the ground of the asked book.
+fn ask_grounded<C: Choices>(
     alloc: Global,
     view: &C,
     book: &Book,
+    ground: &Ground,
     log: &mut Log,
     tally: &mut Tally,
 ) -> Result<Option<Answer>, AskStop>
+    requires ground { ground.now ≡ grounded book.now }
+    requires small { weight book.now ≤ most_weight }
+    requires literals { All (All (λ l. l.variable.0 < ground.now.variables)) ground.now.clauses }
     requires asked { (f : Statement) × (book.now ≡ asked (C.sheet view.now) f) }
     requires new_log { log.old ≡ [] }
     requires few_learned { tally.old.learned < 2 ^ 120 }
     requires few_calls { tally.old.calls < 2 ^ 120 }
+    ensures says { (f : Statement) → book.now ≡ asked (C.sheet view.now) f →
+        IfOk result (AskSays (C.sheet view.now) f log.new) }
+    ensures stop { IfErr result (AskStops book.now tally.new) }
+    ensures search { (f : Statement) (entries sets : ℕ) → book.now ≡ asked (C.sheet view.now) f →
+        AreReadSizes (C.sheet view.now) f entries sets →
+        IsWholeSearch book.now [] (sets * (entries + 2) + 1) tally.old tally.new log.new }
+    ensures whole { (most : ℕ) × IsWholeSearch book.now [] most tally.old tally.new log.new }
+    ensures part { (most : ℕ) × IsPartSearch book.now most tally.old tally.new log.new }
+{
+    let chosen = find_candidates(alloc, view, book, ground)?;
+    let found = search_book(alloc, view, book, ground, &chosen, log, tally)?;
+    let answer = answer_of(alloc, ground, found)?;
+    Ok(answer)
+}
+
+/// Whether the view's entries imply the formula that the last rule of the asked book denies: the asked book is the view's
+/// with that rule. Ok is the formula's least support with what a certificate of it is made of; `None` exactly where the formula
+/// isn't implied. Only the part with the last rule is searched, which ties the parts together that the formula reads. The log
+/// is empty before. Whatever is answered, tally and log have what was done. The ground is the view's: what the rule comes to is
+/// pushed on top of it, and taken away again.
+pub fn ask<C: Choices>(
+    alloc: Global,
+    view: &C,
+    book: &Book,
+    ground: &mut Ground,
+    log: &mut Log,
+    tally: &mut Tally,
+) -> Result<Option<Answer>, AskStop>
+    requires ground { ground.old ≡ grounded (C.sheet view.now) }
+    requires asked { (f : Statement) × (book.now ≡ asked (C.sheet view.now) f) }
+    requires new_log { log.old ≡ [] }
+    requires few_learned { tally.old.learned < 2 ^ 120 }
+    requires few_calls { tally.old.calls < 2 ^ 120 }
+    ensures same { ground.new ≡ ground.old }
     ensures says { (f : Statement) → book.now ≡ asked (C.sheet view.now) f →
         IfOk result (AskSays (C.sheet view.now) f log.new) }
     ensures large { IfOk result (λ _. weight book.now ≤ most_weight) }
@@ -99,21 +165,9 @@ pub fn ask<C: Choices>(
     ensures whole { (most : ℕ) × IsWholeSearch book.now [] most tally.old tally.new log.new }
     ensures part { (most : ℕ) × IsPartSearch book.now most tally.old tally.new log.new }
 {
-    let ground = ground_book(alloc, book)?;
-    let chosen = find_candidates(alloc, view, book, &ground)?;
-    match search_book(alloc, view, book, &ground, &chosen, log, tally)? {
-        None => Ok(None),
-        Some(
-            Found {
-                support,
-                shown,
-                last,
-            },
-        ) => Ok(Some(Answer {
-            support,
-            shown,
-            names: ground.into_names(),
-            last,
-        })),
-    }
+    let size = ground.size();
+    ground.push_rule(alloc, book)?;
+    let answer = ask_grounded(alloc, view, book, ground, log, tally);
+    ground.pop_rule(size);
+    answer
 }

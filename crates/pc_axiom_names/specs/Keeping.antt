@@ -1,5 +1,5 @@
 -- What names stand for that are kept by the places of their paths and reads.
-use Rattle.std.specs.Prelude.{◌≡◌, ℕ, ◌<◌, Option, Some, None, List, [], map, length, slice_get, slice_index_or}
+use Rattle.std.specs.Prelude.{◌≡◌, ℕ, ◌<◌, Option, Some, None, List, [], ◌∷◌, map, length, slice_get, slice_index_or}
 use Rattle.std.specs.List.{AllByRecursion}
 use Rattle.pc_sheet.specs.declared.nodes.NodePath.{NodePath}
 use Rattle.pc_sheet.specs.declared.ids.Entry.{Entry}
@@ -23,6 +23,13 @@ steps_of (Some p) = p.steps.items
 -- the path of that rule and those steps stands at that place
 abbrev pub IsPathAt : List NodePath → ℕ → ℕ → List ℕ → Type 0
 IsPathAt paths k rule steps = (k < length paths) × (rule_of (slice_get paths k) ≡ rule) × (steps_of (slice_get paths k) ≡ steps)
+
+-- the same rules and steps at each place
+abbrev pub ArePaths : List NodePath → List NodePath → Type 0
+ArePaths [] [] = Unit {0}
+ArePaths [] (q ∷ qs) = ⊥
+ArePaths (p ∷ ps) [] = ⊥
+ArePaths (p ∷ ps) (q ∷ qs) = (q.rule ≡ p.rule) × (q.steps.items ≡ p.steps.items) × ArePaths ps qs
 
 abbrev pub symbol_in : List NodePath → Stands → Symbol
 symbol_in paths (Pair c v) = pair c v

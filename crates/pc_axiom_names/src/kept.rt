@@ -1,14 +1,15 @@
 //! How names are kept: a path once for all names of its node that come one after another, reads in rows, and a name by
 //! its places among both.
-ghost use Rattle.std.specs.Prelude.{◌≡◌, ◌∷◌, ◌++◌, [], IfOk, IfSome, IsTrue, OnErr, OnOk, length, take};
-ghost use Rattle.pc_axiom_names.specs.Keeping.{IsPathAt, IsStandsWithin, IsKeptWithin, axiom_in, symbol_in};
+ghost use Rattle.std.specs.Prelude.{◌≡◌, ◌≤◌, ◌∷◌, ◌++◌, [], IfOk, IfSome, IsTrue, OnErr, OnOk, length, take};
+ghost use Rattle.std.specs.List.{AllByRecursion};
+ghost use Rattle.pc_axiom_names.specs.Keeping.{ArePaths, IsPathAt, IsStandsWithin, IsKeptWithin, axiom_in, symbol_in};
 ghost use Rattle.pc_axiom_names.specs.Shown.{axiom_shown, symbol_shown};
 
 use crate::axiom_name::AxiomRef;
 use crate::names::VarName;
 use pc_lits::Rows;
 use pc_sheet::{CellId, Entry, NodePath, ValueId};
-use std::alloc::AllocError;
+use std::alloc::{AllocError, Global};
 
 /// What a variable stands for: a pair, or the node whose path is at this place.
 #[derive(Clone, Copy)]
@@ -163,4 +164,95 @@ pub(crate) fn name_shown<'a>(
             AxiomRef::Atom(&paths[*place as usize], rows.get(*row as usize))
         }
     }
+}
+
+/// The larger one.
+fn larger(left: usize, right: usize) -> usize
+    ensures left { left ≤ result }
+    ensures right { right ≤ result }
+{
+    if left < right { right } else { left }
+}
+
+/// How many paths a variable needs: up to its own.
+fn paths_for(stands: &Stands) -> usize
+    ensures { IsStandsWithin result stands.now }
+{
+    match stands {
+        Stands::Pair(_, _) => 0,
+        Stands::Node(place) => *place as usize + 1,
+    }
+}
+
+/// How many paths the variables need.
+pub(crate) fn paths_for_all(variables: &[Stands]) -> usize
+    ensures { AllByRecursion (IsStandsWithin result) variables.now }
+{
+    let mut count = 0;
+    for stands in variables {
+        count = larger(count, paths_for(stands));
+    }
+    count
+}
+
+/// How many paths and rows an axiom's name needs.
+fn kept_for(kept: &KeptName) -> (usize, usize)
+    ensures { IsKeptWithin result.0 result.1 kept.now }
+{
+    match kept {
+        KeptName::Any(_) => (0, 0),
+        KeptName::One(_, _, _) => (0, 0),
+        KeptName::Rule(_) => (0, 0),
+        KeptName::Node(place, _) => (*place as usize + 1, 0),
+        KeptName::Atom(place, row) => (*place as usize + 1, *row as usize + 1),
+    }
+}
+
+/// How many paths and rows the names of axioms need, where so many paths are there anyway.
+pub(crate) fn kept_for_all(paths: usize, axioms: &[KeptName]) -> (usize, usize)
+    ensures paths { paths ≤ result.0 }
+    ensures within { AllByRecursion (IsKeptWithin result.0 result.1) axioms.now }
+{
+    let mut count = paths;
+    let mut rows = 0;
+    for kept in axioms {
+        let own = kept_for(kept);
+        count = larger(count, own.0);
+        rows = larger(rows, own.1);
+    }
+    (count, rows)
+}
+
+fn copied_path(alloc: Global, path: &NodePath) -> Result<NodePath, AllocError>
+    ensures rule { IfOk result (λ p. p.rule ≡ path.now.rule) }
+    ensures steps { IfOk result (λ p. p.steps.items ≡ path.now.steps.items) }
+{
+    let steps = Vec::from_slice(alloc, &path.steps)?;
+    Ok(NodePath {
+        rule: path.rule,
+        steps,
+    })
+}
+
+/// Copies of the paths.
+pub(crate) fn copied_paths(alloc: Global, paths: &[NodePath]) -> Result<Vec<NodePath>, AllocError>
+    ensures { IfOk result (λ copy. ArePaths paths.now copy.items) }
+{
+    let mut copy = Vec::new(alloc);
+    for path in paths {
+        let own = copied_path(alloc, path)?;
+        copy.push(own)?;
+    }
+    Ok(copy)
+}
+
+/// Copies of the rows.
+pub(crate) fn copied_rows(alloc: Global, rows: &Rows<Entry>) -> Result<Rows<Entry>, AllocError>
+    ensures { IfOk result (λ copy. copy ≡ rows.now) }
+{
+    let mut copy = Rows::new(alloc);
+    for i in 0..rows.len() {
+        copy.push(rows.get(i))?;
+    }
+    Ok(copy)
 }

@@ -1,11 +1,14 @@
 //! The names of variables and of axioms, by their numbers.
-ghost use Rattle.std.specs.Prelude.{◌≡◌, ◌<◌, OnErr, OnOk, Some, length, slice_get};
+ghost use Rattle.std.specs.Prelude.{◌≡◌, ◌<◌, IfOk, OnErr, OnOk, Some, length, slice_get};
 ghost use Rattle.pc_accept.specs.Literals.{pair, node};
-ghost use Rattle.pc_axiom_names.specs.Listed.{no_names, with_variable, with_axiom};
+ghost use Rattle.pc_axiom_names.specs.Listed.{first_names, no_names, with_variable, with_axiom};
 ghost use Rattle.pc_axiom_names.specs.Shown.{axiom_shown, symbol_shown};
 
 use crate::axiom_name::AxiomRef;
-use crate::kept::{KeptName, Stands, kept_of, name_shown, place_of, variable_shown};
+use crate::kept::{
+    KeptName, Stands, copied_paths, copied_rows, kept_for_all, kept_of, name_shown, paths_for_all,
+    place_of, variable_shown,
+};
 use pc_lits::{Rows, Var};
 use pc_sheet::{CellId, Entry, NodePath, ValueId};
 use std::alloc::{AllocError, Global};
@@ -80,6 +83,51 @@ impl Names {
         let kept = kept_of(&mut self.paths, &mut self.reads, name)?;
         self.axioms.push(kept)?;
         Ok(())
+    }
+
+    /// How many variables there are.
+    pub fn variables(&self) -> usize
+        ensures { result ≡ length self.now.variables }
+    {
+        self.variables.len()
+    }
+
+    /// How many axioms there are.
+    pub fn axioms(&self) -> usize
+        ensures { result ≡ length self.now.axioms }
+    {
+        self.axioms.len()
+    }
+
+    /// Keeps the names of the first variables and axioms alone, with the paths and reads that these have: all that are kept are
+    /// looked at. It takes no memory.
+    pub fn truncate(&mut self, variables: usize, axioms: usize)
+        ensures { self.new ≡ first_names variables axioms self.old }
+    {
+        self.variables.truncate(variables);
+        self.axioms.truncate(axioms);
+        let own = paths_for_all(&self.variables);
+        let (paths, rows) = kept_for_all(own, &self.axioms);
+        self.paths.truncate(paths);
+        if rows < self.reads.len() {
+            self.reads.truncate(rows);
+        }
+    }
+
+    /// The same names.
+    pub fn copy(&self, alloc: Global) -> Result<Names, AllocError>
+        ensures { IfOk result (λ copy. copy ≡ self.now) }
+    {
+        let paths = copied_paths(alloc, &self.paths)?;
+        let reads = copied_rows(alloc, &self.reads)?;
+        let variables = Vec::from_slice(alloc, &self.variables)?;
+        let axioms = Vec::from_slice(alloc, &self.axioms)?;
+        Ok(Names {
+            paths,
+            reads,
+            variables,
+            axioms,
+        })
     }
 
     /// What the variable of that number stands for.

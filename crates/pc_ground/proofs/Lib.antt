@@ -25,3 +25,5 @@ pub mod CountersRight
 pub mod CountersAdded
 pub mod Counts
 pub mod LeavesAdded
+pub mod Pushed
+pub mod PushedFew

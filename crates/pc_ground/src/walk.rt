@@ -431,7 +431,7 @@ impl Grounding<'_> {
     }
 
     /// Makes a rule.
-    fn walk_rule(
+    pub(crate) fn walk_rule(
         &self,
         draft: &mut Draft,
         r: u32,

@@ -17,3 +17,4 @@ pub mod Lending
 pub mod Choosing
 pub mod Changed
 pub mod Compacted
+pub mod LentGround

@@ -8,3 +8,4 @@ pub mod Staleness
 pub mod Taken
 pub mod Refusals
 pub mod Loaded
+pub mod Lent

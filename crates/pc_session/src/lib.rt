@@ -12,6 +12,7 @@ mod edit;
 mod edits;
 mod entering;
 mod loading;
+mod questions;
 pub mod refused;
 mod removing;
 mod rules;

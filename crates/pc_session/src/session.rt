@@ -1,5 +1,5 @@
 //! Sessions.
-ghost use Rattle.std.specs.Prelude.{◌≡◌, ◌≤◌, ◌<◌, [], Contains, Err, IfErr, IfOk, None, Ok, OnErr, OnOk, Some, length, option_map};
+ghost use Rattle.std.specs.Prelude.{◌≡◌, ◌≤◌, ◌<◌, ◌+◌, ◌*◌, ◌^◌, [], ℕ, Contains, Err, IfErr, IfOk, None, Ok, OnErr, OnOk, Some, length, option_map};
 ghost use Rattle.pc_reason.specs.Fitting.{IsFitting};
 ghost use Rattle.pc_components.specs.View.{AreComponentsOf};
 ghost use Rattle.pc_cache.specs.Rows.{row_of};
@@ -10,7 +10,10 @@ ghost use Rattle.pc_reason.specs.Reasons.{IsReasonFor, justification_of};
 ghost use Rattle.pc_reason.specs.Targets.{IsTargetIn};
 ghost use Rattle.pc_sheet.specs.Limits.{most_rules, most_weight};
 ghost use Rattle.pc_sheet.specs.MaximalSets.{AreRulesConsistent};
-ghost use Rattle.pc_sheet.specs.Sheet.{with_rule};
+ghost use Rattle.pc_sheet.specs.Sheet.{Statement, with_rule};
+ghost use Rattle.pc_accept.specs.Asked.{asked};
+ghost use Rattle.pc_ask.specs.Asking.{AreReadSizes, AskSays, AskStops, IsPartSearch};
+ghost use Rattle.pc_repairs.specs.Searches.{IsWholeSearch};
 ghost use Rattle.pc_sheet.specs.Views.{rule_of};
 ghost use Rattle.pc_sheet.specs.Weight.{weight};
 ghost use Rattle.pc_sheet.specs.WellFormed.{is_of_cell, IsEntryOf, IsWellFormedRule};
@@ -25,15 +28,18 @@ ghost use Rattle.pc_session.specs.declared.refused.EditRefused.TheVariants.{Dupl
 ghost use Rattle.pc_theory.specs.Theories.{rules_alone};
 
 use crate::loading::load_state;
+use crate::questions::ask_lent;
 use crate::refused::{EditRefused, LoadRefused};
 use crate::removing::remove;
 use crate::state::State;
 use crate::taken::Taken;
 use crate::{entering, rules};
+use pc_ask::{Answer, AskStop};
 use pc_components::Components;
 use pc_ground::Ground;
 use pc_justify_laws::{clearing_edits, removing_edits};
 use pc_lits::Tally;
+use pc_log::Log;
 use pc_logic::{Assignment, Book};
 use pc_reason::{Reason, Reasons};
 use pc_sheet::{CellId, Entry, Rule, Target, ValueId};
@@ -301,6 +307,36 @@ impl Session {
         )
     }
 
+    // Questions
+
+    /// Whether the entries imply the formula that the last rule of the asked book denies: the asked book is the session's with
+    /// that rule. Ok is the formula's least support with what a certificate of it is made of; `None` exactly where the formula
+    /// isn't implied. The log is empty before. Whatever is answered, tally and log have what was done, and the session is as
+    /// it was.
+    pub fn ask(
+        &mut self,
+        book: &Book,
+        log: &mut Log,
+        tally: &mut Tally,
+    ) -> Result<Option<Answer>, AskStop>
+        requires asked { (f : Statement) × (book.now ≡ asked self.old.sheet f) }
+        requires new_log { log.old ≡ [] }
+        requires few_learned { tally.old.learned < 2 ^ 120 }
+        requires few_calls { tally.old.calls < 2 ^ 120 }
+        ensures same { self.new ≡ self.old }
+        ensures says { (f : Statement) → book.now ≡ asked self.old.sheet f →
+            IfOk result (AskSays self.old.sheet f log.new) }
+        ensures large { IfOk result (λ _. weight book.now ≤ most_weight) }
+        ensures stop { IfErr result (AskStops book.now tally.new) }
+        ensures search { (f : Statement) (entries sets : ℕ) → book.now ≡ asked self.old.sheet f →
+            AreReadSizes self.old.sheet f entries sets →
+            IsWholeSearch book.now [] (sets * (entries + 2) + 1) tally.old tally.new log.new }
+        ensures whole { (most : ℕ) × IsWholeSearch book.now [] most tally.old tally.new log.new }
+        ensures part { (most : ℕ) × IsPartSearch book.now most tally.old tally.new log.new }
+    {
+        ask_lent(self.alloc, &mut self.state, book, log, tally)
+    }
+
     // Rules
 
     /// Adds a rule as the last one. Everything is made anew, as by a load.
@@ -357,6 +393,12 @@ impl Reasons for Session {
 }
 
 impl Choices for Session {
+    ghost sheet = { λ s. s.sheet };
+
+    fn book(&self) -> &Book {
+        &self.state.book
+    }
+
     fn fitting(&self) -> &Assignment {
         self.state.theory.fitting()
     }

@@ -23,7 +23,7 @@ use crate::edits::place_of;
 use crate::page::{AskProof, Page};
 use crate::refusal::refuse;
 use crate::spending::{Told, note_whole};
-use pc_ask::{Answer, AskStop, ask, prove};
+use pc_ask::{Answer, AskStop, prove};
 use pc_elaborate::check_formula;
 use pc_lits::Tally;
 use pc_log::Log;
@@ -98,10 +98,11 @@ fn certify(alloc: Global, book: Book, answer: Answer, log: &Log) -> Told
 }
 
 // Answers by the asked book.
-fn answer_by(alloc: Global, session: &Session, book: Book, notes: &mut Spendings) -> Told
-    requires { (f : Statement) × (book ≡ asked session.now.sheet f) }
-    ensures { (f : Statement) → book ≡ asked session.now.sheet f →
-        Answers session.now.budget session.now.sheet f notes.old notes.new result }
+fn answer_by(alloc: Global, session: &mut Session, book: Book, notes: &mut Spendings) -> Told
+    requires { (f : Statement) × (book ≡ asked session.old.sheet f) }
+    ensures same { session.new ≡ session.old }
+    ensures answers { (f : Statement) → book ≡ asked session.old.sheet f →
+        Answers session.old.budget session.old.sheet f notes.old notes.new result }
 {
     let mut tally = Tally {
         placed: 0,
@@ -110,7 +111,7 @@ fn answer_by(alloc: Global, session: &Session, book: Book, notes: &mut Spendings
         limit: session.budget(),
     };
     let mut log = Log::new(alloc);
-    match ask(alloc, session, &book, &mut log, &mut tally) {
+    match session.ask(&book, &mut log, &mut tally) {
         Ok(Some(answer)) => certify(alloc, book, answer, &log),
         Ok(None) => Reply::Shown(Page::Unanswered(book)),
         Err(AskStop::TooLarge) => Reply::Refused(Refusal::TooLarge, None),
@@ -120,11 +121,12 @@ fn answer_by(alloc: Global, session: &Session, book: Book, notes: &mut Spendings
 }
 
 // Answers by the book with this rule.
-fn answer_with(alloc: Global, session: &Session, rule: Rule, notes: &mut Spendings) -> Told
+fn answer_with(alloc: Global, session: &mut Session, rule: Rule, notes: &mut Spendings) -> Told
     requires denies { (f : Statement) × (rule_of rule ≡ denial f) }
-    requires formed { IsWellFormed (with_rule session.now.sheet (rule_of rule)) }
-    ensures { (f : Statement) → rule_of rule ≡ denial f →
-        Answers session.now.budget session.now.sheet f notes.old notes.new result }
+    requires formed { IsWellFormed (with_rule session.old.sheet (rule_of rule)) }
+    ensures same { session.new ≡ session.old }
+    ensures answers { (f : Statement) → rule_of rule ≡ denial f →
+        Answers session.old.budget session.old.sheet f notes.old notes.new result }
 {
     match session.book().with_rule(alloc, rule) {
         Ok(book) => answer_by(alloc, session, book, notes),
@@ -135,14 +137,14 @@ fn answer_with(alloc: Global, session: &Session, rule: Rule, notes: &mut Spendin
 /// Answers whether the entries imply the formula, by the book with the rule `ask` that denies it. Nothing of that stays.
 pub(crate) fn answer(
     alloc: Global,
-    session: &Session,
+    session: &mut Session,
     tree: &FormulaTree,
     notes: &mut Spendings,
 ) -> Told
     requires sized { IsSized (formula_of tree.now) }
     requires nested { written.nesting_of (formula_of tree.now) ≤ most_asked_nesting }
-    ensures { Obeys (state_of session.now, notes.old) (asks_ask (formula_of tree.now)) result
-        (state_of session.now, notes.new) }
+    ensures { Obeys (state_of session.old, notes.old) (asks_ask (formula_of tree.now)) result
+        (state_of session.new, notes.new) }
 {
     let book = session.book();
     well_formed(book);

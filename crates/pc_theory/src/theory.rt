@@ -1,6 +1,7 @@
 //! What is known of a book's rules.
 ghost use Rattle.std.specs.Prelude.{◌≡◌, ◌<◌, ◌≤◌, All, Contains, length, map, Some, slice_get};
 ghost use Rattle.pc_components.specs.View.{number_of};
+ghost use Rattle.pc_ground.specs.Grounded.{no_ground};
 ghost use Rattle.pc_parts.specs.Parts.{Part};
 ghost use Rattle.pc_sheet.specs.Limits.{most_cells};
 ghost use Rattle.pc_sheet.specs.Entailment.{cell_sizes};
@@ -10,7 +11,9 @@ use pc_components::Components;
 use pc_ground::Ground;
 use pc_logic::{Assignment, Book, few_cells};
 use pc_sheet::CellId;
+use std::alloc::Global;
 use std::marker::Model;
+use std::mem::replace;
 
 /// What is known of a book's consistent rules: their clauses, their parts, the axioms of each part that searches take, and an
 /// assignment that fits.
@@ -36,6 +39,21 @@ impl Theory {
         ensures { result.now ≡ self.now.ground }
     {
         &self.ground
+    }
+
+    /// Takes the clauses of the rules away, to be given back: none are left. It takes no memory.
+    pub fn take_ground(&mut self, alloc: Global) -> Ground
+        ensures ground { result ≡ self.old.ground }
+        ensures rest { self.new ≡ record self.old { ground = no_ground } }
+    {
+        replace(&mut self.ground, Ground::none(alloc))
+    }
+
+    /// Gives the clauses of the rules back. It takes no memory.
+    pub fn put_ground(&mut self, ground: Ground)
+        ensures { self.new ≡ record self.old { ground = ground } }
+    {
+        self.ground = ground;
     }
 
     /// The parts. It takes no memory.

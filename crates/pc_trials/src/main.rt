@@ -13,6 +13,7 @@ mod tables;
 mod targets;
 mod texts;
 mod trial;
+mod ways;
 
 use crate::tables::judge;
 use pc_port::{RealShelf, Shelf, ShelfFault};

@@ -2,8 +2,9 @@
 ghost use Rattle.std.specs.Prelude.{IsTrue};
 ghost use Rattle.pc_reason.specs.Targets.{IsTargetIn};
 
+use crate::ways::ways;
 use pc_logic::Book;
-use pc_session::{Choices, Reasons, Session};
+use pc_session::{Reasons, Session};
 use pc_sheet::{CellId, Entry, Target, ValueId};
 use pc_trying::{least_by_trying, maximal_sets_by_trying};
 use std::alloc::{AllocError, Global};
@@ -65,15 +66,6 @@ fn are_supports_as_tried(alloc: Global, session: &Session) -> Result<bool, Alloc
         }
     }
     Ok(true)
-}
-
-// How many ways there are to choose a maximal set of each part.
-fn ways(session: &Session) -> usize {
-    let mut ways: usize = 1;
-    for part in 0..session.parts() {
-        ways = ways.wrapping_mul(session.sets(part).len());
-    }
-    ways
 }
 
 /// Whether the supports are those that trying finds, and there are as many ways to choose a maximal set of each part as trying

@@ -7,7 +7,7 @@ use Rattle.pc_ask.proofs.candidates.find_candidates.Goals as goal
 
 pub last_reads-requires : goal.last_reads-requires
 last_reads-requires g c =
-    let sheet = g.C.Reasons.sheet c.args.view.now in
+    let sheet = g.C.Choices.sheet c.args.view.now in
     subst (λ (n : Grounded). 0 < length n.reads) (sym c.requires.ground) (some_pieces sheet c.requires.asked.0 c.args.book.now c.requires.asked.1)
 
 pub returns : goal.returns

@@ -15,7 +15,7 @@ use Rattle.pc_repairs.proofs.joining.whole.Goals as goal
 
 pub returns-then-count_choices-gt-MOST_SETS : goal.returns-then-count_choices-gt-MOST_SETS
 returns-then-count_choices-gt-MOST_SETS g c =
-    let sheet = g.C.Reasons.sheet c.args.view.now in
+    let sheet = g.C.Choices.sheet c.args.view.now in
     let formed : IsWellFormed sheet = subst IsWellFormed c.book-book.ensures c.well_formed-2.ensures in
     let fitting = c.fitting-fitting.result.now in
     let fit = c.fitting-fitting.ensures in
@@ -25,7 +25,7 @@ returns-then-count_choices-gt-MOST_SETS g c =
 
 pub join_parts-requires : goal.join_parts-requires
 join_parts-requires g c =
-    let sheet = g.C.Reasons.sheet c.args.view.now in
+    let sheet = g.C.Choices.sheet c.args.view.now in
     let formed : IsWellFormed sheet = subst IsWellFormed c.book-book.ensures c.well_formed-2.ensures in
     let fitting = c.fitting-fitting.result.now in
     let fit = c.fitting-fitting.ensures in
@@ -35,7 +35,7 @@ join_parts-requires g c =
 
 pub ordered-requires-clause-sublists : goal.ordered-requires-clause-sublists
 ordered-requires-clause-sublists g c =
-    let sheet = g.C.Reasons.sheet c.args.view.now in
+    let sheet = g.C.Choices.sheet c.args.view.now in
     let formed : IsWellFormed sheet = subst IsWellFormed c.book-book.ensures c.well_formed-2.ensures in
     let fitting = c.fitting-fitting.result.now in
     let fit = c.fitting-fitting.ensures in
@@ -48,7 +48,7 @@ ordered-requires-clause-sublists g c =
 
 pub ordered-requires-clause-apart : goal.ordered-requires-clause-apart
 ordered-requires-clause-apart g c =
-    let sheet = g.C.Reasons.sheet c.args.view.now in
+    let sheet = g.C.Choices.sheet c.args.view.now in
     let formed : IsWellFormed sheet = subst IsWellFormed c.book-book.ensures c.well_formed-2.ensures in
     let fitting = c.fitting-fitting.result.now in
     let fit = c.fitting-fitting.ensures in
@@ -60,7 +60,7 @@ ordered-requires-clause-apart g c =
 
 pub returns : goal.returns
 returns g c =
-    let sheet = g.C.Reasons.sheet c.args.view.now in
+    let sheet = g.C.Choices.sheet c.args.view.now in
     let formed : IsWellFormed sheet = subst IsWellFormed c.book-book.ensures c.well_formed-2.ensures in
     let fitting = c.fitting-fitting.result.now in
     let fit = c.fitting-fitting.ensures in

@@ -9,7 +9,7 @@ use Rattle.pc_repairs.proofs.part_sets.sets_by_part.Goals as goal
 
 pub loop-part-preserved : goal.loop-part-preserved
 loop-part-preserved g c =
-    let sheet = g.C.Reasons.sheet c.args.view.now in
+    let sheet = g.C.Choices.sheet c.args.view.now in
     let q : PartSets = record { cells = c.cells.result; sets = c.sets.result } in
     let lent = lent_part sheet c.loop-part.part q c.cells.ensures c.sets.ensures in
     subst (λ (items : List PartSets). AllZip (IsPartSets sheet) (take (c.loop-part.part + 1) (chosen_parts sheet)) items) (sym c.in_ok-push.ensures.items)

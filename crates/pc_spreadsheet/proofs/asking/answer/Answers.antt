@@ -1,7 +1,8 @@
 use Rattle.std.proofs.Common.{sym, subst}
 use Rattle.pc_syntax.specs.Tree.{asks_ask, formula_of}
 use Rattle.pc_sheet.specs.WellFormed.{IsWellFormed}
-use Rattle.pc_spreadsheet.specs.Commands.{state_of}
+use Rattle.pc_session.specs.Views.{SessionView}
+use Rattle.pc_spreadsheet.specs.Commands.{Obeys, state_of}
 use Rattle.pc_spreadsheet.proofs.Answering.{answered_so, name_taken_in, new_in, question_formed}
 use Rattle.pc_spreadsheet.proofs.Telling.{refused_in}
 use Rattle.pc_spreadsheet.proofs.asking.answer.Goals as goal
@@ -31,4 +32,5 @@ returns-in-None c =
     let st = c.in-Ok.ensures.0 in
     let f = formula_of c.args.tree.now in
     let new = new_in c.args.session.now.sheet c.book-book.result.now f st c.in-Ok.rule _ c.book-book.ensures c.rules.ensures c.in-Ok.ensures.1 c.in-Ok.ensures.2 c.in-None.ensures.none in
-    answered_so c.args.session.now c.args.notes.now c.answer_with.new.notes f st c.answer_with.result new (c.answer_with.ensures st c.in-Ok.ensures.1)
+    subst (λ (s : SessionView). Obeys (state_of c.args.session.now, c.args.notes.now) (asks_ask f) c.answer_with.result (state_of s, c.answer_with.new.notes)) (sym c.answer_with.ensures.same)
+    (answered_so c.args.session.now c.args.notes.now c.answer_with.new.notes f st c.answer_with.result new (c.answer_with.ensures.answers st c.in-Ok.ensures.1))

@@ -18,7 +18,7 @@ use Rattle.pc_repairs.proofs.listing.Listing.new.Goals as goal
 
 pub listing_part-requires : goal.listing_part-requires
 listing_part-requires g c =
-    let sheet = g.C.Reasons.sheet c.args.view.now in
+    let sheet = g.C.Choices.sheet c.args.view.now in
     let lent = c.in_ok-lent.lent.items in
     let i = c.loop-part.part-index in
     let r = c.part-item.result in
@@ -28,7 +28,7 @@ listing_part-requires g c =
 
 pub loop-part-preserved : goal.loop-part-preserved
 loop-part-preserved g c =
-    let sheet = g.C.Reasons.sheet c.args.view.now in
+    let sheet = g.C.Choices.sheet c.args.view.now in
     let lent = c.in_ok-lent.lent.items in
     let i = c.loop-part.part-index in
     let r = c.part-item.result in
@@ -43,7 +43,7 @@ loop-part-preserved g c =
 
 pub returns : goal.returns
 returns g c =
-    let sheet = g.C.Reasons.sheet c.args.view.now in
+    let sheet = g.C.Choices.sheet c.args.view.now in
     let lent = c.in_ok-lent.lent.items in
     let many = zip_length (IsPartSets sheet) (chosen_parts sheet) lent c.in_ok-lent.ensures in
     let past : length (chosen_parts sheet) ≤ c.loop-part.part-index = omega (arith, many, c.loop-part-test.false, ap length c.deref-part-items.ensures.value) in
