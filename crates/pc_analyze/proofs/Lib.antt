@@ -10,3 +10,4 @@ pub mod WayLemmas
 pub mod DeriveLemmas
 pub mod AssertLemmas
 pub mod NewLemmas
+pub mod FewLemmas
