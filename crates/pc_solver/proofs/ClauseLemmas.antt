@@ -6,7 +6,7 @@ use Rattle.std.proofs.lemmas.List.{length_push, length-append, length-set, get_o
 use Rattle.std.specs.declared.alloc.AllocError.{AllocError}
 use Rattle.pc_lits.specs.declared.literal.Lit.{Lit}
 use Rattle.pc_log.specs.declared.log.StepId.{StepId}
-use Rattle.pc_log.specs.Lines.{LogLine, AxiomLine, BlockLine, StepLine}
+use Rattle.pc_log.specs.Lines.{LogLine, AxiomLine, BlockLine, StepLine, hints_of}
 use Rattle.pc_propagate.specs.declared.clauses.ClauseRef.{ClauseRef}
 use Rattle.pc_propagate.specs.declared.clauses.ClauseRef.TheVariants.{Axiom, More}
 use Rattle.pc_propagate.specs.Refs.{clause_at, IsRef}
@@ -27,9 +27,9 @@ use Rattle.pc_propagate.specs.TrailView.{TrailView}
 use Rattle.pc_solver.specs.declared.clauses.KeptClause.{KeptClause}
 use Rattle.pc_solver.specs.declared.clauses.KeptClause.TheVariants.{Block, Learned, Dropped}
 use Rattle.pc_solver.specs.Clauses.{ClausesView, AreClauses, KeepsClauses, KeepsProblem, blank, number_of, line_of, IsStanding, IsKnown, IsOverOwn, used_clauses, blocks_among, blocks_of}
-use Rattle.pc_solver.specs.InLog.{StandsInLog, IsLogOf, IsKeptAs, ContainsNoKnown}
+use Rattle.pc_solver.specs.InLog.{StandsInLog, IsLogOf, IsShort, IsKeptAs, ContainsNoKnown}
 use Rattle.pc_solver.specs.inside.Search.{IsSearch, KnowsAll, IsNoted}
-use Rattle.pc_solver.proofs.LogLemmas.{StandsInLog-last, StandsInLog-more, IsLogOf-line, IsDerivation-line}
+use Rattle.pc_solver.proofs.LogLemmas.{StandsInLog-last, StandsInLog-more, IsLogOf-line, IsLogOf-axiom, IsDerivation-line, lines-step}
 
 some_same : {A : Type 0} (x y : A) → ◌≡◌ {A = Option A} (Some x) (Some y) → x ≡ y
 some_same x y h = cc
@@ -38,31 +38,6 @@ pub default : {A : Type 0} (xs : List A) (k : ℕ) (x y : A) → k < length xs �
 default [] k x y h = absurd (omega arith)
 default (a ∷ xs) zero x y h = refl
 default (a ∷ xs) (suc k) x y h = default xs k x y (omega arith)
-
--- ---- an axiom gets its line
-
-module _ (c : ClausesView) (log : List LogLine) (place : ℕ) (id : StepId) (within : place < length c.axiom_lines) where
-  pub axiom_logged : IsLogOf c log → StandsInLog c.axioms log id (get_or c.axioms (get_or c.used place 0) []) → IsLogOf (record c { axiom_lines = slice_set c.axiom_lines place (Some id) }) log
-  axiom_logged h here = record {
-    derivation = h.derivation;
-    blocks = h.blocks;
-    axioms = h.axioms;
-    axioms_stand = found;
-    stands = h.stands;
-    over_own = h.over_own;
-    learned = h.learned;
-    new = h.new;
-    avoids = h.avoids;
-  }
-    where
-      found : (n : ℕ) (other : StepId) → n < length c.used → get_or (set c.axiom_lines place (Some id)) n None ≡ Some other → StandsInLog c.axioms log other (get_or c.axioms (get_or c.used n 0) [])
-      found n other is has =
-          ⊎_elim
-          (λ same.
-          let that : id ≡ other = some_same id other (sym (get_or-set_same c.axiom_lines place (Some id) None within) ∙ subst (λ k. get_or (set c.axiom_lines place (Some id)) k None ≡ Some other) same has) in
-          subst (λ (k : StepId). StandsInLog c.axioms log k (get_or c.axioms (get_or c.used n 0) [])) that (rw same here))
-          (λ differs. h.axioms_stand n other is (sym (get_or-set_other c.axiom_lines place n (Some id) None differs) ∙ has))
-          (cases_eq n place)
 
 -- ---- a block gets its line
 
@@ -118,8 +93,10 @@ module _ (c : ClausesView) (place number : ℕ) (id : StepId) (within : place < 
     blocks = λ i k clause at. rw (blocks_kept c.more c.kept place number (Some id) is) (h.blocks i k clause at);
     axioms = h.axioms;
     axioms_stand = h.axioms_stand;
+    axioms_once = h.axioms_once;
     stands = found;
     over_own = h.over_own;
+    short = h.short;
     learned = λ i clause at. let was = h.learned i clause at in (was.0, was.1, was.2, (standing_kept c.kept place number id within is was.0).1 was.3);
     new = h.new;
     avoids = h.avoids;
@@ -182,8 +159,10 @@ module _ (c : ClausesView) (blocks : ℕ) (h : AreClauses c blocks) (clause : Li
     blocks = λ i number other at. rw is (slice_get-more (blocks_of c) bs number other (logged.blocks i number other at));
     axioms = logged.axioms;
     axioms_stand = logged.axioms_stand;
+    axioms_once = logged.axioms_once;
     stands = found;
     over_own = logged.over_own;
+    short = logged.short;
     learned = λ i other at. kept_still (logged.learned i other at);
     new = logged.new;
     avoids = logged.avoids;
@@ -268,24 +247,20 @@ block_line_logged v c blocks h place number id log new clause within is same log
     let clause_is : clause ≡ get_or v.more place [] = sym (get_or_from_slice_get v.more place clause [] read) in
     let before : IsLogOf v log = subst (λ (w : ClausesView). IsLogOf w log) (sym same) logged in
     let after : IsLogOf v new = subst (IsLogOf v) (sym new_is) (IsLogOf-line v log (BlockLine number clause) before tt (λ k d below. absurd (omega arith)) (λ n other is_line.
-    subst (λ (l : LogLine). is_numbered v l) is_line (h.numbered place number blank within (ap number_of is) ∙ ap Some (sym clause_is))) (λ n is_line. absurd (cc)) (λ cl hs is_line. cc) (λ cl hs marked is_line. absurd (cc))) in
+    subst (λ (l : LogLine). is_numbered v l) is_line (h.numbered place number blank within (ap number_of is) ∙ ap Some (sym clause_is))) (λ n is_line. cc) (λ cl hs is_line. cc) (λ cl hs marked is_line. absurd (cc))) in
     block_logged v place number id within is new after (block_line_stands v v.more place number id log new clause read refl at new_is)
-
-same_axiom : (m n : ℕ) → AxiomLine m ≡ AxiomLine n → m ≡ n
-same_axiom m n h = cc
 
 -- ---- an axiom's line is added
 
-pub axiom_line_logged : (v c : ClausesView) (blocks : ℕ) → AreClauses v blocks → (number place : ℕ) (id : StepId) (log new : List LogLine) → number < length c.axioms → Contains c.used number → slice_get v.used place ≡ Some number → v ≡ c
-    → IsLogOf c log → id.0 ≡ length log → new ≡ log ++ AxiomLine number ∷ [] → IsLogOf (record v { axiom_lines = slice_set v.axiom_lines place (Some id) }) new
-axiom_line_logged v c blocks h number place id log new within has there same logged at new_is =
+pub axiom_line_logged : (v c : ClausesView) (blocks : ℕ) → AreClauses v blocks → (number place : ℕ) (id : StepId) (read : Option StepId) (log new : List LogLine) → number < length c.axioms → Contains c.used number → slice_get v.used place ≡ Some number → v ≡ c
+    → IsLogOf c log → read ≡ get_or v.axiom_lines place read → read ≡ None → id.0 ≡ length log → new ≡ log ++ AxiomLine number ∷ [] → IsLogOf (record v { axiom_lines = slice_set v.axiom_lines place (Some id) }) new
+axiom_line_logged v c blocks h number place id read log new within has there same logged found none at new_is =
     let in_axioms : number < length v.axioms = omega (arith, within, ap (λ (w : ClausesView). length w.axioms) same) in
+    let below : place < length v.used = slice_get_within v.used place number there in
     let before : IsLogOf v log = subst (λ (w : ClausesView). IsLogOf w log) (sym same) logged in
-    let after : IsLogOf v new = subst (IsLogOf v) (sym new_is) (IsLogOf-line v log (AxiomLine number) before in_axioms (λ k d below. absurd (omega arith)) (λ n other is_line.
-    subst (λ (l : LogLine). is_numbered v l) is_line tt)
-    (λ n is_line. subst (λ (m : ℕ). Contains v.used m) (same_axiom number n is_line) (subst (λ (w : ClausesView). Contains w.used number) (sym same) has)) (λ cl hs is_line. cc) (λ cl hs marked is_line. absurd (cc))) in
-    axiom_logged v new place id (omega (arith, slice_get_within v.used place number there, h.axiom_each)) after
-    (rw (get_or_from_slice_get v.used place number 0 there) (subst (λ (ls : List LogLine). StandsInLog v.axioms ls id (get_or v.axioms number [])) (sym new_is) (StandsInLog-last v.axioms log (AxiomLine number) id at)))
+    let unnoted : get_or v.axiom_lines place None ≡ None = default v.axiom_lines place None read (omega (arith, below, h.axiom_each)) ∙ sym found ∙ none in
+    subst (λ (ls : List LogLine). IsLogOf (record v { axiom_lines = slice_set v.axiom_lines place (Some id) }) ls) (sym new_is)
+    (IsLogOf-axiom v log number place id before in_axioms (subst (λ (w : ClausesView). Contains w.used number) (sym same) has) below h.axiom_each (get_or_from_slice_get v.used place number 0 there) unnoted at)
 
 pub axiom_line_stands : (axioms : List (List Lit)) (number : ℕ) (id : StepId) (log new : List LogLine) → id.0 ≡ length log → new ≡ log ++ AxiomLine number ∷ [] → StandsInLog axioms new id (get_or axioms number [])
 axiom_line_stands axioms number id log new at new_is =
@@ -626,7 +601,7 @@ learned_is_known c all part kept = (More kept.0, (kept.1, omega (arith, kept.1, 
 
 module _ (v : ClausesView) (blocks : ℕ) (h : AreClauses v blocks) (clause : List Lit) (lines : List StepId) (id : StepId) (log : List LogLine) (all : KnowsAll v)
     (over : IsOverOwn v.own clause) (none : ContainsNoKnown v clause) (no_tautology : IsTautology negated clause → ⊥) (earlier : All (λ (s : StepId). s.0 < length log) lines) (good : IsGoodStep negated clause (hinted_clauses v.axioms log lines))
-    (logged : IsLogOf v log) where
+    (short : IsShort v.own clause (length lines)) (logged : IsLogOf v log) where
   -- no block lies within it
   pub learned_no_block : ContainNone (blocks_of v) (length log) (log ++ StepLine clause lines true ∷ [])
   learned_no_block i other block late at has inside =
@@ -656,10 +631,15 @@ module _ (v : ClausesView) (blocks : ℕ) (h : AreClauses v blocks) (clause : Li
         (line_cases log (StepLine clause lines true) i (BlockLine number other) here);
     axioms = λ i number here. ⊎_elim (λ was. logged.axioms i number was) (λ last. absurd (not_axiom number last.1)) (line_cases log (StepLine clause lines true) i (AxiomLine number) here);
     axioms_stand = λ place other within has. StandsInLog-more v.axioms log (StepLine clause lines true ∷ []) other _ (logged.axioms_stand place other within has);
+    axioms_once = λ number. omega (arith, logged.axioms_once number, lines-step number log clause lines true);
     stands = found;
     over_own = λ i other hints learned here. ⊎_elim
         (λ was. logged.over_own i other hints learned was)
         (λ last. subst (IsOverOwn v.own) (ap (clause_of_line []) last.1) over)
+        (line_cases log (StepLine clause lines true) i (StepLine other hints learned) here);
+    short = λ i other hints learned here. ⊎_elim
+        (λ was. logged.short i other hints learned was)
+        (λ last. subst (λ (l : LogLine). IsShort v.own (clause_of_line [] l) (length (hints_of l))) last.1 short)
         (line_cases log (StepLine clause lines true) i (StepLine other hints learned) here);
     learned = λ i other here. ⊎_elim (λ was. kept_still (logged.learned i other was)) (λ last. subst (IsKeptAs (record v { more = v.more ++ clause ∷ []; kept = v.kept ++ Learned id ∷ [] })) last.1 kept_last) (learned_cases log clause lines i other here);
     new = learned_new;

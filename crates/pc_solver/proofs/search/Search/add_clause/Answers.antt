@@ -1,4 +1,4 @@
-use Rattle.std.proofs.Common.{◌∙◌, sym, refl, subst, arith, List, All}
+use Rattle.std.proofs.Common.{◌∙◌, sym, refl, subst, arith, List, All, length}
 use Rattle.pc_lits.specs.declared.literal.Lit.{Lit}
 use Rattle.pc_lits.specs.Literals.{negated}
 use Rattle.pc_lits.specs.Steps.{IsTautology}
@@ -8,11 +8,11 @@ use Rattle.pc_propagate.specs.Refs.{IsRef}
 use Rattle.pc_solver.proofs.TurnLemmas.{conflict_same}
 use Rattle.pc_solver.specs.Clauses.{IsKnown, IsOverOwn, used_clauses}
 use Rattle.pc_solver.specs.New.{HasNoForced}
-use Rattle.pc_solver.specs.InLog.{ContainsNoKnown}
+use Rattle.pc_solver.specs.InLog.{ContainsNoKnown, IsShort}
 use Rattle.pc_propagate.specs.Entries.{AreEntries}
 use Rattle.pc_solver.specs.inside.Search.{SearchView}
 use Rattle.pc_solver.proofs.ClauseLemmas.{IsSearch-same}
-use Rattle.pc_solver.proofs.LearnLemmas.{level_seen, learn_nothing, clause_own, known_hints, ref_hints, none_contained, none_forced, learns_none, learns_then, has_learned, good_lines}
+use Rattle.pc_solver.proofs.LearnLemmas.{level_seen, learn_nothing, clause_own, known_hints, ref_hints, none_contained, none_forced, learns_none, learns_then, has_learned, good_lines, hints_short, lent_short}
 use Rattle.pc_solver.proofs.search.Search.add_clause.Goals as goal
 
 pub analyze-requires-clause-level : goal.analyze-requires-clause-level
@@ -63,6 +63,15 @@ pub add_learned-requires-clause-good : goal.add_learned-requires-clause-good
 add_learned-requires-clause-good c =
     good_lines c.self.inside.clauses c.lines_of.new.self _ _ c.lines_of.new.log c.in_ok-learned.learned.clause.items c.deref-3.result.now c.in_ok-learned.learned.hints.items c.deref-2.result.now c.in_ok-lines.lines.items c.deref-4.result.now c.axioms.ensures.is c.more.ensures c.in_ok-lines.ensures.same
     c.deref-3.ensures.value c.deref-2.ensures.value c.deref-4.ensures.value c.in_ok-lines.ensures.are c.in_ok-learned.ensures.learned.good
+
+pub add_learned-requires-clause-short : goal.add_learned-requires-clause-short
+add_learned-requires-clause-short c =
+    let clause = c.in_ok-learned.learned.clause.items in
+    let learned = c.in_ok-learned.ensures.learned in
+    let over = clause_own c.self.inside.clauses.own c.self.inside.trail.entries clause c.self.invariant.own learned.is_false in
+    let short = hints_short c.needed_hints_are_few.ensures c.self.inside.clauses c.self.inside.trail _ _ clause c.in_ok-learned.learned.hints.items c.axioms.ensures.is c.more.ensures c.self.invariant learned.are_attached learned.different over learned.good learned.needed in
+    lent_short c.self.inside.clauses c.lines_of.new.self clause c.deref-3.result.now c.deref-2.result.now c.in_ok-lines.lines.items c.deref-4.result.now c.lines_of.new.log c.in_ok-lines.ensures.same c.deref-3.ensures.value c.deref-4.ensures.value c.in_ok-lines.ensures.are
+    (subst (λ (hs : List ClauseRef). IsShort c.self.inside.clauses.own clause (length hs)) (sym c.deref-2.ensures.value) short)
 
 pub invariant_of-self-in_err-add_learned : goal.invariant_of-self-in_err-add_learned
 invariant_of-self-in_err-add_learned c = c.in_err-add_learned.ensures.search c.self.inside.trail (IsSearch-same c.self.inside.clauses c.lines_of.new.self c.self.inside.trail c.in_ok-lines.ensures.same c.self.invariant)

@@ -1,4 +1,4 @@
-use Rattle.std.proofs.Common.{sym, subst, Contains, All, List}
+use Rattle.std.proofs.Common.{sym, subst, Contains, All, List, length}
 use Rattle.std.specs.Prelude.{Ok}
 use Rattle.pc_lits.specs.declared.literal.Lit.{Lit}
 use Rattle.pc_lits.specs.declared.literal.Var.{Var}
@@ -10,7 +10,9 @@ use Rattle.pc_propagate.specs.TrailView.{TrailView}
 use Rattle.pc_propagate.specs.Refs.{clauses_of_refs}
 use Rattle.pc_analyze.specs.Learning.{AreDecisionsAmong}
 use Rattle.pc_solver.specs.Clauses.{IsOverOwn}
+use Rattle.pc_solver.specs.InLog.{IsShort}
 use Rattle.pc_solver.specs.inside.Search.{SearchView}
+use Rattle.pc_solver.proofs.LearnLemmas.{hints_short}
 use Rattle.pc_solver.proofs.EndLemmas.{decisions_assumed}
 use Rattle.pc_solver.proofs.SearchLemmas.{on_err}
 use Rattle.pc_solver.proofs.TurnLemmas.{good_same, refutes, negated_over, logs_none, derives, refutes_kept, knows_logged}
@@ -33,6 +35,15 @@ refute-requires-clause-over_own c =
     let among = decisions_assumed c.args.assumed.now c.args.self.now.trail.entries c.args.failed c.recall.ensures.entries.different c.requires.under_way.first c.requires.failed.0 c.requires.failed.1 in
     negated_over c.args.self.now.clauses.own c.args.assumed.now c.in_ok-last.last.clause.items c.requires.under_way.over_own
     (c.in_ok-last.ensures.only c.args.assumed.now c.requires.failed.0 (subst (λ (s : SearchView). AreDecisionsAmong s.trail.entries c.args.assumed.now) (sym c.self.view_is) among))
+
+pub refute-requires-clause-short : goal.refute-requires-clause-short
+refute-requires-clause-short c =
+    let among = decisions_assumed c.args.assumed.now c.args.self.now.trail.entries c.args.failed c.recall.ensures.entries.different c.requires.under_way.first c.requires.failed.0 c.requires.failed.1 in
+    let over = negated_over c.args.self.now.clauses.own c.args.assumed.now c.in_ok-last.last.clause.items c.requires.under_way.over_own
+    (c.in_ok-last.ensures.only c.args.assumed.now c.requires.failed.0 (subst (λ (s : SearchView). AreDecisionsAmong s.trail.entries c.args.assumed.now) (sym c.self.view_is) among)) in
+    subst (λ (s : SearchView). IsShort s.clauses.own c.in_ok-last.last.clause.items (length c.in_ok-last.last.hints.items)) c.self.view_is
+    (hints_short c.needed_hints_are_few.ensures c.self.inside.clauses c.self.inside.trail _ _ c.in_ok-last.last.clause.items c.in_ok-last.last.hints.items c.axioms.ensures.is c.more.ensures c.self.invariant c.in_ok-last.ensures.refs c.in_ok-last.ensures.different
+    (subst (λ (s : SearchView). IsOverOwn s.clauses.own c.in_ok-last.last.clause.items) (sym c.self.view_is) over) c.in_ok-last.ensures.good c.in_ok-last.ensures.needed)
 
 pub keep_reason-requires-clause-is_true : goal.keep_reason-requires-clause-is_true
 keep_reason-requires-clause-is_true c =

@@ -1,11 +1,13 @@
-use Rattle.std.proofs.Common.{sym, subst, Contains, All}
+use Rattle.std.proofs.Common.{sym, subst, Contains, All, length}
 use Rattle.pc_lits.specs.Literals.{negated}
 use Rattle.pc_lits.specs.Steps.{IsGoodStep}
 use Rattle.pc_propagate.specs.declared.clauses.ClauseRef.{ClauseRef}
 use Rattle.pc_propagate.specs.Propagation.{IsFalsified}
 use Rattle.pc_propagate.specs.Refs.{clause_at, clauses_of_refs}
 use Rattle.pc_analyze.specs.Levels.{IsHighestLevel}
+use Rattle.pc_solver.specs.InLog.{IsShort}
 use Rattle.pc_solver.specs.inside.Search.{SearchView}
+use Rattle.pc_solver.proofs.LearnLemmas.{hints_short}
 use Rattle.pc_solver.proofs.SearchLemmas.{on_err}
 use Rattle.pc_solver.proofs.TurnLemmas.{conflict_same, level_same, good_same, refutes, over_nothing, nothing_over, logs_none}
 use Rattle.pc_solver.proofs.search.Search.refute_conflict.Goals as goal
@@ -32,6 +34,13 @@ refute-requires-clause-good c =
 
 pub refute-requires-clause-over_own : goal.refute-requires-clause-over_own
 refute-requires-clause-over_own c = nothing_over c.args.self.now.clauses.own c.in_ok-last.last.clause.items c.in_ok-last.ensures.empty
+
+pub refute-requires-clause-short : goal.refute-requires-clause-short
+refute-requires-clause-short c =
+    let learned = c.in_ok-last.ensures.learned in
+    subst (λ (s : SearchView). IsShort s.clauses.own c.in_ok-last.last.clause.items (length c.in_ok-last.last.hints.items)) c.self.view_is
+    (hints_short c.needed_hints_are_few.ensures c.self.inside.clauses c.self.inside.trail _ _ c.in_ok-last.last.clause.items c.in_ok-last.last.hints.items c.axioms.ensures.is c.more.ensures c.self.invariant learned.are_attached learned.different
+    (nothing_over c.self.inside.clauses.own c.in_ok-last.last.clause.items c.in_ok-last.ensures.empty) learned.good learned.needed)
 
 pub returns-clause-refutes : goal.returns-clause-refutes
 returns-clause-refutes c = refutes c.refute.new.self c.args.assumed.now c.refute.new.log c.in_ok-last.last.clause.items c.refute.result (over_nothing c.args.assumed.now c.in_ok-last.last.clause.items c.in_ok-last.ensures.empty) c.refute.ensures.unsat c.refute.ensures.step
