@@ -1,5 +1,5 @@
 -- Logs of the sheet in which a and b are equal.
-use Rattle.std.proofs.Common.{◌≡◌, ℕ, zero, suc, ◌<◌, inl, inr, Bool, true, false, not, ◌&&◌, List, [], ◌∷◌, Option, None, Some, All, Contains, slice_get, arith, ap, refl, sym, ◌∙◌, subst}
+use Rattle.std.proofs.Common.{◌≡◌, ℕ, zero, suc, ◌<◌, inl, inr, Bool, true, false, not, ◌&&◌, List, [], ◌∷◌, Option, None, Some, All, Contains, length, slice_get, arith, ap, refl, sym, ◌∙◌, subst}
 use Rattle.std.specs.List.{range_with_len}
 use Rattle.std.proofs.lemmas.Bool.{false≢true}
 use Rattle.std.proofs.lemmas.Bool.Decides.{Decides-not, Decides-by_and}
@@ -18,14 +18,14 @@ use Rattle.pc_laws.specs.Examples.{red, green, entry, equal_cells}
 use Rattle.pc_components.specs.Pairs.{entry_literal}
 use Rattle.pc_analyze.specs.Learning.{IsSubclause}
 use Rattle.pc_solver.specs.Clauses.{IsOverOwn}
-use Rattle.pc_solver.specs.InLog.{AreStepsOver}
+use Rattle.pc_solver.specs.InLog.{AreAxiomsOnce, AreStepsOver, AreStepsShort, IsShort}
 use Rattle.pc_solver.specs.New.{IsLearnedAt, AreNewClauses}
 use Rattle.pc_solver.specs.Solver.{Problem, IsLawfulLog, clauses_used}
 use Rattle.pc_worlds.specs.Parts.{IsListingLog}
 use Rattle.pc_worlds.specs.Sheets.{IsBlockOf}
 use Rattle.pc_lemmas.proofs.Elements.{contains_first, contains_cases, contains_none, contains_map}
 use Rattle.pc_worked_laws.specs.Trails.{plus, minus}
-use Rattle.pc_worked_laws.specs.Logs.{equal_clauses, all_variables, equal_problem, learned_by, green_block, good_log, with_hint_missing, with_later_hint, with_tautology, with_axiom_learned, with_clause_twice, with_block_learned, with_large_block, with_foreign_variable, WorkedNewClauses, WorkedLawfulLogs, WorkedListingLogs}
+use Rattle.pc_worked_laws.specs.Logs.{equal_clauses, all_variables, equal_problem, learned_by, green_block, good_log, with_hint_missing, with_later_hint, with_tautology, with_axiom_learned, with_clause_twice, with_block_learned, with_large_block, with_foreign_variable, WorkedNewClauses, WorkedLawfulLogs, WorkedListingLogs, all_axioms, with_axiom_twice, hint_again, with_hint_again, WorkedSmallLogs}
 use Rattle.pc_worked_laws.proofs.Computing.{has, lacks, lists}
 use Rattle.pc_worked_laws.proofs.Deciding.{isnt, has_decides, is_within, within_decides, is_tautology, tautology_decides, is_good_step, good_step_decides}
 
@@ -234,6 +234,38 @@ lawful_logs = record {
   of_no_block = of_no_block;
   foreign_variable = foreign_variable;
   tautology = λ h. learned_tautology (clauses_used equal_problem) h.new;
+}
+
+-- ---- small logs
+
+once : AreAxiomsOnce all_axioms good_log
+once m = omega arith
+
+two_places : AreAxiomsOnce (4 ∷ 4 ∷ []) with_axiom_twice
+two_places m = omega arith
+
+twice : ¬ AreAxiomsOnce all_axioms with_axiom_twice
+twice h = let few = h 4 in omega (arith, few)
+
+short : AreStepsShort all_variables good_log
+short i clause hints learned at =
+    let there : slice_get good_log 3 ≡ Some (StepLine clause hints learned) = subst (λ n. slice_get good_log n ≡ Some (StepLine clause hints learned)) (the_step i clause hints learned at).0 at in
+    subst (λ l. IsShort all_variables (clause_in (Some l)) (length (hints_of l))) (ap line_or there) (omega arith)
+
+again : ¬ AreStepsShort all_variables with_hint_again
+again h = let few = h 3 (minus 0 ∷ []) (hints_of hint_again) true refl in omega (arith, few)
+
+pub small_logs : WorkedSmallLogs
+small_logs = record {
+  once = once;
+  twice = twice;
+  other_places = λ h. let few = h 4 in omega (arith, few);
+  two_places = two_places;
+  short = short;
+  good_again = (good_step_decides (minus 0 ∷ []) (hinted_clauses equal_clauses with_hint_again (hints_of hint_again))).0 refl;
+  again = again;
+  solver_twice = λ h. twice h.axioms_once;
+  solver_again = λ h. again h.short;
 }
 
 -- ---- listing logs

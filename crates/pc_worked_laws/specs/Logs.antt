@@ -5,11 +5,13 @@ use Rattle.pc_lits.specs.declared.literal.Var.{Var}
 use Rattle.pc_lits.specs.declared.literal.Lit.{Lit}
 use Rattle.pc_log.specs.declared.log.StepId.{StepId}
 use Rattle.pc_log.specs.Lines.{LogLine, AxiomLine, BlockLine, StepLine}
+use Rattle.pc_log.specs.Derivations.{IsGoodLine}
 use Rattle.pc_laws.specs.Examples.{equal_cells}
 use Rattle.pc_sheet.specs.MaximalSets.{IsMaximalSet}
 use Rattle.pc_ground.specs.Ground.{clauses}
+use Rattle.pc_solver.specs.InLog.{AreAxiomsOnce, AreStepsShort}
 use Rattle.pc_solver.specs.New.{AreNewClauses}
-use Rattle.pc_solver.specs.Solver.{Problem, IsLawfulLog}
+use Rattle.pc_solver.specs.Solver.{Problem, IsLawfulLog, IsSolverLog}
 use Rattle.pc_worlds.specs.Parts.{IsListingLog}
 use Rattle.pc_worked_laws.specs.Trails.{plus, minus}
 
@@ -97,6 +99,30 @@ pub record WorkedLawfulLogs : Type 0 where
   pub of_no_block : ¬ IsLawfulLog equal_problem [] good_log
   pub foreign_variable : ¬ IsLawfulLog equal_problem green_block with_foreign_variable
   pub tautology : ¬ IsLawfulLog equal_problem [] with_tautology
+
+-- the rule's line stands twice
+abbrev pub with_axiom_twice : List LogLine
+with_axiom_twice = AxiomLine 4 ∷ AxiomLine 4 ∷ []
+
+-- the block is a hint again and again
+abbrev pub hint_again : LogLine
+hint_again = learned_by (minus 0 ∷ []) (2 ∷ 2 ∷ 2 ∷ 2 ∷ 0 ∷ 1 ∷ [])
+
+abbrev pub with_hint_again : List LogLine
+with_hint_again = three_lines ++ hint_again ∷ []
+
+pub record WorkedSmallLogs : Type 0 where
+  pub once : AreAxiomsOnce all_axioms good_log
+  pub twice : ¬ AreAxiomsOnce all_axioms with_axiom_twice
+  -- two lines want two places
+  pub other_places : ¬ AreAxiomsOnce (3 ∷ 4 ∷ 5 ∷ []) with_axiom_twice
+  pub two_places : AreAxiomsOnce (4 ∷ 4 ∷ []) with_axiom_twice
+  pub short : AreStepsShort all_variables good_log
+  -- a good step may be too long
+  pub good_again : IsGoodLine equal_clauses with_hint_again hint_again
+  pub again : ¬ AreStepsShort all_variables with_hint_again
+  pub solver_twice : ¬ IsSolverLog equal_problem green_block with_axiom_twice
+  pub solver_again : ¬ IsSolverLog equal_problem green_block with_hint_again
 
 pub record WorkedListingLogs : Type 0 where
   pub listing : IsListingLog (2 ∷ 2 ∷ []) equal_cells.entries (IsMaximalSet equal_cells) equal_problem good_log

@@ -15,7 +15,7 @@ ghost use Rattle.pc_worked_laws.specs.Several.{WorkedViews, WorkedEdits, WorkedL
 ghost use Rattle.pc_worked_laws.specs.Trails.{WorkedSettled, WorkedFirstPoint};
 ghost use Rattle.pc_worked_laws.specs.Watches.{WorkedKnownWatches, WorkedLists, WorkedAdditions, WorkedShifts};
 ghost use Rattle.pc_worked_laws.specs.Guards.{WorkedGuards, WorkedWatches, WorkedSure, WorkedKept, WorkedJustified};
-ghost use Rattle.pc_worked_laws.specs.Logs.{WorkedNewClauses, WorkedLawfulLogs, WorkedListingLogs};
+ghost use Rattle.pc_worked_laws.specs.Logs.{WorkedNewClauses, WorkedLawfulLogs, WorkedSmallLogs, WorkedListingLogs};
 ghost use Rattle.pc_worked_laws.specs.LeftOut.{WorkedTwice, WorkedConstants};
 ghost use Rattle.pc_worked_laws.specs.Spendings.{WorkedSpendings, WorkedLogSpendings};
 ghost use Rattle.pc_worked_laws.specs.WholeSpendings.{WorkedWholeSpendings};
@@ -129,10 +129,11 @@ pub fn watched_trails_are_worked()
     ensures justified { WorkedJustified }
 {}
 
-/// Which logs of a small sheet are lawful, and which of these list its maximal sets.
+/// Which logs of a small sheet are lawful, which have an axiom twice or too long a step, and which list its maximal sets.
 pub fn logs_are_worked()
     ensures new { WorkedNewClauses }
     ensures lawful { WorkedLawfulLogs }
+    ensures small { WorkedSmallLogs }
     ensures listing { WorkedListingLogs }
 {}
 
