@@ -5,7 +5,7 @@ use Rattle.std.proofs.lemmas.List.Elements.{recursion_from_All}
 use Rattle.pc_lines.specs.Lines.{line_text_of}
 use Rattle.pc_sheet.specs.Sheet.{Sheet, with_rule}
 use Rattle.pc_sheet.specs.WellFormed.{IsWellFormed}
-use Rattle.pc_logic.specs.Edits.{entered, also_entered, without_cell, without_entry, without_rule}
+use Rattle.pc_books.specs.Edits.{entered, also_entered, without_cell, without_entry, without_rule}
 use Rattle.pc_collab.specs.Journal.{Post, IsJournal}
 use Rattle.pc_collab.specs.Merge.{IsMerge}
 use Rattle.pc_collab.specs.Laws.{MergesAreOne}

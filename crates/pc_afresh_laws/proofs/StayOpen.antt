@@ -8,7 +8,7 @@ use Rattle.pc_sheet.specs.Truth.{Holds}
 use Rattle.pc_sheet.specs.Entailment.{cell_sizes}
 use Rattle.pc_sheet.specs.MaximalSets.{AreRulesConsistent}
 use Rattle.pc_sheet.specs.Weight.{cell_weight, rule_weight}
-use Rattle.pc_logic.specs.Edits.{without_rule}
+use Rattle.pc_books.specs.Edits.{without_rule}
 use Rattle.pc_lines.specs.Lines as a_line
 use Rattle.pc_syntax.specs.Tree.{Asked}
 use Rattle.pc_transcript.specs.Answer.{Answer, silent, accepted, shown, refused, no_memory}

@@ -2,9 +2,9 @@
 ghost use Rattle.std.specs.Prelude.{◌≡◌};
 
 use pc_axiom_names::Names;
+use pc_books::Assignment;
 use pc_ground::GroundFault;
 use pc_log::StepId;
-use pc_logic::Assignment;
 use pc_sheet::Entry;
 use pc_solver::Stop;
 use std::alloc::{AllocError, AllocFailed};

@@ -7,8 +7,8 @@ ghost use Rattle.pc_parts.specs.PartSheets.{is_among};
 ghost use Rattle.pc_sheet.specs.Sheet.{Statement};
 ghost use Rattle.pc_ask.specs.inside.Reading.{are_read, AreCandidates, is_cell_of, is_on_some, is_read};
 
+use pc_books::{Assignment, Book, well_formed};
 use pc_ground::Ground;
-use pc_logic::{Assignment, Book, well_formed};
 use pc_repairs::{PartSets, sets_by_part};
 use pc_sheet::{CellId, Entry};
 use pc_world_list::Choices;

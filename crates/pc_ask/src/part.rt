@@ -7,10 +7,10 @@ ghost use Rattle.pc_ground.specs.Ground.{clauses};
 ghost use Rattle.pc_ground.specs.Grounded.{grounded};
 ghost use Rattle.pc_ask.specs.inside.Parts.{AreAxiomsOver, AreMarked, AreMarkedBelow, IsAsked, IsAskedOver, IsMarkedClause};
 
+use pc_books::{Book, well_formed};
 use pc_components::{PartOfPiece, find_part_of_piece};
 use pc_ground::Ground;
 use pc_lits::{ClauseStore, Lit, Values, Var};
-use pc_logic::{Book, well_formed};
 use pc_problem::count_pairs;
 use pc_problem::laws::parts_are_searched;
 use pc_solver::Solver;

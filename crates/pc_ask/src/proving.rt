@@ -9,9 +9,9 @@ ghost use Rattle.pc_repairs.specs.Searches.{whole_problem};
 ghost use Rattle.pc_ask.specs.Asking.{IsAnswer};
 
 use crate::answer::Answer;
+use pc_books::{Book, well_formed};
 use pc_justify_laws::{names_are_of_their_sheet, own_lines_are_named, trimmed_lines_are_against};
 use pc_log::{Log, Span, trim};
-use pc_logic::{Book, well_formed};
 use std::alloc::{AllocError, Global};
 
 /// The lines that the answer's last line rests on: with the answer's names they make a certificate against the last rule of the

@@ -7,7 +7,7 @@ ghost use Rattle.pc_repairs.specs.inside.Joining.{IsSized, joined_by, laid_over,
 ghost use Rattle.pc_sheet.specs.Sizes.{product};
 ghost use Rattle.pc_ask.specs.inside.Ways.{most_tried};
 
-use pc_logic::Assignment;
+use pc_books::Assignment;
 use pc_repairs::PartSets;
 use pc_sheet::{CellId, ValueId};
 use std::alloc::{AllocError, Global};

@@ -10,8 +10,8 @@ ghost use Rattle.pc_log.specs.Trimmed.{IsTrimmed};
 
 use crate::blocks::share;
 use crate::row::{Row, Slot};
+use pc_books::Assignment;
 use pc_log::{Log, Places, SparseLog, StepId, Trimmer};
-use pc_logic::Assignment;
 use pc_sheet::{Entry, Target};
 use std::alloc::{AllocError, Global};
 use std::marker::Model;

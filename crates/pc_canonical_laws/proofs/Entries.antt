@@ -11,8 +11,8 @@ use Rattle.pc_sheet.specs.Entailment.{AreWithin, cell_sizes}
 use Rattle.pc_sheet.specs.WellFormed.{is_of_cell, entries_of, IsWellFormedUniverse, AreWellFormedRules, AreWellFormedEntries, IsEntryOf, IsWellFormed}
 use Rattle.pc_sheet.specs.declared.ids.CellId.{CellId}
 use Rattle.pc_sheet.specs.declared.ids.Entry.{Entry}
-use Rattle.pc_logic.specs.Edits.{added_to, agrees_with, entered_to, is_same_entry}
-use Rattle.pc_logic.proofs.EntryLemmas.{found_standing}
+use Rattle.pc_books.specs.Edits.{added_to, agrees_with, entered_to, is_same_entry}
+use Rattle.pc_books.proofs.EntryLemmas.{found_standing}
 use Rattle.pc_elaborate.specs.Elaboration.{IsCell, IsEntryNamed}
 use Rattle.pc_syntax.specs.Tree.{Declared}
 use Rattle.pc_sortcheck.specs.Declaring.{Makes, Declares, DeclareAll}

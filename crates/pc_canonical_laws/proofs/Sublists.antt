@@ -1,7 +1,7 @@
 -- A list that keeps some elements of another, in their order, and what holds of it then.
 use Rattle.std.proofs.Common.{◌≡◌, List, [], ◌∷◌, ◌++◌, All, AllPairs, Contains, arith, refl, sym, subst, ◌∙◌, append_assoc}
 use Rattle.std.proofs.lemmas.List.Elements.{All-nil, All-cons, All-head, All-tail, All-contains, Contains-append_right}
-use Rattle.pc_logic.proofs.EntryLemmas.{pairs_head, pairs_tail, pairs_cons}
+use Rattle.pc_books.proofs.EntryLemmas.{pairs_head, pairs_tail, pairs_cons}
 
 pub data Keeps (X : Type 0) : List X → List X → Type 0 where
   keeps_none : Keeps X [] []

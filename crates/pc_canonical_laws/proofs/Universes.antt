@@ -11,8 +11,8 @@ use Rattle.pc_sheet.specs.WellFormed.{IsDeclaredSort, IsWellFormedTable, IsWellF
 use Rattle.pc_sheet.specs.declared.ids.SortId.{SortId}
 use Rattle.pc_sheet.specs.declared.ids.TableId.{TableId}
 use Rattle.pc_sheet.specs.declared.ids.ValueId.{ValueId}
-use Rattle.pc_logic.specs.Edits.{rows_with, tables_with, table_from}
-use Rattle.pc_logic.proofs.RowLemmas.{rows_decide, new_row}
+use Rattle.pc_books.specs.Edits.{rows_with, tables_with, table_from}
+use Rattle.pc_books.proofs.RowLemmas.{rows_decide, new_row}
 use Rattle.pc_syntax.specs.Tree.{Declared}
 use Rattle.pc_sortcheck.specs.Declaring.{Makes, Declares, DeclareAll, AreSortsNamed}
 use Rattle.pc_writer.specs.FormulaText.{sort_name}

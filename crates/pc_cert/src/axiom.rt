@@ -13,8 +13,8 @@ use crate::lookup::{named_cell, named_rule, named_values};
 use crate::node::named_node;
 use crate::tree::{PairTree, PartTree, PathTree};
 use pc_axiom_names::AxiomName;
+use pc_books::Book;
 use pc_formula::{CellTree, Name, ValueTree};
-use pc_logic::Book;
 use std::alloc::{AllocError, Global};
 
 // `some`

@@ -11,7 +11,7 @@ use crate::axiom::named_axiom;
 use crate::cert::CertPart;
 use crate::table::{Table, number_literals};
 use crate::tree::{LiteralTree, PartTree};
-use pc_logic::Book;
+use pc_books::Book;
 use std::alloc::{AllocError, Global};
 
 // A clause with its hints.

@@ -13,7 +13,7 @@ use crate::derived::named_part;
 use crate::lookup::{named_claim, named_entry};
 use crate::table::Table;
 use crate::tree::{ClaimTree, LineTree, PairTree, PartTree};
-use pc_logic::Book;
+use pc_books::Book;
 use std::alloc::{AllocError, Global};
 
 /// What lines said so far. An entry is the last set's, where a set began.

@@ -8,7 +8,7 @@ ghost use Rattle.pc_cert.specs.Trees.{pair_of, entries_in};
 
 use crate::lookup::named_entry;
 use crate::tree::PairTree;
-use pc_logic::Book;
+use pc_books::Book;
 use pc_sheet::Entry;
 use std::alloc::{AllocError, Global};
 

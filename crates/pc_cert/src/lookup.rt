@@ -15,9 +15,9 @@ ghost use Rattle.pc_cert.specs.Views.{claim_of as plain_claim};
 
 use crate::cert::Claim;
 use crate::tree::{ClaimTree, PairTree};
+use pc_books::{Book, well_formed};
 use pc_elaborate::{find_cell, find_value};
 use pc_formula::{CellTree, Name, ValueTree};
-use pc_logic::{Book, well_formed};
 use pc_sheet::{CellId, Entry, Target, ValueId};
 
 /// The cell that is named.

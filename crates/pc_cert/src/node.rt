@@ -7,7 +7,8 @@ ghost use Rattle.pc_cert.specs.Trees.{path_of, place_of};
 
 use crate::lookup::named_rule;
 use crate::tree::PathTree;
-use pc_logic::{Book, NodeKind, few_children, node_at};
+use pc_books::{Book, NodeKind};
+use pc_logic::{few_children, node_at};
 use pc_sheet::NodePath;
 use std::alloc::{AllocError, Global};
 

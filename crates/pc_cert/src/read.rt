@@ -18,9 +18,9 @@ use crate::line::read_line;
 use crate::order::{Order, behind, nothing_yet, stands};
 use crate::table::Table;
 use crate::tree::LineTree;
+use pc_books::Book;
 use pc_formula::Refusal;
 use pc_lines::next_line;
-use pc_logic::Book;
 use std::alloc::Global;
 
 // The form of the line of that number.

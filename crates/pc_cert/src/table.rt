@@ -14,8 +14,8 @@ use crate::lookup::named_entry;
 use crate::node::named_node;
 use crate::numbering::Numbering;
 use crate::tree::{LiteralTree, PairTree, PathTree, SymbolTree};
+use pc_books::Book;
 use pc_lits::{Lit, Var};
-use pc_logic::Book;
 use std::alloc::{AllocError, Global};
 
 /// Symbols by their numbers, and the numbers by hashing.

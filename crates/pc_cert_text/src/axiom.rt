@@ -14,7 +14,7 @@ use crate::number::write_number;
 use crate::path::{write_path, write_rule_name};
 use crate::tight::{write_read, write_tight_cell};
 use pc_axiom_names::AxiomRef;
-use pc_logic::Book;
+use pc_books::Book;
 use pc_port::{Failed, Sink};
 use pc_sheet::{CellId, Entry, NodePath, ValueId};
 use pc_writer::{sort_of, write_text, write_value};

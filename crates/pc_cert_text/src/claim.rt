@@ -9,7 +9,7 @@ ghost use Rattle.pc_cert_text.specs.CertificateText.{claim_text, equality_text, 
 ghost use Rattle.pc_cert_text.specs.inside.Claims.{CanBeClaimed};
 
 use crate::path::write_rule_name;
-use pc_logic::Book;
+use pc_books::Book;
 use pc_port::{Failed, Sink};
 use pc_sheet::Target;
 use pc_world_list::SetsClaim;

@@ -5,7 +5,7 @@ ghost use Rattle.pc_writer.specs.Writes.{Writes};
 ghost use Rattle.pc_cert_text.specs.CertificateText.{number_text, path_text, name_of_rule_at};
 
 use crate::number::write_number;
-use pc_logic::Book;
+use pc_books::Book;
 use pc_port::{Failed, Sink};
 use pc_writer::write_text;
 

@@ -8,7 +8,7 @@ ghost use Rattle.pc_writer.specs.Writes.{Writes};
 ghost use Rattle.pc_cert_text.specs.CertificateText.{set_text, sets_text};
 
 use crate::entries::{write_uses, write_values};
-use pc_logic::Book;
+use pc_books::Book;
 use pc_port::{Failed, Sink};
 use pc_sheet::{Entry, ValueId};
 use pc_world_list::Worlds;

@@ -5,7 +5,7 @@ ghost use Rattle.pc_sheet.specs.WellFormed.{IsEntryOf};
 ghost use Rattle.pc_writer.specs.Writes.{Writes};
 ghost use Rattle.pc_cert_text.specs.CertificateText.{read_text, tight_cell_text};
 
-use pc_logic::Book;
+use pc_books::Book;
 use pc_port::{Failed, Sink};
 use pc_sheet::{CellId, Entry};
 use pc_writer::{sort_of, write_separated_cell, write_text, write_value};

@@ -10,8 +10,8 @@ use crate::claim::claim_verdict;
 use crate::derivation::{ends_among, first_bad};
 use crate::scratch::Scratch;
 use crate::verdict::Verdict;
+use pc_books::Book;
 use pc_cert::{Cert, CertLine, CertPart};
-use pc_logic::Book;
 
 /// Tests a certificate that was read for this book, and answers for the first test that fails. The scratch was made
 /// for both, and serves again. It takes no memory.

@@ -14,9 +14,10 @@ ghost use Rattle.pc_cert.specs.Views.{reading_of, said_of, set_of};
 use crate::entered::is_entered;
 use crate::sets::first_in_set;
 use crate::verdict::Verdict;
+use pc_books::{Assignment, Book, well_formed};
 use pc_cert::{Cert, Claim, Said, SaidSet};
 use pc_lits::Values;
-use pc_logic::{Assignment, Book, eval, well_formed};
+use pc_logic::eval;
 use pc_sheet::{Target, ValueId};
 
 // Used entries and an assignment: values as they are said, what a fault at their end is told by, and the values alone.

@@ -9,7 +9,8 @@ ghost use Rattle.pc_checker.specs.inside.RowParts.{part_of};
 ghost use Rattle.pc_checker.specs.inside.Written.{IsWritten, IsRowWritten, IsRowNumberWritten};
 
 use crate::draft::ClauseDraft;
-use pc_logic::{Book, few_children, node_at};
+use pc_books::Book;
+use pc_logic::{few_children, node_at};
 use pc_sheet::{NodeKind, NodePath};
 use std::alloc::{AllocError, Global};
 

@@ -4,7 +4,7 @@ ghost use Rattle.std.specs.Prelude.{◌≡◌, ◌↔◌, All, Contains, IfOk, I
 ghost use Rattle.pc_sheet.specs.declared.ids.Entry.{Entry as TheEntry};
 ghost use Rattle.pc_checker.specs.Entered.{AreEnteredPairs, ArePairsMarked, HasPlace, pair_place};
 
-use pc_logic::{Book, well_formed};
+use pc_books::{Book, well_formed};
 use pc_sheet::{Entry, MOST_VALUES};
 use std::alloc::{AllocError, Global};
 

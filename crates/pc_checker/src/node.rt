@@ -10,7 +10,8 @@ ghost use Rattle.pc_checker.specs.inside.Written.{IsWritten, IsNumberWritten, cl
 use crate::axiom::{write_children, write_parts};
 use crate::counting::{Counted, write_count, write_counter_at};
 use crate::draft::ClauseDraft;
-use pc_logic::{Book, few_children};
+use pc_books::Book;
+use pc_logic::few_children;
 use pc_sheet::{NodeKind, NodePath};
 use std::alloc::{AllocError, Global};
 

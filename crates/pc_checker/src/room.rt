@@ -20,9 +20,9 @@ use crate::scratch::Scratch;
 use crate::sets::write_outside;
 use crate::shared::Shared;
 use crate::taken::write_axiom;
+use pc_books::{Assignment, Book, well_formed};
 use pc_cert::{Cert, CertLine, CertPart, Claim, Numbering, Said, SaidSet, Symbol};
 use pc_lits::{Lit, Values};
-use pc_logic::{Assignment, Book, well_formed};
 use pc_sheet::MOST_VALUES;
 use std::alloc::{AllocError, Global};
 

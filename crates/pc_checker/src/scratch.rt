@@ -1,8 +1,8 @@
 //! What a check needs of memory.
 
 use crate::line_clauses::LineClauses;
+use pc_books::Assignment;
 use pc_lits::{Lit, Values};
-use pc_logic::Assignment;
 
 /// What is prepared for the check of one certificate, so that the check itself takes no memory. The symbols of all
 /// clauses have numbers, the certificate's own first.

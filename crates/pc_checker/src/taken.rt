@@ -14,8 +14,9 @@ use crate::axiom::{write_reads, write_values};
 use crate::draft::ClauseDraft;
 use crate::node::write_node;
 use pc_axiom_names::AxiomName;
+use pc_books::Book;
 use pc_lits::{Lit, Values, Var};
-use pc_logic::{Book, eval_partial, node_at};
+use pc_logic::{eval_partial, node_at};
 use pc_sheet::{Entry, NodeKind, NodePath};
 use std::alloc::{AllocError, Global};
 

@@ -12,9 +12,9 @@ ghost use Rattle.pc_components.specs.inside.Turned.{places_from};
 use crate::labels::labels_by;
 use crate::marks::{is_among, marked_places, marks_of_numbers};
 use crate::numbers::{count_last, number_cells, numbers_of_pieces};
+use pc_books::{Book, well_formed};
 use pc_ground::{Ground, Span};
 use pc_lits::Rows;
-use pc_logic::{Book, well_formed};
 use std::alloc::{AllocError, Global};
 
 /// How many parts there are, and the number of each cell's and each piece's part.

@@ -6,9 +6,9 @@ ghost use Rattle.pc_ground.specs.Grounded.{grounded};
 use crate::narrow::{cells_of, variables_of};
 use crate::part_numbers::PartNumbers;
 use crate::variables::variables_used;
+use pc_books::{Book, few_cells, well_formed};
 use pc_ground::Ground;
 use pc_lits::Var;
-use pc_logic::{Book, few_cells, well_formed};
 use pc_sheet::CellId;
 use std::alloc::{AllocError, Global};
 

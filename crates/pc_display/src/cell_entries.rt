@@ -4,7 +4,7 @@ ghost use Rattle.pc_sheet.specs.Limits.{most_entries};
 ghost use Rattle.pc_sheet.specs.WellFormed.{entries_of, IsWellFormed};
 ghost use Rattle.pc_display.specs.Show.{are_several};
 
-use pc_logic::Book;
+use pc_books::Book;
 use pc_sheet::{CellId, Entry, MOST_ENTRIES, ValueId};
 use std::marker::Model;
 

@@ -18,7 +18,7 @@ ghost use Rattle.pc_display.specs.inside.Names.{IsNamedSo, IsAsWide};
 
 use crate::cell_entries::entries_of;
 use itoa::Buffer;
-use pc_logic::Book;
+use pc_books::Book;
 use pc_sheet::{CellId, Entry, FamilyId, SortId, ValueId};
 use pc_writer::sort_of;
 use unicode_width::UnicodeWidthStr;

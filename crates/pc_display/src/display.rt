@@ -13,7 +13,7 @@ ghost use Rattle.pc_display.specs.inside.Entered.{HaveValuesOf};
 use crate::cell_entries::{are_several, entries_of};
 use crate::lines::{write_conflict_line, write_head_line, write_value_line};
 use crate::supports::Supports;
-use pc_logic::Book;
+use pc_books::Book;
 use pc_port::{Failed, Sink};
 use pc_sheet::{CellId, Entry, SortId, Target, ValueId};
 use pc_writer::sort_of;

@@ -10,7 +10,7 @@ ghost use Rattle.pc_display.specs.Show.{against, because, entered_text, entered_
 ghost use Rattle.pc_display.specs.inside.Entered.{HaveValuesOf};
 ghost use Rattle.pc_writer.specs.SheetText.{ended};
 
-use pc_logic::Book;
+use pc_books::Book;
 use pc_port::{Failed, Sink};
 use pc_sheet::{CellId, Entry, SortId, ValueId};
 use pc_writer::{sort_of, write_cell, write_entries, write_text, write_value};

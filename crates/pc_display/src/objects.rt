@@ -16,7 +16,7 @@ use crate::cell_entries::entries_of;
 use crate::display::conflict_of;
 use crate::supports::Supports;
 use crate::texts::{cell_text, entry_text, value_text};
-use pc_logic::Book;
+use pc_books::Book;
 use pc_sheet::{CellId, Entry, SortId, Target, ValueId};
 use pc_writer::sort_of;
 use serde_json::{Value, json};

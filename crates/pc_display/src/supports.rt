@@ -5,7 +5,7 @@ ghost use Rattle.pc_sheet.specs.Sheet.{Sheet};
 ghost use Rattle.pc_reason.specs.Targets.{IsTargetIn};
 ghost use Rattle.pc_display.specs.Supports.{IsSupportFor};
 
-use pc_logic::Book;
+use pc_books::Book;
 use pc_reason::Reasons;
 use pc_sheet::{Entry, Target};
 

@@ -18,7 +18,7 @@ use crate::columns::{NameColumns, Widths, cell_columns, entered_columns, name_co
 use crate::display::have_conflict;
 use crate::lines::write_entered;
 use crate::supports::Supports;
-use pc_logic::{Book, well_formed};
+use pc_books::{Book, well_formed};
 use pc_port::{Failed, Sink};
 use pc_sheet::{CellId, Entry, SortId, Target, ValueId};
 use pc_writer::{sort_of, write_cell, write_text, write_value};

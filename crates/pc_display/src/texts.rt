@@ -6,7 +6,7 @@ ghost use Rattle.pc_sheet.specs.Sizes.{size_of};
 ghost use Rattle.pc_sheet.specs.WellFormed.{IsEntryOf, IsWellFormed};
 ghost use Rattle.pc_writer.specs.Spelling.{cell_text, entry_text, value_text};
 
-use pc_logic::Book;
+use pc_books::Book;
 use pc_port::{Failed, Sink};
 use pc_sheet::{CellId, Entry, SortId, ValueId};
 use pc_writer::{write_cell, write_entry, write_value};

@@ -9,8 +9,8 @@ use Rattle.pc_sheet.specs.Views.{counting_of}
 use Rattle.pc_sheet.specs.WellSorted.{Variables, AreOfSorts, IsNewVariable, IsWellSorted, AreWellSorted}
 use Rattle.pc_sheet.specs.declared.ids.SortId.{SortId}
 use Rattle.pc_sheet.specs.declared.ids.TableId.{TableId}
-use Rattle.pc_logic.specs.declared.names.Named.TheVariants as names
-use Rattle.pc_logic.proofs.NamesLemmas.{name_is_declared}
+use Rattle.pc_books.specs.declared.names.Named.TheVariants as names
+use Rattle.pc_books.proofs.NamesLemmas.{name_is_declared}
 use Rattle.pc_elaborate.specs.declared.fault.SortFault.{SortFault}
 use Rattle.pc_elaborate.specs.declared.fault.SortFault.TheVariants.{DuplicateName, Limit}
 use Rattle.pc_sheet.specs.declared.limits.Limited.TheVariants.{Count, Depth}

@@ -7,10 +7,10 @@ use Rattle.pc_sheet.specs.Sheet.{Universe, Family, Values, listed, range}
 use Rattle.pc_sheet.specs.WellSorted.{Variables, IsListed, IsRange, IsOfSort, AreOfSorts}
 use Rattle.pc_sheet.specs.declared.ids.SortId.{SortId}
 use Rattle.pc_sheet.specs.declared.ids.FamilyId.{FamilyId}
-use Rattle.pc_logic.specs.Named.{IsNameOf}
-use Rattle.pc_logic.specs.declared.names.Named.{Named}
-use Rattle.pc_logic.specs.declared.names.Named.TheVariants as names
-use Rattle.pc_logic.proofs.NamesLemmas.{name_is_declared}
+use Rattle.pc_books.specs.Named.{IsNameOf}
+use Rattle.pc_books.specs.declared.names.Named.{Named}
+use Rattle.pc_books.specs.declared.names.Named.TheVariants as names
+use Rattle.pc_books.proofs.NamesLemmas.{name_is_declared}
 use Rattle.pc_elaborate.specs.declared.fault.SortFault.{SortFault}
 use Rattle.pc_elaborate.specs.declared.fault.SortFault.TheVariants.{UnknownName, WrongArity, WrongSort}
 use Rattle.pc_elaborate.specs.Tests.{no_test, test}

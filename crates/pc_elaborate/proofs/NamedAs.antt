@@ -5,10 +5,10 @@ use Rattle.pc_sheet.specs.Sheet.{Universe}
 use Rattle.pc_sheet.specs.WellSorted.{declared_names}
 use Rattle.pc_sheet.specs.declared.ids.SortId.{SortId}
 use Rattle.pc_sheet.specs.declared.ids.ValueId.{ValueId}
-use Rattle.pc_logic.specs.Named.{IsNameOf}
-use Rattle.pc_logic.specs.declared.names.Named.{Named}
-use Rattle.pc_logic.specs.declared.names.Named.TheVariants as named
-use Rattle.pc_logic.proofs.NamesLemmas.{name_is_declared}
+use Rattle.pc_books.specs.Named.{IsNameOf}
+use Rattle.pc_books.specs.declared.names.Named.{Named}
+use Rattle.pc_books.specs.declared.names.Named.TheVariants as named
+use Rattle.pc_books.proofs.NamesLemmas.{name_is_declared}
 use Rattle.pc_elaborate.specs.declared.fault.SortFault.{SortFault}
 use Rattle.pc_elaborate.specs.declared.fault.SortFault.TheVariants.{UnknownName, WrongSort, Memory}
 use Rattle.pc_elaborate.specs.Elaboration.{StandsForValue}

@@ -11,8 +11,8 @@ use Rattle.pc_sheet.specs.Sizes.{values_at}
 use Rattle.pc_sheet.specs.WellSorted.{Variables, IsRange, IsOfSort, AreOfSorts, IsInteger, IsSmallNumber, IsIntegerSum, IsValueOf, AreComparable, ReadsFew, reads_in_sum, reads_in_items}
 use Rattle.pc_sheet.specs.declared.ids.SortId.{SortId}
 use Rattle.pc_sheet.specs.declared.ids.TableId.{TableId}
-use Rattle.pc_logic.specs.declared.names.Named.TheVariants as names
-use Rattle.pc_logic.proofs.NamesLemmas.{name_is_declared}
+use Rattle.pc_books.specs.declared.names.Named.TheVariants as names
+use Rattle.pc_books.proofs.NamesLemmas.{name_is_declared}
 use Rattle.pc_elaborate.specs.declared.fault.SortFault.{SortFault}
 use Rattle.pc_elaborate.specs.declared.fault.SortFault.TheVariants.{WrongArity, WrongSort, Limit}
 use Rattle.pc_sheet.specs.declared.limits.Limited.TheVariants.{Number, Reads}

@@ -8,10 +8,10 @@ use Rattle.pc_sheet.specs.Sheet.{Universe, Sort, Table, Family}
 use Rattle.pc_sheet.specs.WellFormed.{AreDifferent}
 use Rattle.pc_sheet.specs.WellSorted.{names_of_values, names_of_sort, name_of_table, name_of_family, declared_names}
 use Rattle.pc_sheet.specs.declared.ids.SortId.{SortId}
-use Rattle.pc_logic.specs.Named.{IsNameOf, value_keys, sort_keys}
-use Rattle.pc_logic.specs.declared.names.Named.{Named}
-use Rattle.pc_logic.specs.declared.names.Named.TheVariants as named
-use Rattle.pc_logic.proofs.NamesLemmas.{there_is_found}
+use Rattle.pc_books.specs.Named.{IsNameOf, value_keys, sort_keys}
+use Rattle.pc_books.specs.declared.names.Named.{Named}
+use Rattle.pc_books.specs.declared.names.Named.TheVariants as named
+use Rattle.pc_books.proofs.NamesLemmas.{there_is_found}
 use Rattle.pc_elaborate.specs.Outcome.{HasUniqueNames}
 
 module _ {X : Type 0} where

@@ -11,9 +11,9 @@ use Rattle.pc_sheet.specs.declared.ids.TableId.{TableId}
 use Rattle.pc_sheet.specs.declared.ids.FamilyId.{FamilyId}
 use Rattle.pc_sheet.specs.declared.ids.CellId.{CellId}
 use Rattle.pc_sheet.specs.declared.ids.ValueId.{ValueId}
-use Rattle.pc_logic.specs.Named.{IsNameOf}
-use Rattle.pc_logic.specs.declared.names.Named.TheVariants as named
-use Rattle.pc_logic.proofs.NamesLemmas.{name_is_declared}
+use Rattle.pc_books.specs.Named.{IsNameOf}
+use Rattle.pc_books.specs.declared.names.Named.TheVariants as named
+use Rattle.pc_books.proofs.NamesLemmas.{name_is_declared}
 use Rattle.pc_elaborate.specs.declared.fault.SortFault.{SortFault}
 use Rattle.pc_elaborate.specs.declared.fault.SortFault.TheVariants.{UnknownName, WrongArity, WrongSort, NotAValue}
 use Rattle.pc_elaborate.specs.Tests.{no_test, test}

@@ -9,8 +9,8 @@ use Rattle.pc_sheet.specs.declared.ids.SortId.{SortId}
 use Rattle.pc_sheet.specs.declared.ids.FamilyId.{FamilyId}
 use Rattle.pc_sheet.specs.declared.ids.CellId.{CellId}
 use Rattle.pc_sheet.specs.declared.ids.ValueId.{ValueId}
-use Rattle.pc_logic.specs.Named.{IsNameOf}
-use Rattle.pc_logic.specs.declared.names.Named.{Named}
+use Rattle.pc_books.specs.Named.{IsNameOf}
+use Rattle.pc_books.specs.declared.names.Named.{Named}
 use Rattle.pc_elaborate.specs.Tests.{test}
 use Rattle.pc_elaborate.specs.Elaboration.{TakesArguments, AreValuesOf}
 use Rattle.pc_elaborate.specs.FormulaFaults.{AreValuesFault}

@@ -13,8 +13,8 @@ use crate::names::find_table;
 use crate::reads::{reads_in_side, reads_in_terms};
 use crate::scope::Variable;
 use crate::sides::{find_side, may_compare};
+use pc_books::{Book, Formula, Name, Op, SortId, TableId, well_formed};
 use pc_formula::{ItemTree, SideTree};
-use pc_logic::{Book, Formula, Name, Op, SortId, TableId, well_formed};
 use pc_sheet::{Limited, MOST_READS};
 use std::alloc::Global;
 

@@ -13,8 +13,8 @@ ghost use Rattle.pc_elaborate.specs.Outcome.{IsApplicationTold, IsFoundOrFault, 
 
 use crate::fault::SortFault;
 use crate::names::{find_family, name_fault, value_named};
+use pc_books::{Book, CellId, FamilyId, Name, SortId, ValueId, well_formed};
 use pc_formula::{CellTree, ValueTree};
-use pc_logic::{Book, CellId, FamilyId, Name, SortId, ValueId, well_formed};
 use pc_sheet::cells_are_numbered_in_order;
 
 /// The listed value of the sort that a name stands for, or why there is none.

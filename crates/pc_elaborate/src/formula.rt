@@ -17,8 +17,8 @@ use crate::atoms::{comparison, table_atom};
 use crate::fault::SortFault;
 use crate::names::find_sort;
 use crate::scope::{Variable, variable_named, with_variable};
+use pc_books::{Book, Formula, Name, SortId, well_formed};
 use pc_formula::FormulaTree;
-use pc_logic::{Book, Formula, Name, SortId, well_formed};
 use pc_sheet::{Limited, MOST_COUNTED, MOST_DEPTH};
 use std::alloc::Global;
 

@@ -9,8 +9,8 @@ ghost use Rattle.pc_sheet.specs.WellFormed.{IsDeclaredSort};
 use crate::cells::{argument_sorts, find_integer};
 use crate::fault::SortFault;
 use crate::scope::{Variable, variable_named};
+use pc_books::{Book, FamilyId, Name, Named, SortId, Term, well_formed};
 use pc_formula::ItemTree;
-use pc_logic::{Book, FamilyId, Name, Named, SortId, Term, well_formed};
 use std::alloc::Global;
 
 /// What a bare name stands for, with its sort: a variable, a listed value or the only cell of a family.

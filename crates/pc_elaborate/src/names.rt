@@ -10,7 +10,7 @@ ghost use Rattle.pc_elaborate.specs.FormulaFaults.{IsNameFault, IsSomeFamily, Is
 ghost use Rattle.pc_elaborate.specs.Outcome.{IsOtherName, TellsFound};
 
 use crate::fault::SortFault;
-use pc_logic::{Book, FamilyId, Name, Named, SortId, TableId, ValueId, well_formed};
+use pc_books::{Book, FamilyId, Name, Named, SortId, TableId, ValueId, well_formed};
 
 /// The sort of that name, if it is declared.
 pub fn sort_named(book: &Book, name: &Name) -> Option<SortId>

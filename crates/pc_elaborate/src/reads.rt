@@ -4,7 +4,7 @@ ghost use Rattle.pc_sheet.specs.Limits.{most_reads};
 ghost use Rattle.pc_sheet.specs.Views.{item_of, items_of, sum_of};
 ghost use Rattle.pc_sheet.specs.WellSorted.{reads_in, reads_in_items, reads_in_sum};
 
-use pc_logic::{Side, Term};
+use pc_books::{Side, Term};
 use pc_sheet::MOST_READS;
 
 /// One more than an atom may have. Counts go no further.

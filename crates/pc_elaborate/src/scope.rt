@@ -4,7 +4,7 @@ ghost use Rattle.pc_sheet.specs.Limits.{most_depth};
 ghost use Rattle.pc_elaborate.specs.FormulaFaults.{IsAround};
 ghost use Rattle.pc_elaborate.specs.Told.{variable_of, variables_of};
 
-use pc_logic::{Name, SortId};
+use pc_books::{Name, SortId};
 use std::alloc::{AllocError, Global};
 
 /// A variable with the sort of its quantifier.

@@ -11,8 +11,8 @@ ghost use Rattle.pc_elaborate.specs.Told.{AreAddedTold, IsKindOf, IsSideItemTold
 use crate::fault::SortFault;
 use crate::items::named_item;
 use crate::scope::Variable;
+use pc_books::{Book, Name, Op, Side, Sign, SortId, Term, well_formed};
 use pc_formula::{ItemTree, SideTree};
-use pc_logic::{Book, Name, Op, Side, Sign, SortId, Term, well_formed};
 use pc_sheet::{LARGEST_NUMBER, Limited};
 use std::alloc::Global;
 

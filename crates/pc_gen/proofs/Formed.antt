@@ -18,7 +18,7 @@ use Rattle.pc_sheet.specs.WellSorted.{Variables, IsNewVariable, IsValueOf, IsWel
 use Rattle.pc_sheet.specs.WellFormed.{AreDifferent, AreWellFormedValues, IsDeclaredSort, IsWellFormedTable, IsWellFormedFamily, IsWellFormedUniverse, IsWellFormedRule, AreWellFormedRules, is_of_cell, entries_of, IsEntryOf, IsWellFormed}
 use Rattle.pc_sheet.specs.declared.ids.CellId.{CellId}
 use Rattle.pc_sheet.specs.declared.ids.Entry.{Entry}
-use Rattle.pc_logic.proofs.EntryLemmas.{pairs_head, pairs_tail}
+use Rattle.pc_books.proofs.EntryLemmas.{pairs_head, pairs_tail}
 use Rattle.pc_gen.specs.Sheet.{sort, generated_universe, in_slot, chain, other, entry, block_entries, generated_entries, generated_sheet}
 use Rattle.pc_gen.proofs.Names.{both, small_name}
 

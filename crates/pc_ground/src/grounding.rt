@@ -3,7 +3,7 @@ ghost use Rattle.std.specs.Prelude.{◌≡◌};
 ghost use Rattle.pc_sheet.specs.Entailment.{cell_sizes};
 
 use crate::cells::Cells;
-use pc_logic::Book;
+use pc_books::Book;
 use pc_sheet::{NodePath, SortId, ValueId};
 use std::alloc::Global;
 

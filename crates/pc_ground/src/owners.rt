@@ -11,7 +11,7 @@ ghost use Rattle.pc_ground.specs.Owners.{times, ones, cells_times, piece_count_o
 
 use crate::cells::Cells;
 use crate::count::count_pieces;
-use pc_logic::Book;
+use pc_books::Book;
 use pc_sheet::Formula;
 use std::alloc::AllocError;
 

@@ -19,8 +19,9 @@ use crate::naming::copy_of;
 use crate::owners::Span;
 use crate::walk::Draft;
 use pc_axiom_names::{Names, VarName};
+use pc_books::{Book, few_cells, well_formed};
 use pc_lits::{ClauseStore, Rows, Var};
-use pc_logic::{Book, few_cells, weight_with_last, well_formed};
+use pc_logic::weight_with_last;
 use pc_sheet::MOST_WEIGHT;
 use std::alloc::{AllocError, Global};
 

@@ -9,8 +9,8 @@ use Rattle.pc_sheet.specs.WellFormed.{is_of_cell, entries_of}
 use Rattle.pc_sheet.specs.declared.ids.CellId.{CellId}
 use Rattle.pc_sheet.specs.declared.ids.Entry.{Entry}
 use Rattle.pc_lemmas.proofs.Elements.{kept, kept_is, kept_all}
-use Rattle.pc_logic.specs.Edits.{is_same_entry, is_rival, agrees_with}
-use Rattle.pc_logic.proofs.EntryLemmas.{same_is, standing_found, found_standing}
+use Rattle.pc_books.specs.Edits.{is_same_entry, is_rival, agrees_with}
+use Rattle.pc_books.proofs.EntryLemmas.{same_is, standing_found, found_standing}
 use Rattle.pc_justify_laws.specs.Edits.{takes_none, IsTakenOf}
 use Rattle.pc_justify_laws.specs.EditLaws.{EachEntering, EachAdding, EachRemoving, EachClearing}
 

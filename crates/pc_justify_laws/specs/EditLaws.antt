@@ -7,7 +7,7 @@ use Rattle.pc_sheet.specs.WellFormed.{AreDifferent, IsWellFormed, is_of_cell, en
 use Rattle.pc_sheet.specs.declared.ids.CellId.{CellId}
 use Rattle.pc_sheet.specs.declared.ids.Entry.{Entry}
 use Rattle.pc_sheet.specs.declared.ids.Target.{Target}
-use Rattle.pc_logic.specs.Edits.{is_same_entry, is_rival, entered, also_entered, without_entry, without_cell}
+use Rattle.pc_books.specs.Edits.{is_same_entry, is_rival, entered, also_entered, without_entry, without_cell}
 use Rattle.pc_parts.specs.Parts.{Part, IsDivision}
 use Rattle.pc_reason.specs.Reasons.{Justification}
 use Rattle.pc_reason.specs.Targets.{IsTargetIn}

@@ -11,10 +11,10 @@ ghost use Rattle.pc_kept.specs.inside.Checks.{IsRoom};
 use crate::keeping::kept_axioms;
 use crate::laws::kept_by_what_is_stored;
 use crate::trial::{Stored, Trial};
+use pc_books::{Book, few_cells};
 use pc_components::Components;
 use pc_ground::Ground;
 use pc_lits::{Rows, Values};
-use pc_logic::{Book, few_cells};
 use pc_sheet::CellId;
 use std::alloc::{AllocError, Global};
 

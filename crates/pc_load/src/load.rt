@@ -7,8 +7,8 @@ ghost use Rattle.pc_sortcheck.specs.Declaring.{ReadsAs};
 
 use crate::law::texts_have_one_outcome;
 use crate::refusal::{refuse_sort, refuse_text};
+use pc_books::Book;
 use pc_lines::SHEET_LIMIT;
-use pc_logic::Book;
 use pc_refusals::LoadFault;
 use pc_sortcheck::check_sheet;
 use pc_syntax::parse_sheet;

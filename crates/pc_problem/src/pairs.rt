@@ -1,6 +1,6 @@
 //! How many of a part's variables are of pairs.
 
-use pc_logic::Book;
+use pc_books::Book;
 use pc_sheet::CellId;
 
 /// How many pairs the cells have. Where they are those of a part, the first of its variables are these pairs'. No contract

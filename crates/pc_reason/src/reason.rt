@@ -1,8 +1,8 @@
 //! A reason, lent in parts from where they are kept.
 
 use pc_axiom_names::Names;
+use pc_books::Assignment;
 use pc_log::Derivation;
-use pc_logic::Assignment;
 use pc_sheet::{Entry, Target};
 
 /// Why a target is implied.

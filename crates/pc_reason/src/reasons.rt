@@ -5,7 +5,7 @@ ghost use Rattle.pc_reason.specs.Reasons.{IsReasonFor};
 ghost use Rattle.pc_reason.specs.Targets.{IsTargetIn};
 
 use crate::reason::Reason;
-use pc_logic::Book;
+use pc_books::Book;
 use pc_sheet::Target;
 
 /// A book, with a reason of each of its implied targets.

@@ -4,8 +4,8 @@ ghost use Rattle.pc_reason.specs.Refutations.{RefutesRules};
 
 use crate::proof::Proof;
 use pc_axiom_names::Names;
+use pc_books::Book;
 use pc_log::{Log, Span};
-use pc_logic::Book;
 use std::marker::Model;
 
 /// A book with inconsistent rules, and a derivation of the empty clause from them alone. It is seen as the book's sheet.

@@ -14,8 +14,8 @@ use Rattle.pc_sheet.specs.WellFormed.{AreDifferent}
 use Rattle.pc_sheet.specs.declared.ids.Entry.{Entry}
 use Rattle.pc_lemmas.proofs.Elements.{contains_first, contains_later, contains_cases, contains_none, element_at, all_unmapped}
 use Rattle.pc_laws.proofs.Contained.{sub_contained}
-use Rattle.pc_logic.specs.Edits.{is_same_entry}
-use Rattle.pc_logic.proofs.EntryLemmas.{is_same, same_is}
+use Rattle.pc_books.specs.Edits.{is_same_entry}
+use Rattle.pc_books.proofs.EntryLemmas.{is_same, same_is}
 use Rattle.pc_world_list.specs.Worlds.{WorldView}
 use Rattle.pc_repairs.specs.Listed.{ComesFirst}
 use Rattle.pc_repairs.specs.Listings.{aged_set}

@@ -11,10 +11,10 @@ ghost use Rattle.pc_repairs.specs.inside.Tasks.{IsTask};
 
 use crate::blocks::literal_of;
 use crate::task::Task;
+use pc_books::Assignment;
 use pc_ground::Ground;
 use pc_lits::{Lit, Tally};
 use pc_log::Log;
-use pc_logic::Assignment;
 use pc_problem::laws::whole_is_searched;
 use pc_sheet::{Entry, Target};
 use pc_solver::{Outcome, Solver, Stop};

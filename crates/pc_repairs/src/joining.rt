@@ -16,7 +16,7 @@ ghost use Rattle.pc_repairs.specs.inside.Joining.{all_laid, had_by, IsCapped, Is
 
 use crate::ordering::in_order;
 use crate::part_sets::{PartSets, sets_by_part};
-use pc_logic::{Assignment, Entry, well_formed};
+use pc_books::{Assignment, Entry, well_formed};
 use pc_sheet::{CellId, ValueId};
 use pc_world_list::{Choices, Worlds};
 use std::alloc::{AllocError, Global};

@@ -14,7 +14,7 @@ ghost use Rattle.pc_repairs.specs.declared.listing.ListFault.TheVariants.{Memory
 
 use crate::ordering::{Aged, in_order};
 use crate::part_sets::{PartSets, sets_by_part};
-use pc_logic::{Book, well_formed};
+use pc_books::{Book, well_formed};
 use pc_port::{Failed, Sink};
 use pc_sheet::{CellId, Entry};
 use pc_world_list::Choices;

@@ -11,7 +11,7 @@ ghost use Rattle.pc_repairs.specs.Listed.{ComesFirst};
 ghost use Rattle.pc_repairs.specs.Listings.{aged_set};
 ghost use Rattle.pc_repairs.specs.inside.Ages.{ages_from, AreAged, AreApart, AreByAge, begins_with, HasItsSet, world_of};
 
-use pc_logic::Assignment;
+use pc_books::Assignment;
 use pc_sheet::Entry;
 use pc_world_list::Worlds;
 use std::alloc::{AllocError, Global};

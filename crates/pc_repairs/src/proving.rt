@@ -9,12 +9,12 @@ ghost use Rattle.pc_repairs.specs.Blocks.{blocks_for};
 ghost use Rattle.pc_repairs.specs.Claims.{IsRightOn};
 ghost use Rattle.pc_repairs.specs.Searches.{IsRefutedAt, whole_problem};
 
+use pc_books::{Book, well_formed};
 use pc_ground::laws::{pairs_are_variables, variables_have_their_places};
 use pc_justify_laws::{
     names_are_of_their_sheet, own_lines_are_named_beside, trimmed_lines_derive_beside,
 };
 use pc_log::{Log, StepId, trim};
-use pc_logic::{Book, well_formed};
 use pc_world_list::{SetProof, SetsClaim, Worlds};
 use std::alloc::{AllocError, Global};
 

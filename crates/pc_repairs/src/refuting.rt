@@ -11,11 +11,11 @@ ghost use Rattle.pc_repairs.specs.inside.Tasks.{IsTask};
 
 use crate::blocks::add_blocks;
 use crate::task::{Numbers, Task};
+use pc_books::{Book, well_formed};
 use pc_ground::Ground;
 use pc_laws::consistent_is_in_maximal;
 use pc_lits::Tally;
 use pc_log::{Log, StepId};
-use pc_logic::{Book, well_formed};
 use pc_problem::laws::whole_is_searched;
 use pc_solver::{Outcome, Solver, Stop};
 use pc_world_list::Worlds;

@@ -10,9 +10,9 @@ ghost use Rattle.pc_repairs.specs.Searches.{whole_problem};
 ghost use Rattle.pc_repairs.specs.inside.Asking.{IsAsked};
 ghost use Rattle.pc_repairs.specs.inside.Tasks.{AreAllOf, IsTask};
 
+use pc_books::{Book, few_cells, well_formed};
 use pc_ground::Ground;
 use pc_lits::Var;
-use pc_logic::{Book, few_cells, well_formed};
 use pc_problem::count_pairs;
 use pc_problem::laws::whole_is_searched;
 use pc_sheet::CellId;

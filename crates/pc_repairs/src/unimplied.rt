@@ -14,11 +14,11 @@ ghost use Rattle.pc_repairs.specs.inside.Tasks.{IsTask};
 
 use crate::asking::ask;
 use crate::task::{Numbers, Task};
+use pc_books::{Assignment, Book, well_formed};
 use pc_ground::Ground;
 use pc_laws::implied_is_by_maximal_set;
 use pc_lits::Tally;
 use pc_log::Log;
-use pc_logic::{Assignment, Book, well_formed};
 use pc_sheet::Target;
 use pc_solver::{Solver, Stop};
 use pc_world_list::Worlds;

@@ -16,10 +16,10 @@ use Rattle.pc_theory.specs.WholeSpendings.{IsWholeLog, IsSpentWhole}
 use Rattle.pc_sheet.specs.WellFormed.{IsWellFormed, IsEntryOf, is_of_cell}
 use Rattle.pc_sheet.specs.declared.ids.CellId.{CellId}
 use Rattle.pc_sheet.specs.declared.ids.Entry.{Entry}
-use Rattle.pc_logic.specs.Edits.{is_same_entry, entered_to, added_to, without_one, cleared, entered, also_entered, without_entry, without_cell, without_rule}
-use Rattle.pc_logic.proofs.BookLemmas.{with_entries}
-use Rattle.pc_logic.proofs.EditLemmas.{sheet_stays}
-use Rattle.pc_logic.proofs.EntryLemmas.{entries_stay, entries_beside, entries_kept}
+use Rattle.pc_books.specs.Edits.{is_same_entry, entered_to, added_to, without_one, cleared, entered, also_entered, without_entry, without_cell, without_rule}
+use Rattle.pc_books.proofs.BookLemmas.{with_entries}
+use Rattle.pc_books.proofs.EditLemmas.{sheet_stays}
+use Rattle.pc_books.proofs.EntryLemmas.{entries_stay, entries_beside, entries_kept}
 use Rattle.pc_cert.proofs.ReadEntries.{is_an_entry}
 use Rattle.pc_theory.specs.Spendings.{IsLawful}
 use Rattle.pc_theory.specs.declared.spending.Spending.{Spending}

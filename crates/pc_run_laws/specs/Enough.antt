@@ -7,7 +7,7 @@ use Rattle.pc_ask.specs.Asking.{AreReadSizes}
 use Rattle.pc_sheet.specs.WellFormed.{IsWellFormed, IsWellFormedRule, IsEntryOf, is_of_cell}
 use Rattle.pc_sheet.specs.declared.ids.CellId.{CellId}
 use Rattle.pc_sheet.specs.declared.ids.Entry.{Entry}
-use Rattle.pc_logic.specs.Edits.{is_same_entry, entered, also_entered, without_entry, without_cell, without_rule}
+use Rattle.pc_books.specs.Edits.{is_same_entry, entered, also_entered, without_entry, without_cell, without_rule}
 use Rattle.pc_ground.specs.Variables.{variable_count}
 use Rattle.pc_world_list.specs.FewSets.{AreMaximalSets}
 use Rattle.pc_components.specs.View.{Kept, AreComponentsOf}

@@ -8,7 +8,7 @@ use Rattle.pc_sheet.specs.declared.ids.CellId.{CellId}
 use Rattle.pc_sheet.specs.declared.ids.Entry.{Entry}
 use Rattle.pc_justify_laws.specs.Edits.{IsTakenOf}
 use Rattle.pc_justify_laws.specs.EditLaws.{EachEntering}
-use Rattle.pc_logic.proofs.EntryLemmas.{entries_pushed, entries_stay}
+use Rattle.pc_books.proofs.EntryLemmas.{entries_pushed, entries_stay}
 use Rattle.pc_theory.specs.Theories.{rules_alone}
 use Rattle.pc_cache.specs.Rows.{Cached}
 use Rattle.pc_session.specs.Answers.{HasPlaceFor}

@@ -11,7 +11,7 @@ use Rattle.pc_sheet.specs.Weight.{weight, rule_weight}
 use Rattle.pc_sheet.specs.MaximalSets.{AreRulesConsistent}
 use Rattle.pc_sheet.specs.WellFormed.{IsWellFormed, IsWellFormedRule, rule_name}
 use Rattle.pc_sheet.specs.declared.formula.Rule.{Rule}
-use Rattle.pc_logic.specs.Edits.{without_rule}
+use Rattle.pc_books.specs.Edits.{without_rule}
 use Rattle.pc_cache.specs.Rows.{TargetRow}
 use Rattle.pc_world_list.specs.Worlds.{WorldView}
 use Rattle.pc_theory.specs.Theories.{TheoryView}

@@ -10,8 +10,8 @@ use Rattle.pc_sheet.specs.Sheet.{Sheet, with_newest}
 use Rattle.pc_sheet.specs.WellFormed.{AreDifferent, AreWellFormedEntries, IsWellFormed, is_of_cell, entries_of}
 use Rattle.pc_sheet.specs.declared.ids.CellId.{CellId}
 use Rattle.pc_sheet.specs.declared.ids.Entry.{Entry}
-use Rattle.pc_logic.specs.Edits.{also_entered, is_same_entry, is_rival, without_entry, without_one}
-use Rattle.pc_logic.proofs.EntryLemmas.{entries_kept, is_same, pairs_head, pairs_tail, same_is}
+use Rattle.pc_books.specs.Edits.{also_entered, is_same_entry, is_rival, without_entry, without_one}
+use Rattle.pc_books.proofs.EntryLemmas.{entries_kept, is_same, pairs_head, pairs_tail, same_is}
 use Rattle.pc_parts.specs.Parts.{Part}
 use Rattle.pc_parts.specs.PartSheets.{is_on, sheet_of}
 use Rattle.pc_justify_laws.specs.Edits.{HasNone, edited, takes_none}

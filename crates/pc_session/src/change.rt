@@ -6,7 +6,7 @@ ghost use Rattle.pc_session.specs.inside.Changes.{adds_one, made_of, IsChangeOf}
 ghost use Rattle.pc_theory.specs.Theories.{rules_alone};
 
 use crate::taken::{Taken, take_away};
-use pc_logic::Book;
+use pc_books::Book;
 use pc_sheet::{CellId, Entry};
 use pc_world_list::Worlds;
 use std::alloc::AllocError;

@@ -10,7 +10,7 @@ ghost use Rattle.pc_sheet.specs.Entailment.{cell_sizes};
 ghost use Rattle.pc_theory.specs.Theories.{rules_alone, IsPartNumbered, IsTheory};
 ghost use Rattle.pc_session.specs.inside.Chosen.{AreChosen, places_of};
 
-use pc_logic::{Book, Entry};
+use pc_books::{Book, Entry};
 use pc_theory::Theory;
 use std::alloc::{AllocError, Global};
 use std::marker::Model;

@@ -10,9 +10,9 @@ ghost use Rattle.pc_session.specs.inside.States.{HasEdit, IsEdited};
 
 use crate::chosen::choose;
 use crate::state::State;
+use pc_books::well_formed;
 use pc_cache::Patch;
 use pc_justify_laws::edited_reasons_are_right;
-use pc_logic::well_formed;
 use pc_theory::Spending;
 use pc_world_list::Worlds;
 use std::alloc::AllocError;

@@ -1,7 +1,7 @@
 //! Entering a value, in the place of the cell's others or beside them.
 ghost use Rattle.std.specs.Prelude.{◌≡◌, Contains, IfErr, Ok, OnErr, OnOk, Some};
 ghost use Rattle.pc_justify_laws.specs.Edits.{takes_none};
-ghost use Rattle.pc_logic.specs.Edits.{also_entered, entered, is_rival};
+ghost use Rattle.pc_books.specs.Edits.{also_entered, entered, is_rival};
 ghost use Rattle.pc_sheet.specs.WellFormed.{IsEntryOf};
 ghost use Rattle.pc_session.specs.Answers.{HasPlaceFor, StandsAlone};
 ghost use Rattle.pc_session.specs.Causes.{IsEntryCause};

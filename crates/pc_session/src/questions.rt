@@ -13,9 +13,9 @@ ghost use Rattle.pc_session.specs.inside.States.{IsKept};
 
 use crate::state::State;
 use pc_ask::{Answer, AskStop, ask};
+use pc_books::{Assignment, Book};
 use pc_lits::Tally;
 use pc_log::Log;
-use pc_logic::{Assignment, Book};
 use pc_sheet::CellId;
 use pc_world_list::{Choices, Worlds};
 use std::alloc::Global;

@@ -2,7 +2,7 @@
 ghost use Rattle.std.specs.Prelude.{◌≡◌};
 ghost use Rattle.pc_session.specs.inside.Refusals.{IsSameRefusal, IsStopTold};
 
-use pc_logic::Book;
+use pc_books::Book;
 use pc_reason::Refutation;
 use pc_solver::Stop;
 use pc_theory::Spending;

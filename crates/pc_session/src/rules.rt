@@ -14,7 +14,7 @@ use crate::compaction::compact_if_due;
 use crate::loading::load_state;
 use crate::refused::{EditRefused, refused_edit};
 use crate::state::State;
-use pc_logic::{Book, well_formed};
+use pc_books::{Book, well_formed};
 use pc_sheet::Rule;
 use std::alloc::Global;
 

@@ -4,9 +4,9 @@ ghost use Rattle.pc_theory.specs.Spendings.{IsLawful};
 ghost use Rattle.pc_theory.specs.WholeSpendings.{IsSpentWhole};
 ghost use Rattle.pc_session.specs.Views.{counts_of};
 
+use pc_books::Book;
 use pc_lits::Tally;
 use pc_log::Log;
-use pc_logic::Book;
 use pc_sheet::CellId;
 use pc_theory::Spending;
 use std::alloc::{AllocError, Global};

@@ -1,9 +1,9 @@
 //! What a session keeps.
 
 use crate::chosen::Chosen;
+use pc_books::Book;
 use pc_cache::Cache;
 use pc_lits::Tally;
-use pc_logic::Book;
 use pc_theory::Theory;
 use pc_world_list::Worlds;
 

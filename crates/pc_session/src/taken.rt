@@ -6,7 +6,7 @@ ghost use Rattle.pc_parts.specs.Parts.{Part};
 ghost use Rattle.pc_search.specs.Parts.{AreWorldsOf};
 ghost use Rattle.pc_session.specs.inside.Taken.{takes};
 
-use pc_logic::Book;
+use pc_books::Book;
 use pc_sheet::{CellId, Entry};
 use pc_world_list::Worlds;
 

@@ -9,9 +9,9 @@ use Rattle.pc_sheet.specs.declared.ids.Entry.{Entry}
 use Rattle.pc_sheet.specs.declared.ids.SortId.{SortId}
 use Rattle.pc_sheet.specs.declared.ids.TableId.{TableId}
 use Rattle.pc_sheet.specs.declared.ids.ValueId.{ValueId}
-use Rattle.pc_logic.specs.Edits.{table_from, family_from, with_table, with_row, with_family, entered, also_entered}
-use Rattle.pc_logic.specs.declared.names.Named.TheVariants as named
-use Rattle.pc_logic.proofs.NamesLemmas.{name_is_declared}
+use Rattle.pc_books.specs.Edits.{table_from, family_from, with_table, with_row, with_family, entered, also_entered}
+use Rattle.pc_books.specs.declared.names.Named.TheVariants as named
+use Rattle.pc_books.proofs.NamesLemmas.{name_is_declared}
 use Rattle.pc_elaborate.specs.declared.fault.SortFault.{SortFault}
 use Rattle.pc_elaborate.specs.declared.fault.SortFault.TheVariants.{DuplicateName, WrongArity, EmptySort, Limit}
 use Rattle.pc_sheet.specs.declared.limits.Limited.TheVariants.{Sorts, Values, Number, Tables, Families, Arity, Cells, Rows, Rules, Entries}

@@ -9,8 +9,8 @@ use Rattle.pc_sheet.specs.Sizes.{size_of, cells_in, count_of, values_of_sort, pr
 use Rattle.pc_sheet.specs.Entailment.{cell_sizes}
 use Rattle.pc_sheet.specs.WellFormed.{IsWellFormed, IsWellFormedUniverse, IsDeclaredSort, AreWellFormedValues}
 use Rattle.pc_sheet.specs.declared.ids.SortId.{SortId}
-use Rattle.pc_logic.specs.Edits.{family_from, with_family}
-use Rattle.pc_logic.proofs.CountLemmas.{sizes_count}
+use Rattle.pc_books.specs.Edits.{family_from, with_family}
+use Rattle.pc_books.proofs.CountLemmas.{sizes_count}
 use Rattle.pc_elaborate.specs.declared.fault.SortFault.{SortFault}
 use Rattle.pc_elaborate.specs.declared.fault.SortFault.TheVariants.{Limit}
 use Rattle.pc_sheet.specs.declared.limits.Limited.TheVariants.{Cells}

@@ -5,7 +5,7 @@ use Rattle.pc_name.specs.Names.{IsName}
 use Rattle.pc_syntax.specs.Tree as tree
 use Rattle.pc_sheet.specs.Sheet.{Sheet}
 use Rattle.pc_sheet.specs.WellFormed.{IsWellFormed}
-use Rattle.pc_logic.specs.Edits.{listed_sort, range_sort, with_sort}
+use Rattle.pc_books.specs.Edits.{listed_sort, range_sort, with_sort}
 use Rattle.pc_sortcheck.specs.Declaring.{Declares}
 use Rattle.pc_elaborate.specs.declared.fault.SortFault.{SortFault}
 use Rattle.pc_sortcheck.specs.DeclarationFaults.{IsNew, IsDeclarationFault}

@@ -9,7 +9,7 @@ use Rattle.pc_sheet.specs.WellFormed.{IsWellFormed}
 use Rattle.pc_sheet.specs.declared.ids.SortId.{SortId}
 use Rattle.pc_sheet.specs.declared.ids.TableId.{TableId}
 use Rattle.pc_sheet.specs.declared.ids.ValueId.{ValueId}
-use Rattle.pc_logic.specs.Edits.{table_from, with_table, with_row}
+use Rattle.pc_books.specs.Edits.{table_from, with_table, with_row}
 use Rattle.pc_elaborate.specs.declared.fault.SortFault.TheVariants.{Limit}
 use Rattle.pc_sheet.specs.declared.limits.Limited.TheVariants.{Rows}
 use Rattle.pc_elaborate.specs.Elaboration.{IsTableNamed, AreValuesOf}

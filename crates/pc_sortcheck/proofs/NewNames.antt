@@ -6,7 +6,7 @@ use Rattle.std.proofs.lemmas.List.Elements.{All-append, Contains-append_left, Co
 use Rattle.std.proofs.lemmas.List.Kept.{AllPairs-cons}
 use Rattle.pc_sheet.specs.Sheet.{Universe}
 use Rattle.pc_sheet.specs.WellFormed.{AreDifferent}
-use Rattle.pc_logic.proofs.EntryLemmas.{pairs_head, pairs_tail}
+use Rattle.pc_books.proofs.EntryLemmas.{pairs_head, pairs_tail}
 use Rattle.pc_sortcheck.specs.DeclarationFaults.{IsNew, AreNewValues}
 
 -- ---- pairs of lists end to end

@@ -8,8 +8,8 @@ use Rattle.pc_sheet.specs.Sheet.{Sheet}
 use Rattle.pc_sheet.specs.WellFormed.{IsEntryOf, IsWellFormed, is_of_cell, entries_of}
 use Rattle.pc_sheet.specs.declared.ids.CellId.{CellId}
 use Rattle.pc_sheet.specs.declared.ids.Entry.{Entry}
-use Rattle.pc_logic.specs.Edits.{is_same_entry, also_entered}
-use Rattle.pc_logic.proofs.EntryLemmas.{found_standing, entries_beside}
+use Rattle.pc_books.specs.Edits.{is_same_entry, also_entered}
+use Rattle.pc_books.proofs.EntryLemmas.{found_standing, entries_beside}
 use Rattle.pc_sortcheck.specs.DeclarationFaults.{HasRoomForEntry}
 
 module _ (s : Sheet) (e : Entry) where

@@ -11,7 +11,7 @@ use Rattle.pc_sheet.specs.Sizes.{size_of, cells_in}
 use Rattle.pc_sheet.specs.WellFormed.{AreDifferent, IsDeclaredSort, IsWellFormedTable, IsWellFormedFamily, IsWellFormedUniverse, IsWellFormed}
 use Rattle.pc_sheet.specs.WellSorted.{names_of_sort, name_of_table, name_of_family, declared_names}
 use Rattle.pc_sheet.specs.declared.ids.SortId.{SortId}
-use Rattle.pc_logic.specs.Edits.{family_from, with_family}
+use Rattle.pc_books.specs.Edits.{family_from, with_family}
 use Rattle.pc_sortcheck.specs.DeclarationFaults.{IsNew, HasRoomForCells}
 use Rattle.pc_sortcheck.proofs.NewNames.{pairs_cross}
 use Rattle.pc_sortcheck.proofs.WithSort.{last_of, no_rules, entries_front}

@@ -14,8 +14,8 @@ use Rattle.pc_sheet.specs.WellFormed.{AreDifferent, IsWellFormedTable, IsWellFor
 use Rattle.pc_sheet.specs.WellSorted.{names_of_sort, name_of_table, name_of_family, declared_names}
 use Rattle.pc_sheet.specs.declared.ids.TableId.{TableId}
 use Rattle.pc_sheet.specs.declared.ids.ValueId.{ValueId}
-use Rattle.pc_logic.specs.Edits.{rows_with, tables_with, with_row}
-use Rattle.pc_logic.proofs.RowLemmas.{rows_decide, different_push, new_row}
+use Rattle.pc_books.specs.Edits.{rows_with, tables_with, with_row}
+use Rattle.pc_books.proofs.RowLemmas.{rows_decide, different_push, new_row}
 use Rattle.pc_sortcheck.specs.DeclarationFaults.{HasRoomForRow}
 use Rattle.pc_sortcheck.proofs.WithSort.{no_rules}
 

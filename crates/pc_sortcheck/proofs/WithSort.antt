@@ -13,7 +13,7 @@ use Rattle.pc_sheet.specs.WellFormed.{AreDifferent, AreWellFormedValues, IsDecla
 use Rattle.pc_sheet.specs.WellSorted.{names_of_sort, name_of_table, name_of_family, declared_names}
 use Rattle.pc_sheet.specs.declared.ids.SortId.{SortId}
 use Rattle.pc_sheet.specs.declared.ids.Entry.{Entry}
-use Rattle.pc_logic.specs.Edits.{with_sort}
+use Rattle.pc_books.specs.Edits.{with_sort}
 use Rattle.pc_sortcheck.specs.DeclarationFaults.{IsNew}
 use Rattle.pc_sortcheck.proofs.NewNames.{Names, inserted_different, inserted_fresh, inserted_alone, inserted_all}
 

@@ -9,7 +9,7 @@ use Rattle.pc_sheet.specs.Sheet.{Sheet, Universe, Table, Family}
 use Rattle.pc_sheet.specs.WellFormed.{AreDifferent, IsDeclaredSort, IsWellFormedTable, IsWellFormedFamily, IsWellFormedUniverse, IsWellFormed, rows_in}
 use Rattle.pc_sheet.specs.WellSorted.{names_of_sort, name_of_table, name_of_family, declared_names}
 use Rattle.pc_sheet.specs.declared.ids.SortId.{SortId}
-use Rattle.pc_logic.specs.Edits.{table_from, with_table}
+use Rattle.pc_books.specs.Edits.{table_from, with_table}
 use Rattle.pc_sortcheck.specs.DeclarationFaults.{IsNew}
 use Rattle.pc_sortcheck.proofs.NewNames.{Names, inserted_different, inserted_fresh, inserted_all}
 use Rattle.pc_sortcheck.proofs.WithSort.{last_of, no_rules}

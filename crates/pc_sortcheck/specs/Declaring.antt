@@ -10,8 +10,8 @@ use Rattle.pc_sheet.specs.declared.ids.SortId.{SortId}
 use Rattle.pc_sheet.specs.declared.ids.TableId.{TableId}
 use Rattle.pc_sheet.specs.declared.ids.ValueId.{ValueId}
 use Rattle.pc_sheet.specs.declared.ids.Entry.{Entry}
-use Rattle.pc_logic.specs.Edits as edits
-use Rattle.pc_logic.specs.Edits.{listed_sort, table_from, family_from, with_sort, with_table, with_row, with_family, entered, also_entered}
+use Rattle.pc_books.specs.Edits as edits
+use Rattle.pc_books.specs.Edits.{listed_sort, table_from, family_from, with_sort, with_table, with_row, with_family, entered, also_entered}
 use Rattle.pc_elaborate.specs.Elaboration.{IsSortNamed, IsTableNamed, AreValuesOf, IsStatement, IsEntryNamed}
 
 -- the sorts of these names

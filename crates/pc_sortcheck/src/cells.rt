@@ -12,8 +12,8 @@ ghost use Rattle.pc_sortcheck.specs.inside.Fits.{FamilyFits};
 
 use crate::names::{is_name, is_new, keeps_form};
 use crate::tables::find_sorts;
+use pc_books::{Book, Name, SortId};
 use pc_elaborate::{SortFault, find_sort};
-use pc_logic::{Book, Name, SortId};
 use pc_sheet::{Limited, MOST_ARGUMENTS, MOST_CELLS, MOST_FAMILIES};
 use std::alloc::Global;
 

@@ -9,8 +9,8 @@ ghost use Rattle.pc_sortcheck.specs.DeclarationFaults.{HasRoomForEntry, IsDeclar
 ghost use Rattle.pc_sortcheck.specs.Declaring.{Declares};
 
 use crate::names::keeps_form;
+use pc_books::{Book, CellId, Entry};
 use pc_elaborate::{SortFault, find_cell, find_value};
-use pc_logic::{Book, CellId, Entry};
 use pc_sheet::{Limited, MOST_ENTRIES};
 use pc_syntax::{CellTree, ValueTree};
 

@@ -5,7 +5,7 @@ ghost use Rattle.pc_sheet.specs.Views.{rule_of};
 ghost use Rattle.pc_sheet.specs.WellFormed.{AreDifferent, IsWellFormed, rule_name};
 ghost use Rattle.pc_sortcheck.specs.DeclarationFaults.{AreNewValues, IsNew};
 
-use pc_logic::{Book, Name, Rule};
+use pc_books::{Book, Name, Rule};
 use std::alloc::{AllocError, Global};
 
 /// Every book is well formed.

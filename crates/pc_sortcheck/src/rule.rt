@@ -16,8 +16,8 @@ ghost use Rattle.pc_sortcheck.specs.DeclarationFaults.{IsDeclarationFault, IsRul
 ghost use Rattle.pc_sortcheck.specs.Declaring.{Declares};
 
 use crate::names::{is_name, is_rule_name, keeps_form};
+use pc_books::{Book, Rule};
 use pc_elaborate::{SortFault, check_formula};
-use pc_logic::{Book, Rule};
 use pc_sheet::{Limited, MOST_RULES};
 use pc_syntax::RuleTree;
 use std::alloc::Global;

@@ -16,8 +16,8 @@ use crate::fault::SheetSortFault;
 use crate::rule::declare_rule;
 use crate::sorts::{declare_list, declare_range};
 use crate::tables::{declare_row, declare_table};
+use pc_books::Book;
 use pc_elaborate::{SortFault, trees_have_one_outcome};
-use pc_logic::Book;
 use pc_syntax::{Declaration, SheetTree};
 use std::alloc::Global;
 

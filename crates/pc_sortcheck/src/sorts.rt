@@ -9,8 +9,8 @@ ghost use Rattle.pc_sortcheck.specs.Declaring.{Declares};
 ghost use Rattle.pc_sortcheck.specs.inside.Fits.{ListFits, RangeFits};
 
 use crate::names::{are_names, are_new_values, copy_names, is_name, is_new, keeps_form};
+use pc_books::{Book, Name};
 use pc_elaborate::SortFault;
-use pc_logic::{Book, Name};
 use pc_sheet::{LARGEST_NUMBER, Limited, MOST_SORTS, MOST_VALUES};
 use std::alloc::Global;
 

@@ -9,8 +9,8 @@ ghost use Rattle.pc_sortcheck.specs.Declaring.{AreSortsNamed, Declares};
 ghost use Rattle.pc_sortcheck.specs.inside.Fits.{AreNoRowOf, AreRowOf, TableFits};
 
 use crate::names::{is_name, is_new, keeps_form};
+use pc_books::{Book, Name, SortId, TableId, ValueId};
 use pc_elaborate::{SortFault, find_sort, find_table, find_values};
-use pc_logic::{Book, Name, SortId, TableId, ValueId};
 use pc_sheet::{Limited, MOST_ARGUMENTS, MOST_ROWS, MOST_TABLES};
 use pc_syntax::ValueTree;
 use std::alloc::Global;

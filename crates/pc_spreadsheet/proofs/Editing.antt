@@ -7,7 +7,7 @@ use Rattle.pc_sheet.specs.Weight.{weight}
 use Rattle.pc_sheet.specs.declared.ids.CellId.{CellId}
 use Rattle.pc_sheet.specs.declared.ids.Entry.{Entry}
 use Rattle.pc_sheet.specs.WellFormed.{is_of_cell, IsEntryOf}
-use Rattle.pc_logic.specs.Edits.{is_same_entry, entered, also_entered, without_entry, without_cell, without_rule, HasRoomFor}
+use Rattle.pc_books.specs.Edits.{is_same_entry, entered, also_entered, without_entry, without_cell, without_rule, HasRoomFor}
 use Rattle.pc_elaborate.specs.Elaboration.{IsEntryNamed, IsCellNamed}
 use Rattle.pc_sortcheck.specs.DeclarationFaults.{HasRoomForEntry}
 use Rattle.pc_justify_laws.specs.Edits.{HasNone}

@@ -3,10 +3,10 @@ use Rattle.std.proofs.Common.{◌≡◌, not, sym, subst}
 use Rattle.pc_syntax.specs.Tree.{Asked}
 use Rattle.pc_sheet.specs.Cells.{CellsAreNumberedInOrder}
 use Rattle.pc_sheet.specs.WellFormed.{IsWellFormed, is_of_cell}
-use Rattle.pc_logic.specs.Edits.{added_to, entered_to, without_one, cleared, is_same_entry}
-use Rattle.pc_logic.proofs.BookLemmas.{with_entries}
-use Rattle.pc_logic.proofs.EditLemmas.{sheet_stays}
-use Rattle.pc_logic.proofs.EntryLemmas.{entries_stay, entries_beside, entries_kept}
+use Rattle.pc_books.specs.Edits.{added_to, entered_to, without_one, cleared, is_same_entry}
+use Rattle.pc_books.proofs.BookLemmas.{with_entries}
+use Rattle.pc_books.proofs.EditLemmas.{sheet_stays}
+use Rattle.pc_books.proofs.EntryLemmas.{entries_stay, entries_beside, entries_kept}
 use Rattle.pc_cert.proofs.ReadEntries.{is_an_entry}
 use Rattle.pc_transcript.specs.Answer.{silent, accepted, shown, refused, no_memory}
 use Rattle.pc_sortcheck.specs.Laws.{SheetsAreWellFormed}

@@ -10,7 +10,7 @@ use Rattle.pc_sheet.specs.WellFormed.{is_of_cell}
 use Rattle.pc_sheet.specs.declared.ids.CellId.{CellId}
 use Rattle.pc_sheet.specs.declared.ids.Entry.{Entry}
 use Rattle.pc_sheet.specs.declared.ids.Target.{Target}
-use Rattle.pc_logic.specs.Edits.{is_same_entry, entered, also_entered, without_entry, without_cell, without_rule, HasRoomFor}
+use Rattle.pc_books.specs.Edits.{is_same_entry, entered, also_entered, without_entry, without_cell, without_rule, HasRoomFor}
 use Rattle.pc_elaborate.specs.Elaboration.{IsEntryNamed, IsCellNamed}
 use Rattle.pc_sortcheck.specs.Declaring.{ReadsAs}
 use Rattle.pc_lits.specs.declared.tally.Tally.{Tally}

@@ -11,8 +11,8 @@ use Rattle.pc_sheet.specs.WellFormed.{IsWellFormedRule}
 use Rattle.pc_sheet.specs.declared.ids.CellId.{CellId}
 use Rattle.pc_sheet.specs.declared.ids.Entry.{Entry}
 use Rattle.pc_sheet.specs.declared.ids.Target.{Target}
-use Rattle.pc_logic.specs.Edits.{entered, also_entered, without_cell, without_rule}
-use Rattle.pc_logic.specs.Edits as edits
+use Rattle.pc_books.specs.Edits.{entered, also_entered, without_cell, without_rule}
+use Rattle.pc_books.specs.Edits as edits
 use Rattle.pc_elaborate.specs.Elaboration.{IsEntryNamed, IsCellNamed, IsStatement}
 use Rattle.pc_world_list.specs.FewSets.{HasFewSets}
 use Rattle.pc_sortcheck.specs.Declaring.{ReadsAs}

@@ -10,7 +10,7 @@ ghost use Rattle.pc_spreadsheet.specs.Commands.{Obeys, state_of};
 
 use crate::refusal::refuse;
 use crate::spending::{Told, tell_refused};
-use pc_logic::{Name, Rule};
+use pc_books::{Name, Rule};
 use pc_reason::Reasons;
 use pc_session::{Session, Spendings};
 use pc_sortcheck::{check_rule, find_cell, find_entry, find_further_entry};

@@ -8,9 +8,9 @@ ghost use Rattle.pc_transcript.specs.declared.machine.LoadStop.TheVariants.{Refu
 
 use crate::spending::counts_of;
 use crate::spreadsheet::Spreadsheet;
+use pc_books::Book;
 use pc_lines::SHEET_LIMIT;
 use pc_load::load_book;
-use pc_logic::Book;
 use pc_reason::Refutation;
 use pc_refusals::{LoadFault, Refusal, SheetRefusal};
 use pc_session::{LoadRefused, Session, Spending, Spendings};

@@ -1,8 +1,8 @@
 //! What a spreadsheet can be shown as.
 
 use pc_axiom_names::Names;
+use pc_books::{Assignment, Book};
 use pc_log::{Log, Span};
-use pc_logic::{Assignment, Book};
 use pc_sheet::{Entry, Target};
 use pc_world_list::SetProof;
 

@@ -21,9 +21,9 @@ ghost use Rattle.pc_display.specs.Grid.{IsGrid};
 ghost use Rattle.pc_display.specs.Json.{IsJson};
 
 use crate::page::{AskProof, Page};
+use pc_books::{Book, well_formed};
 use pc_cert_text::{write_against, write_refutation, write_sets, write_why};
 use pc_display::{grid, sheet_has_one_display, show};
-use pc_logic::{Book, well_formed};
 use pc_port::{Failed, Sink};
 use pc_reason::{Proof, Reasons, Refutation};
 use pc_session::Session;

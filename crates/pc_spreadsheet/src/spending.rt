@@ -7,9 +7,9 @@ ghost use Rattle.pc_spreadsheet.specs.Commands.{IsSpentLawfully, NotesSpent, Tel
 ghost use Rattle.pc_spreadsheet.specs.inside.Repairs.{NotesWhole};
 
 use crate::page::Page;
+use pc_books::Book;
 use pc_lits::Tally;
 use pc_log::Log;
-use pc_logic::Book;
 use pc_reason::Refutation;
 use pc_refusals::{Counts, Refusal};
 use pc_session::{EditRefused, Spending, Spendings};

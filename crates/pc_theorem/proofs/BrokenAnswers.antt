@@ -14,7 +14,7 @@ use Rattle.pc_sheet.specs.declared.ids.CellId.{CellId}
 use Rattle.pc_sheet.specs.declared.ids.Target.{Target}
 use Rattle.std.specs.declared.option.Option.{Option}
 use Rattle.pc_laws.specs.Examples.{equal_cells, entry, red, green}
-use Rattle.pc_logic.specs.Edits.{without_cell}
+use Rattle.pc_books.specs.Edits.{without_cell}
 use Rattle.pc_enough_laws.specs.Amounts.{enough}
 use Rattle.pc_enough_laws.specs.Enough.{enough_for_all}
 use Rattle.pc_accept.specs.Accepts.{implied, value_of_entry}

@@ -11,7 +11,7 @@ use Rattle.pc_sheet.specs.WellFormed.{is_of_cell, IsWellFormedUniverse}
 use Rattle.pc_sheet.specs.declared.ids.SortId.{SortId}
 use Rattle.pc_sheet.specs.declared.ids.CellId.{CellId}
 use Rattle.pc_sheet.specs.declared.ids.Entry.{Entry}
-use Rattle.pc_logic.specs.Edits.{cleared, without_cell}
+use Rattle.pc_books.specs.Edits.{cleared, without_cell}
 use Rattle.pc_token.specs.declared.token.Kind.TheVariants.{Open, Close, Comma}
 use Rattle.pc_lines.specs.Lines.{line_text_of}
 use Rattle.pc_formula.specs.Word.{Word, name, number, sign, nesting}

@@ -11,7 +11,7 @@ use Rattle.pc_sheet.specs.MaximalSets.{AreRulesConsistent}
 use Rattle.pc_sheet.specs.WellFormed.{IsWellFormed}
 use Rattle.pc_sheet.specs.declared.ids.Entry.{Entry}
 use Rattle.pc_sortcheck.specs.Declaring.{ReadsAs}
-use Rattle.pc_logic.specs.Edits.{entered}
+use Rattle.pc_books.specs.Edits.{entered}
 use Rattle.pc_load.specs.Laws.{TextsHaveOneOutcome}
 use Rattle.pc_load.specs.Outcome as outcome
 use Rattle.pc_load.specs.Outcome.{HasFault}

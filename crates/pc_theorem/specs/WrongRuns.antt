@@ -9,7 +9,7 @@ use Rattle.pc_sheet.specs.Weight.{weight}
 use Rattle.pc_sheet.specs.MaximalSets.{AreRulesConsistent}
 use Rattle.pc_sheet.specs.declared.ids.Entry.{Entry}
 use Rattle.pc_sortcheck.specs.Declaring.{ReadsAs}
-use Rattle.pc_logic.specs.Edits.{entered}
+use Rattle.pc_books.specs.Edits.{entered}
 use Rattle.pc_load.specs.Outcome.{HasFault}
 use Rattle.pc_collab.specs.Journal.{Post}
 use Rattle.pc_collab.specs.Reading.{IsTextOf}

@@ -11,9 +11,9 @@ ghost use Rattle.pc_theory.specs.Theories.{rules_alone, IsPartNumbered, IsTheory
 
 use crate::spending::PartSpending;
 use crate::theory::Theory;
+use pc_books::{Book, few_cells, well_formed};
 use pc_cache::Patch;
 use pc_kept::laws::{kept_parts_are_searched, none_of_the_used_is_contained};
-use pc_logic::{Book, few_cells, well_formed};
 use pc_search::PartTask;
 use pc_sheet::Target;
 use pc_solver::{SpareTrails, Stop};

@@ -10,8 +10,8 @@ ghost use Rattle.pc_parts.specs.Laws.{AgreeAt};
 ghost use Rattle.pc_solver.specs.Answers.{truth_in};
 ghost use Rattle.pc_theory.specs.Reading.{HasPairs};
 
+use pc_books::{Assignment, Book};
 use pc_ground::Ground;
-use pc_logic::{Assignment, Book};
 use pc_sheet::{CellId, ValueId};
 use pc_solver::Solver;
 use std::alloc::{AllocError, Global};

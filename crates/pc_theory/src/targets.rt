@@ -4,7 +4,7 @@ ghost use Rattle.pc_sheet.specs.Limits.{most_values};
 ghost use Rattle.pc_sheet.specs.Entailment.{cell_sizes};
 ghost use Rattle.pc_theory.specs.Targets.{target_of_value, targets_on_cell, targets_on};
 
-use pc_logic::Book;
+use pc_books::Book;
 use pc_sheet::{CellId, Target, ValueId};
 use std::alloc::{AllocError, Global};
 

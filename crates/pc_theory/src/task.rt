@@ -1,7 +1,7 @@
 //! A book with its clauses and parts.
+use pc_books::{Assignment, Book};
 use pc_components::Components;
 use pc_ground::Ground;
-use pc_logic::{Assignment, Book};
 use std::alloc::Global;
 
 /// A book with its clauses and parts, each part with the axioms that searches take, and how many literals may be placed for all

@@ -7,9 +7,9 @@ ghost use Rattle.pc_sheet.specs.Limits.{most_cells};
 ghost use Rattle.pc_sheet.specs.Entailment.{cell_sizes};
 ghost use Rattle.pc_theory.specs.Theories.{rules_alone, IsPartNumbered, IsTheory};
 
+use pc_books::{Assignment, Book, few_cells};
 use pc_components::Components;
 use pc_ground::Ground;
-use pc_logic::{Assignment, Book, few_cells};
 use pc_sheet::CellId;
 use std::alloc::Global;
 use std::marker::Model;

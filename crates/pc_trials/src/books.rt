@@ -3,10 +3,11 @@
 use crate::rows::{Machine, judge_rows, no_command, not_tried, parted};
 use crate::targets::{entries_text, entry_in, target_in};
 use crate::texts::{add_number, number_text, truth_text};
+use pc_books::Book;
 use pc_components::{Components, find_components};
 use pc_ground::{Ground, GroundFault, ground_book};
 use pc_load::load_book;
-use pc_logic::{Book, weight};
+use pc_logic::weight;
 use pc_sheet::{CellId, Entry};
 use pc_trying::{
     conflict_by_trying, least_by_trying, maximal_sets_by_trying, rules_are_consistent, trying_size,

@@ -3,7 +3,7 @@ ghost use Rattle.std.specs.Prelude.{IsTrue};
 ghost use Rattle.pc_reason.specs.Targets.{IsTargetIn};
 
 use crate::ways::ways;
-use pc_logic::Book;
+use pc_books::Book;
 use pc_session::{Reasons, Session};
 use pc_sheet::{CellId, Entry, Target, ValueId};
 use pc_trying::{least_by_trying, maximal_sets_by_trying};

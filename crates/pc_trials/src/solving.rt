@@ -4,9 +4,9 @@ use crate::books::book_of;
 use crate::literals::{store_of, variables};
 use crate::rows::{judge_rows, not_tried};
 use crate::trial::Trial;
+use pc_books::Book;
 use pc_ground::ground_book;
 use pc_lits::{ClauseStore, Var};
-use pc_logic::Book;
 use std::alloc::{AllocError, Global};
 
 // The numbers below this one.

@@ -11,7 +11,7 @@ use Rattle.pc_sheet.specs.declared.ids.SortId.{SortId}
 use Rattle.pc_sheet.specs.declared.ids.ValueId.{ValueId}
 use Rattle.pc_sheet.specs.declared.ids.Entry.{Entry}
 use Rattle.pc_laws.specs.Examples.{red, green, entry}
-use Rattle.pc_logic.specs.Edits.{is_same_entry}
+use Rattle.pc_books.specs.Edits.{is_same_entry}
 use Rattle.pc_lemmas.proofs.Elements.{contains_none, kept}
 use Rattle.pc_elaborate.specs.Elaboration.{IsFamilyNamed, GivesValuesOf, AreValuesOf, StandsForValue, IsCell, IsCellNamed, IsEntryNamed}
 use Rattle.pc_session.specs.Answers.{AreSpare, StandsAlone}

@@ -14,8 +14,8 @@ use Rattle.pc_sheet.specs.declared.ids.Target.{Target}
 use Rattle.pc_laws.specs.Examples.{IsShownFor, red, green, entry, target}
 use Rattle.pc_laws.proofs.Finding.{find, shown, is_display, computed}
 use Rattle.pc_lemmas.proofs.Elements.{contains_first, contains_later, contains_cases, contains_none, all_from, kept, kept_is, kept_all}
-use Rattle.pc_logic.specs.Edits.{is_same_entry, agrees_with}
-use Rattle.pc_logic.proofs.EntryLemmas.{same_is, standing_found, found_standing}
+use Rattle.pc_books.specs.Edits.{is_same_entry, agrees_with}
+use Rattle.pc_books.proofs.EntryLemmas.{same_is, standing_found, found_standing}
 use Rattle.pc_reason.specs.Reasons.{Justification}
 use Rattle.pc_reason.specs.Targets.{IsTargetIn}
 use Rattle.pc_cache.specs.Rows.{TargetRow, is_same_target, row_of}

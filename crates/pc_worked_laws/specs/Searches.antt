@@ -5,7 +5,7 @@ use Rattle.pc_sheet.specs.WellFormed.{is_of_cell}
 use Rattle.pc_sheet.specs.declared.ids.CellId.{CellId}
 use Rattle.pc_sheet.specs.declared.ids.Entry.{Entry}
 use Rattle.pc_laws.specs.Examples.{red, green, entry, chain}
-use Rattle.pc_logic.specs.Edits.{is_same_entry, entered}
+use Rattle.pc_books.specs.Edits.{is_same_entry, entered}
 use Rattle.pc_elaborate.specs.Elaboration.{IsEntryNamed, IsCellNamed}
 use Rattle.pc_session.specs.Answers.{AreSpare}
 use Rattle.pc_syntax.specs.Tree.{Asked, asks_enter, asks_also, asks_clear, asks_clear_one, Cell, Value, name_value}

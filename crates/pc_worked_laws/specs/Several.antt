@@ -8,7 +8,7 @@ use Rattle.pc_sheet.specs.declared.ids.CellId.{CellId}
 use Rattle.pc_sheet.specs.declared.ids.ValueId.{ValueId}
 use Rattle.pc_sheet.specs.declared.ids.Entry.{Entry}
 use Rattle.pc_laws.specs.Examples.{entry, red, green, colored, cells_and_rules, chain}
-use Rattle.pc_logic.specs.Edits.{entered, also_entered, without_entry, without_cell}
+use Rattle.pc_books.specs.Edits.{entered, also_entered, without_entry, without_cell}
 use Rattle.pc_worked_laws.specs.LargestSets.{pair}
 
 abbrev pub blue : ValueId

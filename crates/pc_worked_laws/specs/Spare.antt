@@ -7,7 +7,7 @@ use Rattle.pc_sheet.specs.declared.ids.Entry.{Entry}
 use Rattle.pc_sheet.specs.declared.ids.Target.{Target}
 use Rattle.pc_laws.specs.Examples.{red, green, entry}
 use Rattle.pc_log.specs.Lines.{AxiomLine, BlockLine, StepLine}
-use Rattle.pc_logic.specs.Edits.{is_same_entry, entered, also_entered, without_entry, without_cell}
+use Rattle.pc_books.specs.Edits.{is_same_entry, entered, also_entered, without_entry, without_cell}
 use Rattle.pc_components.specs.View.{Kept}
 use Rattle.pc_reason.specs.Reasons.{Justification}
 use Rattle.pc_cache.specs.Rows.{TargetRow}

@@ -6,7 +6,7 @@ ghost use Rattle.pc_world_list.specs.Chosen.{chosen_parts};
 ghost use Rattle.pc_reason.specs.Fitting.{IsFitting};
 
 use crate::Worlds;
-use pc_logic::{Assignment, Book};
+use pc_books::{Assignment, Book};
 use pc_sheet::CellId;
 
 /// A book with the maximal consistent sets of each part that has an entry on its cells. These parts are

@@ -12,7 +12,7 @@ use Rattle.pc_sheet.specs.WellFormed.{is_of_cell, entries_of, IsEntryOf, IsWellF
 use Rattle.pc_sheet.specs.declared.ids.CellId.{CellId}
 use Rattle.pc_sheet.specs.declared.ids.Entry.{Entry}
 use Rattle.pc_lemmas.proofs.Elements.{contains_first, contains_later, kept_is}
-use Rattle.pc_logic.proofs.CountLemmas.{sizes_count}
+use Rattle.pc_books.proofs.CountLemmas.{sizes_count}
 use Rattle.pc_writer.specs.SheetText.{also_line, each_behind, enter_line, entry_line, entry_lines, has_several, is_later}
 use Rattle.pc_writer.proofs.CellLemmas.{entered_cell}
 

@@ -11,7 +11,7 @@ use Rattle.pc_sheet.specs.WellSorted.{names_of_values}
 use Rattle.pc_sheet.specs.declared.ids.SortId.{SortId}
 use Rattle.pc_sheet.specs.declared.ids.TableId.{TableId}
 use Rattle.pc_sheet.specs.declared.ids.FamilyId.{FamilyId}
-use Rattle.pc_logic.specs.Named.{bounds_of}
+use Rattle.pc_books.specs.Named.{bounds_of}
 use Rattle.pc_writer.specs.Spelling.{text_among}
 use Rattle.pc_writer.specs.FormulaText.{sort_at, table_at, family_at}
 use Rattle.pc_writer.specs.SheetText.{spaced, values_text}

@@ -3,7 +3,7 @@ ghost use Rattle.std.specs.Prelude.{◌≡◌, map};
 ghost use Rattle.pc_sheet.specs.Views.{statement_of, statements_of};
 ghost use Rattle.pc_writer.specs.Counted.{has_count, has_counting, have_count};
 
-use pc_logic::Book;
+use pc_books::Book;
 use pc_sheet::Formula;
 
 /// Whether some quantifier of a statement counts.

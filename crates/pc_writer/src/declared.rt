@@ -6,7 +6,7 @@ ghost use Rattle.pc_writer.specs.Spelling.{joined};
 ghost use Rattle.pc_writer.specs.Writes.{Writes};
 
 use crate::pieces::{write_separator, write_text};
-use pc_logic::Book;
+use pc_books::Book;
 use pc_port::{Failed, Sink};
 use pc_sheet::{FamilyId, SortId, TableId};
 

@@ -7,7 +7,7 @@ ghost use Rattle.pc_writer.specs.Writes.{Writes};
 use crate::cell::{sort_of, write_cell};
 use crate::pieces::{write_separator, write_text};
 use crate::value::write_value;
-use pc_logic::Book;
+use pc_books::Book;
 use pc_port::{Failed, Sink};
 use pc_sheet::Entry;
 

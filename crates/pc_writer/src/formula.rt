@@ -15,7 +15,7 @@ use crate::number::write_number;
 use crate::pieces::{write_between, write_text};
 use crate::scope::{Variable, extended};
 use crate::term::{write_arguments, write_term};
-use pc_logic::Book;
+use pc_books::Book;
 use pc_port::{Failed, Sink};
 use pc_sheet::{Formula, Name, Op, Side, Sign, SortId, TableId, Term};
 

@@ -4,7 +4,7 @@ ghost use Rattle.pc_sheet.specs.Limits.{most_cells};
 ghost use Rattle.pc_sheet.specs.WellFormed.{IsWellFormed};
 ghost use Rattle.pc_writer.specs.SheetText.{has_several};
 
-use pc_logic::Book;
+use pc_books::Book;
 use pc_sheet::{CellId, MOST_CELLS};
 
 /// Notes that the cell has an entry, and tells whether that was noted before.

@@ -7,7 +7,7 @@ ghost use Rattle.pc_sheet.specs.Sizes.{size_of, values_at};
 ghost use Rattle.pc_sheet.specs.Views.{rule_of};
 ghost use Rattle.pc_sheet.specs.WellFormed.{IsEntryOf, IsWellFormedRule, IsWellFormedUniverse};
 ghost use Rattle.pc_sheet.specs.WellSorted.{names_of_values};
-ghost use Rattle.pc_logic.specs.Named.{bounds_of};
+ghost use Rattle.pc_books.specs.Named.{bounds_of};
 ghost use Rattle.pc_writer.specs.FormulaText.{family_at, sort_at, table_at};
 ghost use Rattle.pc_writer.specs.SheetText.{also_line, enter_line, family_line, row_line, rule_line, sort_line, spaced, table_line, values_text};
 ghost use Rattle.pc_writer.specs.Spelling.{joined, value_texts};
@@ -19,7 +19,7 @@ use crate::formula::write_formula;
 use crate::number::write_number;
 use crate::pieces::{write_separator, write_text};
 use crate::value::write_value;
-use pc_logic::Book;
+use pc_books::Book;
 use pc_port::{Failed, Sink};
 use pc_sheet::{Entry, FamilyId, Rule, SortId, TableId, ValueId};
 

@@ -12,7 +12,7 @@ use crate::lines::{
     write_entry_line, write_family, write_row, write_rule, write_sort, write_table,
 };
 use crate::pieces::write_text;
-use pc_logic::{Book, well_formed};
+use pc_books::{Book, well_formed};
 use pc_port::{Failed, Sink};
 use pc_sheet::{FamilyId, MOST_CELLS, SortId, TableId};
 

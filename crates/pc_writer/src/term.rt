@@ -12,7 +12,7 @@ use crate::number::write_number;
 use crate::pieces::{write_separator, write_text};
 use crate::scope::Variable;
 use crate::value::write_value;
-use pc_logic::Book;
+use pc_books::Book;
 use pc_port::{Failed, Sink};
 use pc_sheet::Term;
 

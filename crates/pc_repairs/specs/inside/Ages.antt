@@ -5,7 +5,7 @@ use Rattle.std.specs.Cmp.Lexicographic.{slice_cmp}
 use Rattle.pc_sheet.specs.Entailment.{HasAll}
 use Rattle.pc_sheet.specs.MaximalSets.{IsContained}
 use Rattle.pc_sheet.specs.declared.ids.Entry.{Entry}
-use Rattle.pc_logic.specs.Edits.{is_same_entry}
+use Rattle.pc_books.specs.Edits.{is_same_entry}
 use Rattle.pc_world_list.specs.Worlds.{WorldView}
 use Rattle.pc_repairs.specs.declared.ordering.Aged.{Aged}
 

@@ -2,7 +2,7 @@
 use Rattle.std.specs.Prelude.{Bool}
 use Rattle.pc_sheet.specs.WellFormed.{is_of_cell}
 use Rattle.pc_sheet.specs.declared.ids.Entry.{Entry}
-use Rattle.pc_logic.specs.Edits.{is_rival, is_same_entry}
+use Rattle.pc_books.specs.Edits.{is_rival, is_same_entry}
 use Rattle.pc_justify_laws.specs.Edits.{takes_none}
 use Rattle.pc_session.specs.declared.taken.Taken.{Taken}
 use Rattle.pc_session.specs.declared.taken.Taken.TheVariants as taken

@@ -2,7 +2,7 @@ use Rattle.std.proofs.Common.{◌<◌, length, Contains, subst, rules, arith, in
 use Rattle.pc_sheet.specs.WellSorted.{declared_names}
 use Rattle.std.proofs.lemmas.List.{length-map}
 use Rattle.pc_elaborate.specs.Told.{variable_of, variables_of}
-use Rattle.pc_logic.proofs.NamesLemmas.{name_is_declared}
+use Rattle.pc_books.proofs.NamesLemmas.{name_is_declared}
 use Rattle.pc_elaborate.proofs.ItemLaws.{bound_at}
 use Rattle.pc_elaborate.proofs.ItemTold.{stands_for}
 use Rattle.pc_elaborate.proofs.FormulaTold.{taken_fails, sort_told}

@@ -1,5 +1,5 @@
 use Rattle.pc_elaborate.specs.Told.{variables_of}
-use Rattle.pc_logic.specs.declared.names.Named.TheVariants as names
+use Rattle.pc_books.specs.declared.names.Named.TheVariants as names
 use Rattle.pc_elaborate.proofs.Unique.{names_are_unique}
 use Rattle.pc_elaborate.proofs.ItemTold.{stands_for, other_applied, bound_name}
 use Rattle.pc_elaborate.proofs.items.applied_family.Goals as goal

@@ -1,5 +1,5 @@
 use Rattle.pc_elaborate.specs.Told.{variables_of}
-use Rattle.pc_logic.specs.declared.names.Named.TheVariants as names
+use Rattle.pc_books.specs.declared.names.Named.TheVariants as names
 use Rattle.pc_elaborate.proofs.ItemTold.{stands_for, variable_told, value_told, sort_is_no_item, table_is_no_item}
 use Rattle.pc_elaborate.proofs.items.bare_item.Goals as goal
 

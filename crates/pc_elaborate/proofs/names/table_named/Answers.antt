@@ -1,4 +1,4 @@
-use Rattle.pc_logic.specs.declared.names.Named.TheVariants as named
+use Rattle.pc_books.specs.declared.names.Named.TheVariants as named
 use Rattle.pc_elaborate.proofs.NamedAs.{kind_some, kind_none}
 use Rattle.pc_elaborate.proofs.names.table_named.Goals as goal
 

@@ -1,7 +1,7 @@
 use Rattle.std.proofs.Common.{[], ◌∷◌, ap, sym, ◌∙◌, subst}
 use Rattle.std.proofs.lemmas.Result.{on_ok_weaker}
 use Rattle.pc_justify_laws.specs.Edits.{edited}
-use Rattle.pc_logic.specs.Edits.{also_entered}
+use Rattle.pc_books.specs.Edits.{also_entered}
 use Rattle.pc_sheet.specs.Sheet.{Sheet}
 use Rattle.pc_sheet.specs.WellFormed.{IsWellFormed}
 use Rattle.pc_session.specs.inside.Changes.{as_list}

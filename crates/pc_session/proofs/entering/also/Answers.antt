@@ -1,7 +1,7 @@
 use Rattle.std.proofs.Common.{◌∷◌, [], List, Contains, IfErr, sym, ◌∙◌, subst}
 use Rattle.std.proofs.lemmas.Bool.{false≢true}
 use Rattle.pc_justify_laws.specs.Edits.{takes_none}
-use Rattle.pc_logic.specs.Edits.{also_entered}
+use Rattle.pc_books.specs.Edits.{also_entered}
 use Rattle.pc_sheet.specs.Sheet.{Sheet}
 use Rattle.pc_sheet.specs.declared.ids.Entry.{Entry}
 use Rattle.pc_session.specs.Causes.{IsEntryCause}

@@ -2,7 +2,7 @@ use Rattle.std.proofs.Common.{◌≡◌, List, Contains, true, false, sym, ◌�
 use Rattle.std.specs.List.{list_any}
 use Rattle.std.proofs.lemmas.Bool.{false≢true}
 use Rattle.pc_sheet.specs.declared.ids.Entry.{Entry}
-use Rattle.pc_logic.specs.Edits.{is_rival}
+use Rattle.pc_books.specs.Edits.{is_rival}
 use Rattle.pc_session.specs.declared.taken.Taken.TheVariants as taken
 use Rattle.pc_session.proofs.Changed.{entering_new, taking_some}
 use Rattle.pc_session.proofs.Resting.{cell_of}

@@ -1,5 +1,5 @@
 use Rattle.std.proofs.Common.{arith, ◌+◌, ◌*◌, ◌^◌, ◌≤◌}
-use Rattle.pc_logic.proofs.Sizes.{power_four, product_more}
+use Rattle.pc_books.proofs.Sizes.{power_four, product_more}
 use Rattle.pc_sortcheck.proofs.cells.count_tuples.Goals as goal
 
 pub overflow_mul-tuples : goal.overflow_mul-tuples

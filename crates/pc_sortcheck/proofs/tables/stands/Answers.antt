@@ -1,6 +1,6 @@
 use Rattle.std.proofs.Common.{arith, refl}
 use Rattle.std.proofs.lemmas.Slice.Eq.{slice_eq-Decides}
-use Rattle.pc_logic.proofs.RowLemmas.{value_decides}
+use Rattle.pc_books.proofs.RowLemmas.{value_decides}
 use Rattle.pc_sortcheck.proofs.Rows.{not_this, this_one, none_at_all}
 use Rattle.pc_sortcheck.proofs.tables.stands.Goals as goal
 

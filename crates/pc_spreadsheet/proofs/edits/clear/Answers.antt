@@ -1,7 +1,7 @@
 use Rattle.std.proofs.Common.{sym}
 use Rattle.pc_syntax.specs.Tree.{asks_clear, cell_of}
 use Rattle.pc_sheet.specs.WellFormed.{is_of_cell}
-use Rattle.pc_logic.specs.Edits.{without_cell}
+use Rattle.pc_books.specs.Edits.{without_cell}
 use Rattle.pc_spreadsheet.specs.Commands.{state_of}
 use Rattle.pc_spreadsheet.proofs.Ample.{cell_ample}
 use Rattle.pc_spreadsheet.proofs.Telling.{refused_for}

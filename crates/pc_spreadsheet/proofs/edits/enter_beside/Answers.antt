@@ -1,6 +1,6 @@
 use Rattle.std.proofs.Common.{sym}
 use Rattle.pc_syntax.specs.Tree.{asks_also, cell_of, value_of}
-use Rattle.pc_logic.specs.Edits.{also_entered}
+use Rattle.pc_books.specs.Edits.{also_entered}
 use Rattle.pc_spreadsheet.specs.Allowed.{to_enter_beside}
 use Rattle.pc_spreadsheet.specs.Commands.{state_of}
 use Rattle.pc_spreadsheet.proofs.Ample.{further_ample}

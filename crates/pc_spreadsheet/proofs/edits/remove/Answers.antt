@@ -1,6 +1,6 @@
 use Rattle.std.proofs.Common.{sym}
 use Rattle.pc_syntax.specs.Tree.{asks_clear_one, cell_of, value_of}
-use Rattle.pc_logic.specs.Edits.{is_same_entry, without_entry}
+use Rattle.pc_books.specs.Edits.{is_same_entry, without_entry}
 use Rattle.pc_spreadsheet.specs.Commands.{state_of}
 use Rattle.pc_spreadsheet.proofs.Ample.{entry_ample}
 use Rattle.pc_spreadsheet.proofs.Telling.{refused_for}

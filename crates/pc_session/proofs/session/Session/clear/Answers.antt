@@ -2,7 +2,7 @@ use Rattle.std.proofs.Common.{◌≡◌, [], Contains, Ok, Err, Some, IfErr, OnO
 use Rattle.std.proofs.lemmas.Result.{on_ok_weaker, on_err_weaker}
 use Rattle.pc_sheet.specs.WellFormed.{is_of_cell}
 use Rattle.pc_sheet.specs.declared.ids.Entry.{Entry}
-use Rattle.pc_logic.specs.Edits.{without_cell}
+use Rattle.pc_books.specs.Edits.{without_cell}
 use Rattle.pc_components.specs.View.{Kept}
 use Rattle.pc_justify_laws.specs.Edits.{HasNone, edited}
 use Rattle.pc_theory.specs.Theories.{TheoryView}

@@ -1,8 +1,8 @@
 use Rattle.std.proofs.Common.{◌≡◌, [], Contains, Ok, Err, Some, IfErr, OnOk, refl, ap, sym, subst}
 use Rattle.std.proofs.lemmas.Result.{on_ok_weaker, on_err_weaker}
 use Rattle.pc_sheet.specs.declared.ids.Entry.{Entry}
-use Rattle.pc_logic.specs.Edits.{is_same_entry, without_entry}
-use Rattle.pc_logic.proofs.EntryLemmas.{is_same}
+use Rattle.pc_books.specs.Edits.{is_same_entry, without_entry}
+use Rattle.pc_books.proofs.EntryLemmas.{is_same}
 use Rattle.pc_components.specs.View.{Kept}
 use Rattle.pc_justify_laws.specs.Edits.{edited}
 use Rattle.pc_theory.specs.Theories.{TheoryView}

@@ -2,7 +2,7 @@ use Rattle.std.proofs.Common.{◌≡◌, Ok, Some, IfErr, OnOk, refl, ap, sym, s
 use Rattle.std.proofs.lemmas.Result.{on_ok_weaker, on_err_weaker}
 use Rattle.pc_sheet.specs.WellFormed.{IsEntryOf}
 use Rattle.pc_sheet.specs.declared.ids.Entry.{Entry}
-use Rattle.pc_logic.specs.Edits.{entered, is_rival}
+use Rattle.pc_books.specs.Edits.{entered, is_rival}
 use Rattle.pc_components.specs.View.{Kept}
 use Rattle.pc_theory.specs.Theories.{TheoryView}
 use Rattle.pc_session.specs.Answers.{OthersStay, StandsAlone, Stay, Steps}

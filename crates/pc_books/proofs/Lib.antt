@@ -1,0 +1,12 @@
+pub mod CountLemmas
+pub mod Sizes
+pub mod TableLemmas
+pub mod BookLemmas
+pub mod EntryLemmas
+pub mod FewEntries
+pub mod NamesLemmas
+pub mod EditLemmas
+pub mod RankLemmas
+pub mod RowLemmas
+pub mod TupleLemmas
+pub mod FirstLemmas

@@ -1,0 +1,9 @@
+pub mod RowView
+pub mod SchemeView
+pub mod Sound
+pub mod Named
+pub mod DeclarationsView
+pub mod BookView
+pub mod Edits
+pub mod Tuples
+pub mod inside

@@ -1,0 +1,28 @@
+//! Books: what is declared, the rules and the entries of a sheet; and assignments to its cells.
+#![tactic(auto)]
+
+mod assignment;
+mod book;
+mod copies;
+mod declarations;
+mod entries;
+mod laws;
+mod names;
+mod rows;
+mod rule_list;
+mod scheme;
+mod universe;
+
+pub use assignment::Assignment;
+pub use book::Book;
+pub use laws::{few_cells, few_entries, well_formed};
+pub use names::Named;
+pub use pc_sheet::{
+    CellId, Entry, FamilyId, Formula, Name, NodeKind, NodePath, Op, Rule, Side, Sign, SortId,
+    TableId, Target, Term, ValueId,
+};
+pub use rows::Rows;
+pub use scheme::{
+    FamilyDecl, Scheme, SortDecl, SortValues, TableDecl, argument_sorts, first_cell, result_sort,
+    size_at, size_of, values_of_cell,
+};
