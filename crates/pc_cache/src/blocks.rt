@@ -3,12 +3,13 @@
 //! Each block has lines of one log, at their places in it. That rows are of the same log is tested line by line, since nobody
 //! says so; where they aren't, another block is begun.
 
-ghost use Rattle.std.specs.Prelude.{◌≡◌, ◌≢◌, ◌<◌, ◌≤◌, ◌^◌, ◌+◌, ℕ, [], List, Option, All, Contains, IfOk, IfSome, OnOk, length, map};
+ghost use Rattle.std.specs.Prelude.{◌≡◌, ◌≢◌, ◌<◌, ◌≤◌, ◌^◌, ◌+◌, ◌⊎◌, ℕ, [], List, Option, None, All, Contains, IfOk, IfSome, OnErr, OnOk, length, map};
 ghost use Rattle.pc_log.specs.Lines.{LogLine};
 ghost use Rattle.pc_log.specs.Sizes.{bytes_of};
 ghost use Rattle.pc_log.specs.Sparse.{line_at, line_in, AddsOnly, IsThere, Keeps, LinesStand, MayStand};
 ghost use Rattle.pc_cache.specs.Rows.{bytes_of_rows, row_bytes};
 ghost use Rattle.pc_cache.specs.inside.Kept.{block_at, bytes_of_blocks, kept_or_none, rows_in, AreRowsIn, IsRowIn, KeepsBlocks};
+ghost use Rattle.pc_cache.specs.inside.Patched.{last_in, settled_in, ShareBlock};
 ghost use Rattle.pc_cache.specs.inside.Rested.{IsRowKept};
 ghost use Rattle.pc_cache.specs.inside.Spare.{spare_in};
 
@@ -31,10 +32,27 @@ pub(crate) fn share(
         (block_at blocks.new.items block)) }
     ensures bytes { OnOk result (bytes_of_blocks blocks.new.items ≤
         bytes_of_blocks blocks.old.items + bytes_of (map (line_at log.now) places.now)) }
+    ensures shares { ShareBlock log.now blocks.old.items blocks.new.items }
 {
     let block = block_for(alloc, log, places, blocks)?;
     put_lines(log, places, block, blocks)?;
     Ok(block)
+}
+
+/// Begins another block, if the last one has a line. Without memory all stays as it is.
+pub(crate) fn begin_block(alloc: Global, blocks: &mut Vec<SparseLog>) -> Result<(), AllocError>
+    ensures keeps { KeepsBlocks blocks.old.items blocks.new.items }
+    ensures last { OnOk result (last_in blocks.new.items ≡ []) }
+    ensures settled { OnOk result (settled_in blocks.new.items ≡
+        bytes_of_blocks blocks.old.items) }
+    ensures bytes { bytes_of_blocks blocks.new.items ≡ bytes_of_blocks blocks.old.items }
+    ensures err { OnErr result (blocks.new.items ≡ blocks.old.items) }
+{
+    let count = blocks.len();
+    if count > 0 && blocks[count - 1].len() > 0 {
+        blocks.push(SparseLog::new(alloc))?;
+    }
+    Ok(())
 }
 
 // The number of a block in which the log's lines at these places may stand.
@@ -45,11 +63,12 @@ fn block_for(
     blocks: &mut Vec<SparseLog>,
 ) -> Result<usize, AllocError>
     requires { All (λ p. p < length log.now) places.now }
-    ensures within { IfOk result (λ block. block < length blocks.new.items) }
+    ensures last { IfOk result (λ block. block + 1 ≡ length blocks.new.items) }
     ensures free { IfOk result (λ block. MayStand (line_at log.now) places.now
         (block_at blocks.new.items block)) }
     ensures keeps { KeepsBlocks blocks.old.items blocks.new.items }
     ensures bytes { bytes_of_blocks blocks.new.items ≡ bytes_of_blocks blocks.old.items }
+    ensures shares { ShareBlock log.now blocks.old.items blocks.new.items }
 {
     if let Some(block) = last_free(log, places, blocks) {
         return Ok(block);
@@ -61,8 +80,10 @@ fn block_for(
 // The number of the last block, if there is one and the log's lines at these places may stand in it.
 fn last_free(log: &Log, places: &[u32], blocks: &[SparseLog]) -> Option<usize>
     requires { All (λ p. p < length log.now) places.now }
-    ensures { IfSome result (λ block. (block < length blocks.now) ×
+    ensures some { IfSome result (λ block. (block + 1 ≡ length blocks.now) ×
         MayStand (line_at log.now) places.now (block_at blocks.now block)) }
+    ensures none { result ≡ None → (blocks.now ≡ []) ⊎
+        ¬ MayStand (line_at log.now) places.now (last_in blocks.now) }
 {
     let count = blocks.len();
     if count == 0 {
@@ -82,10 +103,11 @@ fn put_lines(
     block: usize,
     blocks: &mut Vec<SparseLog>,
 ) -> Result<(), AllocError>
-    requires block { block < length blocks.old.items }
+    requires block { block + 1 ≡ length blocks.old.items }
     requires within { All (λ p. p < length log.now) places.now }
     requires free { MayStand (line_at log.now) places.now (block_at blocks.old.items block) }
     ensures keeps { KeepsBlocks blocks.old.items blocks.new.items }
+    ensures shares { ShareBlock log.now blocks.old.items blocks.new.items }
     ensures stand { OnOk result
         (LinesStand (line_at log.now) places.now (block_at blocks.new.items block)) }
     ensures bytes { OnOk result (bytes_of_blocks blocks.new.items ≤

@@ -12,6 +12,7 @@ ghost use Rattle.pc_reason.specs.Targets.{IsTargetIn};
 ghost use Rattle.pc_cache.specs.Rows.{bytes_of_rows, lacks_row, row_after, row_of, targets_of, uses_entry, AreDistinct, AreEmpty, HasRowOf, HaveTargets};
 ghost use Rattle.pc_cache.specs.Targets.{targets};
 ghost use Rattle.pc_cache.specs.Lent.{IsLentFor};
+ghost use Rattle.pc_cache.specs.Patches.{patch_bytes};
 ghost use Rattle.pc_cache.specs.inside.Kept.{kept_or_none, IsRowIn};
 
 use crate::blocks::{blocks_bytes, rested, rows_bytes};
@@ -130,14 +131,14 @@ impl Cache {
         all_targets(*self.slots.allocator(), &self.slots)
     }
 
-    /// Makes the changes one after another. Room for their lines is taken before the first change: without memory all stays as
-    /// it is.
+    /// Makes the changes one after another. Without memory, or where a `put` of the patch wanted some, all stays as it is.
     pub fn apply(&mut self, patch: Patch) -> Result<(), AllocError>
-        requires { HaveTargets self.old.rows patch }
+        requires { HaveTargets self.old.rows patch.rows }
         ensures rows { OnOk result ((t : Target) →
-            row_of self.new.rows t ≡ row_after patch t (row_of self.old.rows t)) }
+            row_of self.new.rows t ≡ row_after patch.rows t (row_of self.old.rows t)) }
         ensures targets { targets_of self.new.rows ≡ targets_of self.old.rows }
-        ensures bytes { OnOk result (self.new.bytes ≤ self.old.bytes + bytes_of_rows patch) }
+        ensures bytes { OnOk result (self.new.bytes ≤ self.old.bytes + bytes_of_rows patch.rows) }
+        ensures exact { OnOk result (self.new.bytes ≡ self.old.bytes + patch_bytes patch) }
         ensures err { OnErr result (self.new ≡ self.old) }
     {
         if !patch.whole {
@@ -156,8 +157,8 @@ impl Cache {
     /// Keeps the lines on which rows rest alone: each row stays as it is, line for line. Without memory all stays as it is.
     pub fn compact(&mut self) -> Result<(), AllocError>
         ensures rows { self.new.rows ≡ self.old.rows }
-        ensures bytes { OnOk result (self.new.bytes ≤ bytes_of_rows self.old.rows) }
-        ensures less { OnOk result (self.new.bytes ≤ self.old.bytes) }
+        ensures bytes { OnOk result (self.new.bytes + self.old.spare ≡ self.old.bytes) }
+        ensures few { OnOk result (self.new.bytes ≤ bytes_of_rows self.old.rows) }
         ensures spare { OnOk result (self.new.spare ≡ 0) }
         ensures err { OnErr result (self.new ≡ self.old) }
     {

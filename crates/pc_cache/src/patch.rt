@@ -7,8 +7,10 @@
 ghost use Rattle.std.specs.Prelude.{◌≡◌, ◌<◌, ◌++◌, ◌∷◌, [], List, None, Some, IfOk, IsTrue, OnErr, OnOk, length};
 ghost use Rattle.pc_log.specs.Lines.{LogLine};
 ghost use Rattle.pc_log.specs.Trimmed.{IsTrimmed};
+ghost use Rattle.pc_cache.specs.Patches.{patch_bytes, Shares};
+ghost use Rattle.pc_cache.specs.inside.Patched.{last_in, patch_in};
 
-use crate::blocks::share;
+use crate::blocks::{begin_block, share};
 use crate::row::{Row, Slot};
 use pc_books::Assignment;
 use pc_log::{Log, Places, SparseLog, StepId, Trimmer};
@@ -17,7 +19,8 @@ use std::alloc::{AllocError, Global};
 use std::marker::Model;
 use std::rc::Rc;
 
-/// Rows that targets are to have, or to lose, seen as the list of these changes. It keeps its derivations in blocks of its own.
+/// Rows that targets are to have, or to lose. It is seen as the list of these changes, with the lines of their derivations: those
+/// to which lines of the same log are added, and the bytes of all others, which are settled.
 #[derive(Drop)]
 pub struct Patch {
     pub(crate) blocks: Vec<SparseLog>,
@@ -30,15 +33,13 @@ pub struct Patch {
 }
 
 impl Model for Patch {
-    ghost use Rattle.std.specs.Prelude.{List};
-    ghost use Rattle.pc_cache.specs.Rows.{TargetRow};
+    ghost use Rattle.pc_cache.specs.Patches.{PatchView};
 
-    ghost Value = { List TargetRow };
+    ghost Value = { PatchView };
 
-    ghost use Rattle.pc_cache.specs.inside.Kept.{rows_in};
-    ghost use Rattle.pc_cache.specs.inside.Patched.{IsOfRows};
+    ghost use Rattle.pc_cache.specs.inside.Patched.{patch_in, IsOfRows};
 
-    ghost view = { λ p. rows_in p.blocks.items p.slots.items };
+    ghost view = { λ p. patch_in p.blocks.items p.slots.items };
 
     ghost invariant = { λ p. IsOfRows p.whole p.blocks.items p.slots.items };
 }
@@ -46,7 +47,7 @@ impl Model for Patch {
 impl Patch {
     /// No changes. It takes no memory.
     pub fn new(alloc: Global) -> Patch
-        ensures { result ≡ [] }
+        ensures { result ≡ record { rows = []; settled = 0; last = [] } }
     {
         Patch {
             blocks: Vec::new(alloc),
@@ -59,16 +60,31 @@ impl Patch {
 
     /// The target is to have no row. Without memory the patch stays as it is.
     pub fn remove(&mut self, target: Target) -> Result<(), AllocError>
-        ensures ok { OnOk result (self.new ≡ self.old ++ record { target = target; row = None } ∷
-            []) }
+        ensures ok { OnOk result (self.new ≡ record self.old {
+          rows = self.old.rows ++ record { target = target; row = None } ∷ [];
+        }) }
         ensures err { OnErr result (self.new ≡ self.old) }
     {
         self.slots.push(Slot { target, row: None })?;
         Ok(())
     }
 
+    /// Settles the lines that were put: what is put from here on shares none of them. Without memory the patch stays as it is.
+    pub fn settle(&mut self) -> Result<(), AllocError>
+        ensures ok { OnOk result (self.new ≡ record {
+          rows = self.old.rows;
+          settled = patch_bytes self.old;
+          last = [];
+        }) }
+        ensures err { OnErr result (self.new ≡ self.old) }
+    {
+        let alloc = *self.slots.allocator();
+        begin_block(alloc, &mut self.blocks)
+    }
+
     /// The target is to have a row: this support and assignment, and of the log the line `last` with those that it rests
-    /// on. Without memory the patch stays as it is.
+    /// on. What is put of one log, as it grows, is shared. Without memory the changes stay as they are, but the patch can't be
+    /// put in place any more: `apply` then wants memory too.
     pub fn put(
         &mut self,
         target: Target,
@@ -79,12 +95,13 @@ impl Patch {
     ) -> Result<(), AllocError>
         requires { last.0 < length log.now }
         ensures ok { OnOk result ((lines : List LogLine) × IsTrimmed log.now last.0 [] lines ×
-            (self.new ≡ self.old ++ record {
+            (self.new.rows ≡ self.old.rows ++ record {
               target = target;
               row = Some (record { support = support.now; shown = shown.now; lines = lines });
             } ∷
             [])) }
-        ensures err { OnErr result (self.new ≡ self.old) }
+        ensures shares { Shares self.old self.new log.now }
+        ensures err { OnErr result (self.new.rows ≡ self.old.rows) }
     {
         let alloc = *self.slots.allocator();
         let support = Vec::from_slice(alloc, support)?;
