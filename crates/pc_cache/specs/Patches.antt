@@ -1,5 +1,5 @@
 -- Changes of rows that are not made yet, as they are seen.
-use Rattle.std.specs.Prelude.{◌≡◌, ◌×◌, ◌+◌, ◌≤◌, ℕ, List, Option, Some, slice_get}
+use Rattle.std.specs.Prelude.{◌≡◌, ◌+◌, ◌≤◌, ℕ, List, Option, Some, slice_get}
 use Rattle.pc_log.specs.Lines.{LogLine}
 use Rattle.pc_log.specs.Sizes.{bytes_of}
 use Rattle.pc_log.specs.Sparse.{bytes_there, line_there}

@@ -1,5 +1,5 @@
 -- A patch's fields, and blocks of the rows' lines alone.
-use Rattle.std.specs.Prelude.{◌≡◌, ◌×◌, ◌+◌, ◌≤◌, ℕ, Bool, IsTrue, List, [], ◌∷◌, Option}
+use Rattle.std.specs.Prelude.{◌≡◌, ◌+◌, ◌≤◌, ℕ, Bool, IsTrue, List, [], ◌∷◌, Option}
 use Rattle.pc_log.specs.Lines.{LogLine}
 use Rattle.pc_log.specs.Sparse.{bytes_there}
 use Rattle.pc_cache.specs.Patches.{PatchView, AreOfLog}
