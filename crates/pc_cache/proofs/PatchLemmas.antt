@@ -4,11 +4,13 @@ use Rattle.pc_log.specs.Lines.{LogLine}
 use Rattle.pc_log.specs.Sizes.{bytes_of}
 use Rattle.pc_log.specs.Sparse.{line_at, picked, AreRested, IsPicked, LinesStand}
 use Rattle.pc_log.specs.Trimmed.{IsTrimmed}
+use Rattle.pc_cache.specs.Patches.{PatchView, Shares, AreOfLog, patch_bytes}
 use Rattle.pc_cache.specs.Rows.{TargetRow, bytes_of_rows, row_bytes}
 use Rattle.pc_cache.specs.inside.Kept.{block_at, bytes_of_blocks, kept_or_none, rows_in, IsRowIn, KeepsBlocks}
-use Rattle.pc_cache.specs.inside.Patched.{IsOfRows}
+use Rattle.pc_cache.specs.inside.Patched.{last_in, patch_in, settled_in, IsOfRows, ShareBlock}
 use Rattle.pc_cache.specs.declared.row.Slot.{Slot}
 use Rattle.pc_cache.proofs.BlockLemmas.{put_is, put_size, put_trimmed}
+use Rattle.pc_cache.proofs.LastLemmas.{all_bytes}
 use Rattle.pc_cache.proofs.SlotLemmas.{put_row, rows_in-stay, AreRowsIn-push, AreRowsIn-stay, bytes_of_rows-push}
 
 -- a row whose lines were added
@@ -56,3 +58,25 @@ put_nothing whole blocks slots s none is of = record {
   are = AreRowsIn-push blocks slots s of.are is;
   alone = λ yes. omega (arith, of.alone yes, bytes_of_rows-push blocks slots s, ap (λ r. row_bytes (kept_or_none blocks r)) none);
 }
+
+-- ---- as they are seen
+
+pub share_view : (old : PatchView) (before after : List (List (Option LogLine))) (slots more : List Slot) (log : List LogLine) → patch_in before slots ≡ old → ShareBlock log before after → Shares old (patch_in after more) log
+share_view old before after slots more log is share of =
+    let told = share (subst (λ (p : PatchView). AreOfLog p.last log) (sym is) of) in (told.0 ∙ ap (λ (p : PatchView). p.settled) is, told.1)
+
+pub settle_alone : (whole : Bool) (old new : List (List (Option LogLine))) (slots : List Slot) → IsOfRows whole old slots → KeepsBlocks old new → bytes_of_blocks new ≡ bytes_of_blocks old → IsOfRows whole new slots
+settle_alone whole old new slots of keeps same = record {
+  are = AreRowsIn-stay old new slots keeps of.are;
+  alone = λ yes. omega (arith, same, of.alone yes, ap bytes_of_rows (rows_in-stay old new slots keeps of.are));
+}
+
+pub settled_view : (old : PatchView) (whole : Bool) (before after : List (List (Option LogLine))) (slots : List Slot) → patch_in before slots ≡ old → IsOfRows whole before slots → KeepsBlocks before after
+    → last_in after ≡ [] → settled_in after ≡ bytes_of_blocks before → patch_in after slots ≡ record { rows = old.rows; settled = patch_bytes old; last = [] }
+settled_view old whole before after slots is of keeps none all =
+    let settled : settled_in after ≡ patch_bytes old = all ∙ sym (all_bytes before) ∙ ap patch_bytes is in
+    let rows : rows_in after slots ≡ old.rows = rows_in-stay before after slots keeps of.are ∙ ap (λ (p : PatchView). p.rows) is in
+    rw (rows, settled, none) refl
+
+pub same_view : (old : PatchView) (before after : List (List (Option LogLine))) (slots : List Slot) → patch_in before slots ≡ old → after ≡ before → patch_in after slots ≡ old
+same_view old before after slots is same = ap (λ (bs : List (List (Option LogLine))). patch_in bs slots) same ∙ is

@@ -7,7 +7,6 @@ use Rattle.pc_log.specs.Lines.{LogLine}
 use Rattle.pc_log.specs.Sizes.{bytes_of}
 use Rattle.pc_log.specs.Sparse.{bytes_there, line_in, line_there, AddsOnly, IsThere, Keeps, LinesStand}
 use Rattle.pc_log.proofs.PickedLemmas.{picked_bytes, picked_part}
-use Rattle.pc_log.proofs.SparseLemmas.{bytes_of_part_there}
 use Rattle.pc_reason.specs.Reasons.{Justification}
 use Rattle.pc_cache.specs.Rows.{TargetRow, bytes_of_rows}
 use Rattle.pc_cache.specs.inside.Kept.{block_at, bytes_of_blocks, kept_or_none, rows_in, AreRowsIn, IsRowIn, KeepsBlocks}
@@ -113,18 +112,6 @@ one_kept blocks kept new slots k d state low one = subst (AreRowsKept blocks new
 
 pub all_kept : (blocks kept : List (List (Option LogLine))) (slots : List Slot) (k : ℕ) → length slots ≤ k → AreRowsKept blocks kept (take k slots) → AreRowsKept blocks kept slots
 all_kept blocks kept slots k all state = subst (AreRowsKept blocks kept) (take_all k slots all) state
-
-pub fewer_bytes : (kept blocks : List (List (Option LogLine))) → KeepsBlocks kept blocks → bytes_of_blocks kept ≤ bytes_of_blocks blocks
-fewer_bytes [] blocks part = omega arith
-fewer_bytes (x ∷ xs) [] part = absurd (omega (arith, part.0))
-fewer_bytes (x ∷ xs) (y ∷ ys) part =
-    omega (
-      arith,
-      sum_by-cons bytes_there x xs,
-      sum_by-cons bytes_there y ys,
-      bytes_of_part_there x y (part.1 0 (omega arith)),
-      fewer_bytes xs ys (omega (arith, part.0), λ b low. part.1 (suc b) (omega (arith, low))),
-    )
 
 -- ---- a cache with these blocks
 

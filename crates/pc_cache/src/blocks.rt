@@ -3,7 +3,7 @@
 //! Each block has lines of one log, at their places in it. That rows are of the same log is tested line by line, since nobody
 //! says so; where they aren't, another block is begun.
 
-ghost use Rattle.std.specs.Prelude.{◌≡◌, ◌≢◌, ◌<◌, ◌≤◌, ◌^◌, ◌+◌, ◌⊎◌, ℕ, [], List, Option, None, All, Contains, IfOk, IfSome, OnErr, OnOk, length, map};
+ghost use Rattle.std.specs.Prelude.{◌≡◌, ◌≢◌, ◌<◌, ◌≤◌, ◌^◌, ◌+◌, ◌⊎◌, ℕ, [], List, Option, None, All, Contains, IfOk, IfSome, IsTrue, OnErr, OnOk, length, map};
 ghost use Rattle.pc_log.specs.Lines.{LogLine};
 ghost use Rattle.pc_log.specs.Sizes.{bytes_of};
 ghost use Rattle.pc_log.specs.Sparse.{line_at, line_in, AddsOnly, IsThere, Keeps, LinesStand, MayStand};
@@ -13,6 +13,7 @@ ghost use Rattle.pc_cache.specs.inside.Patched.{last_in, settled_in, ShareBlock}
 ghost use Rattle.pc_cache.specs.inside.Rested.{IsRowKept};
 ghost use Rattle.pc_cache.specs.inside.Spare.{spare_in};
 
+use crate::moving::is_free;
 use crate::row::{Row, Slot};
 use pc_log::{Log, SparseLog};
 use std::alloc::{AllocError, Global};
@@ -39,7 +40,7 @@ pub(crate) fn share(
     Ok(block)
 }
 
-/// Begins another block, if the last one has a line. Without memory all stays as it is.
+/// Begins another block, unless no line was put into the last one. Without memory all stays as it is.
 pub(crate) fn begin_block(alloc: Global, blocks: &mut Vec<SparseLog>) -> Result<(), AllocError>
     ensures keeps { KeepsBlocks blocks.old.items blocks.new.items }
     ensures last { OnOk result (last_in blocks.new.items ≡ []) }
@@ -48,11 +49,24 @@ pub(crate) fn begin_block(alloc: Global, blocks: &mut Vec<SparseLog>) -> Result<
     ensures bytes { bytes_of_blocks blocks.new.items ≡ bytes_of_blocks blocks.old.items }
     ensures err { OnErr result (blocks.new.items ≡ blocks.old.items) }
 {
-    let count = blocks.len();
-    if count > 0 && blocks[count - 1].len() > 0 {
-        blocks.push(SparseLog::new(alloc))?;
+    match is_last_empty(blocks) {
+        true => Ok(()),
+        false => {
+            blocks.push(SparseLog::new(alloc))?;
+            Ok(())
+        }
     }
-    Ok(())
+}
+
+// Whether the last block has no line, or there is none.
+fn is_last_empty(blocks: &[SparseLog]) -> bool
+    ensures { IsTrue result → last_in blocks.now ≡ [] }
+{
+    let count = blocks.len();
+    if count == 0 {
+        return true;
+    }
+    is_free(count - 1, blocks)
 }
 
 // The number of a block in which the log's lines at these places may stand.
@@ -70,11 +84,13 @@ fn block_for(
     ensures bytes { bytes_of_blocks blocks.new.items ≡ bytes_of_blocks blocks.old.items }
     ensures shares { ShareBlock log.now blocks.old.items blocks.new.items }
 {
-    if let Some(block) = last_free(log, places, blocks) {
-        return Ok(block);
+    match last_free(log, places, blocks) {
+        Some(block) => Ok(block),
+        None => {
+            blocks.push(SparseLog::new(alloc))?;
+            Ok(blocks.len() - 1)
+        }
     }
-    blocks.push(SparseLog::new(alloc))?;
-    Ok(blocks.len() - 1)
 }
 
 // The number of the last block, if there is one and the log's lines at these places may stand in it.
@@ -165,7 +181,9 @@ pub(crate) fn rested(
         rows_in blocks.now slots.now) }
     ensures few { IfOk result (λ kept. bytes_of_blocks kept.items ≤
         bytes_of_rows (rows_in blocks.now slots.now)) }
-    ensures less { IfOk result (λ kept. bytes_of_blocks kept.items ≤ bytes_of_blocks blocks.now) }
+    ensures bytes { IfOk result (λ kept.
+        bytes_of_blocks kept.items + spare_in slots.now 0 blocks.now ≡
+        bytes_of_blocks blocks.now) }
     ensures spare { IfOk result (λ kept. spare_in slots.now 0 kept.items ≡ 0) }
 {
     let mut kept = empty_blocks(alloc, blocks.len())?;

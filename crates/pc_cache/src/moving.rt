@@ -96,7 +96,8 @@ fn free_place(free: &mut Vec<usize>, blocks: &[SparseLog]) -> Option<usize>
     }
 }
 
-fn is_free(place: usize, blocks: &[SparseLog]) -> bool
+/// Whether there is a block of this number, without a line.
+pub(crate) fn is_free(place: usize, blocks: &[SparseLog]) -> bool
     ensures within { IsTrue result → place < length blocks.now }
     ensures empty { IsTrue result → block_at blocks.now place ≡ [] }
 {

@@ -79,7 +79,8 @@ impl Patch {
         ensures err { OnErr result (self.new ≡ self.old) }
     {
         let alloc = *self.slots.allocator();
-        begin_block(alloc, &mut self.blocks)
+        begin_block(alloc, &mut self.blocks)?;
+        Ok(())
     }
 
     /// The target is to have a row: this support and assignment, and of the log the line `last` with those that it rests

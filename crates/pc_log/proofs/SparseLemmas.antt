@@ -240,6 +240,23 @@ bytes_of_part_there (x ∷ xs) (y ∷ ys) keeps =
     less None p all = omega arith
     less (Some line) p all = let same : bytes_or p ≡ line_bytes line = ap bytes_or (all line refl) in omega (arith, same)
 
+-- as do lines of a log at their places
+pub bytes_of_log_there : (lines : List (Option LogLine)) (log : List LogLine) → ((i : ℕ) (line : LogLine) → line_there lines i ≡ Some line → slice_get log i ≡ Some line) → bytes_there lines ≤ bytes_of log
+bytes_of_log_there [] log of = omega arith
+bytes_of_log_there (x ∷ xs) [] of =
+    let none : bytes_or x ≤ 0 = gap x (of 0) in
+    omega (arith, sum_by-cons bytes_or x xs, none, bytes_of_log_there xs [] (λ i line at. of (suc i) line at))
+  where
+    gap : (o : Option LogLine) → ((line : LogLine) → o ≡ Some line → None ≡ Some line) → bytes_or o ≤ 0
+    gap None all = omega arith
+    gap (Some line) all = absurd (no_line line (all line refl))
+bytes_of_log_there (x ∷ xs) (y ∷ ys) of =
+    omega (arith, sum_by-cons bytes_or x xs, sum_by-cons line_bytes y ys, less x (of 0), bytes_of_log_there xs ys (λ i line at. of (suc i) line at))
+  where
+    less : (o : Option LogLine) → ((line : LogLine) → o ≡ Some line → Some y ≡ Some line) → bytes_or o ≤ line_bytes y
+    less None all = omega arith
+    less (Some line) all = let same : line_bytes y ≡ line_bytes line = ap line_bytes (some_line y line (all line refl)) in omega (arith, same)
+
 -- ---- tested
 
 pub may_stand_none : (source : ℕ → LogLine) (places : List ℕ) (lines : List (Option LogLine)) → MayStand source (take 0 places) lines

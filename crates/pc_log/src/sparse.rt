@@ -3,7 +3,7 @@
 //! Derivations that are taken from the same log share their lines here. Each line stands once, at its own place, so that its
 //! hints stay as they are, and a derivation is the list of its lines' places (`Derivation`).
 
-ghost use Rattle.std.specs.Prelude.{◌≡◌, ◌≢◌, ℕ, ◌+◌, ◌<◌, ◌≤◌, [], All, Contains, IfOk, IsTrue, None, OnErr, OnOk, Some, length, map, option_map, set};
+ghost use Rattle.std.specs.Prelude.{◌≡◌, ◌≢◌, ◌↔◌, ℕ, ◌+◌, ◌<◌, ◌≤◌, [], All, Contains, IfOk, IsTrue, None, OnErr, OnOk, Some, length, map, option_map, set};
 ghost use Rattle.pc_log.specs.Lines.{AxiomLine, BlockLine, StepLine};
 ghost use Rattle.pc_log.specs.Shown.{shown_line};
 ghost use Rattle.pc_log.specs.Sizes.{bytes_of, line_bytes};
@@ -99,7 +99,7 @@ impl SparseLog {
     /// Whether each of these places is free or has the log's line.
     pub fn agrees(&self, log: &Log, places: &[u32]) -> bool
         requires { All (λ p. p < length log.now) places.now }
-        ensures { IsTrue result → MayStand (line_at log.now) places.now self.now }
+        ensures { IsTrue result ↔ MayStand (line_at log.now) places.now self.now }
     {
         for place in places {
             let place = *place as usize;
@@ -150,7 +150,7 @@ impl SparseLog {
 
     // Whether this place is free or has this line.
     fn can_have(&self, place: usize, line: Line<'_>) -> bool
-        ensures { IsTrue result → CanStand (shown_line line.entry) place self.now }
+        ensures { IsTrue result ↔ CanStand (shown_line line.entry) place self.now }
     {
         match self.line(place) {
             None => true,
@@ -257,7 +257,7 @@ fn total_of(bytes: u64, line: Line<'_>) -> Result<u64, AllocError>
 
 // Whether two lines are the same.
 fn is_same_line(one: Line<'_>, other: Line<'_>) -> bool
-    ensures { IsTrue result → shown_line one.entry ≡ shown_line other.entry }
+    ensures { IsTrue result ↔ shown_line one.entry ≡ shown_line other.entry }
 {
     match one {
         Line::Axiom(number) => is_axiom(number, other),
@@ -271,7 +271,7 @@ fn is_same_line(one: Line<'_>, other: Line<'_>) -> bool
 }
 
 fn is_axiom(number: u32, line: Line<'_>) -> bool
-    ensures { IsTrue result → AxiomLine number ≡ shown_line line.entry }
+    ensures { IsTrue result ↔ AxiomLine number ≡ shown_line line.entry }
 {
     match line {
         Line::Axiom(other) => number == other,
@@ -281,7 +281,7 @@ fn is_axiom(number: u32, line: Line<'_>) -> bool
 }
 
 fn is_block(number: usize, clause: &[Lit], line: Line<'_>) -> bool
-    ensures { IsTrue result → BlockLine number clause.now ≡ shown_line line.entry }
+    ensures { IsTrue result ↔ BlockLine number clause.now ≡ shown_line line.entry }
 {
     match line {
         Line::Axiom(_) => false,
@@ -294,7 +294,7 @@ fn is_block(number: usize, clause: &[Lit], line: Line<'_>) -> bool
 }
 
 fn is_step(clause: &[Lit], hints: &[StepId], learned: bool, line: Line<'_>) -> bool
-    ensures { IsTrue result → StepLine clause.now hints.now learned ≡ shown_line line.entry }
+    ensures { IsTrue result ↔ StepLine clause.now hints.now learned ≡ shown_line line.entry }
 {
     match line {
         Line::Axiom(_) => false,
@@ -308,13 +308,13 @@ fn is_step(clause: &[Lit], hints: &[StepId], learned: bool, line: Line<'_>) -> b
 }
 
 fn is_same_clause(one: &[Lit], other: &[Lit]) -> bool
-    ensures { IsTrue result → one.now ≡ other.now }
+    ensures { IsTrue result ↔ one.now ≡ other.now }
 {
     one == other
 }
 
 fn are_same_hints(one: &[StepId], other: &[StepId]) -> bool
-    ensures { IsTrue result → one.now ≡ other.now }
+    ensures { IsTrue result ↔ one.now ≡ other.now }
 {
     one == other
 }

@@ -2,8 +2,8 @@ use Rattle.std.proofs.Common.{subst, sym}
 use Rattle.pc_cache.specs.inside.Kept.{IsRowIn}
 use Rattle.pc_cache.specs.inside.Rested.{IsRowKept}
 use Rattle.pc_cache.specs.declared.row.Slot.{Slot}
-use Rattle.pc_cache.proofs.RestedLemmas.{all_kept, fewer_bytes, none_kept, one_kept}
-use Rattle.pc_cache.proofs.SpareLemmas.{none_spare}
+use Rattle.pc_cache.proofs.RestedLemmas.{all_kept, none_kept, one_kept}
+use Rattle.pc_cache.proofs.SpareLemmas.{kept_bytes, none_spare}
 use Rattle.pc_cache.proofs.SlotLemmas.{row_there}
 use Rattle.pc_cache.proofs.blocks.rested.Goals as goal
 
@@ -21,4 +21,4 @@ loop-slot-preserved c =
 pub returns : goal.returns
 returns c =
     let all = all_kept c.args.blocks.now c.loop-slot.kept.items c.args.slots.now c.loop-slot.slot-index c.loop-slot-test.false c.loop-slot.invariant in
-    record { are = all.are; rows = all.same; few = all.bytes; less = fewer_bytes c.loop-slot.kept.items c.args.blocks.now all.part; spare = none_spare c.loop-slot.kept.items c.args.slots.now all.only }
+    record { are = all.are; rows = all.same; few = all.bytes; bytes = kept_bytes c.args.blocks.now c.loop-slot.kept.items c.args.slots.now all.count all.part all.are all.only; spare = none_spare c.loop-slot.kept.items c.args.slots.now all.only }

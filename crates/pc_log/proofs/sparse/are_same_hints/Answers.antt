@@ -3,4 +3,4 @@ use Rattle.pc_log.proofs.SameLemmas.{step_decides}
 use Rattle.pc_log.proofs.sparse.are_same_hints.Goals as goal
 
 pub returns : goal.returns
-returns c = λ same. (slice_eq-Decides step_decides c.args.one.now c.args.other.now c.eq.result c.eq.ensures).0 same
+returns c = slice_eq-Decides step_decides c.args.one.now c.args.other.now c.eq.result c.eq.ensures
