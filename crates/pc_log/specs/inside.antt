@@ -3,3 +3,4 @@ pub mod Marks
 pub mod Reached
 pub mod Spots
 pub mod Bits
+pub mod Forms

@@ -1,6 +1,0 @@
-use Rattle.std.proofs.Common.{◌≡◌, ◌≤◌, length}
-use Rattle.pc_log.specs.inside.Bits.{places_below}
-use Rattle.pc_log.proofs.places.count_to.Given as goal
-
-abbrev pub invariant-loop-place : goal.invariant-loop-place
-invariant-loop-place l = (l.count ≡ length (places_below l.words l.place)) × (l.count ≤ l.place)

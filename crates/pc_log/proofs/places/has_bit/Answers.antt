@@ -1,5 +1,0 @@
-use Rattle.pc_log.proofs.PlaceLemmas.{bit_tests}
-use Rattle.pc_log.proofs.places.has_bit.Goals as goal
-
-pub returns : goal.returns
-returns c = bit_tests c.args.words.now c.args.place c.word_at.result c.word_at.ensures

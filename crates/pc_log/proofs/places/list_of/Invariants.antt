@@ -1,6 +1,0 @@
-use Rattle.std.proofs.Common.{◌≡◌}
-use Rattle.pc_log.specs.inside.Bits.{places_below}
-use Rattle.pc_log.proofs.places.list_of.Given as goal
-
-abbrev pub invariant-loop-place : goal.invariant-loop-place
-invariant-loop-place l = l.list.items ≡ places_below l.words l.place
