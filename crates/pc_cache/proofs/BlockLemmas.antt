@@ -1,5 +1,5 @@
 -- Blocks, to which lines are added.
-use Rattle.std.proofs.Common.{◌≡◌, ◌≢◌, ℕ, zero, suc, ◌+◌, ◌*◌, ◌<◌, ◌≤◌, inl, inr, List, [], ◌∷◌, ◌++◌, Option, Some, None, length, get_or, set, take, map, refl, sym, ap, ◌∙◌, subst, arith, All}
+use Rattle.std.proofs.Common.{◌≡◌, ◌≢◌, ℕ, zero, suc, ◌+◌, ◌*◌, ◌<◌, ◌≤◌, inl, inr, true, false, cond, List, [], ◌∷◌, ◌++◌, Option, Some, None, length, get_or, set, take, map, refl, sym, ap, ◌∙◌, subst, arith, All}
 use Rattle.std.proofs.lemmas.Bool.{cases_eq}
 use Rattle.std.proofs.lemmas.List.{get_or_append_left, get_or-append-add, get_or_default, get_or_push, get_or-set_same, get_or-set_other, length-append, length-set, take_all, take_more}
 use Rattle.std.proofs.lemmas.List.Elements.{All-append, All-cons, All-nil, Contains-get_or}
@@ -8,10 +8,11 @@ use Rattle.pc_log.specs.Lines.{LogLine, AxiomLine, BlockLine, StepLine}
 use Rattle.pc_log.specs.Sizes.{bytes_of, line_bytes}
 use Rattle.pc_log.specs.Sparse.{bytes_there, line_at, line_in, line_there, picked, AreRested, IsPicked, Keeps, LinesStand, MayStand}
 use Rattle.pc_log.specs.Trimmed.{IsTrimmed}
-use Rattle.pc_log.proofs.PickedLemmas.{picked_are, picked_bytes, picked_length, picked_same, picked_trimmed}
+use Rattle.pc_log.proofs.PickedLemmas.{picked_are, picked_bytes, picked_length, picked_same, picked_trimmed, picked_within}
 use Rattle.pc_log.proofs.SparseLemmas.{line_in_is}
+use Rattle.pc_sheet.specs.declared.ids.Target.{Target}
 use Rattle.pc_reason.specs.Reasons.{Justification}
-use Rattle.pc_cache.specs.Rows.{TargetRow, bytes_of_rows, row_bytes}
+use Rattle.pc_cache.specs.Rows.{TargetRow, bytes_of_rows, is_same_target, row_bytes, row_of}
 use Rattle.pc_cache.specs.inside.Kept.{block_at, bytes_of_blocks, kept_or_none, rows_in, AreRowsIn, IsRowIn, KeepsBlocks}
 use Rattle.pc_cache.specs.inside.Moved.{moved_row, moved_rows}
 use Rattle.pc_cache.specs.declared.row.Row.{Row}
@@ -172,6 +173,25 @@ lines_count (line ∷ lines) = omega (arith, sum_by-cons line_bytes line lines, 
 
 pub least_of : (blocks : List (List (Option LogLine))) (r : Row) (count : ℕ) → count ≡ length r.places → 16 * count ≤ row_bytes (kept_or_none blocks (Some r))
 least_of blocks r count is = omega (arith, is, lines_count (picked (block_at blocks r.block) r.places), picked_length (line_in (block_at blocks r.block)) r.places)
+
+-- a block counts for no more than all of them
+one_of : (blocks : List (List (Option LogLine))) (b : ℕ) → bytes_there (block_at blocks b) ≤ bytes_of_blocks blocks
+one_of [] b = omega arith
+one_of (x ∷ xs) zero = omega (arith, sum_by-cons bytes_there x xs)
+one_of (x ∷ xs) (suc b) = omega (arith, sum_by-cons bytes_there x xs, one_of xs b)
+
+row_counts : (blocks : List (List (Option LogLine))) (row : Option Row) → IsRowIn blocks row → row_bytes (kept_or_none blocks row) ≤ bytes_of_blocks blocks
+row_counts blocks None is = omega arith
+row_counts blocks (Some r) is = omega (arith, picked_within (block_at blocks r.block) r.places is.1, one_of blocks r.block)
+
+-- and so does the row of a target
+pub rows_count : (blocks : List (List (Option LogLine))) (slots : List Slot) (t : Target) → AreRowsIn blocks slots → row_bytes (row_of (rows_in blocks slots) t) ≤ bytes_of_blocks blocks
+rows_count blocks [] t are = omega arith
+rows_count blocks (s ∷ ss) t are =
+    elim (is_same_target s.target t) as (λ b. row_bytes (cond b (kept_or_none blocks s.row) (row_of (rows_in blocks ss) t)) ≤ bytes_of_blocks blocks) [
+      | true ↦ row_counts blocks s.row are.0
+      | false ↦ rows_count blocks ss t are.1
+    ]
 
 -- ---- the bytes of a patch's blocks, behind others
 

@@ -9,7 +9,7 @@ ghost use Rattle.pc_sheet.specs.Entailment.{cell_sizes};
 ghost use Rattle.pc_sheet.specs.declared.ids.Target.{Target};
 ghost use Rattle.pc_reason.specs.Reasons.{justification_of};
 ghost use Rattle.pc_reason.specs.Targets.{IsTargetIn};
-ghost use Rattle.pc_cache.specs.Rows.{bytes_of_rows, lacks_row, row_after, row_of, targets_of, uses_entry, AreDistinct, AreEmpty, HasRowOf, HaveTargets};
+ghost use Rattle.pc_cache.specs.Rows.{bytes_of_rows, lacks_row, row_after, row_bytes, row_of, targets_of, uses_entry, AreDistinct, AreEmpty, HasRowOf, HaveTargets};
 ghost use Rattle.pc_cache.specs.Targets.{targets};
 ghost use Rattle.pc_cache.specs.Lent.{IsLentFor};
 ghost use Rattle.pc_cache.specs.Patches.{patch_bytes};
@@ -174,7 +174,8 @@ impl Cache {
 
     /// How many bytes the kept lines count for: 16 each, and 4 for each literal and 8 for each hint. It takes no memory.
     pub fn arena_bytes(&self) -> u128
-        ensures { result ≡ self.now.bytes }
+        ensures exact { result ≡ self.now.bytes }
+        ensures least { (t : Target) → row_bytes (row_of self.now.rows t) ≤ result }
     {
         self.bytes
     }

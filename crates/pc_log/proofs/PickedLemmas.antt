@@ -1,19 +1,20 @@
 -- Derivations among lines with gaps.
-use Rattle.std.proofs.Common.{◌≡◌, ℕ, ◌+◌, ◌<◌, List, [], ◌∷◌, Option, map, length, get_or, refl, sym, ap, ◌∙◌, subst, arith, Contains, Result, Ok, Err, IfOk, Vec}
+use Rattle.std.proofs.Common.{◌≡◌, ◌≢◌, ℕ, zero, suc, ◌+◌, ◌<◌, ◌≤◌, List, [], ◌∷◌, Option, Some, None, map, length, get_or, set, refl, sym, ap, ◌∙◌, subst, arith, AllPairs, Contains, Result, Ok, Err, IfOk, Vec}
 use Rattle.std.specs.Option.{option_map}
-use Rattle.std.proofs.lemmas.List.{length-map}
+use Rattle.std.proofs.lemmas.List.{length-map, get_or-set_other}
 use Rattle.std.proofs.lemmas.List.Elements.{Contains-get_or}
+use Rattle.std.proofs.lemmas.List.Sums.{sum_by-cons}
 use Rattle.std.proofs.lemmas.Option.{slice_get-map, slice_get-get_or}
 use Rattle.pc_log.specs.declared.log.StepId.{StepId}
 use Rattle.pc_log.specs.Lines.{LogLine, AxiomLine, BlockLine, StepLine, hints_of}
 use Rattle.pc_log.specs.Rests.{on_hint, HasHint}
-use Rattle.pc_log.specs.Sizes.{bytes_of}
-use Rattle.pc_log.specs.Sparse.{index_of, line_at, line_in, picked, picked_from, AreRested, IsPicked, Keeps, LinesStand}
+use Rattle.pc_log.specs.Sizes.{bytes_of, line_bytes}
+use Rattle.pc_log.specs.Sparse.{bytes_or, bytes_there, index_of, line_at, line_in, line_or, line_there, picked, picked_from, AreRested, IsPicked, IsThere, Keeps, LinesStand}
 use Rattle.pc_log.specs.Trimmed.{moved, IsTrimmed}
 use Rattle.pc_log.specs.inside.Reached.{new_place, renumbered}
-use Rattle.pc_log.proofs.AppendLemmas.{map_agree}
+use Rattle.pc_log.proofs.AppendLemmas.{map_agree, rises}
 use Rattle.pc_log.proofs.SizeLemmas.{bytes-cons, bytes_of_moved}
-use Rattle.pc_log.proofs.SparseLemmas.{line_in_is}
+use Rattle.pc_log.proofs.SparseLemmas.{line_in_is, no_line}
 use Rattle.pc_log.proofs.TrimmedLemmas.{trimmed_by}
 
 -- where two sources have the same lines at the places, the same is picked
@@ -99,6 +100,31 @@ picked_bytes source places = all places
           bytes_of_moved (λ h. index_of h places) (source p),
           all ps,
         )
+
+-- ---- lines that are picked stand among all, each once
+
+gap_there : (lines : List (Option LogLine)) (i : ℕ) (line : LogLine) → line_there lines i ≡ Some line → bytes_there lines ≡ bytes_there (set lines i None) + line_bytes line
+gap_there [] i line at = absurd (no_line line at)
+gap_there (x ∷ xs) zero line at = omega (arith, sum_by-cons bytes_or x xs, sum_by-cons bytes_or None xs, ap bytes_or at)
+gap_there (x ∷ xs) (suc i) line at = omega (arith, sum_by-cons bytes_or x xs, sum_by-cons bytes_or x (set xs i None), gap_there xs i line at)
+
+gap_other : (lines : List (Option LogLine)) (i j : ℕ) → j ≢ i → line_there (set lines i None) j ≡ line_there lines j
+gap_other lines i j other = get_or-set_other lines i j None None other
+
+places_within : (places : List ℕ) (lines : List (Option LogLine)) → AllPairs (λ x y. x < y) places → ((i : ℕ) → Contains places i → IsThere lines i) → bytes_of (map (line_in lines) places) ≤ bytes_there lines
+places_within [] lines rise there = omega arith
+places_within (p ∷ ps) lines rise there =
+    let here : IsThere lines p = there p (zero, omega arith, refl) in
+    let apart : (k d : ℕ) → k < length ps → get_or ps k d ≢ p = λ k d low same. absurd (omega (arith, same, rise zero (suc k) d (omega arith) (omega (arith, low)))) in
+    let rest = places_within ps (set lines p None) (λ i j d below low. rise (suc i) (suc j) d (omega (arith, below)) (omega (arith, low))) (λ i has.
+    let was : IsThere lines i = there i (suc has.0, omega (arith, has.1), has.2) in
+    (was.0, gap_other lines p i (λ same. apart has.0 i has.1 (has.2 ∙ same)) ∙ was.1)) in
+    let same : map (line_in lines) ps ≡ map (line_in (set lines p None)) ps =
+    map_agree (line_in lines) (line_in (set lines p None)) ps (λ k d low. ap line_or (sym (gap_other lines p (get_or ps k d) (apart k d low)))) in
+    omega (arith, bytes-cons (line_in lines p) (map (line_in lines) ps), ap line_bytes (line_in_is lines p here.0 here.1), gap_there lines p here.0 here.1, rest, ap bytes_of same)
+
+pub picked_within : (lines : List (Option LogLine)) (places : List ℕ) → IsPicked lines places → bytes_of (picked lines places) ≤ bytes_there lines
+picked_within lines places is = omega (arith, picked_bytes (line_in lines) places, places_within places lines (rises places is.rise) is.there)
 
 -- ---- places in fewer bytes
 

@@ -17,7 +17,7 @@ use Rattle.pc_log.proofs.AppendLemmas.{map_agree}
 some_line : (x y : LogLine) → Some x ≡ Some y → x ≡ y
 some_line x y same = cc
 
-no_line : (x : LogLine) → None ≡ Some x → ⊥
+pub no_line : (x : LogLine) → None ≡ Some x → ⊥
 no_line x same = cc
 
 -- ---- one line more
