@@ -16,7 +16,6 @@ use Rattle.pc_log.specs.Lines.{LogLine, AxiomLine, hints_of}
 use Rattle.pc_log.specs.Sizes.{bytes_of}
 use Rattle.pc_log.specs.inside.Marks.{marked_lines, count_further, AreNumbered, HintsAreEarlier, AreWellMarked, IsCountBefore}
 use Rattle.pc_log.specs.inside.Parts.{line_with}
-use Rattle.pc_log.proofs.SizeLemmas.{bytes-cons}
 
 -- as many lines as marks
 pub length-marked : (marks : List Mark) (more : List LogLine) → length (marked_lines marks more) ≡ length marks
@@ -249,50 +248,6 @@ AreWellMarked-take marks at more count n well before = record {
   each = length-take-le n at before.0 ∙ sym (length-take-le n more (few_before marks at more count n well before));
   earlier = rw (marked_lines-take marks at more count n well before) (HintsAreEarlier-take 0 (marked_lines marks more) count well.earlier);
 }
-
--- ---- bytes
-
-bytes_marked : (marks : List Mark) (more : List LogLine) → count_further marks ≡ length more → bytes_of (marked_lines marks more) + 16 * length more ≡ 16 * length marks + bytes_of more
-bytes_marked [] [] count = refl
-bytes_marked [] (l ∷ more) count = absurd (omega (arith, count))
-bytes_marked (Axiom n ∷ marks) more count = omega (arith, bytes-cons (AxiomLine n) (marked_lines marks more), bytes_marked marks more count)
-bytes_marked (Further n ∷ marks) [] count = absurd (omega (arith, count))
-bytes_marked (Further n ∷ marks) (l ∷ more) count = omega (arith, bytes-cons l (marked_lines marks more), bytes-cons l more, bytes_marked marks more (omega (arith, count)))
-
-count_at_most : (marks : List Mark) (n : ℕ) → count_further (take n marks) ≤ n
-count_at_most marks zero =
-    let none : 0 ≤ 0 = omega arith in
-    none
-count_at_most [] (suc n) =
-    let none : 0 ≤ suc n = omega arith in
-    none
-count_at_most (Axiom m ∷ marks) (suc n) =
-    let rest : count_further (take n marks) ≤ n = count_at_most marks n in
-    let more : count_further (take n marks) ≤ suc n = omega (arith, rest) in
-    more
-count_at_most (Further m ∷ marks) (suc n) =
-    let rest : count_further (take n marks) ≤ n = count_at_most marks n in
-    let more : suc (count_further (take n marks)) ≤ suc n = omega (arith, rest) in
-    more
-
--- no more of the first lines are no axioms than there are
-pub before_at_most : (marks : List Mark) (at : List ℕ) (more : List LogLine) (count n : ℕ) → AreWellMarked marks at more → IsCountBefore count at n → n ≤ count
-before_at_most marks at more count n well before = omega (arith, further_before marks at more count n well before, count_at_most marks count)
-
--- of the first lines, by how many of them are no axioms
-pub bytes_by_marks : (marks : List Mark) (at : List ℕ) (more lines : List LogLine) (count n : ℕ) → AreWellMarked marks at more → marked_lines marks more ≡ lines → count ≤ length lines → IsCountBefore count at n
-    → bytes_of (take count lines) ≡ 16 * (count - n) + bytes_of (take n more)
-bytes_by_marks marks at more lines count n well view within before =
-    let few = few_before marks at more count n well before in
-    let front : marked_lines (take count marks) (take n more) ≡ take count lines = rw (← view) (marked_lines-take marks at more count n well before) in
-    omega (
-      arith,
-      bytes_marked (take count marks) (take n more) (sym (further_before marks at more count n well before) ∙ sym (length-take-le n more few)),
-      ap bytes_of front,
-      length-take-le n more few,
-      length-take-le count marks (omega (arith, within, ap length view, length-marked marks more)),
-      before_at_most marks at more count n well before,
-    )
 
 -- ---- how many places stand before one
 

@@ -18,7 +18,7 @@ pub record AreRested (lines : List LogLine) (last : ℕ) (places : List ℕ) : T
   pub exactly : (j : ℕ) → Contains places j ↔ Rests lines last j
   pub up_to : (j : ℕ) → Contains places j → j ≤ last
 
--- where a number stands in a list
+-- where a number stands in a list; its length, where it stands nowhere
 abbrev pub index_of : ℕ → List ℕ → ℕ
 index_of i [] = 0
 index_of i (x ∷ xs) = cond (x == i) 0 (suc (index_of i xs))
@@ -29,6 +29,7 @@ index_of i (x ∷ xs) = cond (x == i) 0 (suc (index_of i xs))
 abbrev pub line_there : List (Option LogLine) → ℕ → Option LogLine
 line_there lines i = slice_index_or lines i None
 
+-- the axiom 0 for a gap
 abbrev pub line_or : Option LogLine → LogLine
 line_or None = AxiomLine 0
 line_or (Some line) = line

@@ -1,9 +1,8 @@
 //! The lines of a log that are no axioms, in their order.
 
-ghost use Rattle.std.specs.Prelude.{◌≡◌, ◌+◌, ◌*◌, ◌<◌, ◌≤◌, ◌^◌, [], ◌∷◌, ◌++◌, length, OnOk, OnErr, slice_get, Some, take};
+ghost use Rattle.std.specs.Prelude.{◌≡◌, ◌<◌, ◌≤◌, [], ◌∷◌, ◌++◌, length, OnOk, OnErr, slice_get, Some, take};
 ghost use Rattle.pc_log.specs.inside.Parts.{line_with, IsFitted};
 ghost use Rattle.pc_log.specs.Shown.{shown_line};
-ghost use Rattle.pc_log.specs.Sizes.{bytes_of};
 
 use crate::log::{Line, StepId};
 use pc_lits::{Lit, Rows};
@@ -105,17 +104,5 @@ impl Further {
         self.kinds.truncate(count);
         self.clauses.truncate(count);
         self.hints.truncate(count);
-    }
-
-    // How many bytes the first lines count for.
-    pub(crate) fn bytes_before(&self, count: usize) -> u128
-        requires { count ≤ length self.now }
-        ensures bytes { result ≡ bytes_of (take count self.now) }
-        ensures few { result < 16 * count + 12 * 2 ^ 64 }
-    {
-        let _ = &self.kinds;
-        let literals = self.clauses.items_before(count);
-        let hints = self.hints.items_before(count);
-        16 * count as u128 + 4 * literals as u128 + 8 * hints as u128
     }
 }

@@ -19,6 +19,7 @@ pub record AreRanks (words ranks : List ℕ) (count : ℕ) : Type 0 where
   pub size : length ranks ≡ count + 1
   pub each : (at : ℕ) → at ≤ count → slice_index_or ranks at 0 ≡ length (places_below words (64 * at))
 
+-- the ranks of all words, which are at most 2^26
 pub record AreRanked (words ranks : List ℕ) : Type 0 where
   pub few : length words ≤ 2 ^ 26
   pub ranks_are : AreRanks words ranks (length words)

@@ -14,7 +14,7 @@ spot_line further (Further number) = slice_get further number
 abbrev pub spotted : List LogLine → List Spot → List (Option LogLine)
 spotted further spots = map (spot_line further) spots
 
--- if it is no axiom, it is one of so many others
+-- a further line's number is one of so many
 abbrev pub IsSpot : ℕ → Spot → Type 0
 IsSpot count Gap = Unit {0}
 IsSpot count (Axiom number) = Unit {0}
@@ -24,7 +24,7 @@ pub record AreSpots (further : List LogLine) (spots : List Spot) (bytes : ℕ) :
   pub are : All (IsSpot (length further)) spots
   pub sized : bytes ≡ bytes_there (spotted further spots)
 
--- a spot for one line more, where the others stay the first of the further lines
+-- a spot for this line, where the further lines begin with the old ones
 pub record AddsSpot (line : LogLine) (old new : List LogLine) (spot : Spot) : Type 0 where
   pub is : IsSpot (length new) spot
   pub stands : spot_line new spot ≡ Some line
