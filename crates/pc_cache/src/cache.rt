@@ -31,7 +31,7 @@ use std::cmp::min;
 use std::marker::Model;
 
 /// Of each target of a book why it is implied, or nothing. It is seen as the list of these rows, with the bytes that the lines
-/// count for in which all derivations lie.
+/// count for in which all derivations lie, and those of the lines on which no row rests.
 #[derive(Drop)]
 pub struct Cache {
     blocks: Vec<SparseLog>,

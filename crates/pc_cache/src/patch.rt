@@ -25,7 +25,7 @@ use std::rc::Rc;
 pub struct Patch {
     pub(crate) blocks: Vec<SparseLog>,
     pub(crate) slots: Vec<Slot>,
-    // Whether the blocks have no line that no row rests on, as one may be left where memory ran out.
+    // No longer so once memory ran out in a `put`: lines may be left on which no row rests.
     pub(crate) whole: bool,
     trimmer: Trimmer,
     // The assignment that was put last.

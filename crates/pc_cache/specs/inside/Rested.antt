@@ -26,7 +26,7 @@ pub record IsRowKept (blocks old new : List (List (Option LogLine))) (row : Opti
   pub only : KeepsOnly old new row
   pub bytes : bytes_of_blocks new ≤ bytes_of_blocks old + row_bytes (kept_or_none blocks row)
 
--- and the lines of all rows, and no others
+-- what was kept of blocks has the lines of all rows, and no others
 pub record AreRowsKept (blocks kept : List (List (Option LogLine))) (slots : List Slot) : Type 0 where
   pub count : length kept ≡ length blocks
   pub part : KeepsBlocks kept blocks
