@@ -1,5 +1,5 @@
 -- The lines of a log by their marks.
-use Rattle.std.proofs.Common.{◌≡◌, ℕ, ◌+◌, ◌-◌, ◌*◌, ◌<◌, ◌≤◌, zero, suc, List, [], ◌∷◌, ◌++◌, length, All, Some, Ok, Err, Result, refl, ap, sym, ◌∙◌, arith, slice_get, get_or, take, subst, inl, inr, AllPairs, nat_cmp}
+use Rattle.std.proofs.Common.{◌≡◌, ℕ, ◌+◌, ◌-◌, ◌<◌, ◌≤◌, zero, suc, List, [], ◌∷◌, ◌++◌, length, All, Some, Ok, Err, Result, refl, ap, sym, ◌∙◌, arith, slice_get, get_or, take, subst, inl, inr, AllPairs, nat_cmp}
 use Rattle.std.proofs.Math.Seq.{take-nil}
 use Rattle.std.specs.List.Sorted.{IsBinarySearchResult}
 use Rattle.std.proofs.lemmas.Bool.{cases_lt}
@@ -13,7 +13,6 @@ use Rattle.pc_log.specs.declared.further.Kind.TheVariants.{Block, Step}
 use Rattle.pc_log.specs.declared.log.Mark.{Mark}
 use Rattle.pc_log.specs.declared.log.Mark.TheVariants.{Axiom, Further}
 use Rattle.pc_log.specs.Lines.{LogLine, AxiomLine, hints_of}
-use Rattle.pc_log.specs.Sizes.{bytes_of}
 use Rattle.pc_log.specs.inside.Marks.{marked_lines, count_further, AreNumbered, HintsAreEarlier, AreWellMarked, IsCountBefore}
 use Rattle.pc_log.specs.inside.Parts.{line_with}
 

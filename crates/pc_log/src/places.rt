@@ -133,5 +133,9 @@ fn last_from(list: &[u32], place: usize, base: usize, middle: usize) -> usize
     ensures { ((result ≡ middle) × (slice_index_or list.now middle 0 ≤ place)) ⊎
         ((result ≡ base) × (place < slice_index_or list.now middle 0)) }
 {
-    if place_at(list, middle) <= place { middle } else { base }
+    if place_at(list, middle) <= place {
+        middle
+    } else {
+        base
+    }
 }
