@@ -41,7 +41,11 @@ fn empty(cell: CellId, value: usize, holds: bool) -> Slot
 pub(crate) fn all_targets(alloc: Global, slots: &[Slot]) -> Result<Vec<Target>, AllocError>
     ensures { IfOk result (λ targets. targets.items ≡ map slot_target slots.now) }
 {
-    slots.iter().map(|slot| slot.target).collect(alloc)
+    let mut targets = Vec::new(alloc);
+    for slot in slots {
+        targets.push(slot.target)?;
+    }
+    Ok(targets)
 }
 
 /// The targets without a row.
