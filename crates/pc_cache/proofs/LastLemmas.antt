@@ -82,7 +82,7 @@ pub share_put : (log : List LogLine) (places : List ℕ) (blocks : List (List (O
 share_put log places blocks b read block at is within adds of = (
   settled_set blocks b block at,
   subst (λ (ls : List (Option LogLine)). AreOfLog ls log) (sym (last_set blocks b block at))
-  (still_of_log log places read block within adds (subst (λ (ls : List (Option LogLine)). AreOfLog ls log) (sym (read_last blocks b read at is)) of)),
+      (still_of_log log places read block within adds (subst (λ (ls : List (Option LogLine)). AreOfLog ls log) (sym (read_last blocks b read at is)) of)),
 )
 
 -- ---- which block is taken

@@ -1,5 +1,5 @@
 -- Rows that are put into a patch.
-use Rattle.std.proofs.Common.{◌≡◌, ℕ, ◌+◌, ◌<◌, ◌≤◌, Bool, false, IsTrue, refl, List, [], ◌∷◌, ◌++◌, Option, None, length, map, sym, ap, ◌∙◌, subst, arith}
+use Rattle.std.proofs.Common.{◌≡◌, ℕ, ◌+◌, ◌<◌, ◌≤◌, Bool, false, refl, List, [], ◌∷◌, ◌++◌, Option, None, length, map, sym, ap, ◌∙◌, subst, arith}
 use Rattle.pc_log.specs.Lines.{LogLine}
 use Rattle.pc_log.specs.Sizes.{bytes_of}
 use Rattle.pc_log.specs.Sparse.{line_at, picked, AreRested, IsPicked, LinesStand}

@@ -8,7 +8,7 @@ ghost use Rattle.std.specs.Prelude.{◌≡◌, ◌<◌, ◌++◌, ◌∷◌, [],
 ghost use Rattle.pc_log.specs.Lines.{LogLine};
 ghost use Rattle.pc_log.specs.Trimmed.{IsTrimmed};
 ghost use Rattle.pc_cache.specs.Patches.{patch_bytes, Shares};
-ghost use Rattle.pc_cache.specs.inside.Patched.{last_in, patch_in};
+ghost use Rattle.pc_cache.specs.inside.Patched.{patch_in};
 
 use crate::blocks::{begin_block, share};
 use crate::row::{Row, Slot};

@@ -1,5 +1,5 @@
 //! Slots by their targets: finding one, and putting others in their places.
-ghost use Rattle.std.specs.Prelude.{◌≡◌, ◌<◌, ◌∷◌, [], ℕ, All, MatchOption, Some, length, slice_get};
+ghost use Rattle.std.specs.Prelude.{◌≡◌, ◌<◌, MatchOption, Some};
 ghost use Rattle.pc_cache.specs.Rows.{is_same_target};
 ghost use Rattle.pc_cache.specs.inside.Kept.{HasSlot, HasSlots, with_slot, with_slots};
 ghost use Rattle.pc_cache.specs.inside.Places.{place_of, ArePlaced, AreSmall, IsSlotOf};

@@ -1,4 +1,4 @@
-use Rattle.std.proofs.Common.{◌≡◌, ap, ◌∙◌, sym, subst}
+use Rattle.std.proofs.Common.{ap, ◌∙◌, sym, subst}
 use Rattle.pc_cache.specs.inside.Kept.{bytes_of_blocks, KeepsBlocks}
 use Rattle.pc_cache.proofs.BlockLemmas.{behind_stand, bytes_behind, further_are, further_same, keeps_behind}
 use Rattle.pc_cache.proofs.moving.take_behind.Goals as goal

@@ -1,5 +1,5 @@
-use Rattle.std.proofs.Common.{◌≡◌, List, ap, arith}
-use Rattle.pc_cache.specs.Rows.{Cached, TargetRow, row_bytes, row_of}
+use Rattle.std.proofs.Common.{ap, arith}
+use Rattle.pc_cache.specs.Rows.{Cached, row_bytes, row_of}
 use Rattle.pc_cache.proofs.BlockLemmas.{rows_count}
 use Rattle.pc_cache.proofs.cache.Cache.arena_bytes.Goals as goal
 

@@ -1,4 +1,4 @@
-use Rattle.std.proofs.Common.{◌≡◌, ◌+◌, List, Option, ap, arith, sym, ◌∙◌}
+use Rattle.std.proofs.Common.{◌≡◌, List, Option, ap, arith, sym, ◌∙◌}
 use Rattle.pc_log.specs.Lines.{LogLine}
 use Rattle.pc_cache.specs.Rows.{Cached}
 use Rattle.pc_cache.specs.inside.Kept.{bytes_of_blocks}
