@@ -114,6 +114,11 @@ impl Preferences {
         }
     }
 
+    /// The set of assumptions with this name is asked about next.
+    pub fn turn_to(&mut self, name: u64) {
+        self.signs.turn_to(name);
+    }
+
     /// A call begins.
     pub fn begin(&mut self) {
         self.signs.begin();

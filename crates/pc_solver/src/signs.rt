@@ -5,6 +5,7 @@
 //! call, twice as many after a call without trouble, half as many after one with more than a few conflicts. Where a call has
 //! met some conflicts, the signs are again those of the last answer. No contract rests on it.
 
+use crate::shown::Shown;
 use std::alloc::{AllocError, Global};
 
 // How many variables are to be shown true in the first call.
@@ -29,9 +30,9 @@ const LONG: u64 = 4_096;
 #[derive(Drop)]
 pub struct Signs {
     signs: Vec<bool>,
-    // the signs in the last answer, and whether some answer made the variable true
+    // the signs in the last answer, and what answers have shown
     last: Vec<bool>,
-    seen: Vec<bool>,
+    shown_yet: Shown,
     // the places that are to be shown true: the first `wanted` of these, from `next` on
     shown: Vec<usize>,
     wanted: usize,
@@ -60,7 +61,7 @@ impl Signs {
         Ok(Signs {
             signs: vec![in alloc; false; count]?,
             last: vec![in alloc; false; count]?,
-            seen: vec![in alloc; false; count]?,
+            shown_yet: Shown::new(alloc, count)?,
             shown: vec![in alloc; 0; count]?,
             wanted: 0,
             next: 0,
@@ -81,12 +82,18 @@ impl Signs {
     /// Of the first `count` variables some are to be shown true.
     pub fn prefer_first(&mut self, count: usize) {
         self.preferred = count;
+        self.shown_yet.narrow(count);
         self.share = self.share.min(count);
     }
 
     /// From now on nothing is to be shown true.
     pub fn show_nothing(&mut self) {
         self.shows = false;
+    }
+
+    /// The set with this name is asked about next: what is to be shown is what its answers haven't.
+    pub fn turn_to(&mut self, name: u64) {
+        self.shown_yet.turn_to(name);
     }
 
     /// The sign with which the variable at this place is decided.
@@ -112,6 +119,7 @@ impl Signs {
             self.fit_share();
         }
         self.has_begun = true;
+        self.shown_yet.begin();
         self.met = 0;
         self.patience = PATIENCE;
         self.wanted = 0;
@@ -140,16 +148,16 @@ impl Signs {
     // Takes up so many of those that no answer has made true, spread over all of them.
     fn want(&mut self) {
         let mut unseen: usize = 0;
-        for place in 0..self.seen.len() {
-            if place < self.preferred && !self.seen[place] {
+        for place in 0..self.preferred {
+            if self.shown_yet.lacks(place) {
                 unseen = unseen.saturating_add(1);
             }
         }
         let step = (unseen / self.share.max(1)).saturating_add(1).max(1);
         self.turn = self.turn.wrapping_add(1);
         let mut number = self.turn;
-        for place in 0..self.seen.len() {
-            if place < self.preferred && !self.seen[place] {
+        for place in 0..self.preferred {
+            if self.shown_yet.lacks(place) {
                 if number % step == 0
                     && self.wanted < self.shown.len()
                     && place < self.signs.len()
@@ -203,9 +211,7 @@ impl Signs {
 
     /// The answer makes the variable at this place true.
     pub fn see(&mut self, place: usize) {
-        if place < self.seen.len() {
-            self.seen[place] = true;
-        }
+        self.shown_yet.add_place(place);
         if place < self.last.len() {
             self.last[place] = true;
         }

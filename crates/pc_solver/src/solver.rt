@@ -122,6 +122,14 @@ impl<'g> Solver<'g> {
         self.search.preferences.show_nothing();
     }
 
+    /// The next assumptions are those of the set with this name, and perhaps others: values are decided true first that the
+    /// answers for this set haven't shown.
+    pub fn turn_to(&mut self, name: u64)
+        ensures { self.new ≡ self.old }
+    {
+        self.search.preferences.turn_to(name);
+    }
+
     /// Adds a clause of the solver's own. Without memory the solver stays as it is.
     pub fn add_block(&mut self, block: &[Lit]) -> Result<(), AllocError>
         requires { AreOwn self.old.problem.own block.now }
