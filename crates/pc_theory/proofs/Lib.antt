@@ -1,6 +1,7 @@
 pub mod Lists
 pub mod OfRules
 pub mod OfWhole
+pub mod KeptBytes
 pub mod Parted
 pub mod OnCells
 pub mod Sizes

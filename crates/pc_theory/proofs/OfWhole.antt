@@ -83,7 +83,7 @@ module _ (store : List (List Lit)) (used kept : List ℕ) (among : (k : ℕ) →
   variable_there : (v : Var) → Contains taken v → Contains own v
   variable_there v h = of_number own v.0 (number_there v.0 (contains_map variable_number taken v h))
 
-  no_more : length taken ≤ length own
+  pub no_more : length taken ≤ length own
   no_more = omega (arith, no_more_ordered (map variable_number taken) (map variable_number own) taken_are.order variables.order number_there, length-map taken variable_number, length-map own variable_number)
 
 forced_there : (store : List (List Lit)) (kept : List ℕ) (trues : List Lit) → AreForced (IsAmong store kept) trues → AreForced (Contains (used_clauses store kept)) trues

@@ -2,6 +2,7 @@ pub mod Theories
 pub mod Targets
 pub mod Reading
 pub mod Spendings
+pub mod KeptBytes
 pub mod WholeSpendings
 pub mod Edits
 pub mod Books

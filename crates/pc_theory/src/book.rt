@@ -1,7 +1,8 @@
 //! A whole book: its theory, the worlds of its parts, and the reasons of all targets.
-ghost use Rattle.std.specs.Prelude.{◌≡◌, ◌≤◌, ℕ, [], IfErr, IfOk, length};
+ghost use Rattle.std.specs.Prelude.{◌≡◌, ◌+◌, ◌≤◌, ℕ, [], IfErr, IfOk, length, sum_by};
 ghost use Rattle.pc_sheet.specs.Limits.{most_weight};
 ghost use Rattle.pc_sheet.specs.Weight.{weight};
+ghost use Rattle.pc_cache.specs.Patches.{patch_bytes};
 ghost use Rattle.pc_components.specs.View.{AreComponentsOf};
 ghost use Rattle.pc_ground.specs.Grounded.{grounded};
 ghost use Rattle.pc_kept.specs.Components.{AreKeptOf};
@@ -9,6 +10,7 @@ ghost use Rattle.pc_reason.specs.Fitting.{IsFitting};
 ghost use Rattle.pc_theory.specs.inside.Searching.{AreSearched};
 ghost use Rattle.pc_theory.specs.inside.Starting.{HaltSays};
 ghost use Rattle.pc_theory.specs.inside.Tasks.{IsReady};
+ghost use Rattle.pc_theory.specs.KeptBytes.{part_bytes, spent_bytes};
 ghost use Rattle.pc_theory.specs.Theories.{rules_alone};
 ghost use Rattle.pc_theory.specs.Books.{AreFound, IsCause, IsFoundIn, IsPartCause};
 
@@ -135,13 +137,15 @@ fn list_parts(
 ) -> Result<Listed, Halt>
     requires ready { IsReady task.book.now task.ground.now task.components.now }
     requires few { length task.components.now.cells ≤ 4097 }
-    requires blank { patch.old ≡ [] }
+    requires blank { patch.old.rows ≡ [] }
     requires none { parts.old.items ≡ [] }
     requires nothing { spent.old ≡ 0 }
     ensures base { IfOk result (λ l. IsFitting task.entry.book.now l.base) }
     ensures searched { IfOk result (λ l. AreSearched task.entry.book.now task.entry.components.now
-        (length task.entry.components.now.cells) l.worlds.items patch.new spent.new
+        (length task.entry.components.now.cells) l.worlds.items patch.new.rows spent.new
         parts.new.items) }
+    ensures bytes { IfOk result (λ _. patch_bytes patch.new ≤ patch_bytes patch.old +
+        sum_by (part_bytes task.entry.components.now) parts.new.items) }
     ensures within { spent.new ≤ task.entry.budget }
     ensures halt { IfErr result (HaltSays task.entry.book.now task.entry.components.now
         task.entry.budget spent.new parts.new.items) }
@@ -165,9 +169,11 @@ fn list_parts(
 fn search_task(task: Task<'_>, patch: &mut Patch) -> Result<Searched, PartFault>
     requires ready { IsReady task.book.now task.ground.now task.components.now }
     requires few { length task.components.now.cells ≤ 4097 }
-    requires blank { patch.old ≡ [] }
+    requires blank { patch.old.rows ≡ [] }
     ensures found { IfOk result (λ s. IsFoundIn task.entry.book.now task.entry.components.now
-        task.entry.budget s.base s.worlds.items patch.new s.spending) }
+        task.entry.budget s.base s.worlds.items patch.new.rows s.spending) }
+    ensures bytes { IfOk result (λ s. patch_bytes patch.new ≤ patch_bytes patch.old +
+        spent_bytes task.entry.components.now s.spending) }
     ensures fault { IfErr result (IsPartCause task.entry.book.now task.entry.budget) }
 {
     none_of_the_used_is_contained();
@@ -240,9 +246,11 @@ pub fn search_book(
     budget: u64,
     patch: &mut Patch,
 ) -> Result<Found, Fault>
-    requires blank { patch.old ≡ [] }
-    ensures found { IfOk result (λ f. AreFound book.now budget f.theory f.worlds.items patch.new
-        f.spending) }
+    requires blank { patch.old.rows ≡ [] }
+    ensures found { IfOk result (λ f. AreFound book.now budget f.theory f.worlds.items
+        patch.new.rows f.spending) }
+    ensures bytes { IfOk result (λ f. patch_bytes patch.new ≤ patch_bytes patch.old +
+        spent_bytes f.theory.components f.spending) }
     ensures light { IfOk result (λ _. weight book.now ≤ most_weight) }
     ensures fault { IfErr result (IsCause book.now budget) }
 {

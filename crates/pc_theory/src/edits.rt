@@ -1,11 +1,13 @@
 //! The search of one part, whose rules are known.
-ghost use Rattle.std.specs.Prelude.{◌≡◌, ◌+◌, IfErr, IfOk, OnOk};
+ghost use Rattle.std.specs.Prelude.{◌≡◌, ◌+◌, ◌≤◌, IfErr, IfOk, OnOk};
+ghost use Rattle.pc_cache.specs.Patches.{patch_bytes};
 ghost use Rattle.pc_parts.specs.Parts.{Part};
 ghost use Rattle.pc_search.specs.Found.{Finds};
 ghost use Rattle.pc_search.specs.Parts.{AreWorldsOf};
 ghost use Rattle.pc_sheet.specs.Entailment.{cell_sizes};
 ghost use Rattle.pc_solver.specs.Spending.{StopSays};
 ghost use Rattle.pc_theory.specs.Edits.{IsBlankOn, IsSpentAlone};
+ghost use Rattle.pc_theory.specs.KeptBytes.{part_bytes};
 ghost use Rattle.pc_theory.specs.Targets.{AreAsked};
 ghost use Rattle.pc_theory.specs.Theories.{rules_alone, IsPartNumbered, IsTheory};
 
@@ -46,7 +48,9 @@ impl PartTargets<'_> {
             IfOk result (AreWorldsOf self.entry.book.now p) }
         ensures found { OnOk result
             (Finds self.entry.book.now (place.new.tally.learned + place.new.tally.calls)
-            self.entry.targets.now patch.old patch.new) }
+            self.entry.targets.now patch.old.rows patch.new.rows) }
+        ensures bytes { OnOk result (patch_bytes patch.new ≤ patch_bytes patch.old +
+            part_bytes self.entry.theory.now.components place.new) }
         ensures spends { IsSpentAlone self.entry.book.now self.entry.theory.now.components
             self.entry.part place.new }
         ensures limit { place.new.tally.limit ≡ place.old.tally.limit }
@@ -90,7 +94,9 @@ impl PartTargets<'_> {
         requires blank { IsBlankOn self.part place.old }
         ensures found { OnOk result
             (Finds self.entry.book.now (place.new.tally.learned + place.new.tally.calls)
-            self.entry.targets.now patch.old patch.new) }
+            self.entry.targets.now patch.old.rows patch.new.rows) }
+        ensures bytes { OnOk result (patch_bytes patch.new ≤ patch_bytes patch.old +
+            part_bytes self.entry.theory.now.components place.new) }
         ensures spends { IsSpentAlone self.entry.book.now self.entry.theory.now.components
             self.entry.part place.new }
         ensures limit { place.new.tally.limit ≡ place.old.tally.limit }

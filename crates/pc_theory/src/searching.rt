@@ -1,7 +1,8 @@
 //! The search of all parts of a book.
-ghost use Rattle.std.specs.Prelude.{◌≡◌, ◌+◌, ◌*◌, ◌<◌, ◌≤◌, [], ◌∷◌, ◌++◌, All, IfErr, IfOk, OnOk, length, map, vec_capacity, vec_len};
+ghost use Rattle.std.specs.Prelude.{◌≡◌, ◌+◌, ◌*◌, ◌<◌, ◌≤◌, [], ◌∷◌, ◌++◌, All, IfErr, IfOk, OnOk, length, map, sum_by, vec_capacity, vec_len};
 ghost use Rattle.pc_sheet.specs.Entailment.{cell_sizes};
 ghost use Rattle.pc_sheet.specs.Limits.{most_cells, most_entries};
+ghost use Rattle.pc_cache.specs.Patches.{patch_bytes};
 ghost use Rattle.pc_components.specs.View.{number_of};
 ghost use Rattle.pc_parts.specs.PartSheets.{entries_on};
 ghost use Rattle.pc_search.specs.Parts.{AreWorldsOf};
@@ -10,6 +11,7 @@ ghost use Rattle.pc_parts.specs.Parts.{Part};
 ghost use Rattle.pc_theory.specs.inside.Tasks.{IsReady};
 ghost use Rattle.pc_theory.specs.inside.Searching.{AreSearched, FindsIn, IsMoved, StopMoves, StopPlaces};
 ghost use Rattle.pc_theory.specs.inside.Starting.{AreStarted, IsStarted};
+ghost use Rattle.pc_theory.specs.KeptBytes.{part_bytes};
 ghost use Rattle.pc_theory.specs.Targets.{targets_on};
 ghost use Rattle.pc_theory.specs.Theories.{rules_alone, IsPartNumbered};
 
@@ -84,7 +86,9 @@ fn search_one(
     ensures worlds { (p : Part) → IsPartNumbered (rules_alone fitted.entry.task.book.now)
         place.old.part p → IfOk result (AreWorldsOf fitted.entry.task.book.now p) }
     ensures found { OnOk result (FindsIn fitted.entry.task.book.now fitted.entry.task.components.now
-        place.new patch.old patch.new) }
+        place.new patch.old.rows patch.new.rows) }
+    ensures bytes { OnOk result (patch_bytes patch.new ≤ patch_bytes patch.old +
+        part_bytes fitted.entry.task.components.now place.new) }
     ensures place { OnOk result (IsMoved fitted.entry.task.book.now fitted.entry.task.components.now
         spent.old place.old spent.new place.new) }
     ensures within { spent.new ≤ fitted.entry.task.budget }
@@ -139,11 +143,13 @@ pub(crate) fn search_parts(
         fitted.base.now parts.old.items solvers.items }
     requires many { length parts.old.items ≡ length fitted.task.components.now.cells }
     requires base { IsFitting fitted.task.book.now fitted.base.now }
-    requires blank { patch.old ≡ [] }
+    requires blank { patch.old.rows ≡ [] }
     requires within { spent.old ≤ fitted.task.budget }
     ensures searched { IfOk result (λ worlds. AreSearched fitted.entry.task.book.now
         fitted.entry.task.components.now (length fitted.entry.task.components.now.cells)
-        worlds.items patch.new spent.new parts.new.items) }
+        worlds.items patch.new.rows spent.new parts.new.items) }
+    ensures bytes { IfOk result (λ _. patch_bytes patch.new ≤ patch_bytes patch.old +
+        sum_by (part_bytes fitted.entry.task.components.now) parts.new.items) }
     ensures within { spent.new ≤ fitted.entry.task.budget }
     ensures stop { IfErr result
         (StopPlaces fitted.entry.task.book.now fitted.entry.task.components.now

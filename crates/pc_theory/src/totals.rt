@@ -1,5 +1,5 @@
 //! What was spent on several parts together.
-ghost use Rattle.std.specs.Prelude.{◌≡◌, ◌≤◌, IfOk, Option, sum_by};
+ghost use Rattle.std.specs.Prelude.{◌≡◌, ◌≤◌, ◌∷◌, [], IfOk, Option, sum_by};
 ghost use Rattle.pc_components.specs.View.{Kept, AreComponentsOf};
 ghost use Rattle.pc_sheet.specs.Sheet.{Sheet};
 ghost use Rattle.pc_sheet.specs.declared.ids.CellId.{CellId};
@@ -44,6 +44,7 @@ pub(crate) fn total(
 /// The spending of one part alone.
 pub fn alone(alloc: Global, place: PartSpending) -> Result<Spending, AllocError>
     ensures tally { IfOk result (λ s. s.tally ≡ place.tally) }
+    ensures parts { IfOk result (λ s. s.parts.items ≡ place ∷ []) }
     ensures spends { IfOk result (λ s. (sheet : Sheet) (touched : Option CellId) (kept : Kept) →
         AreComponentsOf (rules_alone sheet) kept → IsSpentOn sheet touched kept place →
         IsSpendingOf sheet touched s) }

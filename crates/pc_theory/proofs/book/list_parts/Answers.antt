@@ -18,3 +18,6 @@ returns-in_err-worlds-clause-halt c =
     let t = c.args.task in
     let p = err_from_is_err_and c.from_residual-in_err-worlds.result c.from_residual-in_err-worlds.ensures.1 in
     rw (p.1, p.2) (stop_halts t.book.now t.components.now t.budget c.search_parts.new.spent c.search_parts.new.parts.items _ c.in_err-worlds.ensures.stop)
+
+pub returns-clause-bytes : goal.returns-clause-bytes
+returns-clause-bytes c = c.in_ok-worlds.ensures.bytes

@@ -1,5 +1,8 @@
 use Rattle.std.proofs.lemmas.Result.{err_from_is_err_and}
+use Rattle.pc_cache.specs.Patches.{patch_bytes}
+use Rattle.pc_theory.specs.Theories.{rules_alone}
 use Rattle.pc_theory.proofs.Books.{theory_of, found_for}
+use Rattle.pc_theory.proofs.KeptBytes.{whole_bytes}
 use Rattle.pc_theory.proofs.book.search_book.Goals as goal
 
 pub returns-in-Ok-clause-found : goal.returns-in-Ok-clause-found
@@ -20,3 +23,9 @@ pub returns-in_err-ground-clause-fault : goal.returns-in_err-ground-clause-fault
 returns-in_err-ground-clause-fault c =
     let p = err_from_is_err_and c.from_residual.result c.from_residual.ensures.1 in
     rw (p.1, p.2) (c.in_err-ground.ensures.fault c.args.budget)
+
+pub returns-in-Ok-clause-bytes : goal.returns-in-Ok-clause-bytes
+returns-in-Ok-clause-bytes c =
+    let parted = c.in_ok-ground.field-0 in
+    let of = c.in_ok-ground.ensures in
+    whole_bytes (rules_alone c.args.book.now) parted.components parted.searched of.components of.chosen c.in-Ok.field-0.spending.parts.items (patch_bytes c.args.patch.now) (patch_bytes c.search_task.new.patch) c.in-Ok.ensures.bytes

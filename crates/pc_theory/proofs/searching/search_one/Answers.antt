@@ -1,9 +1,11 @@
 use Rattle.std.proofs.Common.{◌≡◌, ◌+◌, ◌-◌, ◌≤◌, ℕ, length, ap, refl, ◌∙◌, arith}
 use Rattle.std.proofs.lemmas.Result.{on_ok_weaker, IfErr-weaker}
+use Rattle.pc_cache.specs.Patches.{patch_bytes}
 use Rattle.pc_sheet.specs.Entailment.{cell_sizes}
 use Rattle.pc_solver.specs.Spending.{StopSays}
 use Rattle.pc_theory.specs.inside.Searching.{IsMoved, StopMoves}
 use Rattle.pc_theory.specs.declared.spending.PartSpending.{PartSpending}
+use Rattle.pc_theory.proofs.KeptBytes.{bytes_at}
 use Rattle.pc_theory.proofs.OneSearched.{part_here, few_asked, searched_asked, moved_here, stop_moves}
 use Rattle.pc_theory.proofs.Parted.{cells_below}
 use Rattle.pc_theory.proofs.Started.{first_problem}
@@ -72,3 +74,11 @@ returns-clause-stop c =
     in
     IfErr-weaker c.search_started-outcome.result (StopSays now.tally) (StopMoves a.fitted.task.book.now a.fitted.task.components.now a.fitted.task.budget a.spent.now a.place.now more place)
     (λ stop h. stop_moves a.fitted.task.book.now a.fitted.task.components.now a.fitted.task.budget a.spent.now more a.place.now place stop h says.spends.2.limit c.requires.within sum moved) says.stop
+
+pub returns-clause-bytes : goal.returns-clause-bytes
+returns-clause-bytes c =
+    let a = c.args in
+    let now = c.search_started-outcome.new in
+    let place : PartSpending = record { part = a.place.now.part; tally = now.tally; logs = c.push.new.self } in
+    on_ok_weaker c.search_started-outcome.result
+    (bytes_at a.fitted.task.components.now a.place.now.part _ _ c.part-part.ensures.axioms c.part-part.ensures.variables place refl (patch_bytes a.patch.now) (patch_bytes now.patch)) c.search_started-outcome.ensures.bytes

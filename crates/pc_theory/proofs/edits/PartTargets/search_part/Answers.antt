@@ -1,10 +1,14 @@
-use Rattle.std.proofs.Common.{◌≡◌, ◌+◌, ℕ, OnOk, length, ap, refl, sym, ◌∙◌, subst, arith}
+use Rattle.std.proofs.Common.{◌≡◌, ◌+◌, ◌≤◌, ℕ, OnOk, length, ap, refl, sym, ◌∙◌, subst, arith}
+use Rattle.std.proofs.lemmas.Result.{on_ok_weaker}
+use Rattle.pc_cache.specs.Patches.{patch_bytes}
 use Rattle.pc_sheet.specs.Entailment.{cell_sizes}
 use Rattle.pc_search.specs.Found.{Finds, work_between}
 use Rattle.pc_theory.specs.Edits.{IsSpentAlone}
+use Rattle.pc_theory.specs.KeptBytes.{part_bytes}
 use Rattle.pc_theory.specs.Targets.{AreAsked}
 use Rattle.pc_theory.specs.Theories.{rules_alone, TheoryView, IsTheory}
 use Rattle.pc_theory.specs.declared.spending.PartSpending.{PartSpending}
+use Rattle.pc_theory.proofs.KeptBytes.{edit_bytes}
 use Rattle.pc_theory.proofs.Editing.{asked_within, ground_is, problem_right, base_is, few_targets, searched_of, part_of, alone_reserved, alone_blank}
 use Rattle.pc_theory.proofs.edits.PartTargets.search_part.Goals as goal
 
@@ -73,4 +77,13 @@ pub returns-clause-found : goal.returns-clause-found
 returns-clause-found c =
     let a = c.args in
     let all : work_between a.place.now.tally c.search.new.tally ≡ c.search.new.tally.learned + c.search.new.tally.calls = omega (arith, c.requires.blank.none_learned, c.requires.blank.no_calls) in
-    subst (λ (n : ℕ). OnOk c.search.result (Finds a.self.book.now n a.self.targets.now a.patch.now c.search.new.patch)) all c.search.ensures.found
+    subst (λ (n : ℕ). OnOk c.search.result (Finds a.self.book.now n a.self.targets.now a.patch.now.rows c.search.new.patch.rows)) all c.search.ensures.found
+
+pub returns-clause-bytes : goal.returns-clause-bytes
+returns-clause-bytes c =
+    let a = c.args in
+    let place : PartSpending = record { part = a.place.now.part; tally = c.search.new.tally; logs = c.search.new.logs } in
+    let known = subst (λ (v : TheoryView). IsTheory (rules_alone a.self.book.now) v) (sym c.theory.view_is) c.requires.theory in
+    subst (λ (v : TheoryView). OnOk c.search.result (patch_bytes c.search.new.patch ≤ patch_bytes a.patch.now + part_bytes v.components place)) c.theory.view_is
+    (on_ok_weaker c.search.result
+    (edit_bytes a.self.book.now _ known a.self.part _ _ c.part-own.ensures.axioms c.part-own.ensures.variables a.place.now place c.requires.blank refl (patch_bytes a.patch.now) (patch_bytes c.search.new.patch)) c.search.ensures.bytes)
