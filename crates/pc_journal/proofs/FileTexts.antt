@@ -16,8 +16,8 @@ use Rattle.pc_transcript.specs.Answer.{Answer}
 use Rattle.pc_transcript.specs.Stops.{StopsBy, TellsStop}
 use Rattle.pc_journal.specs.Told.{from_file, refused_text, TellsFault}
 use Rattle.pc_journal.specs.Course.{MergeText, needs_memory_for_text, text_is_refused, PostText, needs_sheet_memory, sheet_is_refused}
-use Rattle.pc_journal.specs.inside.Did.{Ends}
-use Rattle.pc_journal.proofs.Dids.{ends_at}
+use Rattle.pc_refusals.specs.Did.{Ends}
+use Rattle.pc_refusals.proofs.Dids.{ends_at}
 
 module _ (text : List ℕ) where
   faulty : (fault : LineFault) (line : ℕ) (result : Status) (g g' : Option (List ℕ)) → IsFirstFaultOfJournal text line fault → TellsAtEnd SheetRefused (refused_text from_file fault line) result g g' → Ends (MergeText text) [] result tt g g'

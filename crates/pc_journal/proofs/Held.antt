@@ -14,7 +14,8 @@ use Rattle.pc_transcript.specs.Answer.{Answer, Serves, ServesInPart, answer_text
 use Rattle.pc_transcript.specs.Transcript.{lines, worse_of, status_of}
 use Rattle.pc_transcript.proofs.Progress.{Legal-push, any-push, lines-push}
 use Rattle.pc_journal.specs.Course.{answers_told, AnswersHeld, has_answer, has_all}
-use Rattle.pc_journal.specs.inside.Did.{Did, Progress}
+use Rattle.pc_refusals.specs.Did.{Did}
+use Rattle.pc_journal.specs.inside.Progress.{Progress}
 
 module _ {S : Type 0} (Allows : S → List ℕ → Answer → S → Type 0) (start : S) where
   pub starts : (marks : Marks) (sink : Option (List ℕ)) → marks.refused ≡ false → marks.no_memory ≡ false → Progress Allows start start marks [] sink sink

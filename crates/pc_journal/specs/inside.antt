@@ -1,2 +1,2 @@
-pub mod Did
+pub mod Progress
 pub mod Taking

@@ -5,17 +5,17 @@ ghost use Rattle.pc_collab.specs.Text.{journal_text};
 ghost use Rattle.pc_collab.specs.declared.TheConstants.{JOURNAL_LIMIT};
 ghost use Rattle.pc_refusals.specs.Endings.{TellsAtEnd};
 ghost use Rattle.pc_lines.specs.Files.{AsksOnce, FailsToRead};
-ghost use Rattle.pc_refusals.specs.Events.{outside, streams};
+ghost use Rattle.pc_refusals.specs.Events.{outside_of, streams_of};
 ghost use Rattle.pc_refusals.specs.Runs.{Ran};
 ghost use Rattle.pc_journal.specs.Course.{FromInput, Merge, MergeBoth, MergeText};
-ghost use Rattle.pc_journal.specs.inside.Did.{Did, Ends};
+ghost use Rattle.pc_refusals.specs.Did.{Did, Ends};
 
 use crate::taking::{take_journal, tell_stop};
 use crate::told::{tell_differ, tell_fault};
 use pc_collab::{Journal, MergeFault, merge, read_journal, write_journal};
-use pc_lines::{SheetStop, take_file};
+use pc_lines::take_file;
 use pc_port::{Failed, Shelf, Sink, Source};
-use pc_refusals::{Status, tell_no_memory, tell_too_long};
+use pc_refusals::{NO_MEMORY, Status, tell_file_stop, tell_no_memory};
 use pc_transcript::take_room;
 use std::alloc::Global;
 
@@ -61,13 +61,10 @@ fn merge_both<O: Sink>(alloc: Global, a: &Journal, b: &Journal, out: &mut O) -> 
 // Merges a journal with the input's.
 fn merge_input<I: Source, O: Sink>(alloc: Global, a: &Journal, input: &mut I, out: &mut O) -> Status
     ensures did { Did (FromInput (MergeBoth a.now) tt) result tt
-        (streams (I.left input.old) (I.faults input.old) (O.given out.old) (O.faults out.old))
-        (streams (I.left input.new) (I.faults input.new) (O.given out.new) (O.faults out.new)) }
+        (streams_of I.Source O.Sink input.old out.old)
+        (streams_of I.Source O.Sink input.new out.new) }
     ensures read_fault { result ≡ Status.ReadFault →
         Rose (I.faults input.old) (I.faults input.new) }
-    ensures no_read_fault { result ≢ Status.ReadFault → I.faults input.new ≡ I.faults input.old }
-    ensures write_fault { result ≡ Status.WriteFault → Rose (O.faults out.old) (O.faults out.new) }
-    ensures no_write_fault { result ≢ Status.WriteFault → O.faults out.new ≡ O.faults out.old }
 {
     match take_journal(alloc, input) {
         Ok(b) => merge_both(alloc, a, &b, out),
@@ -79,13 +76,10 @@ fn merge_input<I: Source, O: Sink>(alloc: Global, a: &Journal, input: &mut I, ou
 fn merge_text<I: Source, O: Sink>(alloc: Global, text: &[u8], input: &mut I, out: &mut O) -> Status
     requires { length text.now ≤ JOURNAL_LIMIT }
     ensures did { Did (MergeText text.now) result tt
-        (streams (I.left input.old) (I.faults input.old) (O.given out.old) (O.faults out.old))
-        (streams (I.left input.new) (I.faults input.new) (O.given out.new) (O.faults out.new)) }
+        (streams_of I.Source O.Sink input.old out.old)
+        (streams_of I.Source O.Sink input.new out.new) }
     ensures read_fault { result ≡ Status.ReadFault →
         Rose (I.faults input.old) (I.faults input.new) }
-    ensures no_read_fault { result ≢ Status.ReadFault → I.faults input.new ≡ I.faults input.old }
-    ensures write_fault { result ≡ Status.WriteFault → Rose (O.faults out.old) (O.faults out.new) }
-    ensures no_write_fault { result ≢ Status.WriteFault → O.faults out.new ≡ O.faults out.old }
 {
     match read_journal(alloc, text) {
         Ok(a) => merge_input(alloc, &a, input, out),
@@ -104,25 +98,16 @@ pub fn merge_file<I: Source, H: Shelf, O: Sink>(
     shelf: &mut H,
     out: &mut O,
 ) -> Status
-    ensures ran { Ran (Merge file.now) 0 result tt (outside (H.kept shelf.old) (H.asked shelf.old)
-        (H.faults shelf.old) (streams (I.left input.old) (I.faults input.old) (O.given out.old)
-        (O.faults out.old))) (outside (H.kept shelf.new) (H.asked shelf.new) (H.faults shelf.new)
-        (streams (I.left input.new) (I.faults input.new) (O.given out.new) (O.faults out.new))) }
+    ensures ran { Ran (Merge file.now) 0 result tt (outside_of H.Shelf I.Source O.Sink shelf.old
+        input.old out.old) (outside_of H.Shelf I.Source O.Sink shelf.new input.new out.new) }
     ensures asked { AsksOnce file.now (H.asked shelf.old) (H.asked shelf.new) }
-    ensures kept { H.kept shelf.new ≡ H.kept shelf.old }
 
     // A read fault is the shelf's, before the input is read, or the input's, after the shelf gave its file.
     ensures read_fault { result ≡ Status.ReadFault →
         FailsToRead I.faults input.old input.new (H.faults shelf.old) (H.faults shelf.new) }
-    ensures no_read_fault { result ≢ Status.ReadFault → (I.faults input.new ≡ I.faults input.old) ×
-        (H.faults shelf.new ≡ H.faults shelf.old) }
-    ensures write_fault { result ≡ Status.WriteFault → Rose (O.faults out.old) (O.faults out.new) }
-    ensures no_write_fault { result ≢ Status.WriteFault → O.faults out.new ≡ O.faults out.old }
 {
     match take_file(alloc, file, shelf) {
         Ok(text) => merge_text(alloc, &text, input, out),
-        Err(SheetStop::Failed) => Status::ReadFault,
-        Err(SheetStop::TooLong) => tell_too_long(out),
-        Err(SheetStop::Memory) => tell_no_memory(out),
+        Err(stop) => tell_file_stop(stop, NO_MEMORY, out),
     }
 }

@@ -3,16 +3,16 @@ ghost use Rattle.std.specs.Prelude.{◌≡◌, ◌≢◌, ◌≤◌, ℕ, List, 
 ghost use Rattle.pc_port.specs.Port.{Rose};
 ghost use Rattle.pc_collab.specs.Journal.{IsJournal};
 ghost use Rattle.pc_lines.specs.Files.{AsksOnce, FailsToRead};
-ghost use Rattle.pc_refusals.specs.Events.{outside, streams};
+ghost use Rattle.pc_refusals.specs.Events.{outside_of, streams, streams_of};
 ghost use Rattle.pc_refusals.specs.Runs.{Ran};
 ghost use Rattle.pc_journal.specs.Course.{AnswersPosts, FromInput, PostText, Posts};
-ghost use Rattle.pc_journal.specs.inside.Did.{Did};
+ghost use Rattle.pc_refusals.specs.Did.{Did};
 
 use crate::taking::{take_journal, tell_stop};
 use pc_collab::Journal;
-use pc_lines::{SHEET_LIMIT, SheetStop, take_file};
+use pc_lines::{SHEET_LIMIT, take_file};
 use pc_port::{Failed, Shelf, Sink, Source};
-use pc_refusals::{Status, tell_no_memory_for_sheet, tell_too_long};
+use pc_refusals::{NO_MEMORY_FOR_SHEET, Status, tell_file_stop};
 use pc_transcript::{Answering, Machine, Resources, tell_stop as tell_load_stop};
 use std::alloc::Global;
 
@@ -30,8 +30,6 @@ fn answer_posts<M: Machine, O: Sink>(
         (machine.new, notes.new) (streams l n (O.given out.old) (O.faults out.old))
         (streams l n (O.given out.new) (O.faults out.new)) }
     ensures read { result ≢ Status.ReadFault }
-    ensures write_fault { result ≡ Status.WriteFault → Rose (O.faults out.old) (O.faults out.new) }
-    ensures no_write_fault { result ≢ Status.WriteFault → O.faults out.new ≡ O.faults out.old }
 {
     let mut answering = Answering::new(alloc);
     for i in 0..journal.len() {
@@ -56,13 +54,10 @@ fn answer_input<M: Machine, I: Source, O: Sink>(
 ) -> Status
     ensures did { Did (FromInput (AnswersPosts M.Allows (machine.old, notes.old))
         (machine.old, notes.old)) result (machine.new, notes.new)
-        (streams (I.left input.old) (I.faults input.old) (O.given out.old) (O.faults out.old))
-        (streams (I.left input.new) (I.faults input.new) (O.given out.new) (O.faults out.new)) }
+        (streams_of I.Source O.Sink input.old out.old)
+        (streams_of I.Source O.Sink input.new out.new) }
     ensures read_fault { result ≡ Status.ReadFault →
         Rose (I.faults input.old) (I.faults input.new) }
-    ensures no_read_fault { result ≢ Status.ReadFault → I.faults input.new ≡ I.faults input.old }
-    ensures write_fault { result ≡ Status.WriteFault → Rose (O.faults out.old) (O.faults out.new) }
-    ensures no_write_fault { result ≢ Status.WriteFault → O.faults out.new ≡ O.faults out.old }
 {
     match take_journal(alloc, input) {
         Ok(journal) => answer_posts(alloc, &journal, machine, notes, out),
@@ -81,13 +76,10 @@ fn post_text<M: Machine, I: Source, O: Sink>(
     requires { length text.now ≤ SHEET_LIMIT }
     ensures did { Did (PostText (M.IsSheet resources.budget) (M.RefusesText resources.budget)
         M.Allows notes.old text.now) result notes.new
-        (streams (I.left input.old) (I.faults input.old) (O.given out.old) (O.faults out.old))
-        (streams (I.left input.new) (I.faults input.new) (O.given out.new) (O.faults out.new)) }
+        (streams_of I.Source O.Sink input.old out.old)
+        (streams_of I.Source O.Sink input.new out.new) }
     ensures read_fault { result ≡ Status.ReadFault →
         Rose (I.faults input.old) (I.faults input.new) }
-    ensures no_read_fault { result ≢ Status.ReadFault → I.faults input.new ≡ I.faults input.old }
-    ensures write_fault { result ≡ Status.WriteFault → Rose (O.faults out.old) (O.faults out.new) }
-    ensures no_write_fault { result ≢ Status.WriteFault → O.faults out.new ≡ O.faults out.old }
 {
     match M::load(resources.alloc, text, resources.budget, notes) {
         Ok(mut machine) => answer_input(resources.alloc, &mut machine, notes, input, out),
@@ -110,25 +102,16 @@ pub fn post_file<M: Machine, I: Source, H: Shelf, O: Sink>(
     notes: &mut M::Notes,
 ) -> Status
     ensures ran { Ran (Posts (M.IsSheet resources.budget) (M.RefusesText resources.budget) M.Allows
-        file.now notes.old) 0 result notes.new (outside (H.kept shelf.old) (H.asked shelf.old)
-        (H.faults shelf.old) (streams (I.left input.old) (I.faults input.old) (O.given out.old)
-        (O.faults out.old))) (outside (H.kept shelf.new) (H.asked shelf.new) (H.faults shelf.new)
-        (streams (I.left input.new) (I.faults input.new) (O.given out.new) (O.faults out.new))) }
+        file.now notes.old) 0 result notes.new (outside_of H.Shelf I.Source O.Sink shelf.old
+        input.old out.old) (outside_of H.Shelf I.Source O.Sink shelf.new input.new out.new) }
     ensures asked { AsksOnce file.now (H.asked shelf.old) (H.asked shelf.new) }
-    ensures kept { H.kept shelf.new ≡ H.kept shelf.old }
 
     // A read fault is the shelf's, before the input is read, or the input's, after the shelf gave its file.
     ensures read_fault { result ≡ Status.ReadFault →
         FailsToRead I.faults input.old input.new (H.faults shelf.old) (H.faults shelf.new) }
-    ensures no_read_fault { result ≢ Status.ReadFault → (I.faults input.new ≡ I.faults input.old) ×
-        (H.faults shelf.new ≡ H.faults shelf.old) }
-    ensures write_fault { result ≡ Status.WriteFault → Rose (O.faults out.old) (O.faults out.new) }
-    ensures no_write_fault { result ≢ Status.WriteFault → O.faults out.new ≡ O.faults out.old }
 {
     match take_file(resources.alloc, file, shelf) {
         Ok(text) => post_text::<M, I, O>(resources, &text, input, out, notes),
-        Err(SheetStop::Failed) => Status::ReadFault,
-        Err(SheetStop::TooLong) => tell_too_long(out),
-        Err(SheetStop::Memory) => tell_no_memory_for_sheet(out),
+        Err(stop) => tell_file_stop(stop, NO_MEMORY_FOR_SHEET, out),
     }
 }

@@ -7,7 +7,7 @@ ghost use Rattle.pc_journal.specs.inside.Taking.{JournalGives, TellsStop};
 use crate::told::tell_fault;
 use pc_collab::{JOURNAL_LIMIT, Journal, JournalFault, read_journal};
 use pc_port::{Sink, Source};
-use pc_refusals::{InputStop, Status, take_all, tell_no_memory, tell_too_long};
+use pc_refusals::{InputStop, Status, take_all, tell_input_stop};
 use std::alloc::Global;
 
 /// Why the input gives no journal.
@@ -55,9 +55,7 @@ pub(crate) fn tell_stop<O: Sink>(stop: JournalStop, out: &mut O) -> Status
     ensures no_fault { result ≢ Status.WriteFault → O.faults out.new ≡ O.faults out.old }
 {
     match stop {
-        JournalStop::Input(InputStop::Failed) => Status::ReadFault,
-        JournalStop::Input(InputStop::TooLong) => tell_too_long(out),
-        JournalStop::Input(InputStop::Memory) => tell_no_memory(out),
+        JournalStop::Input(stop) => tell_input_stop(stop, out),
         JournalStop::Text(fault) => tell_fault(b"input", fault, out),
     }
 }

@@ -5,20 +5,10 @@ ghost use Rattle.pc_writer.specs.Writes.{Writes};
 ghost use Rattle.pc_refusals.specs.Endings.{TellsAtEnd};
 ghost use Rattle.pc_journal.specs.Told.{TellsFault, differ_text};
 
-use itoa::Buffer;
 use pc_collab::JournalFault;
 use pc_port::{Failed, Sink};
-use pc_refusals::{Status, tell_no_memory};
+use pc_refusals::{Status, tell_no_memory, write_number};
 use pc_writer::write_text;
-
-// Writes a number behind its word.
-fn write_number<O: Sink>(word: &[u8], number: u32, out: &mut O) -> Result<(), Failed>
-    ensures { Writes O.given O.faults out.old out.new result (word.now ++ decimal number) }
-{
-    write_text(word, out)?;
-    let mut buffer = Buffer::new();
-    write_text(buffer.format(number).as_bytes(), out)
-}
 
 // Writes what a line of a text from there is at fault for.
 fn write_fault<O: Sink>(words: &[u8], place: &[u8], line: u32, out: &mut O) -> Result<(), Failed>

@@ -5,4 +5,5 @@ pub mod Inputs
 pub mod Events
 pub mod Stages
 pub mod Runs
+pub mod Did
 pub mod Laws

@@ -13,7 +13,11 @@ mod tell;
 pub use input::{InputStop, take_all};
 pub use laws::runs_are_of_events;
 pub use refusal::{
-    COMMAND_REFUSED, Counts, LoadFault, Refusal, SHEET_REFUSED, SheetRefusal, write_refusal,
+    COMMAND_REFUSED, Counts, LoadFault, Refusal, SHEET_REFUSED, SheetRefusal, write_number,
+    write_refusal,
 };
 pub use status::Status;
-pub use tell::{end_with, refuse, tell_no_memory, tell_no_memory_for_sheet, tell_too_long};
+pub use tell::{
+    NO_MEMORY, NO_MEMORY_FOR_SHEET, end_with, refuse, tell_file_stop, tell_input_stop,
+    tell_no_memory, tell_no_memory_for_sheet, tell_too_long,
+};

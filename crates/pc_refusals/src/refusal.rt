@@ -124,8 +124,8 @@ fn write_line<O: Sink>(line: Option<u32>, out: &mut O) -> Result<(), Failed>
     write_integer(i64::from(number), out)
 }
 
-// Writes a number behind its word.
-fn write_count<N: Integer, O: Sink>(word: &[u8], number: N, out: &mut O) -> Result<(), Failed>
+/// Writes a number behind its word.
+pub fn write_number<N: Integer, O: Sink>(word: &[u8], number: N, out: &mut O) -> Result<(), Failed>
     ensures { Writes O.given O.faults out.old out.new result (word.now ++ N.text number) }
 {
     write_text(word, out)?;
@@ -137,9 +137,9 @@ fn write_count<N: Integer, O: Sink>(word: &[u8], number: N, out: &mut O) -> Resu
 fn write_counts<O: Sink>(counts: Counts, out: &mut O) -> Result<(), Failed>
     ensures { Writes O.given O.faults out.old out.new result (counts_text counts) }
 {
-    write_count(b" placed=", counts.placed, out)?;
-    write_count(b" learned=", counts.learned, out)?;
-    write_count(b" calls=", counts.calls, out)
+    write_number(b" placed=", counts.placed, out)?;
+    write_number(b" learned=", counts.learned, out)?;
+    write_number(b" calls=", counts.calls, out)
 }
 
 // The word for what a limit is put on.

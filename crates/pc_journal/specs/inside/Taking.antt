@@ -1,14 +1,11 @@
 -- What is taken of an input that should be a journal's text.
-use Rattle.std.specs.Prelude.{◌≡◌, ℕ, List, Result, Ok, Err}
+use Rattle.std.specs.Prelude.{ℕ, List, Result, Ok, Err}
 use Rattle.std.specs.declared.option.Option.{Option}
 use Rattle.pc_collab.specs.declared.TheConstants.{JOURNAL_LIMIT}
 use Rattle.pc_collab.specs.Journal.{Post}
 use Rattle.pc_collab.specs.Reading.{IsTextOf, ReadGives}
-use Rattle.pc_refusals.specs.declared.input.InputStop.TheVariants.{Failed, TooLong, Memory}
 use Rattle.pc_refusals.specs.declared.status.Status.{Status}
-use Rattle.pc_refusals.specs.declared.status.Status.TheVariants as status
-use Rattle.pc_refusals.specs.Endings.{TellsAtEnd, too_long_text, memory_text}
-use Rattle.pc_refusals.specs.Inputs.{TakesAll, StopsInput}
+use Rattle.pc_refusals.specs.Inputs.{TakesAll, StopsInput, TellsInputStop}
 use Rattle.pc_journal.specs.declared.taking.JournalStop.{JournalStop}
 use Rattle.pc_journal.specs.declared.taking.JournalStop.TheVariants.{Input, Text}
 use Rattle.pc_journal.specs.Told.{from_input, TellsFault}
@@ -27,7 +24,5 @@ JournalGives (Err (Text fault)) source source' = TakesText source source' (λ te
 
 -- what is told of it
 abbrev pub TellsStop : JournalStop → Status → Option (List ℕ) → Option (List ℕ) → Type 0
-TellsStop (Input Failed) result sink sink' = (result ≡ status.ReadFault) × (sink' ≡ sink)
-TellsStop (Input TooLong) result sink sink' = TellsAtEnd status.TooLong too_long_text result sink sink'
-TellsStop (Input Memory) result sink sink' = TellsAtEnd status.Memory memory_text result sink sink'
+TellsStop (Input stop) result sink sink' = TellsInputStop stop result sink sink'
 TellsStop (Text fault) result sink sink' = TellsFault from_input fault result sink sink'

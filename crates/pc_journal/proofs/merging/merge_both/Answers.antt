@@ -5,7 +5,7 @@ use Rattle.pc_refusals.specs.Endings.{memory_text}
 use Rattle.pc_refusals.specs.Runs.{on_course, without_memory}
 use Rattle.pc_journal.specs.Told.{differ_text}
 use Rattle.pc_journal.specs.Course.{MergeBoth, needs_memory_for_both, differs, is_merged}
-use Rattle.pc_journal.proofs.Dids.{ends_at}
+use Rattle.pc_refusals.proofs.Dids.{ends_at}
 use Rattle.pc_journal.proofs.merging.merge_both.Goals as goal
 
 pub returns-in-Ok-clause-ends : goal.returns-in-Ok-clause-ends

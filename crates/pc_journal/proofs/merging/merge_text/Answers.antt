@@ -1,7 +1,7 @@
 use Rattle.std.proofs.Common.{refl, []}
 use Rattle.pc_refusals.specs.Events.{streams}
 use Rattle.pc_journal.specs.Course.{FromInput, MergeBoth, MergeText, text_is_journal}
-use Rattle.pc_journal.proofs.Dids.{ended, did_more}
+use Rattle.pc_refusals.proofs.Dids.{ended, did_more}
 use Rattle.pc_journal.proofs.FileTexts.{text_faulty}
 use Rattle.pc_journal.proofs.merging.merge_text.Goals as goal
 

@@ -6,7 +6,7 @@ use Rattle.pc_journal.proofs.posting.answer_input.Goals as goal
 pub returns-in-Ok-clause-did : goal.returns-in-Ok-clause-did
 returns-in-Ok-clause-did g c =
     let answers = c.answer_posts in
-    goes_on (AnswersPosts g.M.Machine.Allows (c.args.machine.now, c.args.notes.now)) (c.args.machine.now, c.args.notes.now) (g.I.Source.left c.args.input.now) (g.I.Source.left c.take_journal.new.input) (g.I.Source.faults c.args.input.now) (g.I.Source.faults c.take_journal.new.input) (g.O.Sink.given c.args.out.now) (g.O.Sink.given answers.new.out) (g.O.Sink.faults c.args.out.now) (g.O.Sink.faults answers.new.out) answers.result answers.ensures.write_fault answers.ensures.no_write_fault
+    goes_on (AnswersPosts g.M.Machine.Allows (c.args.machine.now, c.args.notes.now)) (c.args.machine.now, c.args.notes.now) (g.I.Source.left c.args.input.now) (g.I.Source.left c.take_journal.new.input) (g.I.Source.faults c.args.input.now) (g.I.Source.faults c.take_journal.new.input) (g.O.Sink.given c.args.out.now) (g.O.Sink.given answers.new.out) (g.O.Sink.faults c.args.out.now) (g.O.Sink.faults answers.new.out) answers.result
     c.in-Ok.journal (answers.new.machine, answers.new.notes) c.in-Ok.ensures.gives (c.in-Ok.ensures.kept (λ e. absurd (cc e))) (answers.ensures.did (g.I.Source.left c.take_journal.new.input) (g.I.Source.faults c.take_journal.new.input))
 
 pub returns-in-Err-clause-did : goal.returns-in-Err-clause-did

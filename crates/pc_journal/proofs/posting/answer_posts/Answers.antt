@@ -3,7 +3,7 @@ use Rattle.pc_port.specs.Port.{Rose}
 use Rattle.pc_collab.specs.Journal.{Post}
 use Rattle.pc_transcript.specs.Answer.{Serves, ServesInPart}
 use Rattle.pc_journal.specs.PostLines.{lines_of_posts}
-use Rattle.pc_journal.specs.inside.Did.{Progress}
+use Rattle.pc_journal.specs.inside.Progress.{Progress}
 use Rattle.pc_journal.proofs.Held.{one_more, all_answered, cut}
 use Rattle.pc_journal.proofs.Texts.{stands_there, holds, holds_show, own_show}
 use Rattle.pc_journal.proofs.posting.answer_posts.Goals as goal

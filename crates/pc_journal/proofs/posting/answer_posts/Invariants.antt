@@ -1,6 +1,6 @@
 use Rattle.std.proofs.Common.{◌≡◌, map, take}
 use Rattle.pc_collab.specs.Journal.{Post}
-use Rattle.pc_journal.specs.inside.Did.{Progress}
+use Rattle.pc_journal.specs.inside.Progress.{Progress}
 use Rattle.pc_journal.proofs.posting.answer_posts.Given as goal
 
 abbrev pub invariant-loop-i : goal.invariant-loop-i

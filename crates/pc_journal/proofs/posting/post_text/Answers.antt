@@ -1,7 +1,7 @@
 use Rattle.std.proofs.Common.{refl, []}
 use Rattle.pc_refusals.specs.Events.{streams}
 use Rattle.pc_journal.specs.Course.{FromInput, AnswersPosts, PostText, has_sheet}
-use Rattle.pc_journal.proofs.Dids.{ended, did_more}
+use Rattle.pc_refusals.proofs.Dids.{ended, did_more}
 use Rattle.pc_journal.proofs.FileTexts.{no_sheet}
 use Rattle.pc_journal.proofs.posting.post_text.Goals as goal
 

@@ -9,7 +9,7 @@ use Rattle.pc_refusals.specs.Stages.{Stage, ends_with}
 use Rattle.pc_refusals.specs.Runs.{Comes}
 use Rattle.pc_refusals.proofs.EventLemmas.{happened-append}
 use Rattle.pc_refusals.proofs.RunLemmas.{tells_last, comes-more, run-more}
-use Rattle.pc_journal.specs.inside.Did.{Ends, Did}
+use Rattle.pc_refusals.specs.Did.{Ends, Did}
 
 -- a line was told where the run came to it
 pub ends_at : {N : Type 0} (Course : List Event → Stage → N → Type 0) (events : List Event) (status result : Status) (line : List ℕ) (notes : N) (g g' : Option (List ℕ))
