@@ -31,7 +31,7 @@ use Rattle.pc_run_laws.specs.ByStatus.{UsageIsOfWords, WordsAreTold, IsRefusedCe
 use Rattle.pc_theorem.specs.Theorem as page
 use Rattle.pc_theorem.specs.Journals.{EndsJournals, merges_both}
 use Rattle.pc_theorem.specs.Theorem.{KnownRun, IsProved, Answers, RefusesSheet, Ends, LacksMemory, EndsAsAsked, IsTold, IsCutOff}
-use Rattle.pc_theorem.specs.Laws.{RunsKeepTheirWord, RunsKeepJournals, RunsDemonstrate}
+use Rattle.pc_theorem.specs.Laws.{RunsKeepTheirWord}
 use Rattle.pc_theorem.proofs.Happenings.{front_cancels, printed_is, given_file, taken_all}
 use Rattle.pc_theorem.proofs.Quiet.{check_needs, course_needs}
 use Rattle.pc_theorem.proofs.Endings.{AllEnds, HasFewBlocks, FirstsAreCleared, OnlySpentIsTold, printed_last, file_is, rest_is, answers_all, refuses_all}
@@ -246,16 +246,12 @@ module _ (sums : EventsAddUp) (one : WordsFitOneRequest) (first : StartsAreOpen)
 
     module _ (on_done : DoneIsSo) (on_some : SomeAreRefused) (on_sheet : SheetsAreRefused) (on_certificate : CertificatesAreRefused) (on_memory : MemoryIsWanted) (on_usage : UsageIsOfWords) (on_unfit : WordsAreTold) where
       pub runs_keep_their_word : RunsKeepTheirWord
-      runs_keep_their_word words status notes noted before after runs run is whole =
-          worth words status notes noted before after runs run is on_done on_some on_sheet on_certificate on_memory on_usage on_unfit whole
-
-      pub runs_keep_journals : RunsKeepJournals
-      runs_keep_journals words status notes noted before after runs run is whole request fits =
-          elim (all_ends words status notes noted before after runs run is on_done on_some on_sheet on_certificate on_memory on_usage on_unfit whole request fits) [
-            | inl e ↦ inl (journals_end run request.budget request.mode e)
-            | inr lacks ↦ inr lacks
-          ]
-
-      pub runs_demonstrate : RunsDemonstrate
-      runs_demonstrate words status notes noted before after runs run is whole blocks budget fits =
-          all_ends words status notes noted before after runs run is on_done on_some on_sheet on_certificate on_memory on_usage on_unfit whole record { mode = demonstrates blocks; budget = budget } fits
+      runs_keep_their_word words status notes noted before after runs = record {
+        word = λ run is whole. worth words status notes noted before after runs run is on_done on_some on_sheet on_certificate on_memory on_usage on_unfit whole;
+        journals = λ run is whole request fits.
+            elim (all_ends words status notes noted before after runs run is on_done on_some on_sheet on_certificate on_memory on_usage on_unfit whole request fits) [
+              | inl e ↦ inl (journals_end run request.budget request.mode e)
+              | inr lacks ↦ inr lacks
+            ];
+        demo = λ run is whole blocks budget fits. all_ends words status notes noted before after runs run is on_done on_some on_sheet on_certificate on_memory on_usage on_unfit whole record { mode = demonstrates blocks; budget = budget } fits;
+      }

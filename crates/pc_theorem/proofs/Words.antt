@@ -16,7 +16,7 @@ use Rattle.pc_run_laws.specs.ByStatus.{UsageIsOfWords, WordsAreTold, Certificate
 use Rattle.pc_sheet.specs.Cells.{CellsAreNumberedInOrder}
 use Rattle.pc_sortcheck.specs.Laws.{SheetsAreWellFormed}
 use Rattle.pc_words.specs.Laws.{WordsFitOneRequest}
-use Rattle.pc_theorem.specs.Laws.{RunsKeepTheirWord, RunsKeepJournals, RunsDemonstrate}
+use Rattle.pc_theorem.specs.Laws.{RunsKeepTheirWord}
 use Rattle.pc_theorem.proofs.Answering.{PagesAreTold, RefutationsAreTold, session, refuses_sheet}
 use Rattle.pc_theorem.proofs.Checked.{proved}
 use Rattle.pc_theorem.proofs.Clearing.{CommandsHaveOneReading, all_cleared}
@@ -24,7 +24,7 @@ use Rattle.pc_theorem.proofs.Endings.{FirstsAreCleared, OnlySpentIsTold}
 use Rattle.pc_theorem.proofs.Listed.{ListingsAreTold}
 use Rattle.pc_theorem.proofs.Pages.{tells, refutes}
 use Rattle.pc_theorem.proofs.Refused.{only_spent}
-use Rattle.pc_theorem.proofs.Whole.{LinesAreAnswered, SheetsAreRefusedSo, AcceptedIsProved, runs_keep_their_word, runs_keep_journals, runs_demonstrate}
+use Rattle.pc_theorem.proofs.Whole.{LinesAreAnswered, SheetsAreRefusedSo, AcceptedIsProved, runs_keep_their_word}
 
 module _ (sums : EventsAddUp) (one : WordsFitOneRequest) (on_done : DoneIsSo) (on_some : SomeAreRefused) (on_sheet : SheetsAreRefused) (on_certificate : CertificatesAreRefused) (on_memory : MemoryIsWanted) (on_usage : UsageIsOfWords) (on_unfit : WordsAreTold) where
   module _ (first : StartsAreOpen) (keep : AnswersKeepOpen) (keep_all : TranscriptsKeepOpen) (formed : SheetsAreWellFormed) (ordered : CellsAreNumberedInOrder) (by_entries : EnoughByEntries) (read : CommandsHaveOneReading) where
@@ -53,9 +53,3 @@ module _ (sums : EventsAddUp) (one : WordsFitOneRequest) (on_done : DoneIsSo) (o
 
         pub word : RunsKeepTheirWord
         word = runs_keep_their_word sums one first keep formed journals_back one_outcome accepts one_verdict answered refused is_proved cleared spent on_done on_some on_sheet on_certificate on_memory on_usage on_unfit
-
-        pub journals : RunsKeepJournals
-        journals = runs_keep_journals sums one first keep formed journals_back one_outcome accepts one_verdict answered refused is_proved cleared spent on_done on_some on_sheet on_certificate on_memory on_usage on_unfit
-
-        pub demo : RunsDemonstrate
-        demo = runs_demonstrate sums one first keep formed journals_back one_outcome accepts one_verdict answered refused is_proved cleared spent on_done on_some on_sheet on_certificate on_memory on_usage on_unfit

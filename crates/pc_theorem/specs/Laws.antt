@@ -16,21 +16,14 @@ use Rattle.pc_spreadsheet.specs.Allowed.{Notes}
 use Rattle.pc_spreadsheet.specs.Tasks.{State, Starts, PageKind, text_page}
 use Rattle.pc_afresh_laws.specs.Afresh.{IsDisplay}
 use Rattle.pc_replay.specs.Course.{Runs}
-use Rattle.pc_theorem.specs.Theorem.{KnownRun, EndsCheck, TellsPage, Answers, LacksMemory, IsTold, IsCutOff, KeepsItsWord}
-use Rattle.pc_theorem.specs.Journals.{KeepsJournals}
+use Rattle.pc_theorem.specs.Theorem.{KnownRun, EndsCheck, TellsPage, Answers, LacksMemory, IsTold, IsCutOff}
 use Rattle.pc_theorem.specs.Demonstrations.{IsDemonstration, Demonstrates}
+use Rattle.pc_theorem.specs.Run.{IsWorth}
 
 -- ---- all modes
 
 abbrev pub RunsKeepTheirWord : Type 0
-RunsKeepTheirWord = (words : List (List ℕ)) (status : Status) (notes noted : Notes) (before after : Outside) → Runs words status notes noted before after → KeepsItsWord words status before after
-
--- the same over journals, and with `demo N`
-abbrev pub RunsKeepJournals : Type 0
-RunsKeepJournals = (words : List (List ℕ)) (status : Status) (notes noted : Notes) (before after : Outside) → Runs words status notes noted before after → KeepsJournals words status before after
-
-abbrev pub RunsDemonstrate : Type 0
-RunsDemonstrate = (words : List (List ℕ)) (status : Status) (notes noted : Notes) (before after : Outside) → Runs words status notes noted before after → Demonstrates words status before after
+RunsKeepTheirWord = (words : List (List ℕ)) (status : Status) (notes noted : Notes) (before after : Outside) → Runs words status notes noted before after → IsWorth words status before after
 
 -- ---- a saved sheet
 

@@ -1,6 +1,6 @@
 // The laws of the page, each the contract of a function that does nothing.
 ghost use Rattle.pc_theorem.specs.Examples.{BrokenAnswers, BrokenVerdicts, BrokenWords, WorkedWords};
-ghost use Rattle.pc_theorem.specs.Laws.{AnswersLeaveOneState, DemonstrationsOfEnoughAreDone, RunsDemonstrate, RunsKeepJournals, RunsKeepTheirWord, SavedSheetsShowTheSame, SavedSheetsTakeCertificates, TranscriptsLeaveOneState};
+ghost use Rattle.pc_theorem.specs.Laws.{AnswersLeaveOneState, DemonstrationsOfEnoughAreDone, RunsKeepTheirWord, SavedSheetsShowTheSame, SavedSheetsTakeCertificates, TranscriptsLeaveOneState};
 
 use pc_accept::certificates_are_sound;
 use pc_afresh_laws::{dumps_start_again, states_stay_open, transcripts_stay_open};
@@ -27,9 +27,7 @@ use pc_words::words_fit_one_request;
 
 /// Whatever a run was asked for, it keeps its word; and so does one over journals, and a demonstration.
 pub fn runs_keep_their_word()
-    ensures word { RunsKeepTheirWord }
-    ensures journals { RunsKeepJournals }
-    ensures demo { RunsDemonstrate }
+    ensures { RunsKeepTheirWord }
 {
     events_add_up();
     words_fit_one_request();

@@ -2,7 +2,8 @@
 ghost use Rattle.std.specs.Prelude.{◌≡◌, ◌⊎◌, IfOk, map, string_bytes};
 ghost use Rattle.std.specs.IoError.{error_kind};
 ghost use Rattle.std.specs.Vec.Iter.{into_iter_items};
-ghost use Rattle.pc_theorem.specs.Starting.{IsRunOf, IsWithoutWords, StartsSo, behind_name, words_read};
+ghost use Rattle.pc_theorem.specs.Run.{IsRunOf};
+ghost use Rattle.pc_theorem.specs.Starting.{IsWithoutWords, StartsSo, behind_name, words_read};
 
 use crate::top::run;
 use pc_port::{Shelf, Sink, Source};
@@ -25,22 +26,6 @@ fn words_behind_name(alloc: Global, mut args: Args) -> Result<Vec<String>, Alloc
     Ok(words)
 }
 
-// Runs these words.
-fn run_words<I: Source, H: Shelf, O: Sink>(
-    alloc: Global,
-    words: &[String],
-    input: &mut I,
-    shelf: &mut H,
-    out: &mut O,
-    spent: &mut Spendings,
-) -> Status
-    ensures { IsRunOf H.kept H.asked H.faults I.left I.faults O.given O.faults shelf.old shelf.new
-        input.old input.new out.old out.new (map string_bytes words.now) result spent.old
-        spent.new }
-{
-    run(alloc, words, input, shelf, out, spent)
-}
-
 // Tells that memory was wanting for the words. All but the output is lent to say that it stays as it was.
 fn tell_lacking<I: Source, H: Shelf, O: Sink>(
     input: &mut I,
@@ -48,7 +33,7 @@ fn tell_lacking<I: Source, H: Shelf, O: Sink>(
     out: &mut O,
     spent: &mut Spendings,
 ) -> Status
-    ensures { IsWithoutWords H.kept H.asked H.faults I.left I.faults O.given O.faults shelf.old
+    ensures { IsWithoutWords H.Shelf I.Source O.Sink shelf.old
         shelf.new input.old input.new out.old out.new result spent.old spent.new }
 {
     tell_no_memory(out)
@@ -63,14 +48,13 @@ fn run_args<I: Source, H: Shelf, O: Sink>(
     out: &mut O,
     spent: &mut Spendings,
 ) -> Status
-    ensures { IsRunOf H.kept H.asked H.faults I.left I.faults O.given O.faults shelf.old shelf.new
-        input.old input.new out.old out.new (behind_name (map string_bytes (into_iter_items args)))
-        result spent.old spent.new ⊎ IsWithoutWords H.kept H.asked H.faults I.left I.faults O.given
-        O.faults shelf.old shelf.new input.old input.new out.old out.new result spent.old
-        spent.new }
+    ensures { IsRunOf H.Shelf I.Source O.Sink shelf.old shelf.new input.old input.new out.old
+        out.new (behind_name (map string_bytes (into_iter_items args))) result spent.old spent.new ⊎
+        IsWithoutWords H.Shelf I.Source O.Sink shelf.old shelf.new input.old input.new out.old
+        out.new result spent.old spent.new }
 {
     match words_behind_name(alloc, args) {
-        Ok(words) => run_words(alloc, &words, input, shelf, out, spent),
+        Ok(words) => run(alloc, &words, input, shelf, out, spent),
         Err(_) => tell_lacking(input, shelf, out, spent),
     }
 }
@@ -86,7 +70,7 @@ pub fn start<I: Source, H: Shelf, O: Sink>(
     out: &mut O,
     spent: &mut Spendings,
 ) -> Status
-    ensures { StartsSo H.kept H.asked H.faults I.left I.faults O.given O.faults shelf.old shelf.new
+    ensures { StartsSo H.Shelf I.Source O.Sink shelf.old shelf.new
         input.old input.new out.old out.new
         (words_read (λ read. map string_bytes (into_iter_items read)) error_kind args) result
         spent.old spent.new }
@@ -95,7 +79,7 @@ pub fn start<I: Source, H: Shelf, O: Sink>(
         Ok(args) => run_args(alloc, args, input, shelf, out, spent),
         Err(error) => match error.kind() {
             io::ErrorKind::OutOfMemory => tell_lacking(input, shelf, out, spent),
-            _ => run_words(alloc, &[], input, shelf, out, spent),
+            _ => run(alloc, &[], input, shelf, out, spent),
         },
     }
 }
