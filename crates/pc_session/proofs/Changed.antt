@@ -48,7 +48,7 @@ taking_some sheet c t formed within of_cell = record { cell = within; is_edit = 
 pub restored : (old new : Sheet) (es : List Entry) → rules_alone new ≡ rules_alone old → es ≡ old.entries → record new { entries = es } ≡ old
 restored old new es rules are = let with_entries : Sheet → Sheet = λ s. record s { entries = es } in let over : List Entry → Sheet = λ xs. record old { entries = xs } in ap with_entries rules ∙ ap over are
 
-pub restored_same : (s new : State) (cache : Cached) (book : Sheet) → cache.rows ≡ s.cache.rows → IsLeft s.cache.rows s.cache.bytes cache.bytes → IsSameBeside (record s { cache = cache }) new → book ≡ s.book → IsSame s (record new { book = book })
+pub restored_same : (s new : State) (cache : Cached) (book : Sheet) → cache.rows ≡ s.cache.rows → IsLeft s.cache.bytes s.cache.spare cache.bytes cache.spare → IsSameBeside (record s { cache = cache }) new → book ≡ s.book → IsSame s (record new { book = book })
 restored_same s new cache book rows left same is =
     let with_book : Sheet → State = λ b. record new { book = b } in
     subst (IsSame s) (sym (ap with_book is ∙ same.rest)) (same_compacted s cache rows left)

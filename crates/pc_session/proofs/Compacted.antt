@@ -16,5 +16,5 @@ not_due rows bytes live few rest =
     ] refl
 
 -- where it is due, there are more than 1,048,576
-pub left_compacted : (rows : List TargetRow) (bytes live new : ℕ) → nat_lt (2 * live + 1048576) bytes ≡ true → new ≤ bytes_of_rows rows → new ≤ bytes → IsLeft rows bytes new
-left_compacted rows bytes live new due few less = inr (omega (arith, ltb-true (2 * live + 1048576) bytes due), least rows bytes new few less)
+pub left_compacted : (bytes spare live new spare_after : ℕ) → nat_lt (2 * live + 1048576) bytes ≡ true → new + spare ≡ bytes → spare_after ≡ 0 → IsLeft bytes spare new spare_after
+left_compacted bytes spare live new spare_after due exact none = inr (omega (arith, ltb-true (2 * live + 1048576) bytes due), exact, none)

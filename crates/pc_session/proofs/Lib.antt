@@ -17,4 +17,5 @@ pub mod Lending
 pub mod Choosing
 pub mod Changed
 pub mod Compacted
+pub mod SpentBytes
 pub mod LentGround

@@ -1,6 +1,7 @@
 -- What the search of the part of a cell makes of an edit of the cell's entries.
-use Rattle.std.proofs.Common.{◌≡◌, ℕ, ◌+◌, inl, inr, Bool, false, List, [], ◌++◌, map, Contains, Option, None, Some, ap, refl, sym, ◌∙◌, subst}
+use Rattle.std.proofs.Common.{◌≡◌, ℕ, ◌+◌, ◌≤◌, arith, sum_by, ◌∷◌, inl, inr, Bool, false, List, [], ◌++◌, map, Contains, Option, None, Some, ap, refl, sym, ◌∙◌, subst}
 use Rattle.std.specs.List.{AllZip}
+use Rattle.std.proofs.lemmas.List.Sums.{sum_by-cons}
 use Rattle.pc_lits.specs.declared.tally.Tally.{Tally}
 use Rattle.pc_sheet.specs.Sheet.{Sheet}
 use Rattle.pc_sheet.specs.Entailment.{cell_sizes}
@@ -10,9 +11,11 @@ use Rattle.pc_sheet.specs.declared.ids.Target.{Target}
 use Rattle.pc_parts.specs.Parts.{Part}
 use Rattle.pc_components.specs.View.{Kept, number_of, AreComponentsOf}
 use Rattle.pc_cache.specs.Rows.{TargetRow}
+use Rattle.pc_cache.specs.Patches.{PatchView, patch_bytes}
 use Rattle.pc_world_list.specs.Worlds.{WorldView}
 use Rattle.pc_search.specs.Found.{Finds, IsFound}
 use Rattle.pc_search.specs.Parts.{AreWorldsOf}
+use Rattle.pc_theory.specs.KeptBytes.{part_bytes, spent_bytes}
 use Rattle.pc_theory.specs.Targets.{AreAsked}
 use Rattle.pc_theory.specs.Theories.{rules_alone, TheoryView, IsTheory, IsPartNumbered}
 use Rattle.pc_theory.specs.Spendings.{IsLawful, IsSpendingOf, IsSpentOn, LearnsWithin}
@@ -55,20 +58,31 @@ module _ (sheet : Sheet) (theory : TheoryView) (c : CellId) (known : IsTheory (r
     all_placed = let of : Tally → ℕ = λ t. t.placed in ap of is_tally ∙ (reached ∙ limited);
   }
 
-  pub found_of : (ws : List WorldView) → ((q : Part) → IsPartNumbered (rules_alone sheet) i q → AreWorldsOf sheet q ws) → (lent targets : List Target) → lent ≡ targets → (before changes : List TargetRow) → before ≡ [] → Finds sheet (place.tally.learned + place.tally.calls) lent before changes
+  pub found_of : (ws : List WorldView) → ((q : Part) → IsPartNumbered (rules_alone sheet) i q → AreWorldsOf sheet q ws) → (lent targets : List Target) → lent ≡ targets → (before : List TargetRow) (changes : PatchView) → before ≡ [] → Finds sheet (place.tally.learned + place.tally.calls) lent before changes.rows
       → IsFoundOf sheet c i targets limit (record { part = i; worlds = ws; patch = changes; spending = s })
   found_of ws worlds lent targets are before changes blank found = record {
     part = refl;
     worlds = worlds;
     each =
-        let same : changes ≡ found.rows = found.added ∙ ap (λ xs. xs ++ found.rows) blank in
+        let same : changes.rows ≡ found.rows = found.added ∙ ap (λ xs. xs ++ found.rows) blank in
         let most : place.tally.learned + place.tally.calls ≡ s.tally.learned + s.tally.calls = (let of : Tally → ℕ = λ t. t.learned + t.calls in ap of (sym is_tally)) in
-        subst (λ n. AllZip (IsFound sheet n) targets changes) most
-        (subst (λ xs. AllZip (IsFound sheet (place.tally.learned + place.tally.calls)) xs changes) are (subst (AllZip (IsFound sheet (place.tally.learned + place.tally.calls)) lent) (sym same) found.each));
+        subst (λ n. AllZip (IsFound sheet n) targets changes.rows) most
+        (subst (λ xs. AllZip (IsFound sheet (place.tally.learned + place.tally.calls)) xs changes.rows) are (subst (AllZip (IsFound sheet (place.tally.learned + place.tally.calls)) lent) (sym same) found.each));
     spends = spends;
     spare = subst LearnsWithin (sym is_tally) (alone (Some c) p numbered has).1;
     limited = limit_is;
   }
+
+-- what a search of one part put, by what was spent on it alone
+pub bytes_of_one : (kept : Kept) (place : PartSpending) (s : Spending) (before after : PatchView) → s.parts.items ≡ place ∷ [] → before ≡ record { rows = []; settled = 0; last = [] } → patch_bytes after ≤ patch_bytes before + part_bytes kept place
+    → patch_bytes after ≤ spent_bytes kept s
+bytes_of_one kept place s before after is blank few =
+    let none : patch_bytes before ≡ 0 = ap patch_bytes blank in
+    let all : spent_bytes kept s ≡ part_bytes kept place + 0 = ap (sum_by (part_bytes kept)) is ∙ sum_by-cons (part_bytes kept) place [] in
+    added_alone (patch_bytes before) (patch_bytes after) (part_bytes kept place) (spent_bytes kept s) none all few
+  where
+    added_alone : (before after part all : ℕ) → before ≡ 0 → all ≡ part + 0 → after ≤ before + part → after ≤ all
+    added_alone before after part all none is few = omega (arith, none, is, few)
 
 -- ---- what that is for the sheet before the edit
 
@@ -97,11 +111,11 @@ module _ (old : State) (change : Change) (a : Asked) (is : IsAskedFor old change
     has = is.has;
     worlds_of = subst (λ x. AreWorldsOf x is.part found.worlds) is_new (h.worlds is.part (numbered_new is.part is.numbered));
     changes_are =
-        subst (λ ns. AreChanges old.book old.cache.rows gone added ns found.patch most) (sym is.are)
-        (are_changes old.book old.cache.rows gone added (map number_of is.cells) a.targets.items found.patch most
+        subst (λ ns. AreChanges old.book old.cache.rows gone added ns found.patch.rows most) (sym is.are)
+        (are_changes old.book old.cache.rows gone added (map number_of is.cells) a.targets.items found.patch.rows most
         (stale old.book old.theory old.cache.rows state.known gone (adds_one change.added) added (none_more change.added) a.part is.cells is.at a.targets.items is.targets)
         (apart old.book old.theory old.cache.rows state.known gone (adds_one change.added) added (none_more change.added) a.part is.cells is.at a.targets.items is.targets)
-        (subst (λ x. AllZip (IsFound x most) a.targets.items found.patch) is_new h.each));
+        (subst (λ x. AllZip (IsFound x most) a.targets.items found.patch.rows) is_new h.each));
     spends = subst (λ x. IsSpendingOf x (Some change.cell) found.spending) is_new h.spends;
     spare = h.spare;
     limited = h.limited;

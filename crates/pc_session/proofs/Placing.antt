@@ -167,16 +167,16 @@ module _ (sheet : Sheet) (theory : TheoryView) (worlds : List (List WorldView)) 
 -- the edit has been put in place
 pub done : EditedReasonsAreRight → (sheet : Sheet) (theory : TheoryView) (worlds : List (List WorldView)) (rows : List TargetRow) (session : IsSession sheet theory worlds rows) (formed : IsWellFormed sheet)
     (c : CellId) (gone : Entry → Bool) (added : List Entry) (limit : ℕ) (edit : Edit) → IsEditOf c gone added → (book : Sheet) → book ≡ edited sheet gone added → IsWellFormed book → IsMade sheet rows c gone added limit edit
-    → (rows_after : List TargetRow) → map target_of rows_after ≡ map target_of rows → ((t : Target) → row_of rows_after t ≡ after rows edit.patch t)
+    → (rows_after : List TargetRow) → map target_of rows_after ≡ map target_of rows → ((t : Target) → row_of rows_after t ≡ after rows edit.patch.rows t)
     → IsSession book theory (set worlds edit.part edit.worlds) rows_after × IsTallyOf book (Some c) limit (counts_of edit.spending.tally)
     × Stay gone rows rows_after × OthersStay c theory.components rows rows_after × Steps rows rows_after (counts_of edit.spending.tally)
 done law sheet theory worlds rows session formed c gone added limit edit is_edit book is_book formed_after made rows_after targets rows_are = (
   subst (λ b. IsSession b theory (set worlds edit.part edit.worlds) rows_after) (sym is_book)
-      (placed_session sheet theory worlds rows session formed c gone added is_edit edit.part made.part made.numbered made.has edit.worlds made.worlds_of edit.patch (edit.spending.tally.learned + edit.spending.tally.calls) made.changes_are law
+      (placed_session sheet theory worlds rows session formed c gone added is_edit edit.part made.part made.numbered made.has edit.worlds made.worlds_of edit.patch.rows (edit.spending.tally.learned + edit.spending.tally.calls) made.changes_are law
       (subst IsWellFormed is_book formed_after) rows_after targets rows_are),
   (edit.spending, subst (λ b. IsSpendingOf b (Some c) edit.spending) (sym is_book) made.spends, made.limited, made.spare, refl),
-  rows_stay sheet theory worlds rows session formed c gone added is_edit edit.part made.part made.numbered made.has edit.worlds made.worlds_of edit.patch (edit.spending.tally.learned + edit.spending.tally.calls) made.changes_are rows_after rows_are,
-  others_stay sheet theory worlds rows session formed c gone added is_edit edit.part made.part made.numbered made.has edit.worlds made.worlds_of edit.patch (edit.spending.tally.learned + edit.spending.tally.calls) made.changes_are rows_after rows_are,
+  rows_stay sheet theory worlds rows session formed c gone added is_edit edit.part made.part made.numbered made.has edit.worlds made.worlds_of edit.patch.rows (edit.spending.tally.learned + edit.spending.tally.calls) made.changes_are rows_after rows_are,
+  others_stay sheet theory worlds rows session formed c gone added is_edit edit.part made.part made.numbered made.has edit.worlds made.worlds_of edit.patch.rows (edit.spending.tally.learned + edit.spending.tally.calls) made.changes_are rows_after rows_are,
   λ t j row. made.changes_are.steps t j (sym (rows_are t) ∙ row),
 )
 
@@ -184,7 +184,7 @@ done law sheet theory worlds rows session formed c gone added limit edit is_edit
 pub part_within : (sheet : Sheet) (theory : TheoryView) (worlds : List (List WorldView)) (rows : List TargetRow) (session : IsSession sheet theory worlds rows) (formed : IsWellFormed sheet)
     (c : CellId) (gone : Entry → Bool) (added : List Entry) (limit : ℕ) (edit : Edit) → IsEditOf c gone added → IsMade sheet rows c gone added limit edit → edit.part < length worlds
 part_within sheet theory worlds rows session formed c gone added limit edit is_edit made =
-    number_in sheet theory worlds rows session formed c gone added is_edit edit.part made.part made.numbered made.has edit.worlds made.worlds_of edit.patch (edit.spending.tally.learned + edit.spending.tally.calls) made.changes_are
+    number_in sheet theory worlds rows session formed c gone added is_edit edit.part made.part made.numbered made.has edit.worlds made.worlds_of edit.patch.rows (edit.spending.tally.learned + edit.spending.tally.calls) made.changes_are
 
-pub changes_placed : (sheet : Sheet) (rows : List TargetRow) → HavePlaces sheet rows → (c : CellId) (gone : Entry → Bool) (added : List Entry) (limit : ℕ) (edit : Edit) → IsMade sheet rows c gone added limit edit → HaveTargets rows edit.patch
-changes_placed sheet rows places c gone added limit edit made = have_targets rows edit.patch (λ r has. (places r.target).1 (made.changes_are.targets r has))
+pub changes_placed : (sheet : Sheet) (rows : List TargetRow) → HavePlaces sheet rows → (c : CellId) (gone : Entry → Bool) (added : List Entry) (limit : ℕ) (edit : Edit) → IsMade sheet rows c gone added limit edit → HaveTargets rows edit.patch.rows
+changes_placed sheet rows places c gone added limit edit made = have_targets rows edit.patch.rows (λ r has. (places r.target).1 (made.changes_are.targets r has))

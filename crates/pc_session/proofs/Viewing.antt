@@ -12,7 +12,7 @@ use Rattle.pc_session.specs.Answers.{IsUnchanged, OthersStay, Stay, Steps}
 use Rattle.pc_session.specs.Arena.{compacted, IsLeft}
 use Rattle.pc_session.specs.inside.Chosen.{AreChosen}
 use Rattle.pc_session.specs.inside.Sessions.{IsSession}
-use Rattle.pc_session.specs.inside.States.{viewed, IsEdited, IsKept, IsLeftBy, IsState, IsSame, IsSameBut}
+use Rattle.pc_session.specs.inside.States.{viewed, IsEdited, IsKept, IsLeftBy, IsState, IsSame, IsSameBut, IsSpentBy}
 use Rattle.pc_session.specs.Views.{Counts, SessionView, counts_of, none_spent}
 use Rattle.pc_session.specs.declared.state.State.{State}
 
@@ -31,17 +31,18 @@ either (Ok x) ok err from_ok from_err = from_ok ok
 either (Err e) ok err from_ok from_err = from_err err
 
 pub same_itself : (s : State) → IsSame s s
-same_itself s = record { book = refl; theory = refl; worlds = refl; rows = refl; bytes = inl refl; tally = refl; chosen = refl }
+same_itself s = record { book = refl; theory = refl; worlds = refl; rows = refl; bytes = inl (refl, refl); tally = refl; chosen = refl }
 
 -- a state whose derivations were to be compacted, and have or haven't been
-pub same_compacted : (s : State) (cache : Cached) → cache.rows ≡ s.cache.rows → IsLeft s.cache.rows s.cache.bytes cache.bytes → IsSame s (record s { cache = cache })
+pub same_compacted : (s : State) (cache : Cached) → cache.rows ≡ s.cache.rows → IsLeft s.cache.bytes s.cache.spare cache.bytes cache.spare → IsSame s (record s { cache = cache })
 same_compacted s cache rows left = record { book = refl; theory = refl; worlds = refl; rows = rows; bytes = left; tally = refl; chosen = refl }
 
 pub same_failed : (s : State) (cache : Cached) → cache ≡ s.cache → IsSame s (record s { cache = cache })
 same_failed s cache is =
     let rows_of : Cached → List TargetRow = λ x. x.rows in
     let bytes_of : Cached → ℕ = λ x. x.bytes in
-    record { book = refl; theory = refl; worlds = refl; rows = ap rows_of is; bytes = inl (ap bytes_of is); tally = refl; chosen = refl }
+    let spare_of : Cached → ℕ = λ x. x.spare in
+    record { book = refl; theory = refl; worlds = refl; rows = ap rows_of is; bytes = inl (ap bytes_of is, ap spare_of is); tally = refl; chosen = refl }
 
 -- the same state is as right as it was
 pub still_right : (old new : State) → IsSame old new → IsState old → IsState new
@@ -61,22 +62,23 @@ pub kept_after : {T E A : Type 0} (r : Result T E) (old new : State) → OnOk r 
 kept_after (Ok x) old new ok right chosen err is = record { state = right ok; chosen = chosen }
 kept_after (Err e) old new ok right chosen err is = still_kept old new err is
 
-abbrev seen : ℕ → ℕ → Sheet → Tally → TheoryView → List TargetRow → SessionView
-seen budget bytes sheet tally theory rows = record { sheet = sheet; budget = budget; tally = counts_of tally; components = theory.components; rows = rows; bytes = bytes }
+abbrev seen : ℕ → ℕ → ℕ → Sheet → Tally → TheoryView → List TargetRow → SessionView
+seen budget bytes spare sheet tally theory rows = record { sheet = sheet; budget = budget; tally = counts_of tally; components = theory.components; rows = rows; bytes = bytes; spare = spare }
 
-same_seen : (budget : ℕ) (old new : State) → IsSame old new → viewed budget new ≡ record (viewed budget old) { bytes = new.cache.bytes }
+same_seen : (budget : ℕ) (old new : State) → IsSame old new → viewed budget new ≡ record (viewed budget old) { bytes = new.cache.bytes; spare = new.cache.spare }
 same_seen budget old new same =
     let bytes = new.cache.bytes in
-    ap (λ b. seen budget bytes b new.tally new.theory new.cache.rows) same.book
-    ∙ (ap (λ t. seen budget bytes old.book t new.theory new.cache.rows) same.tally
-    ∙ (ap (λ th. seen budget bytes old.book old.tally th new.cache.rows) same.theory ∙ ap (seen budget bytes old.book old.tally old.theory) same.rows))
+    let spare = new.cache.spare in
+    ap (λ b. seen budget bytes spare b new.tally new.theory new.cache.rows) same.book
+    ∙ (ap (λ t. seen budget bytes spare old.book t new.theory new.cache.rows) same.tally
+    ∙ (ap (λ th. seen budget bytes spare old.book old.tally th new.cache.rows) same.theory ∙ ap (seen budget bytes spare old.book old.tally old.theory) same.rows))
 
 -- and seen as the same
 pub still_seen : (budget : ℕ) (old new : State) (v : SessionView) → viewed budget old ≡ v → IsSame old new → IsUnchanged v (viewed budget new)
 still_seen budget old new v is same = subst (λ x. IsUnchanged x (viewed budget new)) is (same_seen budget old new same, same.bytes)
 
 abbrev seen_with : ℕ → Sheet → Counts → TheoryView → Cached → SessionView
-seen_with budget sheet counts theory cache = record { sheet = sheet; budget = budget; tally = counts; components = theory.components; rows = cache.rows; bytes = cache.bytes }
+seen_with budget sheet counts theory cache = record { sheet = sheet; budget = budget; tally = counts; components = theory.components; rows = cache.rows; bytes = cache.bytes; spare = cache.spare }
 
 -- a session of another sheet, where nothing was spent
 pub but_seen : (budget : ℕ) (sheet : Sheet) (old new : State) → IsSameBut sheet budget old new → viewed budget new ≡ record (viewed budget old) { sheet = sheet; tally = none_spent budget }
@@ -98,13 +100,14 @@ edited_compacted s cache c gone added limit new rows h = record {
   steps = subst (λ old. Steps old new.cache.rows (counts_of new.tally)) rows h.steps;
 }
 
-pub left_edited : (c : CellId) (gone : Entry → Bool) (added : List Entry) (limit : ℕ) (old new : State) → new.theory ≡ old.theory → new.cache.bytes ≤ compacted old.cache.rows old.cache.bytes + bytes_of_rows new.cache.rows → IsEdited old c gone added limit new → IsLeftBy c gone old new
-left_edited c gone added limit old new theory bytes done = record {
+pub left_edited : (c : CellId) (gone : Entry → Bool) (added : List Entry) (limit : ℕ) (old new : State) → new.theory ≡ old.theory → new.cache.bytes ≤ compacted old.cache.rows old.cache.bytes + bytes_of_rows new.cache.rows → IsSpentBy c old new → IsEdited old c gone added limit new → IsLeftBy c gone old new
+left_edited c gone added limit old new theory bytes spent done = record {
   state = subst (λ th. IsSession new.book th new.worlds.items new.cache.rows) (sym theory) done.session;
   stays = done.stays;
   others = done.others;
   steps = done.steps;
   bytes = inr bytes;
+  spent = spent;
 }
 
 pub left_same : (c : CellId) (gone : Entry → Bool) (old new : State) → IsState new → new.cache ≡ old.cache → IsLeftBy c gone old new
@@ -117,15 +120,16 @@ left_same c gone old new state cache =
       others = λ cells t listed has off. rows_are (ap rows cache) t;
       steps = λ t j row. inl (sym (rows_are (ap rows cache) t) ∙ row);
       bytes = inl (ap bytes cache);
+      spent = inl (ap bytes cache);
     }
   where
     rows_are : new.cache.rows ≡ old.cache.rows → (t : Target) → row_of new.cache.rows t ≡ row_of old.cache.rows t
     rows_are is t = ap (λ rs. row_of rs t) is
 
-pub left_ok : {T E : Type 0} (r : Result T E) (c : CellId) (gone : Entry → Bool) (added : List Entry) (limit : ℕ) (old new : State) → new.theory ≡ old.theory → OnOk r (new.cache.bytes ≤ compacted old.cache.rows old.cache.bytes + bytes_of_rows new.cache.rows) → OnOk r (IsEdited old c gone added limit new)
+pub left_ok : {T E : Type 0} (r : Result T E) (c : CellId) (gone : Entry → Bool) (added : List Entry) (limit : ℕ) (old new : State) → new.theory ≡ old.theory → OnOk r (new.cache.bytes ≤ compacted old.cache.rows old.cache.bytes + bytes_of_rows new.cache.rows) → OnOk r (IsSpentBy c old new) → OnOk r (IsEdited old c gone added limit new)
     → OnOk r (IsLeftBy c gone old new)
-left_ok (Ok x) c gone added limit old new theory bytes done = left_edited c gone added limit old new theory bytes done
-left_ok (Err e) c gone added limit old new theory bytes done = tt
+left_ok (Ok x) c gone added limit old new theory bytes spent done = left_edited c gone added limit old new theory bytes spent done
+left_ok (Err e) c gone added limit old new theory bytes spent done = tt
 
 -- the book of an edit, where it has been put in place
 pub book_ok : {T E : Type 0} (r : Result T E) (c : CellId) (gone : Entry → Bool) (added : List Entry) (limit : ℕ) (old new : State) (made : Sheet) → made ≡ edited old.book gone added → OnOk r (IsEdited old c gone added limit new) → OnOk r (new.book ≡ made)

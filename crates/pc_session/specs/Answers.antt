@@ -34,7 +34,7 @@ AreUnused gone rows = (t : Target) (j : Justification) → row_of rows t ≡ Som
 
 -- all is as it was, but that the derivations may have been compacted
 abbrev pub IsUnchanged : SessionView → SessionView → Type 0
-IsUnchanged old new = (new ≡ record old { bytes = new.bytes }) × IsLeft old.rows old.bytes new.bytes
+IsUnchanged old new = (new ≡ record old { bytes = new.bytes; spare = new.spare }) × IsLeft old.bytes old.spare new.bytes new.spare
 
 -- none of the entries that are gone is in the least support of an implied target
 abbrev pub AreSpare : Sheet → (Entry → Bool) → Type 0

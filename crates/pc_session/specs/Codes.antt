@@ -77,7 +77,7 @@ coded_counts =
 
 abbrev pub coded_session : Coded SessionView
 coded_session =
-    code_by (Sheet × (ℕ × (Counts × (Kept × (List TargetRow × ℕ)))))
-    (coded× coded_sheet (coded× coded_ℕ (coded× coded_counts (coded× coded_components (coded× (coded_list coded_row) coded_ℕ)))))
-    (λ s. (s.sheet, (s.budget, (s.tally, (s.components, (s.rows, s.bytes))))))
-    (λ p. record { sheet = p.0; budget = p.1.0; tally = p.1.1.0; components = p.1.1.1.0; rows = p.1.1.1.1.0; bytes = p.1.1.1.1.1 }) (λ _. refl)
+    code_by (Sheet × (ℕ × (Counts × (Kept × (List TargetRow × (ℕ × ℕ))))))
+    (coded× coded_sheet (coded× coded_ℕ (coded× coded_counts (coded× coded_components (coded× (coded_list coded_row) (coded× coded_ℕ coded_ℕ))))))
+    (λ s. (s.sheet, (s.budget, (s.tally, (s.components, (s.rows, (s.bytes, s.spare)))))))
+    (λ p. record { sheet = p.0; budget = p.1.0; tally = p.1.1.0; components = p.1.1.1.0; rows = p.1.1.1.1.0; bytes = p.1.1.1.1.1.0; spare = p.1.1.1.1.1.1 }) (λ _. refl)

@@ -21,8 +21,8 @@ counts_of t = record { placed = t.placed; learned = t.learned; calls = t.calls; 
 abbrev pub none_spent : ℕ → Counts
 none_spent limit = record { placed = 0; learned = 0; calls = 0; limit = limit }
 
--- The sheet, the budget, the tally of the last accepted edit or load, the parts, a row for each target, and the bytes that the lines count
--- for in which the derivations are kept.
+-- The sheet, the budget, the tally of the last accepted edit or load, the parts, a row for each target, the bytes that the lines count for
+-- in which the derivations are kept, and those of the lines on which no row rests.
 pub record SessionView : Type 0 where
   pub sheet : Sheet
   pub budget : ℕ
@@ -30,6 +30,7 @@ pub record SessionView : Type 0 where
   pub components : Kept
   pub rows : List TargetRow
   pub bytes : ℕ
+  pub spare : ℕ
 
 -- the tally is that of a spending on the touched parts, within the limit and within what a search learns
 abbrev pub IsTallyOf : Sheet → Option CellId → ℕ → Counts → Type 0

@@ -2,7 +2,8 @@
 //!
 //! A reason that is replaced leaves its lines behind. They are dropped at the start of an edit that searches, where all lines
 //! count for 1,048,576 bytes more than twice what was left the last time (or than twice 16 for each line of each reason, where
-//! that is less): so the work is paid for by what was put since then.
+//! that is less). So it comes once for each 1,048,576 bytes that were put or left behind since; it then goes over the places
+//! of every row.
 ghost use Rattle.std.specs.Prelude.{◌≡◌, ◌≤◌, ◌+◌, ◌*◌, OnErr, OnOk, nat_lt};
 ghost use Rattle.pc_session.specs.Arena.{compacted, IsLeft};
 
@@ -20,7 +21,8 @@ fn is_due(arena: u128, live: u128) -> bool
 pub(crate) fn compact_if_due(cache: &mut Cache) -> Result<(), AllocError>
     ensures rows { cache.new.rows ≡ cache.old.rows }
     ensures ok { OnOk result (cache.new.bytes ≤ compacted cache.old.rows cache.old.bytes) }
-    ensures left { OnOk result (IsLeft cache.old.rows cache.old.bytes cache.new.bytes) }
+    ensures left { OnOk result (IsLeft cache.old.bytes cache.old.spare cache.new.bytes
+        cache.new.spare) }
     ensures err { OnErr result (cache.new ≡ cache.old) }
 {
     if is_due(cache.arena_bytes(), cache.live_bytes()) {

@@ -1,5 +1,6 @@
 //! What the search of an edit has found, and how it is put in place.
 ghost use Rattle.std.specs.Prelude.{◌≡◌, ◌+◌, ◌≤◌, ℕ, Bool, List, OnErr, OnOk};
+ghost use Rattle.pc_cache.specs.Patches.{patch_bytes};
 ghost use Rattle.pc_cache.specs.Rows.{bytes_of_rows};
 ghost use Rattle.pc_sheet.specs.Sheet.{Sheet};
 ghost use Rattle.pc_sheet.specs.declared.ids.CellId.{CellId};
@@ -40,6 +41,9 @@ pub(crate) fn put_in_place(state: &mut State, edit: Edit) -> Result<(), AllocErr
     ensures chosen { OnOk result (AreChosen state.new.book state.new.chosen) }
     ensures bytes { OnOk result (state.new.cache.bytes ≤ state.old.cache.bytes +
         bytes_of_rows state.new.cache.rows) }
+    ensures exact { OnOk result (state.new.cache.bytes ≡ state.old.cache.bytes +
+        patch_bytes edit.patch) }
+    ensures tally { OnOk result (state.new.tally ≡ edit.spending.tally) }
     ensures kept { OnErr result (state.new ≡ state.old) }
 {
     edited_reasons_are_right();

@@ -3,15 +3,16 @@
 //! An edit is made in the book itself, and what it can change is searched there. Where that ends early the old entries, which
 //! were copied first, are put back, which takes no memory. So an edit costs what its part costs, however large the book is; the
 //! book is copied for the note of a spending alone.
-ghost use Rattle.std.specs.Prelude.{◌≡◌, ◌+◌, ◌≤◌, IfErr, OnErr, OnOk};
+ghost use Rattle.std.specs.Prelude.{◌≡◌, ◌+◌, ◌≤◌, IfErr, OnErr, OnOk, Some};
 ghost use Rattle.pc_cache.specs.Rows.{bytes_of_rows};
 ghost use Rattle.pc_sheet.specs.WellFormed.{IsWellFormed};
-ghost use Rattle.pc_session.specs.Arena.{compacted};
+ghost use Rattle.pc_session.specs.Arena.{compacted, IsWithinSpent};
 ghost use Rattle.pc_session.specs.Causes.{IsEntryCause};
 ghost use Rattle.pc_session.specs.inside.Changes.{made_of, as_list, IsAskedFor, IsChangeOf};
 ghost use Rattle.pc_session.specs.inside.Chosen.{AreChosen};
-ghost use Rattle.pc_session.specs.inside.States.{IsEdited, IsSame, IsSameBeside, IsState};
+ghost use Rattle.pc_session.specs.inside.States.{IsEdited, IsSame, IsSameBeside, IsSpentBy, IsState};
 ghost use Rattle.pc_session.specs.inside.Taken.{takes};
+ghost use Rattle.pc_session.specs.Views.{counts_of};
 
 use crate::change::{Change, make};
 use crate::compaction::compact_if_due;
@@ -41,6 +42,9 @@ fn make_searched(
     ensures chosen { OnOk result (AreChosen state.new.book state.new.chosen) }
     ensures bytes { OnOk result (state.new.cache.bytes ≤ state.old.cache.bytes +
         bytes_of_rows state.new.cache.rows) }
+    ensures spent { OnOk result (IsWithinSpent state.new.book (Some change.cell)
+        state.new.theory.components (counts_of state.new.tally) state.old.cache.bytes
+        state.new.cache.bytes) }
     ensures refused { IfErr result (IsEntryCause (made_of state.old.book change) change.cell
         budget) }
     ensures kept { OnErr result (IsSameBeside state.old state.new) }
@@ -68,6 +72,7 @@ pub(crate) fn edit(
     ensures chosen { OnOk result (AreChosen state.new.book state.new.chosen) }
     ensures bytes { OnOk result (state.new.cache.bytes ≤ compacted state.old.cache.rows
         state.old.cache.bytes + bytes_of_rows state.new.cache.rows) }
+    ensures spent { OnOk result (IsSpentBy change.cell state.old state.new) }
     ensures refused { IfErr result (IsEntryCause (made_of state.old.book change) change.cell
         budget) }
     ensures kept { OnErr result (IsSame state.old state.new) }

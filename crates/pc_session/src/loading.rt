@@ -1,5 +1,6 @@
 //! Loading a book: everything is made anew, part by part.
 ghost use Rattle.std.specs.Prelude.{◌≡◌, ℕ, None, IfErr, IfOk};
+ghost use Rattle.pc_cache.specs.Patches.{patch_bytes};
 ghost use Rattle.pc_cache.specs.Rows.{row_after, row_of};
 ghost use Rattle.pc_sheet.specs.declared.ids.Target.{Target};
 ghost use Rattle.pc_theory.specs.Books.{IsCause};
@@ -20,27 +21,30 @@ use std::alloc::{AllocError, Global};
 
 // The reasons that were found, in their places.
 fn kept(alloc: Global, book: &Book, patch: Patch) -> Result<Cache, AllocError>
-    requires { ArePlaced book.now patch }
+    requires { ArePlaced book.now patch.rows }
     ensures places { IfOk result (λ cache. HavePlaces book.now cache.rows) }
     ensures rows { IfOk result (λ cache. (t : Target) →
-        row_of cache.rows t ≡ row_after patch t None) }
+        row_of cache.rows t ≡ row_after patch.rows t None) }
+    ensures bytes { IfOk result (λ cache. cache.bytes ≡ patch_bytes patch) }
 {
     let mut cache = Cache::new(alloc, book)?;
     cache.apply(patch)?;
     Ok(cache)
 }
 
-// ... with the marks of the parts that have entries.
+// The same, with the marks of the parts that have entries.
 fn kept_marked(
     alloc: Global,
     book: &Book,
     theory: &Theory,
     patch: Patch,
 ) -> Result<(Cache, Chosen), AllocError>
-    requires placed { ArePlaced book.now patch }
+    requires placed { ArePlaced book.now patch.rows }
     requires theory { IsTheory (rules_alone book.now) theory.now }
     ensures places { IfOk result (λ r. HavePlaces book.now r.0.rows) }
-    ensures rows { IfOk result (λ r. (t : Target) → row_of r.0.rows t ≡ row_after patch t None) }
+    ensures rows { IfOk result (λ r. (t : Target) →
+        row_of r.0.rows t ≡ row_after patch.rows t None) }
+    ensures bytes { IfOk result (λ r. r.0.bytes ≡ patch_bytes patch) }
     ensures chosen { IfOk result (λ r. AreChosen book.now r.1) }
 {
     let cache = kept(alloc, book, patch)?;

@@ -1,5 +1,6 @@
 //! What an edit of a cell's entries can change, and its search.
 ghost use Rattle.std.specs.Prelude.{◌≡◌, ◌+◌, ◌≤◌, Contains, IfErr, IfOk, None, OnOk};
+ghost use Rattle.pc_cache.specs.Patches.{patch_bytes};
 ghost use Rattle.pc_parts.specs.Parts.{Part};
 ghost use Rattle.pc_search.specs.Found.{Finds};
 ghost use Rattle.pc_search.specs.Parts.{AreWorldsOf};
@@ -11,6 +12,7 @@ ghost use Rattle.pc_session.specs.inside.Changes.{IsAskedFor, IsChangeOf, IsFoun
 ghost use Rattle.pc_session.specs.inside.States.{IsState};
 ghost use Rattle.pc_solver.specs.Spending.{StopSays};
 ghost use Rattle.pc_theory.specs.Edits.{IsBlankOn, IsSpentAlone};
+ghost use Rattle.pc_theory.specs.KeptBytes.{part_bytes, spent_bytes};
 ghost use Rattle.pc_theory.specs.Targets.{AreAsked};
 ghost use Rattle.pc_theory.specs.Theories.{rules_alone, IsPartNumbered, IsTheory};
 
@@ -73,7 +75,9 @@ fn search(
         p → IfOk result (AreWorldsOf asked.entry.book.now p) }
     ensures found { OnOk result
         (Finds asked.entry.book.now (place.new.tally.learned + place.new.tally.calls)
-        asked.entry.targets.now patch.old patch.new) }
+        asked.entry.targets.now patch.old.rows patch.new.rows) }
+    ensures bytes { OnOk result (patch_bytes patch.new ≤ patch_bytes patch.old +
+        part_bytes asked.entry.theory.now.components place.new) }
     ensures spends { IsSpentAlone asked.entry.book.now asked.entry.theory.now.components
         asked.entry.part place.new }
     ensures limit { place.new.tally.limit ≡ place.old.tally.limit }
@@ -107,6 +111,8 @@ pub(crate) fn find(
         AreWorldsOf state.now.book p asked.worlds }
     ensures edit { IfOk result (IsFoundOf state.now.book change.cell asked.part asked.targets.items
         budget) }
+    ensures bytes { IfOk result (λ edit. patch_bytes edit.patch ≤
+        spent_bytes state.now.theory.components edit.spending) }
     ensures refused { IfErr result (IsEntryCause state.now.book change.cell budget) }
 {
     let Asked {

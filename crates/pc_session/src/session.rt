@@ -19,7 +19,7 @@ ghost use Rattle.pc_sheet.specs.Weight.{weight};
 ghost use Rattle.pc_sheet.specs.WellFormed.{is_of_cell, IsEntryOf, IsWellFormedRule};
 ghost use Rattle.pc_sheet.specs.declared.ids.Entry.{Entry};
 ghost use Rattle.pc_session.specs.Answers.{AreSpare, AreUnused, HasPlaceFor, IsUnchanged, OthersStay, StandsAlone, Stay, Steps};
-ghost use Rattle.pc_session.specs.Arena.{IsBounded};
+ghost use Rattle.pc_session.specs.Arena.{IsBounded, IsBoundedBySpent, IsWithinSpent};
 ghost use Rattle.pc_session.specs.Causes.{IsEntryCause, IsLoadCause, IsRemovalCause};
 ghost use Rattle.pc_session.specs.Rules.{IsAddCause, IsDropCause, IsDropped};
 ghost use Rattle.pc_session.specs.RuleNames.{IsNewName};
@@ -48,7 +48,8 @@ use std::alloc::Global;
 use std::marker::Model;
 
 /// A book under edits, with a reason for each implied target. It is seen as its sheet, the budget, the tally of the last
-/// accepted edit or load, the parts, what is kept of each target, and the bytes that this counts for.
+/// accepted edit or load, the parts, what is kept of each target, the bytes that the lines of this count for, and those of the
+/// lines on which no reason rests.
 #[derive(Drop)]
 pub struct Session {
     alloc: Global,
@@ -84,6 +85,7 @@ impl Session {
         ensures consistent { IfOk result (λ _. AreRulesConsistent book) }
         ensures spends { IfOk result (λ s. IsTallyOf book None budget s.tally) }
         ensures steps { IfOk result (λ s. Steps [] s.rows s.tally) }
+        ensures bytes { IfOk result (λ s. IsWithinSpent book None s.components s.tally 0 s.bytes) }
         ensures refused { IfErr result (IsLoadCause book budget) }
     {
         let state = load_state(alloc, book, budget)?;
@@ -125,8 +127,9 @@ impl Session {
         self.state.theory.ground()
     }
 
-    /// How many bytes the lines count for in which derivations are kept: 16 each, 4 for each literal and 8 for each hint. It
-    /// takes no memory.
+    /// How many bytes the lines count for in which derivations are kept: 16 each, 4 for each literal and 8 for each hint. What
+    /// else is kept isn't counted: the places of each row's lines, and the room in blocks for the places between. It takes no
+    /// memory.
     pub fn arena_bytes(&self) -> u128
         ensures { result ≡ self.now.bytes }
     {
@@ -177,6 +180,7 @@ impl Session {
             self.new.rows) }
         ensures arena { OnOk result (IsBounded self.old.rows self.old.bytes self.new.rows
             self.new.bytes) }
+        ensures bytes { OnOk result (IsBoundedBySpent self.old cell self.new) }
         ensures steps { OnOk result (Steps self.old.rows self.new.rows self.new.tally) }
     {
         entering::enter(
@@ -211,6 +215,7 @@ impl Session {
             self.new.rows) }
         ensures arena { OnOk result (IsBounded self.old.rows self.old.bytes self.new.rows
             self.new.bytes) }
+        ensures bytes { OnOk result (IsBoundedBySpent self.old cell self.new) }
         ensures steps { OnOk result (Steps self.old.rows self.new.rows self.new.tally) }
     {
         entering::also(
@@ -246,6 +251,7 @@ impl Session {
             self.new.rows) }
         ensures arena { OnOk result (IsBounded self.old.rows self.old.bytes self.new.rows
             self.new.bytes) }
+        ensures bytes { OnOk result (IsBoundedBySpent self.old cell self.new) }
         ensures steps { OnOk result (Steps self.old.rows self.new.rows self.new.tally) }
     {
         clearing_edits();
@@ -294,6 +300,7 @@ impl Session {
             self.new.rows) }
         ensures arena { OnOk result (IsBounded self.old.rows self.old.bytes self.new.rows
             self.new.bytes) }
+        ensures bytes { OnOk result (IsBoundedBySpent self.old cell self.new) }
         ensures steps { OnOk result (Steps self.old.rows self.new.rows self.new.tally) }
     {
         removing_edits();
@@ -354,6 +361,8 @@ impl Session {
         ensures spends { OnOk result (IsTallyOf self.new.sheet None self.old.budget
             self.new.tally) }
         ensures steps { OnOk result (Steps [] self.new.rows self.new.tally) }
+        ensures bytes { OnOk result (IsWithinSpent self.new.sheet None self.new.components
+            self.new.tally 0 self.new.bytes) }
     {
         rules::add_rule(self.alloc, &mut self.state, self.budget, rule)
     }
@@ -368,6 +377,8 @@ impl Session {
         ensures spends { OnOk result (IsTallyOf self.new.sheet None self.old.budget
             self.new.tally) }
         ensures steps { OnOk result (Steps [] self.new.rows self.new.tally) }
+        ensures bytes { OnOk result (IsWithinSpent self.new.sheet None self.new.components
+            self.new.tally 0 self.new.bytes) }
     {
         rules::drop_rule(self.alloc, &mut self.state, self.budget, name)
     }

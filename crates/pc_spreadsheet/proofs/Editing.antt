@@ -38,7 +38,7 @@ state_from sheet budget = record { sheet = sheet; budget = budget }
 
 -- a refused edit leaves all but what derivations count for
 abbrev IsAsBefore : SessionView → SessionView → Type 0
-IsAsBefore s s' = s' ≡ record s { bytes = s'.bytes }
+IsAsBefore s s' = s' ≡ record s { bytes = s'.bytes; spare = s'.spare }
 
 same_pair : (s s' : SessionView) (n : Notes) → IsAsBefore s s' → pair_of (state_of s') n ≡ pair_of (state_of s) n
 same_pair s s' n same = ap (λ (v : SessionView). pair_of (state_of v) n) same

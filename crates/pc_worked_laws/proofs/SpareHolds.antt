@@ -331,26 +331,36 @@ own_part cells t of_parts has_first lacks_it =
 no_rows : (r : TargetRow) (rs : List TargetRow) → [] ≡ r ∷ rs → ⊥
 no_rows r rs e = absurd (cc)
 
-many_left : IsLeft [] 1048577 0
-many_left = inr (omega arith, omega arith)
+many_left : IsLeft 1048577 1048577 0 0
+many_left = inr (omega arith, omega arith, refl)
 
-few_left : ¬ IsUnchanged (seen 5 [] 1048576) (seen 5 [] 0)
-few_left (all, inl same) = let n : 0 ≡ 1048576 = same in absurd (omega (arith, n))
+few_left : ¬ IsUnchanged (seen 5 [] 1048576 1048576) (seen 5 [] 0 0)
+few_left (all, inl same) = let n : 0 ≡ 1048576 = same.0 in absurd (omega (arith, n))
 few_left (all, inr left) = let many : 1048576 < 1048576 = left.0 in absurd (omega (arith, many))
 
-some_more : ¬ IsUnchanged (seen 5 [] 1048577) (seen 5 [] 1)
-some_more (all, inl same) = let n : 1 ≡ 1048577 = same in absurd (omega (arith, n))
-some_more (all, inr left) = let few : 1 ≤ 0 = left.1 in absurd (omega (arith, few))
+some_more : ¬ IsUnchanged (seen 5 [] 1048577 1048577) (seen 5 [] 1 0)
+some_more (all, inl same) = let n : 1 ≡ 1048577 = same.0 in absurd (omega (arith, n))
+some_more (all, inr left) = let exact : 1 + 1048577 ≡ 1048577 = left.1 in absurd (omega (arith, exact))
+
+needed_gone : ¬ IsUnchanged (seen 5 [] 1048577 1048576) (seen 5 [] 0 0)
+needed_gone (all, inl same) = let n : 0 ≡ 1048577 = same.0 in absurd (omega (arith, n))
+needed_gone (all, inr left) = let exact : 0 + 1048576 ≡ 1048577 = left.1 in absurd (omega (arith, exact))
+
+still_spare : ¬ IsUnchanged (seen 5 [] 1048578 1048578) (seen 5 [] 1 1)
+still_spare (all, inl same) = let n : 1 ≡ 1048578 = same.0 in absurd (omega (arith, n))
+still_spare (all, inr left) = let none : 1 ≡ 0 = left.2 in absurd (omega (arith, none))
 
 pub worked_sessions : WorkedSessions
 worked_sessions = record {
   own_part = own_part;
   other_part = λ h. absurd (cc (h first_part third_red (contains_first first_part ((cell_of 2 ∷ []) ∷ [])) (contains_first (cell_of 0) (cell_of 1 ∷ [])) third_is_none));
   other_part_gains = λ h. absurd (cc (h first_part third_red (contains_first first_part ((cell_of 2 ∷ []) ∷ [])) (contains_first (cell_of 0) (cell_of 1 ∷ [])) third_is_none));
-  as_it_was = (refl, inl refl);
+  as_it_was = (refl, inl (refl, refl));
   many_dropped = (refl, many_left);
   few_dropped = few_left;
   some_added = some_more;
+  needed_dropped = needed_gone;
+  some_left = still_spare;
   row_dropped = λ h. no_rows _ _ (ap (λ (v : SessionView). v.rows) h.0);
   other_budget = λ h. let n : 6 ≡ 5 = ap (λ (v : SessionView). v.budget) h.0 in absurd (omega (arith, n));
 }

@@ -106,9 +106,9 @@ second_red = target 1 0 true
 abbrev pub third_red : Target
 third_red = target 2 0 true
 
--- with these rows, and derivations of so many bytes
-abbrev pub seen : ℕ → List TargetRow → ℕ → SessionView
-seen budget rows bytes = record { sheet = with_views; budget = budget; tally = spent 0 0; components = two_parts; rows = rows; bytes = bytes }
+-- with these rows, and derivations of so many bytes, of which no reason needs so many
+abbrev pub seen : ℕ → List TargetRow → ℕ → ℕ → SessionView
+seen budget rows bytes spare = record { sheet = with_views; budget = budget; tally = spent 0 0; components = two_parts; rows = rows; bytes = bytes; spare = spare }
 
 pub record WorkedSessions : Type 0 where
   -- an edit of the first cell may take what is kept of the second one, which is of its part, and nothing of the third
@@ -116,10 +116,12 @@ pub record WorkedSessions : Type 0 where
   pub other_part : ¬ OthersStay (cell_of 0) two_parts (with_row third_red (Some (from b_red)) ∷ []) []
   -- nor give it one
   pub other_part_gains : ¬ OthersStay (cell_of 0) two_parts [] (with_row third_red (Some (from b_red)) ∷ [])
-  -- a refused edit leaves all as it was, but that derivations that no reason needs are dropped where they are many
-  pub as_it_was : IsUnchanged (seen 5 [] 7) (seen 5 [] 7)
-  pub many_dropped : IsUnchanged (seen 5 [] 1048577) (seen 5 [] 0)
-  pub few_dropped : ¬ IsUnchanged (seen 5 [] 1048576) (seen 5 [] 0)
-  pub some_added : ¬ IsUnchanged (seen 5 [] 1048577) (seen 5 [] 1)
-  pub row_dropped : ¬ IsUnchanged (seen 5 (with_row red_here (Some (from a_red)) ∷ []) 0) (seen 5 [] 0)
-  pub other_budget : ¬ IsUnchanged (seen 5 [] 0) (seen 6 [] 0)
+  -- a refused edit leaves all as it was, but that derivations that no reason needs are dropped, all of them, where there are many
+  pub as_it_was : IsUnchanged (seen 5 [] 7 7) (seen 5 [] 7 7)
+  pub many_dropped : IsUnchanged (seen 5 [] 1048577 1048577) (seen 5 [] 0 0)
+  pub few_dropped : ¬ IsUnchanged (seen 5 [] 1048576 1048576) (seen 5 [] 0 0)
+  pub some_added : ¬ IsUnchanged (seen 5 [] 1048577 1048577) (seen 5 [] 1 0)
+  pub needed_dropped : ¬ IsUnchanged (seen 5 [] 1048577 1048576) (seen 5 [] 0 0)
+  pub some_left : ¬ IsUnchanged (seen 5 [] 1048578 1048578) (seen 5 [] 1 1)
+  pub row_dropped : ¬ IsUnchanged (seen 5 (with_row red_here (Some (from a_red)) ∷ []) 0 0) (seen 5 [] 0 0)
+  pub other_budget : ¬ IsUnchanged (seen 5 [] 0 0) (seen 6 [] 0 0)

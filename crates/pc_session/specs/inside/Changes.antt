@@ -59,7 +59,7 @@ pub record IsAskedFor (s : State) (change : Change) (asked : Asked) : Type 0 whe
 pub record IsFoundOf (book : Sheet) (c : CellId) (number : ℕ) (targets : List Target) (limit : ℕ) (edit : Edit) : Type 0 where
   pub part : edit.part ≡ number
   pub worlds : (p : Part) → IsPartNumbered (rules_alone book) number p → AreWorldsOf book p edit.worlds
-  pub each : AllZip (IsFound book (edit.spending.tally.learned + edit.spending.tally.calls)) targets edit.patch
+  pub each : AllZip (IsFound book (edit.spending.tally.learned + edit.spending.tally.calls)) targets edit.patch.rows
   pub spends : IsSpendingOf book (Some c) edit.spending
   pub spare : LearnsWithin edit.spending.tally
   pub limited : edit.spending.tally.limit ≡ limit

@@ -42,7 +42,7 @@ pub record IsMade (sheet : Sheet) (rows : List TargetRow) (c : CellId) (gone : E
   pub numbered : IsPartNumbered (rules_alone sheet) edit.part part
   pub has : Contains part.cells c.0
   pub worlds_of : AreWorldsOf (edited sheet gone added) part edit.worlds
-  pub changes_are : AreChanges sheet rows gone added part.cells edit.patch (edit.spending.tally.learned + edit.spending.tally.calls)
+  pub changes_are : AreChanges sheet rows gone added part.cells edit.patch.rows (edit.spending.tally.learned + edit.spending.tally.calls)
   pub spends : IsSpendingOf (edited sheet gone added) (Some c) edit.spending
   pub spare : LearnsWithin edit.spending.tally
   pub limited : edit.spending.tally.limit ≡ limit

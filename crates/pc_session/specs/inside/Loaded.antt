@@ -6,6 +6,7 @@ use Rattle.pc_sheet.specs.MaximalSets.{AreRulesConsistent}
 use Rattle.pc_sheet.specs.Weight.{weight}
 use Rattle.pc_books.specs.Edits.{without_rule}
 use Rattle.pc_session.specs.Answers.{Steps}
+use Rattle.pc_session.specs.Arena.{IsWithinSpent}
 use Rattle.pc_session.specs.RuleNames.{IsRuleAt}
 use Rattle.pc_session.specs.inside.Chosen.{AreChosen}
 use Rattle.pc_session.specs.inside.States.{IsState}
@@ -21,6 +22,7 @@ pub record IsLoaded (sheet : Sheet) (limit : ℕ) (s : State) : Type 0 where
   pub consistent : AreRulesConsistent sheet
   pub spends : IsTallyOf sheet None limit (counts_of s.tally)
   pub steps : Steps [] s.cache.rows (counts_of s.tally)
+  pub bytes : IsWithinSpent sheet None s.theory.components (counts_of s.tally) 0 s.cache.bytes
 
 -- the sheet without the rule of that name has been loaded
 abbrev pub IsDroppedTo : Sheet → List ℕ → ℕ → State → Type 0

@@ -1,5 +1,5 @@
 -- States of sessions.
-use Rattle.std.specs.Prelude.{◌≡◌, ℕ, Bool, List, Some}
+use Rattle.std.specs.Prelude.{◌≡◌, ◌⊎◌, ℕ, Bool, List, Some}
 use Rattle.pc_sheet.specs.Sheet.{Sheet}
 use Rattle.pc_sheet.specs.declared.ids.CellId.{CellId}
 use Rattle.pc_sheet.specs.declared.ids.Entry.{Entry}
@@ -7,7 +7,7 @@ use Rattle.pc_sheet.specs.WellFormed.{IsWellFormed}
 use Rattle.pc_justify_laws.specs.Edits.{edited, IsEditOf}
 use Rattle.pc_theory.specs.Theories.{rules_alone}
 use Rattle.pc_session.specs.Answers.{OthersStay, Stay, Steps}
-use Rattle.pc_session.specs.Arena.{IsBounded, IsLeft}
+use Rattle.pc_session.specs.Arena.{compacted, IsBounded, IsLeft, IsWithinSpent}
 use Rattle.pc_session.specs.inside.Chosen.{AreChosen}
 use Rattle.pc_session.specs.inside.Sessions.{IsSession}
 use Rattle.pc_session.specs.Views.{counts_of, none_spent, IsTallyOf, SessionView}
@@ -45,6 +45,12 @@ pub record IsSameBeside (old new : State) : Type 0 where
   pub rules : rules_alone new.book ≡ rules_alone old.book
   pub rest : record new { book = old.book } ≡ old
 
+-- its bytes are what they were, or no more than what is left when they are compacted and what was spent allows
+abbrev pub IsSpentBy : CellId → State → State → Type 0
+IsSpentBy c old new =
+    (new.cache.bytes ≡ old.cache.bytes)
+    ⊎ IsWithinSpent new.book (Some c) new.theory.components (counts_of new.tally) (compacted old.cache.rows old.cache.bytes) new.cache.bytes
+
 -- what an accepted edit of the cell's entries leaves, where some are gone
 pub record IsLeftBy (c : CellId) (gone : Entry → Bool) (old new : State) : Type 0 where
   pub state : IsState new
@@ -52,6 +58,7 @@ pub record IsLeftBy (c : CellId) (gone : Entry → Bool) (old new : State) : Typ
   pub others : OthersStay c old.theory.components old.cache.rows new.cache.rows
   pub steps : Steps old.cache.rows new.cache.rows (counts_of new.tally)
   pub bytes : IsBounded old.cache.rows old.cache.bytes new.cache.rows new.cache.bytes
+  pub spent : IsSpentBy c old new
 
 -- all is as it was, but that the derivations may have been compacted
 pub record IsSame (old new : State) : Type 0 where
@@ -59,7 +66,7 @@ pub record IsSame (old new : State) : Type 0 where
   pub theory : new.theory ≡ old.theory
   pub worlds : new.worlds.items ≡ old.worlds.items
   pub rows : new.cache.rows ≡ old.cache.rows
-  pub bytes : IsLeft old.cache.rows old.cache.bytes new.cache.bytes
+  pub bytes : IsLeft old.cache.bytes old.cache.spare new.cache.bytes new.cache.spare
   pub tally : new.tally ≡ old.tally
   pub chosen : new.chosen ≡ old.chosen
 
@@ -72,4 +79,4 @@ pub record IsSameBut (sheet : Sheet) (limit : ℕ) (old new : State) : Type 0 wh
 
 -- as a session with that budget is seen
 abbrev pub viewed : ℕ → State → SessionView
-viewed budget s = record { sheet = s.book; budget = budget; tally = counts_of s.tally; components = s.theory.components; rows = s.cache.rows; bytes = s.cache.bytes }
+viewed budget s = record { sheet = s.book; budget = budget; tally = counts_of s.tally; components = s.theory.components; rows = s.cache.rows; bytes = s.cache.bytes; spare = s.cache.spare }

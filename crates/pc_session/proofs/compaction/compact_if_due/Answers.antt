@@ -1,21 +1,21 @@
-use Rattle.std.proofs.Common.{◌+◌, ◌*◌, inl, refl, sym, ◌∙◌, ap}
+use Rattle.std.proofs.Common.{arith, ◌+◌, ◌*◌, inl, refl, sym, ◌∙◌, ap}
 use Rattle.std.specs.Prelude.{nat_lt}
 use Rattle.pc_session.proofs.Compacted.{least, left_compacted, not_due}
 use Rattle.pc_session.proofs.compaction.compact_if_due.Goals as goal
 
 pub returns-in_ok-compact-clause-ok : goal.returns-in_ok-compact-clause-ok
-returns-in_ok-compact-clause-ok c = least c.args.cache.now.rows c.args.cache.now.bytes c.compact.new.self.bytes c.in_ok-compact.ensures.bytes c.in_ok-compact.ensures.less
+returns-in_ok-compact-clause-ok c = least c.args.cache.now.rows c.args.cache.now.bytes c.compact.new.self.bytes c.in_ok-compact.ensures.few (omega (arith, c.in_ok-compact.ensures.bytes))
 
 pub returns-in_ok-compact-clause-left : goal.returns-in_ok-compact-clause-left
 returns-in_ok-compact-clause-left c =
-    left_compacted c.args.cache.now.rows c.args.cache.now.bytes c.live_bytes.result c.compact.new.self.bytes
-    (ap (nat_lt (2 * c.live_bytes.result + 1048576)) (sym c.arena_bytes.ensures) ∙ sym c.is_due.ensures ∙ c.if-is_due.true)
-    c.in_ok-compact.ensures.bytes c.in_ok-compact.ensures.less
+    left_compacted c.args.cache.now.bytes c.args.cache.now.spare c.live_bytes.result c.compact.new.self.bytes c.compact.new.self.spare
+    (ap (nat_lt (2 * c.live_bytes.result + 1048576)) (sym c.arena_bytes.ensures.exact) ∙ sym c.is_due.ensures ∙ c.if-is_due.true)
+    c.in_ok-compact.ensures.bytes c.in_ok-compact.ensures.spare
 
 pub returns-else-is_due-clause-ok : goal.returns-else-is_due-clause-ok
 returns-else-is_due-clause-ok c =
     not_due c.args.cache.now.rows c.args.cache.now.bytes c.live_bytes.result c.live_bytes.ensures
-    (ap (nat_lt (2 * c.live_bytes.result + 1048576)) (sym c.arena_bytes.ensures) ∙ sym c.is_due.ensures ∙ c.if-is_due.false)
+    (ap (nat_lt (2 * c.live_bytes.result + 1048576)) (sym c.arena_bytes.ensures.exact) ∙ sym c.is_due.ensures ∙ c.if-is_due.false)
 
 pub returns-else-is_due-clause-left : goal.returns-else-is_due-clause-left
-returns-else-is_due-clause-left c = inl refl
+returns-else-is_due-clause-left c = inl (refl, refl)

@@ -36,3 +36,6 @@ returns-clause-chosen c =
     let e = m.6 in
     let at = subst (λ b. IsPartNumbered (rules_alone b) c.args.edit.part e.part) (sym m.5.book) e.numbered in
     chosen_after m.0 s.theory m.5.session.known m.1 m.2 m.3 m.5.is_edit c.args.edit.part e.part e.numbered e.has s.chosen c.choose.new.chosen m.5.chosen s.book m.5.book (c.choose.ensures e.part at)
+
+pub returns-clause-exact : goal.returns-clause-exact
+returns-clause-exact c = c.in_ok-apply.ensures.exact

@@ -1,13 +1,16 @@
-use Rattle.std.proofs.Common.{◌+◌, ◌≤◌, ◌∙◌, arith, sym, subst}
+use Rattle.std.proofs.Common.{inr, Some, ◌+◌, ◌≤◌, ◌∙◌, arith, sym, subst}
 use Rattle.std.proofs.lemmas.Result.{IfErr-at_err, IfOk-at_ok}
 use Rattle.pc_sheet.specs.WellFormed.{IsWellFormed}
 use Rattle.pc_cache.specs.Rows.{bytes_of_rows}
+use Rattle.pc_session.specs.Arena.{compacted, IsWithinSpent}
 use Rattle.pc_session.specs.Causes.{IsEntryCause}
+use Rattle.pc_session.specs.Views.{counts_of}
 use Rattle.pc_session.specs.inside.Changes.{made_of, as_list}
 use Rattle.pc_session.specs.inside.Sessions.{IsSession}
 use Rattle.pc_session.specs.inside.States.{IsEdited, IsSameBeside}
 use Rattle.pc_session.specs.inside.Taken.{takes}
 use Rattle.pc_session.proofs.Changed.{restored, restored_same}
+use Rattle.pc_session.proofs.SpentBytes.{within_up}
 use Rattle.pc_session.proofs.Viewing.{edited_compacted, on_err, same_compacted, same_failed}
 use Rattle.pc_session.proofs.edits.edit.Goals as goal
 
@@ -41,6 +44,15 @@ returns-in-Ok-clause-bytes c =
     let new = c.make_searched.new.state in
     let few = IfOk-at_ok (λ _. new.cache.bytes ≤ c.compact_if_due.new.cache.bytes + bytes_of_rows new.cache.rows) c.in-Ok.is c.make_searched.ensures.bytes in
     omega (arith, few, c.in_ok-compact_if_due.ensures.ok)
+
+pub returns-in-Ok-clause-spent : goal.returns-in-Ok-clause-spent
+returns-in-Ok-clause-spent c =
+    let s = c.args.state.now in
+    let cell = c.args.change.cell in
+    let mid = c.compact_if_due.new.cache in
+    let new = c.make_searched.new.state in
+    let within = IfOk-at_ok (λ _. IsWithinSpent new.book (Some cell) new.theory.components (counts_of new.tally) mid.bytes new.cache.bytes) c.in-Ok.is c.make_searched.ensures.spent in
+    inr (within_up new.book (Some cell) new.theory.components (counts_of new.tally) mid.bytes (compacted s.cache.rows s.cache.bytes) new.cache.bytes c.in_ok-compact_if_due.ensures.ok within)
 
 -- ---- the old entries are put back
 

@@ -1,8 +1,14 @@
-use Rattle.std.proofs.Common.{refl, sym, subst}
+use Rattle.std.proofs.Common.{Some, ap, refl, sym, ◌∙◌, subst}
+use Rattle.pc_components.specs.View.{Kept}
+use Rattle.pc_theory.specs.Spendings.{IsSpendingOf}
+use Rattle.pc_theory.specs.Theories.{TheoryView}
+use Rattle.pc_session.specs.Arena.{IsWithinSpent}
+use Rattle.pc_session.specs.Views.{counts_of}
 use Rattle.pc_session.specs.inside.Changes.{as_list}
 use Rattle.pc_session.specs.inside.States.{IsSameBeside}
 use Rattle.pc_session.specs.inside.Taken.{takes}
 use Rattle.pc_session.proofs.Making.{asked_new, known_new, made, numbered_new, numbered_old}
+use Rattle.pc_session.proofs.SpentBytes.{within_put}
 use Rattle.pc_session.proofs.Viewing.{on_err}
 use Rattle.pc_session.proofs.edits.make_searched.Goals as goal
 
@@ -53,3 +59,19 @@ returns-in_err-edit-clause-kept c = on_err c.from_residual-in_err-edit.result (r
 
 pub returns-in_err-put_in_place-clause-kept : goal.returns-in_err-put_in_place-clause-kept
 returns-in_err-put_in_place-clause-kept c = on_err c.from_residual-in_err-put_in_place.result (subst (IsSameBeside c.args.state.now) (sym c.in_err-put_in_place.ensures.kept) (record { rules = c.make.ensures.rules; rest = refl }))
+
+pub returns-clause-spent : goal.returns-clause-spent
+returns-clause-spent c =
+    let a = c.args in
+    let s = a.state.now in
+    let new = c.put_in_place.new.state in
+    let edit = c.in_ok-edit.edit in
+    let put = c.in_ok-put_in_place.ensures in
+    let done = put.done s.book a.change.cell (takes a.change.taken) (as_list a.change.added) a.budget
+    (record { formed = c.requires.formed; session = c.requires.state; chosen = c.requires.chosen; is_edit = c.requires.change.is_edit; book = c.in_ok-make.ensures.book })
+    (made s a.change a.asked c.requires.asked c.requires.state c.make.new.book c.in_ok-make.ensures.book a.budget edit c.in_ok-edit.ensures.edit)
+    in
+    let spends = subst (λ b. IsSpendingOf b (Some a.change.cell) edit.spending) (c.in_ok-make.ensures.book ∙ sym done.sheet_is) c.in_ok-edit.ensures.edit.spends in
+    let components : TheoryView → Kept = λ t. t.components in
+    subst (λ k. IsWithinSpent new.book (Some a.change.cell) k (counts_of new.tally) s.cache.bytes new.cache.bytes) (ap components (sym c.put_in_place.ensures.theory))
+    (within_put new.book (Some a.change.cell) s.theory.components new.tally edit.spending edit.patch s.cache.bytes new.cache.bytes spends put.tally put.exact c.in_ok-edit.ensures.bytes)

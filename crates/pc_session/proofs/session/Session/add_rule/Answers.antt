@@ -5,6 +5,7 @@ use Rattle.pc_sheet.specs.Views.{rule_of}
 use Rattle.pc_sheet.specs.Weight.{weight}
 use Rattle.pc_sheet.specs.MaximalSets.{AreRulesConsistent}
 use Rattle.pc_sheet.specs.WellFormed.{IsWellFormedRule}
+use Rattle.pc_session.specs.Arena.{IsWithinSpent}
 use Rattle.pc_session.specs.Rules.{IsAddCause}
 use Rattle.pc_session.specs.RuleNames.{IsNewName}
 use Rattle.pc_session.specs.Views.{IsTallyOf, SessionView, counts_of}
@@ -65,3 +66,8 @@ returns-clause-spends c =
 pub returns-clause-steps : goal.returns-clause-steps
 returns-clause-steps c =
     on_ok_weaker c.add_rule.result (λ l. l.steps) c.add_rule.ensures.loaded
+
+pub returns-clause-bytes : goal.returns-clause-bytes
+returns-clause-bytes c =
+    let new = c.add_rule.new.state in
+    on_ok_weaker c.add_rule.result (λ l. subst (λ b. IsWithinSpent b None new.theory.components (counts_of new.tally) 0 new.cache.bytes) (sym l.book) l.bytes) c.add_rule.ensures.loaded

@@ -7,7 +7,7 @@ use Rattle.pc_components.specs.View.{Kept}
 use Rattle.pc_justify_laws.specs.Edits.{takes_none}
 use Rattle.pc_theory.specs.Theories.{TheoryView}
 use Rattle.pc_session.specs.Answers.{HasPlaceFor, OthersStay, Stay, Steps}
-use Rattle.pc_session.specs.Arena.{IsBounded}
+use Rattle.pc_session.specs.Arena.{IsBounded, IsBoundedBySpent}
 use Rattle.pc_session.specs.Causes.{IsEntryCause}
 use Rattle.pc_session.specs.inside.States.{viewed}
 use Rattle.pc_session.specs.Views.{IsTallyOf, SessionView, counts_of, none_spent}
@@ -94,3 +94,8 @@ returns-clause-arena c =
     let o = c.self.inside.state in
     let P : SessionView → Type 0 = λ v. OnOk c.also.result (IsBounded v.rows v.bytes c.also.new.state.cache.rows c.also.new.state.cache.bytes) in
     subst P c.self.view_is (on_ok_weaker c.also.result (λ left. left.bytes) c.also.ensures.left)
+
+pub returns-clause-bytes : goal.returns-clause-bytes
+returns-clause-bytes c =
+    let P : SessionView → Type 0 = λ v. OnOk c.also.result (IsBoundedBySpent v c.args.cell (viewed c.self.inside.budget c.also.new.state)) in
+    subst P c.self.view_is (on_ok_weaker c.also.result (λ left. left.spent) c.also.ensures.left)

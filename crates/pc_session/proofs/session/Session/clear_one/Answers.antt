@@ -7,7 +7,7 @@ use Rattle.pc_components.specs.View.{Kept}
 use Rattle.pc_justify_laws.specs.Edits.{edited}
 use Rattle.pc_theory.specs.Theories.{TheoryView}
 use Rattle.pc_session.specs.Answers.{AreSpare, AreUnused, OthersStay, Stay, Steps}
-use Rattle.pc_session.specs.Arena.{IsBounded}
+use Rattle.pc_session.specs.Arena.{IsBounded, IsBoundedBySpent}
 use Rattle.pc_session.specs.Causes.{IsRemovalCause}
 use Rattle.pc_session.specs.inside.States.{viewed}
 use Rattle.pc_session.specs.Views.{IsTallyOf, SessionView, counts_of, none_spent}
@@ -104,3 +104,8 @@ pub returns-clause-arena : goal.returns-clause-arena
 returns-clause-arena c =
     let P : SessionView → Type 0 = λ v. OnOk c.remove.result (IsBounded v.rows v.bytes c.remove.new.state.cache.rows c.remove.new.state.cache.bytes) in
     subst P c.self.view_is (on_ok_weaker c.remove.result (λ left. left.bytes) c.remove.ensures.left)
+
+pub returns-clause-bytes : goal.returns-clause-bytes
+returns-clause-bytes c =
+    let P : SessionView → Type 0 = λ v. OnOk c.remove.result (IsBoundedBySpent v c.args.cell (viewed c.self.inside.budget c.remove.new.state)) in
+    subst P c.self.view_is (on_ok_weaker c.remove.result (λ left. left.spent) c.remove.ensures.left)

@@ -1,5 +1,6 @@
 use Rattle.std.proofs.Common.{◌≡◌, IfErr, None, OnOk, refl, sym, subst}
 use Rattle.std.proofs.lemmas.Result.{on_ok_weaker, on_err_weaker}
+use Rattle.pc_session.specs.Arena.{IsWithinSpent}
 use Rattle.pc_session.specs.Rules.{IsDropCause, IsDropped}
 use Rattle.pc_session.specs.RuleNames.{IsNewName}
 use Rattle.pc_session.specs.Views.{IsTallyOf, SessionView, counts_of}
@@ -42,3 +43,8 @@ returns-clause-spends c =
 pub returns-clause-steps : goal.returns-clause-steps
 returns-clause-steps c =
     on_ok_weaker c.drop_rule.result (λ l. l.2.steps) c.drop_rule.ensures.loaded
+
+pub returns-clause-bytes : goal.returns-clause-bytes
+returns-clause-bytes c =
+    let new = c.drop_rule.new.state in
+    on_ok_weaker c.drop_rule.result (λ l. subst (λ b. IsWithinSpent b None new.theory.components (counts_of new.tally) 0 new.cache.bytes) (sym l.2.book) l.2.bytes) c.drop_rule.ensures.loaded

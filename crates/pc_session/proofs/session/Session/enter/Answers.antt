@@ -6,7 +6,7 @@ use Rattle.pc_books.specs.Edits.{entered, is_rival}
 use Rattle.pc_components.specs.View.{Kept}
 use Rattle.pc_theory.specs.Theories.{TheoryView}
 use Rattle.pc_session.specs.Answers.{OthersStay, StandsAlone, Stay, Steps}
-use Rattle.pc_session.specs.Arena.{IsBounded}
+use Rattle.pc_session.specs.Arena.{IsBounded, IsBoundedBySpent}
 use Rattle.pc_session.specs.Causes.{IsEntryCause}
 use Rattle.pc_session.specs.inside.States.{viewed}
 use Rattle.pc_session.specs.Views.{IsTallyOf, SessionView, counts_of, none_spent}
@@ -81,3 +81,8 @@ pub returns-clause-arena : goal.returns-clause-arena
 returns-clause-arena c =
     let P : SessionView → Type 0 = λ v. OnOk c.enter.result (IsBounded v.rows v.bytes c.enter.new.state.cache.rows c.enter.new.state.cache.bytes) in
     subst P c.self.view_is (on_ok_weaker c.enter.result (λ left. left.bytes) c.enter.ensures.left)
+
+pub returns-clause-bytes : goal.returns-clause-bytes
+returns-clause-bytes c =
+    let P : SessionView → Type 0 = λ v. OnOk c.enter.result (IsBoundedBySpent v c.args.cell (viewed c.self.inside.budget c.enter.new.state)) in
+    subst P c.self.view_is (on_ok_weaker c.enter.result (λ left. left.spent) c.enter.ensures.left)

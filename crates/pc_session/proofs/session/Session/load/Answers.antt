@@ -17,3 +17,6 @@ returns-clause-spends c = c.in_ok-state.ensures.loaded.spends
 
 pub returns-clause-steps : goal.returns-clause-steps
 returns-clause-steps c = c.in_ok-state.ensures.loaded.steps
+
+pub returns-clause-bytes : goal.returns-clause-bytes
+returns-clause-bytes c = c.in_ok-state.ensures.loaded.bytes
