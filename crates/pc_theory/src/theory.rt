@@ -50,10 +50,10 @@ impl Theory {
     }
 
     /// Gives the clauses of the rules back. It takes no memory.
-    pub fn put_ground(&mut self, ground: Ground)
-        ensures { self.new ≡ record self.old { ground = ground } }
+    pub fn put_ground(&mut self, back: Ground)
+        ensures { self.new ≡ record self.old { ground = back } }
     {
-        self.ground = ground;
+        self.ground = back;
     }
 
     /// The parts. It takes no memory.
