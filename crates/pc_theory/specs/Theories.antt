@@ -25,6 +25,10 @@ pub record TheoryView : Type 0 where
   -- a value for each cell
   pub base : List ValueId
 
+-- the same with other clauses
+abbrev pub with_ground : Grounded → TheoryView → TheoryView
+with_ground g t = record t { ground = g }
+
 -- Of a sheet without entries: the clauses of its rules with their names, its parts, which divide it, the axioms of each that searches
 -- take, and an assignment that fits. All of it is of the rules alone, so that it stays when entries change.
 pub record IsTheory (rules : Sheet) (theory : TheoryView) : Type 0 where

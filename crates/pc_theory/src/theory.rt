@@ -5,7 +5,7 @@ ghost use Rattle.pc_ground.specs.Grounded.{no_ground};
 ghost use Rattle.pc_parts.specs.Parts.{Part};
 ghost use Rattle.pc_sheet.specs.Limits.{most_cells};
 ghost use Rattle.pc_sheet.specs.Entailment.{cell_sizes};
-ghost use Rattle.pc_theory.specs.Theories.{rules_alone, IsPartNumbered, IsTheory};
+ghost use Rattle.pc_theory.specs.Theories.{rules_alone, with_ground, IsPartNumbered, IsTheory};
 
 use pc_books::{Assignment, Book, few_cells};
 use pc_components::Components;
@@ -44,14 +44,14 @@ impl Theory {
     /// Takes the clauses of the rules away, to be given back: none are left. It takes no memory.
     pub fn take_ground(&mut self, alloc: Global) -> Ground
         ensures ground { result ≡ self.old.ground }
-        ensures rest { self.new ≡ record self.old { ground = no_ground } }
+        ensures rest { self.new ≡ with_ground no_ground self.old }
     {
         replace(&mut self.ground, Ground::none(alloc))
     }
 
     /// Gives the clauses of the rules back. It takes no memory.
     pub fn put_ground(&mut self, back: Ground)
-        ensures { self.new ≡ record self.old { ground = back } }
+        ensures { self.new ≡ with_ground back self.old }
     {
         self.ground = back;
     }
