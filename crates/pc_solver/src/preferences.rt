@@ -114,6 +114,13 @@ impl Preferences {
         }
     }
 
+    /// Another search made this literal true.
+    pub fn expect(&mut self, own: &[Var], lit: Lit) {
+        if let Some(place) = self.places.of(own, lit.variable) {
+            self.signs.expect(place, lit.sign);
+        }
+    }
+
     /// The set of assumptions with this name is asked about next.
     pub fn turn_to(&mut self, name: u64) {
         self.signs.turn_to(name);

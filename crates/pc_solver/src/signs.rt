@@ -53,6 +53,8 @@ pub struct Signs {
     // whether variables keep the signs that they had, and whether an answer has come
     keeps: bool,
     has_answer: bool,
+    // of how many variables another search has told the sign
+    expected: usize,
 }
 
 impl Signs {
@@ -76,6 +78,7 @@ impl Signs {
             is_due: false,
             keeps: false,
             has_answer: false,
+            expected: 0,
         })
     }
 
@@ -105,6 +108,20 @@ impl Signs {
     pub fn set(&mut self, place: usize, sign: bool) {
         if self.keeps && place < self.signs.len() {
             self.signs[place] = sign;
+        }
+    }
+
+    /// The last answer of another search over these variables gave the one at this place this sign: it is as if that answer had come
+    /// here, once all have signs.
+    pub fn expect(&mut self, place: usize, sign: bool) {
+        if place < self.signs.len() && place < self.last.len() {
+            self.signs[place] = sign;
+            self.last[place] = sign;
+            self.expected = self.expected.saturating_add(1);
+            if self.expected >= self.signs.len() {
+                self.keeps = true;
+                self.has_answer = true;
+            }
         }
     }
 

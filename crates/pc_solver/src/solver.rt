@@ -13,7 +13,7 @@ ghost use Rattle.pc_solver.specs.Solver.{SolverView, IsProblem, AreOwn, HasLog, 
 
 use crate::Preferences;
 use crate::clauses::Clauses;
-use crate::decisions::note_answer;
+use crate::decisions::{expect_again, note_answer};
 use crate::outcome::Outcome;
 use crate::search::Search;
 use pc_lits::{ClauseStore, Lit, Tally, Var};
@@ -92,10 +92,11 @@ impl<'g> Solver<'g> {
         ensures log { IfOk result (λ s. HasLog s []) }
     {
         let clauses = Clauses::new(alloc, axioms, used, own)?;
+        let mut preferences = Preferences::new(alloc, own)?;
+        expect_again(&trail, own, &mut preferences);
         let mut trail = trail;
         trail.clear();
         attach_used(axioms, used, own, &mut trail)?;
-        let mut preferences = Preferences::new(alloc, own)?;
         raise_used(axioms, used, own, &mut preferences);
         let search = Search {
             alloc,
