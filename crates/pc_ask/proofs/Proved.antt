@@ -20,7 +20,7 @@ use Rattle.pc_sheet.specs.declared.ids.Entry.{Entry}
 use Rattle.pc_accept.specs.Accepts.{FitsOthers}
 use Rattle.pc_accept.specs.Laws.{ShowsOthers}
 use Rattle.pc_accept.specs.Writable.{IsSetOf}
-use Rattle.pc_analyze.specs.Learning.{IsOverNegated}
+use Rattle.pc_lits.specs.Clauses.{IsOverNegated}
 use Rattle.pc_accept.specs.Asked.{denial, asked}
 use Rattle.pc_world_list.specs.RuleCertificates.{GoesAgainst}
 use Rattle.pc_components.specs.Pairs.{entry_literal}

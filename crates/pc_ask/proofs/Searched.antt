@@ -18,7 +18,7 @@ use Rattle.pc_sheet.specs.WellFormed.{IsWellFormed}
 use Rattle.pc_sheet.specs.declared.ids.CellId.{CellId}
 use Rattle.pc_sheet.specs.declared.ids.Entry.{Entry}
 use Rattle.pc_sheet.specs.declared.ids.ValueId.{ValueId}
-use Rattle.pc_analyze.specs.Learning.{IsOverNegated, IsSubclause}
+use Rattle.pc_lits.specs.Clauses.{IsOverNegated, IsSubclause}
 use Rattle.pc_ground.specs.Ground.{clauses}
 use Rattle.pc_ground.specs.GroundView.{Grounded}
 use Rattle.pc_ground.specs.Grounded.{grounded}
@@ -42,7 +42,7 @@ use Rattle.pc_solver.specs.InLog.{clause_on}
 use Rattle.pc_solver.specs.New.{IsLearnedAt}
 use Rattle.pc_solver.specs.Solver.{AreOwn, HasLog, IsLawfulLog, IsProblem, IsSolverLog, Problem, SolverView, Spends, clauses_used}
 use Rattle.pc_solver.specs.Spending.{SpendsIn}
-use Rattle.pc_support.proofs.SpendingLemmas.{spends_none, spends_on, spends_one}
+use Rattle.pc_solver.proofs.SpendingLemmas.{spends_none, spends_on, spends_one}
 use Rattle.pc_theory.specs.WholeSpendings.{all_axioms, all_variables, variable_of}
 use Rattle.pc_repairs.specs.Searches.{IsWholeSearch, whole_problem}
 use Rattle.pc_repairs.proofs.Asked.{is_number}

@@ -6,7 +6,7 @@ use Rattle.pc_ask.specs.inside.Ways.{most_tried}
 use Rattle.pc_lits.specs.declared.tally.Tally.{Tally}
 use Rattle.pc_log.specs.Lines.{LogLine}
 use Rattle.pc_solver.specs.Spending.{SpendsIn}
-use Rattle.pc_support.proofs.SpendingLemmas.{once_more, up_to_all}
+use Rattle.pc_solver.proofs.SpendingLemmas.{once_more, up_to_all}
 
 pub still_low : (own most low high : ℕ) (a b : Tally) (log grown : List LogLine) → SpendsIn own most a b log grown → a.limit < 2 ^ 64 → most < 2 ^ 114 → low + 2 ^ 115 ≤ high → a.learned < low → a.calls < low → (b.learned < high) × (b.calls < high)
 still_low own most low high a b log grown s limit few room learned calls = (

@@ -16,7 +16,7 @@ use Rattle.pc_parts.specs.Pieces.{Piece, piece, pieces, ReadsCell}
 use Rattle.pc_parts.specs.Parts.{Part, IsFiltered}
 use Rattle.pc_parts.specs.Components.{parts_of}
 use Rattle.pc_parts.specs.PartSheets.{sheet_of}
-use Rattle.pc_analyze.specs.Learning.{IsOverNegated}
+use Rattle.pc_lits.specs.Clauses.{IsOverNegated}
 use Rattle.pc_ground.specs.Ground.{clauses}
 use Rattle.pc_ground.specs.Naming.{names_of}
 use Rattle.pc_components.specs.Pairs.{entry_literal}

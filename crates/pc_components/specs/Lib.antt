@@ -7,3 +7,4 @@ pub mod Pairs
 pub mod Labels
 pub mod Traversal
 pub mod inside
+pub mod Blocks

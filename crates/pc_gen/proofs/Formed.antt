@@ -20,7 +20,7 @@ use Rattle.pc_sheet.specs.declared.ids.CellId.{CellId}
 use Rattle.pc_sheet.specs.declared.ids.Entry.{Entry}
 use Rattle.pc_books.proofs.EntryLemmas.{pairs_head, pairs_tail}
 use Rattle.pc_gen.specs.Sheet.{sort, generated_universe, in_slot, chain, other, entry, block_entries, generated_entries, generated_sheet}
-use Rattle.pc_gen.proofs.Names.{both, small_name}
+use Rattle.pc_name.proofs.Letters.{both, small_name}
 
 -- ---- names
 

@@ -1,7 +1,7 @@
 -- What kept axioms are worth.
 use Rattle.std.specs.Prelude.{◌≡◌, ℕ, ◌<◌, List, sum, map, Some, slice_get, AllPairs, Contains}
 use Rattle.pc_lits.specs.declared.literal.Lit.{Lit}
-use Rattle.pc_analyze.specs.Learning.{IsSubclause}
+use Rattle.pc_lits.specs.Clauses.{IsSubclause}
 use Rattle.pc_sheet.specs.Sheet.{Sheet}
 use Rattle.pc_sheet.specs.Entailment.{cell_sizes}
 use Rattle.pc_sheet.specs.WellFormed.{IsWellFormed}

@@ -27,7 +27,7 @@ use Rattle.pc_solver.specs.Answers.{Meets, truth_in}
 use Rattle.pc_solver.specs.Solver.{SolverView, AreOwn, clauses_used}
 use Rattle.pc_theory.specs.WholeSpendings.{all_axioms, all_variables}
 use Rattle.pc_world_list.specs.Worlds.{WorldView, AreExact, set_of, set_at}
-use Rattle.pc_worlds.specs.Sheets.{IsBlockOf}
+use Rattle.pc_components.specs.Blocks.{IsBlockOf}
 use Rattle.pc_repairs.specs.Blocks.{block_for, blocks_for}
 use Rattle.pc_repairs.specs.Searches.{whole_problem}
 use Rattle.pc_repairs.specs.inside.Walks.{outside_by}

@@ -15,7 +15,7 @@ use Rattle.pc_sheet.specs.Entailment.{cell_sizes}
 use Rattle.pc_sheet.specs.MaximalSets.{IsMaximalSet}
 use Rattle.pc_sheet.specs.declared.ids.CellId.{CellId}
 use Rattle.pc_sheet.specs.declared.ids.Entry.{Entry}
-use Rattle.pc_analyze.specs.Learning.{IsOverNegated}
+use Rattle.pc_lits.specs.Clauses.{IsOverNegated}
 use Rattle.pc_ground.specs.Ground.{clauses}
 use Rattle.pc_ground.specs.GroundView.{Grounded}
 use Rattle.pc_ground.specs.Grounded.{grounded}
@@ -25,9 +25,9 @@ use Rattle.pc_problem.specs.Laws.{AreSearchedBy, WholeIsSearched}
 use Rattle.pc_solver.specs.InLog.{clause_on}
 use Rattle.pc_solver.specs.Solver.{Spends, Problem, SolverView, HasLog, IsProblem, IsLawfulLog, IsSolverLog}
 use Rattle.pc_solver.specs.Spending.{SpendsIn, marked}
-use Rattle.pc_support.proofs.SpendingLemmas.{spends_none, spends_one, spends_on}
+use Rattle.pc_solver.proofs.SpendingLemmas.{spends_none, spends_one, spends_on}
 use Rattle.pc_theory.specs.WholeSpendings.{all_axioms, all_variables, variable_of, IsWholeLog, IsWholeSpending}
-use Rattle.pc_worlds.specs.Sheets.{IsBlockOf}
+use Rattle.pc_components.specs.Blocks.{IsBlockOf}
 use Rattle.pc_repairs.specs.Searches.{whole_problem, IsRefutedAt, IsWholeSearch}
 use Rattle.pc_repairs.specs.inside.Asking.{IsAsked}
 use Rattle.pc_repairs.specs.inside.Tasks.{IsTask}

@@ -20,7 +20,7 @@ use Rattle.pc_lits.specs.Steps.{IsGoodStep, IsTautology}
 use Rattle.pc_lemmas.proofs.Elements.{contains_mapped, contains_cases}
 use Rattle.std.proofs.lemmas.List.Elements.{All-push, All-contains, Contains-append_left, Contains-push, Contains-push_cases}
 use Rattle.pc_log.specs.Derivations.{clause_of_line, hinted_clauses}
-use Rattle.pc_analyze.specs.Learning.{IsSubclause}
+use Rattle.pc_lits.specs.Clauses.{IsSubclause}
 use Rattle.pc_solver.specs.New.{AreNewClauses, HasNoForced, ContainNone}
 use Rattle.pc_solver.proofs.NewLemmas.{line_cases, learned_cases, learned_within, new_learned, avoid_learned}
 use Rattle.pc_propagate.specs.TrailView.{TrailView}

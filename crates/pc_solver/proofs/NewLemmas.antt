@@ -11,7 +11,7 @@ use Rattle.pc_lits.specs.Steps.{IsTautology}
 use Rattle.pc_log.specs.declared.log.StepId.{StepId}
 use Rattle.pc_log.specs.Lines.{LogLine, AxiomLine, BlockLine, StepLine}
 use Rattle.pc_log.specs.Derivations.{clause_of_line}
-use Rattle.pc_analyze.specs.Learning.{IsSubclause}
+use Rattle.pc_lits.specs.Clauses.{IsSubclause}
 use Rattle.pc_solver.specs.InLog.{LogGrows, is_marked}
 use Rattle.pc_solver.specs.New.{IsLearnedAt, AreNewClauses, HasNoForced, AvoidForced, ContainNone}
 

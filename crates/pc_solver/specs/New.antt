@@ -5,7 +5,7 @@ use Rattle.pc_lits.specs.Literals.{negated}
 use Rattle.pc_lits.specs.Steps.{IsTautology}
 use Rattle.pc_log.specs.declared.log.StepId.{StepId}
 use Rattle.pc_log.specs.Lines.{LogLine, BlockLine, StepLine}
-use Rattle.pc_analyze.specs.Learning.{IsSubclause}
+use Rattle.pc_lits.specs.Clauses.{IsSubclause}
 use Rattle.pc_solver.specs.Forced.{IsForced}
 
 -- the line at this place is marked as learned, and has this clause

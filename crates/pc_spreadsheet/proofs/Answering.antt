@@ -9,7 +9,7 @@ use Rattle.pc_sheet.specs.declared.formula.Rule.{Rule}
 use Rattle.pc_elaborate.proofs.FormulaTold.{statement_of-Not}
 use Rattle.std.proofs.lemmas.List.{length-append}
 use Rattle.pc_name.specs.Names.{IsName}
-use Rattle.pc_gen.proofs.Names.{small_name}
+use Rattle.pc_name.proofs.Letters.{small_name}
 use Rattle.pc_formula.specs.Tree as written
 use Rattle.pc_syntax.specs.Tree.{not, asks_ask}
 use Rattle.pc_lits.specs.declared.tally.Tally.{Tally}

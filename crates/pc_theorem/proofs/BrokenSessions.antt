@@ -10,7 +10,7 @@ use Rattle.pc_syntax.specs.Command.{IsCommandReading, asks}
 use Rattle.pc_canonical_laws.proofs.Cuts.{Cuts, done}
 use Rattle.pc_canonical_laws.proofs.Cutting.{nothing, cut_name}
 use Rattle.pc_canonical_laws.proofs.Lines.{cuts_to_end}
-use Rattle.pc_gen.proofs.Names.{small_name}
+use Rattle.pc_name.proofs.Letters.{small_name}
 use Rattle.pc_writer.specs.SheetText.{ended}
 use Rattle.pc_repairs.specs.Listed.{ListedPart, listing_text}
 use Rattle.pc_refusals.specs.declared.status.Status.{Status}

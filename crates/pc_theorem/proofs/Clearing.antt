@@ -32,7 +32,7 @@ use Rattle.pc_canonical_laws.proofs.Signs.{cut_comma, cut_open, cut_close}
 use Rattle.pc_gen.specs.Text.{up_to}
 use Rattle.pc_gen.specs.Sheet.{sort, generated_universe, entry, block_entries, generated_entries, generated_sheet}
 use Rattle.pc_gen.proofs.Formed.{block_size}
-use Rattle.pc_gen.proofs.Names.{small_name}
+use Rattle.pc_name.proofs.Letters.{small_name}
 use Rattle.pc_refusals.specs.declared.status.Status.TheVariants.{Done}
 use Rattle.pc_transcript.specs.Answer.{Answer, silent, accepted, shown, refused, no_memory, is_refused, is_no_memory}
 use Rattle.pc_transcript.specs.Transcript.{Transcript, Legal, lines, worse_of, status_of}

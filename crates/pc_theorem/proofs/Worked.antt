@@ -14,7 +14,7 @@ use Rattle.pc_syntax.specs.Command.{IsCommandReading, asks}
 use Rattle.pc_canonical_laws.proofs.Cuts.{Cuts, done}
 use Rattle.pc_canonical_laws.proofs.Cutting.{nothing, cut_name}
 use Rattle.pc_canonical_laws.proofs.Lines.{cuts_to_end}
-use Rattle.pc_gen.proofs.Names.{small_name}
+use Rattle.pc_name.proofs.Letters.{small_name}
 use Rattle.pc_collab.specs.Journal.{Post, IsOneLine, IsPost, AreNumberedByAuthor, IsJournal}
 use Rattle.pc_collab.proofs.Numbered.{numbered_push}
 use Rattle.pc_collab.specs.Merge.{IsMerge}

@@ -29,7 +29,7 @@ use Rattle.pc_components.specs.Used.{MeetsUsed, HasValues}
 use Rattle.pc_components.specs.View.{Kept, number_of}
 use Rattle.pc_justify_laws.specs.Found.{clause_at_place, HasNoBlock}
 use Rattle.pc_justify_laws.specs.Laws.{OwnLinesAreNamed}
-use Rattle.pc_analyze.specs.Learning.{IsOverNegated}
+use Rattle.pc_lits.specs.Clauses.{IsOverNegated}
 use Rattle.pc_solver.specs.Answers.{truth_in, MeetsEach}
 use Rattle.pc_solver.specs.Solver.{Problem, SolverView, SuspendedView, SuspendedHasLog, IsProblem, IsSolverLog, HasLog, Spends, clauses_used}
 use Rattle.pc_solver.specs.Spending.{marked}

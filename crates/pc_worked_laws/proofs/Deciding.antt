@@ -10,7 +10,7 @@ use Rattle.pc_lits.specs.Steps.{IsTautology, IsLastOpen, Refutes, IsGoodStep}
 use Rattle.pc_propagate.specs.declared.trail.TrailEntry.{TrailEntry}
 use Rattle.pc_propagate.specs.Entries.{falses}
 use Rattle.pc_propagate.specs.Propagation.{IsSettled}
-use Rattle.pc_analyze.specs.Learning.{IsSubclause}
+use Rattle.pc_lits.specs.Clauses.{IsSubclause}
 use Rattle.pc_lemmas.proofs.Elements.{contains_first, contains_later, contains_cases, contains_none, all_from}
 
 -- what isn't so, where it is decided

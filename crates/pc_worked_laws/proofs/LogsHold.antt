@@ -16,13 +16,13 @@ use Rattle.pc_sheet.specs.MaximalSets.{IsMaximalSet}
 use Rattle.pc_sheet.specs.declared.ids.Entry.{Entry}
 use Rattle.pc_laws.specs.Examples.{red, green, entry, equal_cells}
 use Rattle.pc_components.specs.Pairs.{entry_literal}
-use Rattle.pc_analyze.specs.Learning.{IsSubclause}
+use Rattle.pc_lits.specs.Clauses.{IsSubclause}
 use Rattle.pc_solver.specs.Clauses.{IsOverOwn}
 use Rattle.pc_solver.specs.InLog.{AreAxiomsOnce, AreStepsOver, AreStepsShort, IsShort}
 use Rattle.pc_solver.specs.New.{IsLearnedAt, AreNewClauses}
 use Rattle.pc_solver.specs.Solver.{Problem, IsLawfulLog, clauses_used}
 use Rattle.pc_worlds.specs.Parts.{IsListingLog}
-use Rattle.pc_worlds.specs.Sheets.{IsBlockOf}
+use Rattle.pc_components.specs.Blocks.{IsBlockOf}
 use Rattle.pc_lemmas.proofs.Elements.{contains_first, contains_cases, contains_none, contains_map}
 use Rattle.pc_worked_laws.specs.Trails.{plus, minus}
 use Rattle.pc_worked_laws.specs.Logs.{equal_clauses, all_variables, equal_problem, learned_by, green_block, good_log, with_hint_missing, with_later_hint, with_tautology, with_axiom_learned, with_clause_twice, with_block_learned, with_large_block, with_foreign_variable, WorkedNewClauses, WorkedLawfulLogs, WorkedListingLogs, all_axioms, with_axiom_twice, hint_again, with_hint_again, WorkedSmallLogs}

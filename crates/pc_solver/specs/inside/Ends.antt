@@ -17,7 +17,7 @@ use Rattle.pc_solver.specs.declared.learning.Learnt.{Learnt}
 use Rattle.pc_solver.specs.declared.learning.Learnt.TheVariants.{Asserting, Restarted}
 use Rattle.pc_propagate.specs.Entries.{literals, falses, HasValue}
 use Rattle.pc_propagate.specs.Refs.{clause_at}
-use Rattle.pc_analyze.specs.Learning.{IsOverNegated}
+use Rattle.pc_lits.specs.Clauses.{IsOverNegated}
 use Rattle.pc_solver.specs.declared.decisions.Next.{Next}
 use Rattle.pc_solver.specs.declared.decisions.Next.TheVariants.{Place, Failed, Done}
 use Rattle.pc_solver.specs.declared.outcome.Outcome.{Outcome}

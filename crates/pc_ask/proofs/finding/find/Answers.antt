@@ -1,7 +1,7 @@
 use Rattle.std.proofs.Common.{◌+◌, ◌*◌, ◌^◌, Vec, Global, length, arith, subst, sym}
 use Rattle.pc_sheet.specs.declared.ids.Entry.{Entry}
 use Rattle.pc_support.proofs.NarrowingLemmas.{at_none, at_some}
-use Rattle.pc_support.proofs.SpendingLemmas.{spends_on}
+use Rattle.pc_solver.proofs.SpendingLemmas.{spends_on}
 use Rattle.pc_ask.specs.inside.Choices.{ways_of, AreNarrowed, tried_of}
 use Rattle.pc_ask.specs.inside.Finding.{IsExplained}
 use Rattle.pc_ask.proofs.Searched.{within_more}

@@ -1,5 +1,5 @@
 use Rattle.std.proofs.Common.{◌≡◌, ◌-◌, ◌*◌, ◌^◌, length, arith, subst}
-use Rattle.pc_support.proofs.SpendingLemmas.{one_more_place, spends_on, up_to_all, up_to_here}
+use Rattle.pc_solver.proofs.SpendingLemmas.{one_more_place, spends_on, up_to_all, up_to_here}
 use Rattle.pc_ask.specs.inside.Choices.{ways_of, AreNarrowed, tried_of}
 use Rattle.pc_ask.proofs.Searched.{none_spent, within_more}
 use Rattle.pc_ask.proofs.Spent.{few_left, still_low, tried_few}

@@ -1,5 +1,5 @@
 use Rattle.std.proofs.Common.{length, arith, subst}
-use Rattle.pc_support.proofs.SpendingLemmas.{spends_on}
+use Rattle.pc_solver.proofs.SpendingLemmas.{spends_on}
 use Rattle.pc_ask.specs.inside.Choices.{ways_of, OneSays, tried_of}
 use Rattle.pc_ask.proofs.Searched.{none_spent, within_more}
 use Rattle.pc_ask.proofs.Numbered.{tried_ways}

@@ -1,6 +1,6 @@
 use Rattle.std.proofs.Common.{◌*◌, ◌^◌, ◌∙◌, List, [], length, arith, refl, subst, sym}
 use Rattle.pc_sheet.specs.declared.ids.Entry.{Entry}
-use Rattle.pc_support.proofs.SpendingLemmas.{once_more, spends_on}
+use Rattle.pc_solver.proofs.SpendingLemmas.{once_more, spends_on}
 use Rattle.pc_ask.specs.inside.Choices.{ways_of, AreNarrowed, SomeSays, tried_of}
 use Rattle.pc_ask.proofs.Searched.{within_more}
 use Rattle.pc_ask.proofs.Narrowed.{none_decided}

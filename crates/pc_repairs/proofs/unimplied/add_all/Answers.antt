@@ -1,7 +1,7 @@
 use Rattle.std.proofs.Common.{◌+◌, ◌<◌, All, map, length, ap, sym, subst, arith}
 use Rattle.std.proofs.lemmas.List.Elements.{All-nil}
 use Rattle.pc_ground.specs.Variables.{variable_count}
-use Rattle.pc_support.proofs.SpendingLemmas.{spends_on}
+use Rattle.pc_solver.proofs.SpendingLemmas.{spends_on}
 use Rattle.pc_world_list.specs.Worlds.{set_at, set_of}
 use Rattle.pc_repairs.specs.inside.Asking.{AddsLacking, IsLackingWorld}
 use Rattle.pc_repairs.proofs.Lacked.{all_found, all_more, all_none}

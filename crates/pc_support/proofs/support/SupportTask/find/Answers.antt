@@ -11,7 +11,7 @@ use Rattle.pc_solver.specs.Spending.{basis_of}
 use Rattle.pc_support.specs.inside.Narrowing.{IsNarrowed}
 use Rattle.pc_components.specs.Pairs.{entry_literal, target_literal}
 use Rattle.pc_support.specs.Parts.{DerivesFrom}
-use Rattle.pc_support.proofs.SpendingLemmas.{goes_within}
+use Rattle.pc_solver.proofs.SpendingLemmas.{goes_within}
 use Rattle.pc_support.proofs.NarrowingLemmas.{at_some, at_none}
 use Rattle.pc_support.proofs.SupportLemmas.{own_here, known_here, all_counter, seen_then, none_implied, narrowed_here, countered_here, least_support, implied_by, world_has, derives}
 use Rattle.pc_support.proofs.support.SupportTask.find.Goals as goal
