@@ -10,3 +10,4 @@ pub mod RankLemmas
 pub mod RowLemmas
 pub mod TupleLemmas
 pub mod FirstLemmas
+pub mod RuleLemmas

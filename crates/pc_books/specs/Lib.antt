@@ -5,5 +5,6 @@ pub mod Named
 pub mod DeclarationsView
 pub mod BookView
 pub mod Edits
+pub mod RuleNames
 pub mod Tuples
 pub mod inside

@@ -8,7 +8,8 @@ use crate::scheme::{FamilyDecl, Scheme, SortDecl, SortValues, TableDecl};
 use pc_sheet::{Name, Rule, copy_formula};
 use std::alloc::{AllocError, Global};
 
-fn copy_names(alloc: Global, names: &[Name]) -> Result<Vec<Name>, AllocError>
+/// The same names.
+pub fn copy_names(alloc: Global, names: &[Name]) -> Result<Vec<Name>, AllocError>
     ensures { IfOk result (λ copies. copies.items ≡ names.now) }
 {
     let mut copies = Vec::new(alloc);

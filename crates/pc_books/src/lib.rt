@@ -13,8 +13,9 @@ mod rule_list;
 mod scheme;
 mod universe;
 
-pub use assignment::Assignment;
+pub use assignment::{Assignment, has_entry, has_target};
 pub use book::Book;
+pub use copies::copy_names;
 pub use laws::{few_cells, few_entries, well_formed};
 pub use names::Named;
 pub use pc_sheet::{
@@ -22,6 +23,7 @@ pub use pc_sheet::{
     TableId, Target, Term, ValueId,
 };
 pub use rows::Rows;
+pub use rule_list::place_of_rule;
 pub use scheme::{
     FamilyDecl, Scheme, SortDecl, SortValues, TableDecl, argument_sorts, first_cell, result_sort,
     size_at, size_of, values_of_cell,

@@ -1,7 +1,8 @@
 //! The rules of a book.
-ghost use Rattle.std.specs.Prelude.{◌≡◌, ◌<◌, ◌++◌, ◌∷◌, [], OnErr, OnOk, length, map};
+ghost use Rattle.std.specs.Prelude.{◌≡◌, ◌<◌, ◌++◌, ◌∷◌, [], IfNone, IfSome, OnErr, OnOk, length, map};
 ghost use Rattle.std.specs.List.{remove};
 ghost use Rattle.pc_sheet.specs.Views.{rule_of};
+ghost use Rattle.pc_books.specs.RuleNames.{IsNewName, IsRuleAt};
 
 use crate::copies::copy_rules;
 use pc_sheet::Rule;
@@ -70,4 +71,17 @@ impl RuleList {
     {
         self.list.remove(place);
     }
+}
+
+/// The place of the rule of that name, if it stands.
+pub fn place_of_rule(rules: &[Rule], name: &str) -> Option<usize>
+    ensures found { IfSome result (IsRuleAt (map rule_of rules.now) name.now) }
+    ensures none { IfNone result (IsNewName (map rule_of rules.now) name.now) }
+{
+    for (place, rule) in rules.iter().enumerate() {
+        if rule.name.as_str() == name {
+            return Some(place);
+        }
+    }
+    None
 }

@@ -2,7 +2,6 @@
 
 ghost use Rattle.std.specs.Prelude.{◌≡◌, ◌<◌, ◌≤◌, ◌↔◌, All, Contains, IsTrue, List, length, map};
 ghost use Rattle.pc_sheet.specs.Limits.{most_rules};
-ghost use Rattle.pc_sheet.specs.Entailment.{HasTarget};
 ghost use Rattle.pc_sheet.specs.declared.ids.Entry.{Entry as TheEntry};
 ghost use Rattle.pc_checker.specs.Entered.{ArePairsMarked, HasEachPair, HasPlace};
 ghost use Rattle.pc_checker.specs.Made.{AreFirstApart, set_values};
@@ -14,7 +13,7 @@ ghost use Rattle.pc_cert.specs.Views.{reading_of, said_of, set_of};
 use crate::entered::is_entered;
 use crate::sets::first_in_set;
 use crate::verdict::Verdict;
-use pc_books::{Assignment, Book, well_formed};
+use pc_books::{Assignment, Book, has_target, well_formed};
 use pc_cert::{Cert, Claim, Said, SaidSet};
 use pc_lits::Values;
 use pc_logic::eval;
@@ -186,16 +185,6 @@ fn is_barred(values: &[ValueId], barred: Option<Target>) -> bool
         None => false,
         Some(target) => has_target(values, target),
     }
-}
-
-fn has_target(values: &[ValueId], target: Target) -> bool
-    ensures { IsTrue result ↔ HasTarget values.now target }
-{
-    let has = match values.get(usize::from(target.cell.0)) {
-        Some(value) => value.0 == target.value.0,
-        None => false,
-    };
-    has == target.holds
 }
 
 // The line of the first used entry that isn't entered.

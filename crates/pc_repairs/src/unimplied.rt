@@ -14,7 +14,7 @@ ghost use Rattle.pc_repairs.specs.inside.Tasks.{IsTask};
 
 use crate::asking::ask;
 use crate::task::{Numbers, Task};
-use pc_books::{Assignment, Book, well_formed};
+use pc_books::{Assignment, Book, has_target, well_formed};
 use pc_ground::Ground;
 use pc_laws::implied_is_by_maximal_set;
 use pc_lits::Tally;
@@ -32,21 +32,13 @@ struct Search<'g> {
     found: Worlds,
 }
 
-// Whether the assignment gives the target's cell its value.
-fn has_target(shown: &Assignment, target: Target) -> bool
-    requires { target.holds ≡ true }
-    ensures { IsTrue result ↔ HasTarget shown.now target }
-{
-    shown.values().get(usize::from(target.cell.0)).copied() == Some(target.value)
-}
-
 // Whether no set's assignment has the target.
 fn all_lack(sets: &Worlds, target: Target) -> bool
     requires { target.holds ≡ true }
     ensures { IsTrue result → All (λ w. ¬ HasTarget w.shown target) sets.now }
 {
     for place in 0..sets.len() {
-        if has_target(sets.shown(place), target) {
+        if has_target(sets.shown(place).values(), target) {
             return false;
         }
     }
@@ -81,7 +73,7 @@ fn add_lacking(
         search.old.found search.new.found) }
     ensures stop { IfErr result (StopSays tally.new) }
 {
-    if !has_target(sets.shown(place), target) {
+    if !has_target(sets.shown(place).values(), target) {
         search.found.push(sets.entries(place), sets.shown(place))?;
         return Ok(true);
     }

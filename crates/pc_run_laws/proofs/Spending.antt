@@ -30,7 +30,7 @@ use Rattle.pc_enough_laws.proofs.OfWhole.{never_spent_whole, whole_learns_few}
 use Rattle.pc_ground.specs.Variables.{variable_count}
 use Rattle.pc_refusals.specs.declared.refusal.Counts.{Counts}
 use Rattle.pc_session.specs.Answers.{HasPlaceFor}
-use Rattle.pc_session.specs.RuleNames.{IsRuleAt}
+use Rattle.pc_books.specs.RuleNames.{IsRuleAt}
 use Rattle.pc_session.proofs.RuleEdits.{formed_with_rule}
 use Rattle.pc_spreadsheet.specs.Allowed.{Notes, IsWholeSpent, IsAskSpent, NeedsAnswer, to_answer, NeedsSearch, to_enter, to_enter_beside, to_clear, to_remove, to_add, to_drop}
 use Rattle.pc_spreadsheet.proofs.Rules.{formed_with}

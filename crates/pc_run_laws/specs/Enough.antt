@@ -17,7 +17,7 @@ use Rattle.pc_enough_laws.specs.Enough.{enough_for, enough_for_all}
 use Rattle.pc_session.specs.Answers.{HasPlaceFor}
 use Rattle.pc_session.specs.Causes.{IsLoadCause, IsEntryCause, IsRemovalCause}
 use Rattle.pc_session.specs.Rules.{IsAddCause, IsDropCause}
-use Rattle.pc_session.specs.RuleNames.{IsRuleAt}
+use Rattle.pc_books.specs.RuleNames.{IsRuleAt}
 use Rattle.pc_session.specs.declared.refused.LoadRefused.TheVariants as load_refused
 use Rattle.pc_session.specs.declared.refused.EditRefused.TheVariants as edit_refused
 

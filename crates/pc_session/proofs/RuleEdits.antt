@@ -22,7 +22,7 @@ use Rattle.pc_session.specs.Causes.{IsLoadCause}
 use Rattle.pc_session.specs.inside.Refusals.{IsSameRefusal}
 use Rattle.pc_session.specs.inside.Sessions.{IsSession}
 use Rattle.pc_session.specs.Rules.{IsRuleCause, IsAddCause, IsDropCause}
-use Rattle.pc_session.specs.RuleNames.{IsNewName, IsRuleAt}
+use Rattle.pc_books.specs.RuleNames.{IsNewName, IsRuleAt}
 use Rattle.pc_session.specs.declared.refused.LoadRefused.{LoadRefused}
 use Rattle.pc_session.specs.declared.refused.LoadRefused.TheVariants as load
 use Rattle.pc_session.specs.declared.refused.EditRefused.{EditRefused}
@@ -34,9 +34,6 @@ pub rule_at : (rules : List Rule) (name : List ℕ) (k : ℕ) (r : Rule) → k <
 rule_at rules name k r below is named =
     let at = map_at rule_of rules k r (get_at rules k r below ∙ ap Some (sym is)) in
     (omega (arith, below, length-map rules rule_of), λ d. (let of : NamedStatement → List ℕ = λ x. x.name in ap of (at_get (map rule_of rules) k (rule_of r) d at)) ∙ named)
-
-pub new_name : (rules : List Rule) (name : List ℕ) → ((k : ℕ) (d : Rule) → k < length rules → (get_or rules k d).name ≢ name) → IsNewName (map rule_of rules) name
-new_name rules name none = All-map (λ r. r.name ≢ name) rule_of rules none
 
 -- a rule of the name stands at no place
 pub not_new : (rules : List NamedStatement) (name : List ℕ) (k : ℕ) → IsRuleAt rules name k → ¬ IsNewName rules name

@@ -2,7 +2,6 @@ pub mod Views
 pub mod Codes
 pub mod Answers
 pub mod Causes
-pub mod RuleNames
 pub mod Rules
 pub mod Arena
 pub mod NoteViews

@@ -6,7 +6,7 @@ use Rattle.pc_sheet.specs.Weight.{weight}
 use Rattle.pc_sheet.specs.MaximalSets.{AreRulesConsistent}
 use Rattle.pc_books.specs.Edits.{without_rule}
 use Rattle.pc_theory.specs.Spendings.{IsLawful}
-use Rattle.pc_session.specs.RuleNames.{IsNewName, IsRuleAt}
+use Rattle.pc_books.specs.RuleNames.{IsNewName, IsRuleAt}
 use Rattle.pc_session.specs.declared.refused.EditRefused.{EditRefused}
 use Rattle.pc_session.specs.declared.refused.EditRefused.TheVariants as edit
 

@@ -5,7 +5,7 @@ ghost use Rattle.pc_sheet.specs.Sheet.{with_rule};
 ghost use Rattle.pc_sheet.specs.Views.{rule_of};
 ghost use Rattle.pc_sheet.specs.WellFormed.{IsWellFormedRule};
 ghost use Rattle.pc_session.specs.Rules.{IsAddCause, IsDropCause, IsRuleCause};
-ghost use Rattle.pc_session.specs.RuleNames.{IsNewName, IsRuleAt};
+ghost use Rattle.pc_books.specs.RuleNames.{IsNewName, IsRuleAt};
 ghost use Rattle.pc_session.specs.inside.Loaded.{IsDroppedTo, IsLoaded};
 ghost use Rattle.pc_session.specs.inside.States.{IsSame, IsState};
 ghost use Rattle.pc_session.specs.declared.refused.EditRefused.TheVariants.{DuplicateRule, NoRule};
@@ -14,22 +14,9 @@ use crate::compaction::compact_if_due;
 use crate::loading::load_state;
 use crate::refused::{EditRefused, refused_edit};
 use crate::state::State;
-use pc_books::{Book, well_formed};
+use pc_books::{Book, place_of_rule, well_formed};
 use pc_sheet::Rule;
 use std::alloc::Global;
-
-// The place of the rule of that name, if it stands.
-fn place_of(rules: &[Rule], name: &str) -> Option<usize>
-    ensures found { IfSome result (IsRuleAt (map rule_of rules.now) name.now) }
-    ensures none { IfNone result (IsNewName (map rule_of rules.now) name.now) }
-{
-    for (place, rule) in rules.iter().enumerate() {
-        if rule.name.as_str() == name {
-            return Some(place);
-        }
-    }
-    None
-}
 
 // Loads the book that an edit of a rule makes, and puts what is found in place.
 fn replace(alloc: Global, state: &mut State, budget: u64, book: Book) -> Result<(), EditRefused>
@@ -57,7 +44,7 @@ fn with_new_rule(alloc: Global, book: &Book, rule: Rule) -> Result<Book, EditRef
     ensures refused { (budget : ℕ) → IfErr result (IsAddCause book.now (rule_of rule) budget) }
 {
     well_formed(book);
-    match place_of(book.rules(), rule.name.as_str()) {
+    match place_of_rule(book.rules(), rule.name.as_str()) {
         Some(_) => Err(EditRefused::DuplicateRule),
         None => Ok(book.with_rule(alloc, rule)?),
     }
@@ -98,7 +85,7 @@ pub(crate) fn drop_rule(
     ensures refused { IfErr result (IsDropCause state.old.book name.now budget) }
     ensures kept { OnErr result (IsSame state.old state.new) }
 {
-    let Some(place) = place_of(state.book.rules(), name) else {
+    let Some(place) = place_of_rule(state.book.rules(), name) else {
         return Err(EditRefused::NoRule);
     };
     let book = state.book.without_rule(alloc, place)?;

@@ -22,7 +22,7 @@ ghost use Rattle.pc_session.specs.Answers.{AreSpare, AreUnused, HasPlaceFor, IsU
 ghost use Rattle.pc_session.specs.Arena.{IsBounded, IsBoundedBySpent, IsWithinSpent};
 ghost use Rattle.pc_session.specs.Causes.{IsEntryCause, IsLoadCause, IsRemovalCause};
 ghost use Rattle.pc_session.specs.Rules.{IsAddCause, IsDropCause, IsDropped};
-ghost use Rattle.pc_session.specs.RuleNames.{IsNewName};
+ghost use Rattle.pc_books.specs.RuleNames.{IsNewName};
 ghost use Rattle.pc_session.specs.Views.{counts_of, none_spent, IsTallyOf};
 ghost use Rattle.pc_session.specs.declared.refused.EditRefused.TheVariants.{DuplicateRule, NoEntry, NoRule};
 ghost use Rattle.pc_theory.specs.Theories.{rules_alone};

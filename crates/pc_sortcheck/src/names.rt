@@ -1,28 +1,17 @@
 //! Names of a declaration: which are new, and which are the same.
-ghost use Rattle.std.specs.Prelude.{◌≡◌, ◌↔◌, All, Contains, IsTrue, IfOk, map};
+ghost use Rattle.std.specs.Prelude.{◌≡◌, ◌↔◌, All, Contains, IsTrue, map};
 ghost use Rattle.pc_name.specs.Names.{IsName};
 ghost use Rattle.pc_sheet.specs.Views.{rule_of};
 ghost use Rattle.pc_sheet.specs.WellFormed.{AreDifferent, IsWellFormed, rule_name};
 ghost use Rattle.pc_sortcheck.specs.DeclarationFaults.{AreNewValues, IsNew};
 
 use pc_books::{Book, Name, Rule};
-use std::alloc::{AllocError, Global};
 
 /// Every book is well formed.
 pub(crate) fn keeps_form(book: &Book)
     ensures { IsWellFormed book.now }
 {
     book.entries();
-}
-
-pub(crate) fn copy_names(alloc: Global, names: &[Name]) -> Result<Vec<Name>, AllocError>
-    ensures { IfOk result (λ copies. copies.items ≡ names.now) }
-{
-    let mut copies = Vec::new(alloc);
-    for name in names {
-        copies.push(name.clone()?)?;
-    }
-    Ok(copies)
 }
 
 /// Whether nothing has the name yet.

@@ -8,8 +8,8 @@ ghost use Rattle.pc_sortcheck.specs.DeclarationFaults.{IsDeclarationFault};
 ghost use Rattle.pc_sortcheck.specs.Declaring.{Declares};
 ghost use Rattle.pc_sortcheck.specs.inside.Fits.{ListFits, RangeFits};
 
-use crate::names::{are_names, are_new_values, copy_names, is_name, is_new, keeps_form};
-use pc_books::{Book, Name};
+use crate::names::{are_names, are_new_values, is_name, is_new, keeps_form};
+use pc_books::{Book, Name, copy_names};
 use pc_elaborate::SortFault;
 use pc_sheet::{LARGEST_NUMBER, Limited, MOST_SORTS, MOST_VALUES};
 use std::alloc::Global;

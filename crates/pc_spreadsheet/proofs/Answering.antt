@@ -38,7 +38,7 @@ use Rattle.pc_theory.specs.WholeSpendings.{IsSpentWhole}
 use Rattle.pc_repairs.specs.Searches.{IsWholeSearch}
 use Rattle.pc_ask.specs.Asking.{AreReadSizes, IsAnswer}
 use Rattle.pc_ask.specs.declared.answer.Answer.{Answer}
-use Rattle.pc_session.specs.RuleNames.{IsNewName, IsRuleAt}
+use Rattle.pc_books.specs.RuleNames.{IsNewName, IsRuleAt}
 use Rattle.pc_session.specs.Views.{SessionView}
 use Rattle.pc_session.specs.Views as session
 use Rattle.pc_refusals.specs.declared.refusal.Refusal.TheVariants.{DuplicateRule}

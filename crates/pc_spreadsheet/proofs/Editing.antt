@@ -16,7 +16,7 @@ use Rattle.pc_theory.specs.declared.spending.Spending.{Spending}
 use Rattle.pc_session.specs.Views.{SessionView}
 use Rattle.pc_session.specs.Answers.{AreSpare, StandsAlone}
 use Rattle.pc_session.specs.Rules.{IsDropped, IsAddCause, IsDropCause}
-use Rattle.pc_session.specs.RuleNames.{IsNewName, IsRuleAt}
+use Rattle.pc_books.specs.RuleNames.{IsNewName, IsRuleAt}
 use Rattle.pc_session.specs.Causes.{IsEntryCause, IsRemovalCause}
 use Rattle.pc_session.specs.declared.refused.EditRefused.{EditRefused}
 use Rattle.pc_session.specs.declared.refused.EditRefused.TheVariants as edit

@@ -14,7 +14,7 @@ use Rattle.pc_sheet.specs.declared.ids.Entry.{Entry}
 use Rattle.pc_books.specs.Edits.{is_same_entry}
 use Rattle.pc_books.proofs.EntryLemmas.{is_same, found_standing, not_found}
 use Rattle.pc_justify_laws.specs.Edits.{HasNone}
-use Rattle.pc_session.specs.RuleNames.{IsNewName, IsRuleAt}
+use Rattle.pc_books.specs.RuleNames.{IsNewName, IsRuleAt}
 use Rattle.pc_spreadsheet.specs.Tasks.{HasEntryOf}
 
 -- ---- rules

@@ -15,7 +15,7 @@ use Rattle.pc_elaborate.specs.declared.fault.SortFault.{SortFault}
 use Rattle.pc_elaborate.specs.Elaboration.{IsStatement}
 use Rattle.pc_elaborate.specs.Tests.{no_test}
 use Rattle.pc_sortcheck.specs.DeclarationFaults.{IsRuleFault}
-use Rattle.pc_session.specs.RuleNames.{IsNewName}
+use Rattle.pc_books.specs.RuleNames.{IsNewName}
 use Rattle.pc_spreadsheet.specs.Tasks.{IsRuleOf, IsNewRule}
 use Rattle.pc_spreadsheet.proofs.Telling.{below_limit}
 
@@ -38,8 +38,3 @@ formed_with sheet n f r formed new = record {
   };
   entries = formed.entries;
 }
-
--- ---- names
-
-pub new_name : (rules : List Rule) (name : List ℕ) → ((k : ℕ) (d : Rule) → k < length rules → (get_or rules k d).name ≢ name) → IsNewName (map rule_of rules) name
-new_name rules name none = All-map (λ r. r.name ≢ name) rule_of rules none

@@ -21,7 +21,7 @@ use Rattle.pc_theory.specs.WholeSpendings.{IsSpentWhole}
 use Rattle.pc_theory.specs.declared.spending.Spending.{Spending}
 use Rattle.pc_session.specs.Answers.{AreSpare, StandsAlone}
 use Rattle.pc_session.specs.NoteViews.{NoteView}
-use Rattle.pc_session.specs.RuleNames.{IsRuleAt}
+use Rattle.pc_books.specs.RuleNames.{IsRuleAt}
 use Rattle.pc_session.specs.Views as session
 use Rattle.pc_load.specs.Outcome.{HasFault}
 use Rattle.pc_refusals.specs.declared.refusal.Counts.{Counts}

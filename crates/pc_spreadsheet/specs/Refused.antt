@@ -18,7 +18,7 @@ use Rattle.pc_elaborate.specs.FormulaFaults.{IsCellFault}
 use Rattle.pc_elaborate.specs.Tests.{no_test, test}
 use Rattle.pc_world_list.specs.FewSets.{HasManySets}
 use Rattle.pc_sortcheck.specs.DeclarationFaults.{IsDeclarationFault, IsRuleFault}
-use Rattle.pc_session.specs.RuleNames.{IsNewName}
+use Rattle.pc_books.specs.RuleNames.{IsNewName}
 use Rattle.pc_refusals.specs.declared.refusal.Refusal.{Refusal}
 use Rattle.pc_refusals.specs.declared.refusal.Refusal.TheVariants.{NotUtf8, Syntax, TooManySets, TooLarge, NoEntry, DuplicateRule, NoRule, TooDeep}
 use Rattle.pc_load.specs.Refusals.{IsSortRefusal}

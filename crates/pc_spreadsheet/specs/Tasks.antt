@@ -17,7 +17,7 @@ use Rattle.pc_elaborate.specs.Elaboration.{IsEntryNamed, IsCellNamed, IsStatemen
 use Rattle.pc_world_list.specs.FewSets.{HasFewSets}
 use Rattle.pc_sortcheck.specs.Declaring.{ReadsAs}
 use Rattle.pc_sortcheck.specs.DeclarationFaults.{HasRoomForEntry}
-use Rattle.pc_session.specs.RuleNames.{IsNewName, IsRuleAt}
+use Rattle.pc_books.specs.RuleNames.{IsNewName, IsRuleAt}
 
 -- a sheet, and how many literals the search for one line may place
 pub record State : Type 0 where

@@ -19,12 +19,11 @@ ghost use Rattle.pc_spreadsheet.specs.Commands.{Obeys, state_of};
 ghost use Rattle.pc_spreadsheet.specs.Tasks.{IsDenialRule};
 ghost use Rattle.pc_spreadsheet.specs.inside.Asking.{Answers, Certified};
 
-use crate::edits::place_of;
 use crate::page::{AskProof, Page};
 use crate::refusal::refuse;
 use crate::spending::{Told, note_whole};
 use pc_ask::{Answer, AskStop, prove};
-use pc_books::{Book, Formula, Name, Rule, well_formed};
+use pc_books::{Book, Formula, Name, Rule, place_of_rule, well_formed};
 use pc_elaborate::check_formula;
 use pc_lits::Tally;
 use pc_log::Log;
@@ -152,7 +151,7 @@ pub(crate) fn answer(
         Ok(rule) => rule,
         Err(fault) => return refuse(fault),
     };
-    match place_of(book.rules(), &rule.name) {
+    match place_of_rule(book.rules(), rule.name.as_str()) {
         Some(_) => Reply::Refused(Refusal::DuplicateRule, None),
         None => answer_with(alloc, session, rule, notes),
     }

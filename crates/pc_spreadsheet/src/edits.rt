@@ -5,7 +5,7 @@ ghost use Rattle.pc_formula.specs.Sized.{IsSized};
 ghost use Rattle.pc_formula.specs.Word.{most_nesting};
 ghost use Rattle.pc_sheet.specs.Views.{rule_of};
 ghost use Rattle.pc_syntax.specs.Tree.{asks_also, asks_clear, asks_clear_one, asks_drop, asks_enter, asks_rule, cell_of, formula_of, value_of};
-ghost use Rattle.pc_session.specs.RuleNames.{IsNewName, IsRuleAt};
+ghost use Rattle.pc_books.specs.RuleNames.{IsNewName, IsRuleAt};
 ghost use Rattle.pc_spreadsheet.specs.Commands.{Obeys, state_of};
 
 use crate::refusal::refuse;
@@ -120,20 +120,7 @@ pub(crate) fn add_rule(
     }
 }
 
-/// The place of the rule of that name.
-pub(crate) fn place_of(rules: &[Rule], name: &Name) -> Option<usize>
-    ensures found { IfSome result (IsRuleAt (map rule_of rules.now) name.now) }
-    ensures none { IfNone result (IsNewName (map rule_of rules.now) name.now) }
-{
-    for (place, rule) in rules.iter().enumerate() {
-        if rule.name.as_str() == name.as_str() {
-            return Some(place);
-        }
-    }
-    None
-}
-
-/// Drops the rule of that name.
+//// Drops the rule of that name.
 pub(crate) fn drop_rule(session: &mut Session, name: &Name, notes: &mut Spendings) -> Told
     ensures { Obeys (state_of session.old, notes.old) (asks_drop name.now) result
         (state_of session.new, notes.new) }

@@ -7,7 +7,7 @@ use Rattle.pc_sheet.specs.Weight.{weight}
 use Rattle.pc_books.specs.Edits.{without_rule}
 use Rattle.pc_session.specs.Answers.{Steps}
 use Rattle.pc_session.specs.Arena.{IsWithinSpent}
-use Rattle.pc_session.specs.RuleNames.{IsRuleAt}
+use Rattle.pc_books.specs.RuleNames.{IsRuleAt}
 use Rattle.pc_session.specs.inside.Chosen.{AreChosen}
 use Rattle.pc_session.specs.inside.States.{IsState}
 use Rattle.pc_session.specs.Views.{counts_of, IsTallyOf}

@@ -7,7 +7,7 @@ use Rattle.pc_sheet.specs.MaximalSets.{AreRulesConsistent}
 use Rattle.pc_sheet.specs.WellFormed.{IsWellFormedRule}
 use Rattle.pc_session.specs.Arena.{IsWithinSpent}
 use Rattle.pc_session.specs.Rules.{IsAddCause}
-use Rattle.pc_session.specs.RuleNames.{IsNewName}
+use Rattle.pc_books.specs.RuleNames.{IsNewName}
 use Rattle.pc_session.specs.Views.{IsTallyOf, SessionView, counts_of}
 use Rattle.pc_session.proofs.Viewing.{kept_after, still_seen}
 use Rattle.pc_session.proofs.session.Session.add_rule.Goals as goal

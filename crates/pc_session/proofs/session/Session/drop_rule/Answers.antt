@@ -2,7 +2,7 @@ use Rattle.std.proofs.Common.{◌≡◌, IfErr, None, OnOk, refl, sym, subst}
 use Rattle.std.proofs.lemmas.Result.{on_ok_weaker, on_err_weaker}
 use Rattle.pc_session.specs.Arena.{IsWithinSpent}
 use Rattle.pc_session.specs.Rules.{IsDropCause, IsDropped}
-use Rattle.pc_session.specs.RuleNames.{IsNewName}
+use Rattle.pc_books.specs.RuleNames.{IsNewName}
 use Rattle.pc_session.specs.Views.{IsTallyOf, SessionView, counts_of}
 use Rattle.pc_session.proofs.Viewing.{kept_after, still_seen}
 use Rattle.pc_session.proofs.session.Session.drop_rule.Goals as goal

@@ -1,6 +1,0 @@
-use Rattle.std.proofs.Common.{arith}
-use Rattle.pc_session.proofs.RuleEdits.{new_name}
-use Rattle.pc_session.proofs.rules.place_of.Goals as goal
-
-pub returns-clause-none : goal.returns-clause-none
-returns-clause-none c = new_name c.args.rules.now c.args.name.now (λ k d below. c.loop-place.invariant k d (omega (arith, below, c.loop-place-test.false)))
