@@ -6,7 +6,7 @@ use Rattle.pc_books.specs.declared.book.Book.TheInside.{Inside}
 
 -- the universe, rules and entries
 abbrev pub sheet_of : Inside → Sheet
-sheet_of b = record { universe = rc_value b.declared; rules = rc_value b.rules; entries = b.entries.items }
+sheet_of b = record { universe = rc_value b.declared; rules = b.rules; entries = b.entries.items }
 
 -- a well-formed sheet
 pub record IsKeptBook (b : Inside) : Type 0 where

@@ -20,8 +20,8 @@ use crate::declarations::Declarations;
 use crate::entries::{add, enter, remove};
 use crate::laws::well_formed;
 use crate::names::Named;
-use crate::rule_list::RuleList;
 use crate::scheme::{self, Scheme};
+use crate::shared_rules::SharedRules;
 use pc_sheet::{
     CellId, Entry, FamilyId, Formula, Name, NodeKind, NodePath, Rule, SortId, TableId, ValueId,
 };
@@ -36,7 +36,7 @@ use std::rc::Rc;
 pub struct Book {
     /// Copies have the same ones.
     declared: Rc<Declarations>,
-    rules: Rc<RuleList>,
+    rules: SharedRules,
     pub(crate) entries: Vec<Entry>,
 }
 
@@ -62,7 +62,7 @@ impl Book {
     {
         Ok(Book {
             declared: Rc::new(alloc, Declarations::new(alloc))?,
-            rules: Rc::new(alloc, RuleList::new(alloc))?,
+            rules: SharedRules::new(alloc)?,
             entries: Vec::new(alloc),
         })
     }
@@ -195,7 +195,7 @@ impl Book {
         ensures ok { OnOk result (self.new ≡ with_rule self.old (rule_of rule)) }
         ensures err { OnErr result (self.new ≡ self.old) }
     {
-        Rc::make_mut(&mut self.rules)?.push(rule)?;
+        self.rules.push(rule)?;
         Ok(())
     }
 
@@ -225,7 +225,7 @@ impl Book {
         ensures { IfOk result (λ copy. copy ≡ self.now) }
     {
         let declared = self.declared.clone()?;
-        let rules = self.rules.clone()?;
+        let rules = self.rules.share()?;
         let entries = Vec::from_slice(alloc, &self.entries)?;
         Ok(Book {
             declared,
@@ -249,14 +249,21 @@ impl Book {
         remove(&mut self.entries, entry);
     }
 
-    /// The book with one more rule, as the last one.
-    pub fn with_rule(&self, alloc: Global, rule: Rule) -> Result<Book, AllocError>
-        requires { IsWellFormed (with_rule self.now (rule_of rule)) }
-        ensures { IfOk result (λ book. book ≡ with_rule self.now (rule_of rule)) }
+    /// The book with one more rule, as the last one, which lies behind this book's own rules in the list that both share. So
+    /// rules are copied only where this book shared its list before.
+    pub fn with_rule(&mut self, alloc: Global, rule: Rule) -> Result<Book, AllocError>
+        requires { IsWellFormed (with_rule self.old (rule_of rule)) }
+        ensures same { self.new ≡ self.old }
+        ensures book { IfOk result (λ book. book ≡ with_rule self.old (rule_of rule)) }
     {
-        let mut book = self.copy(alloc)?;
-        book.push_rule(rule)?;
-        Ok(book)
+        let declared = self.declared.clone()?;
+        let entries = Vec::from_slice(alloc, &self.entries)?;
+        let rules = self.rules.with(rule)?;
+        Ok(Book {
+            declared,
+            rules,
+            entries,
+        })
     }
 
     /// The book without the rule at that place.
@@ -275,7 +282,7 @@ impl Book {
         requires formed { IsWellFormed (without_rule self.old place) }
         ensures { OnOk result (self.new ≡ without_rule self.old place) }
     {
-        Rc::make_mut(&mut self.rules)?.remove(place);
+        self.rules.remove(place)?;
         Ok(())
     }
 }

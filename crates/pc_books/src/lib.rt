@@ -11,6 +11,7 @@ mod names;
 mod rows;
 mod rule_list;
 mod scheme;
+mod shared_rules;
 mod universe;
 
 pub use assignment::{Assignment, has_entry, has_target};

@@ -1,5 +1,5 @@
 //! The rules of a book.
-ghost use Rattle.std.specs.Prelude.{◌≡◌, ◌<◌, ◌++◌, ◌∷◌, [], IfNone, IfSome, OnErr, OnOk, length, map};
+ghost use Rattle.std.specs.Prelude.{◌≡◌, ◌<◌, ◌++◌, ◌∷◌, [], IfNone, IfSome, OnErr, OnOk, length, map, take};
 ghost use Rattle.std.specs.List.{remove};
 ghost use Rattle.pc_sheet.specs.Views.{rule_of};
 ghost use Rattle.pc_books.specs.RuleNames.{IsNewName, IsRuleAt};
@@ -62,6 +62,20 @@ impl RuleList {
     {
         self.list.push(rule)?;
         Ok(())
+    }
+
+    /// How many rules there are.
+    pub(crate) fn len(&self) -> usize
+        ensures { result ≡ length self.now }
+    {
+        self.list.len()
+    }
+
+    /// Removes all rules but the first ones.
+    pub(crate) fn truncate(&mut self, count: usize)
+        ensures { self.new ≡ take count self.old }
+    {
+        self.list.truncate(count);
     }
 
     /// Removes the rule at that place.
