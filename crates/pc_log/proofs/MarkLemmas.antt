@@ -1,9 +1,9 @@
 -- The lines of a log by their marks.
-use Rattle.std.proofs.Common.{◌≡◌, ℕ, ◌+◌, ◌-◌, ◌<◌, ◌≤◌, zero, suc, List, [], ◌∷◌, ◌++◌, length, All, Some, Ok, Err, Result, refl, ap, sym, ◌∙◌, arith, slice_get, get_or, take, subst, inl, inr, AllPairs, nat_cmp}
+use Rattle.std.proofs.Common.{◌≡◌, ℕ, ◌+◌, ◌-◌, ◌^◌, ◌<◌, ◌≤◌, zero, suc, List, [], ◌∷◌, ◌++◌, length, All, Some, Ok, Err, Result, refl, ap, sym, ◌∙◌, arith, slice_get, get_or, take, subst, inl, inr, AllPairs, nat_cmp}
 use Rattle.std.proofs.Math.Seq.{take-nil}
 use Rattle.std.specs.List.Sorted.{IsBinarySearchResult}
 use Rattle.std.proofs.lemmas.Bool.{cases_lt}
-use Rattle.std.proofs.lemmas.List.{length_push, length-take-le}
+use Rattle.std.proofs.lemmas.List.{length_push, length-take, length-take-le}
 use Rattle.std.proofs.lemmas.List.Sorted.{searched}
 use Rattle.std.proofs.lemmas.Option.{slice_get_read}
 use Rattle.pc_lits.specs.declared.literal.Lit.{Lit}
@@ -22,6 +22,13 @@ length-marked [] more = refl
 length-marked (Axiom number ∷ marks) more = ap suc (length-marked marks more)
 length-marked (Further number ∷ marks) [] = ap suc (length-marked marks [])
 length-marked (Further number ∷ marks) (line ∷ more) = ap suc (length-marked marks more)
+
+-- fewer than 2^32, where there is room for one more, and among them
+pub few_more : (marks : List Mark) (mark : Mark) (count : ℕ) → count ≡ length marks → count + 1 < 2 ^ 32 → length (marks ++ mark ∷ []) < 2 ^ 32
+few_more marks mark count is few = omega (arith, length_push marks mark)
+
+pub few_taken : (marks : List Mark) (count : ℕ) → length marks < 2 ^ 32 → length (take count marks) < 2 ^ 32
+few_taken marks count few = omega (arith, length-take count marks)
 
 some_places : (p : ℕ) (at : List ℕ) → p ∷ at ≡ [] → ⊥
 some_places p at none =

@@ -102,8 +102,7 @@ impl SparseLog {
         ensures { IsTrue result ↔ MayStand (line_at log.now) places.now self.now }
     {
         for place in places {
-            let place = *place as usize;
-            if !self.can_have(place, log.line(StepId(place))) {
+            if !self.can_have(*place as usize, log.line(StepId(*place))) {
                 return false;
             }
         }
@@ -122,8 +121,7 @@ impl SparseLog {
     {
         self.widen(log.len())?;
         for place in places {
-            let place = *place as usize;
-            self.put(place, log.line(StepId(place)))?;
+            self.put(*place as usize, log.line(StepId(*place)))?;
         }
         Ok(())
     }

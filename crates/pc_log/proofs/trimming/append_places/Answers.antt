@@ -25,7 +25,7 @@ renumber-requires c = λ k d low.
       c.requires.room,
       c.loop-place.auto.slots,
       c.hints_at.ensures.earlier k d low,
-      length-set c.loop-place.slots (get_or c.args.places.now c.loop-place.place-index 0) c.len.result,
+      length-set c.loop-place.slots (get_or c.args.places.now c.loop-place.place-index 0) c.count.result,
     )
 
 pub line-requires : goal.line-requires
@@ -37,7 +37,7 @@ pub append_line-requires : goal.append_line-requires
 append_line-requires c =
     let place = get_or c.args.places.now c.loop-place.place-index 0 in
     let here = c.requires.rested.2.up_to place (Contains-get_or c.args.places.now c.loop-place.place-index 0 c.loop-place-test.true) in
-    rw (c.deref.ensures.value, c.in_ok-renumber.ensures, c.len.ensures)
+    rw (c.deref.ensures.value, c.in_ok-renumber.ensures, c.count.ensures)
     (hints_are_placed c.args.log.now c.requires.rested.0 c.args.places.now c.args.into.now c.loop-place.place-index c.loop-place.slots c.loop-place.into place c.hints_at.result.now c.requires.rested.2
     c.loop-place.invariant c.loop-place-test.true refl (omega (arith, here, c.requires.rested.1, c.requires.room, c.loop-place.auto.slots)) c.hints_at.ensures.hints c.hints_at.ensures.earlier)
 
@@ -45,8 +45,8 @@ pub loop-place-preserved : goal.loop-place-preserved
 loop-place-preserved c =
     let place = get_or c.args.places.now c.loop-place.place-index 0 in
     let here = c.requires.rested.2.up_to place (Contains-get_or c.args.places.now c.loop-place.place-index 0 c.loop-place-test.true) in
-    let grown = rw (c.deref.ensures.value, c.in_ok-renumber.ensures, c.len.ensures) at c.in_ok-append_line.ensures.ok in
-    rw c.len.ensures
+    let grown = rw (c.deref.ensures.value, c.in_ok-renumber.ensures, c.count.ensures) at c.in_ok-append_line.ensures.ok in
+    rw c.count.ensures
     (append_more c.args.log.now c.requires.rested.0 c.args.places.now c.args.into.now c.loop-place.place-index c.loop-place.slots c.loop-place.into place c.hints_at.result.now c.requires.rested.2
     c.loop-place.invariant c.loop-place-test.true refl (omega (arith, here, c.requires.rested.1, c.requires.room, c.loop-place.auto.slots)) c.hints_at.ensures.hints c.hints_at.ensures.earlier
     (shown_line c.line.result) c.append_line.new.into c.line.ensures.line grown)

@@ -17,13 +17,13 @@ pub overflow_sub-result : goal.overflow_sub-result
 overflow_sub-result c =
     let rising = IsNonDecreasingBy-from_sort (λ n. n) c.sort_unstable.new.self.items c.sort_unstable.ensures.sorted in
     let added = rw c.deref.ensures.value at c.in_default.ensures.ok in
-    omega (arith, c.len-2.ensures, sorted_is_some _ _ _ _ _ _ _ c.requires c.in_ok-search.ensures c.sort_unstable.ensures.permutation rising added)
+    omega (arith, c.count.ensures, sorted_is_some _ _ _ _ _ _ _ c.requires c.in_ok-search.ensures c.sort_unstable.ensures.permutation rising added)
 
 pub returns-clause-last : goal.returns-clause-last
 returns-clause-last c =
     let rising = IsNonDecreasingBy-from_sort (λ n. n) c.sort_unstable.new.self.items c.sort_unstable.ensures.sorted in
     let added = rw c.deref.ensures.value at c.in_default.ensures.ok in
-    omega (arith, c.len-2.ensures, sorted_is_some _ _ _ _ _ _ _ c.requires c.in_ok-search.ensures c.sort_unstable.ensures.permutation rising added)
+    omega (arith, c.count.ensures, sorted_is_some _ _ _ _ _ _ _ c.requires c.in_ok-search.ensures c.sort_unstable.ensures.permutation rising added)
 
 pub returns-clause-ok : goal.returns-clause-ok
 returns-clause-ok c =
@@ -35,12 +35,12 @@ pub returns-clause-span : goal.returns-clause-span
 returns-clause-span c =
     let rising = IsNonDecreasingBy-from_sort (λ n. n) c.sort_unstable.new.self.items c.sort_unstable.ensures.sorted in
     let added = rw c.deref.ensures.value at c.in_default.ensures.ok in
-    let some : 1 ≤ c.len-2.result = omega (arith, c.len-2.ensures, sorted_is_some _ _ _ _ _ _ _ c.requires c.in_ok-search.ensures c.sort_unstable.ensures.permutation rising added) in
-    (sorted_alone _ _ _ _ _ _ _ c.requires c.in_ok-search.ensures c.sort_unstable.ensures.permutation rising added _ c.len-before.ensures (omega (arith, some, c.len-2.ensures))).0
+    let some : 1 ≤ c.count.result = omega (arith, c.count.ensures, sorted_is_some _ _ _ _ _ _ _ c.requires c.in_ok-search.ensures c.sort_unstable.ensures.permutation rising added) in
+    (sorted_alone _ _ _ _ _ _ _ c.requires c.in_ok-search.ensures c.sort_unstable.ensures.permutation rising added _ c.count-before.ensures (omega (arith, some, c.count.ensures))).0
 
 pub returns-clause-lines : goal.returns-clause-lines
 returns-clause-lines c =
     let rising = IsNonDecreasingBy-from_sort (λ n. n) c.sort_unstable.new.self.items c.sort_unstable.ensures.sorted in
     let added = rw c.deref.ensures.value at c.in_default.ensures.ok in
-    let some : 1 ≤ c.len-2.result = omega (arith, c.len-2.ensures, sorted_is_some _ _ _ _ _ _ _ c.requires c.in_ok-search.ensures c.sort_unstable.ensures.permutation rising added) in
-    (sorted_alone _ _ _ _ _ _ _ c.requires c.in_ok-search.ensures c.sort_unstable.ensures.permutation rising added _ c.len-before.ensures (omega (arith, some, c.len-2.ensures))).1
+    let some : 1 ≤ c.count.result = omega (arith, c.count.ensures, sorted_is_some _ _ _ _ _ _ _ c.requires c.in_ok-search.ensures c.sort_unstable.ensures.permutation rising added) in
+    (sorted_alone _ _ _ _ _ _ _ c.requires c.in_ok-search.ensures c.sort_unstable.ensures.permutation rising added _ c.count-before.ensures (omega (arith, some, c.count.ensures))).1
