@@ -15,7 +15,7 @@ ghost use Rattle.pc_ground.specs.ByNumber.{lit, joined_clauses, roots_of_values,
 ghost use Rattle.pc_ground.specs.Naming.{name_of, named};
 ghost use Rattle.pc_ground.specs.Owners.{cells_times, piece_count, piece_count_of_parts, piece_count_of_rules, of_one, span, span_at, spans, spans_of_rules, no_groups};
 ghost use Rattle.pc_ground.specs.PieceCells.{piece_cells, piece_cells_of_rules};
-ghost use Rattle.pc_ground.specs.Places.{own_named, spot, value_spot, clauses_at, axioms_at, names_at, cells_at, spans_at, reads_at, clauses_of_parts, names_of_parts, owners_of_parts, reads_of_parts, own_joined, clauses_joined, names_joined, owners_joined, owners_of_joint, clauses_of_values, names_of_values, owners_of_values, reads_of_values, clauses_of_instances, names_of_instances, owners_of_instances};
+ghost use Rattle.pc_ground.specs.inside.Places.{own_named, spot, value_spot, clauses_at, axioms_at, names_at, cells_at, spans_at, reads_at, clauses_of_parts, names_of_parts, owners_of_parts, reads_of_parts, own_joined, clauses_joined, names_joined, owners_joined, owners_of_joint, clauses_of_values, names_of_values, owners_of_values, reads_of_values, clauses_of_instances, names_of_instances, owners_of_instances};
 
 use crate::cells::Cells;
 use crate::clauses::literal;
