@@ -32,10 +32,7 @@ pub fn prove(
     own_lines_are_named();
     trimmed_lines_are_against();
     well_formed(book);
-    // The numbers of a certificate's lines have at most 18 digits.
-    if log.len() >= 1_000_000_000_000_000_000 {
-        return Err(AllocError);
-    }
+    log.few_lines();
     let mut kept = Log::new(alloc);
     let span = trim(alloc, log, answer.last, &mut kept)?;
     Ok((kept, span))

@@ -42,10 +42,8 @@ pub fn prove(
     own_lines_are_named_beside();
     trimmed_lines_derive_beside();
     well_formed(book);
-    // The numbers of a certificate's lines and sets have at most 18 digits.
-    if log.len() >= 1_000_000_000_000_000_000 {
-        return Err(AllocError);
-    }
+    log.few_lines();
+    // The numbers of a certificate's sets have at most 18 digits, as those of its lines have.
     if sets.len() >= 1_000_000_000_000_000_000 {
         return Err(AllocError);
     }

@@ -8,4 +8,4 @@ trim-requires c = c.requires.empty.derived.stands
 pub returns : goal.returns
 returns c =
     refuted_at c.trimmed_lines_refute.ensures c.names_are_of_their_sheet.ensures c.args.task.book.now c.args.log.now c.trim.new.into c.args.last c.in_ok-span.span c.requires.ready.formed c.requires.empty
-    (omega (arith, c.len.ensures, c.if-len-ge1000000000000000000.false)) c.in_ok-span.ensures.span c.in_ok-span.ensures.lines
+    (omega (arith, c.few_lines.ensures)) c.in_ok-span.ensures.span c.in_ok-span.ensures.lines
