@@ -23,7 +23,7 @@ impl<'a> Proof<'a> {
         requires { LiesIn self.now.span self.now.log.now }
         ensures { result ≡ lines_within self.now.span self.now.log.now }
     {
-        prove!(self.span.last.0 < self.log.len());
+        self.log.few_lines();
         Steps::between(self.log, self.span.first.0, self.span.last.0 + 1)
     }
 }
