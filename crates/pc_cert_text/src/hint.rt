@@ -50,7 +50,7 @@ fn number_of(place: StepId, numbering: Numbering<'_>) -> u64
     ensures { result ≡ number_in numbering.entry place.0 + 1 }
 {
     match numbering {
-        Numbering::From(first) => (place.0 - first + 1) as u64,
+        Numbering::From(first) => (place.0 as usize - first + 1) as u64,
         Numbering::Among(places) => number_among(place, places),
     }
 }
@@ -60,7 +60,7 @@ fn number_among(place: StepId, places: &Places) -> u64
     requires { Contains places.now place.0 }
     ensures { result ≡ index_of place.0 places.now + 1 }
 {
-    let before = places.before(place.0);
+    let before = places.before(place.0 as usize);
     prove!(before < places.len());
     before as u64 + 1
 }

@@ -36,11 +36,11 @@ pub(crate) fn write_lines<O: Sink>(book: &Book, proof: Proof<'_>, out: &mut O) -
         (map (line_named proof.entry.names.now)
         (lines_of_span proof.entry.log.now proof.entry.span))) }
 {
-    let first = proof.span.first.0;
-    let last = proof.span.last.0;
+    let first = proof.span.first.0 as usize;
+    let last = proof.span.last.0 as usize;
     prove!(last < proof.log.len());
     for index in 0..last - first + 1 {
-        let line = proof.log.line(StepId(first + index));
+        let line = proof.log.line(StepId((first + index) as u32));
         write_ended_line(
             book,
             proof.names,

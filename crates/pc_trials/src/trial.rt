@@ -152,7 +152,7 @@ fn learned_text(alloc: Global, learned: u128) -> Result<String, AllocError> {
 // The lines of a log, one after the other.
 fn log_text(alloc: Global, log: &Log) -> Result<String, AllocError> {
     let mut text = String::new(alloc);
-    for place in 0..log.len() {
+    for place in 0..log.count() {
         add_line(alloc, &mut text, log.line(StepId(place)))?;
     }
     Ok(text)
@@ -161,7 +161,7 @@ fn log_text(alloc: Global, log: &Log) -> Result<String, AllocError> {
 // The lines of a log that its last line rests on, and that line.
 fn lines_text(alloc: Global, log: &Log) -> Result<String, AllocError> {
     let mut trimmed = Log::new(alloc);
-    let count = log.len();
+    let count = log.count();
     if count > 0 {
         trim(alloc, log, StepId(count - 1), &mut trimmed)?;
     }
@@ -170,7 +170,7 @@ fn lines_text(alloc: Global, log: &Log) -> Result<String, AllocError> {
 
 // How many literals the clause of the last line has, or on how many lines it rests.
 fn last_text(alloc: Global, log: &Log, word: &str) -> Result<String, AllocError> {
-    let count = log.len();
+    let count = log.count();
     if count == 0 {
         return String::from_str(alloc, "no line");
     }
