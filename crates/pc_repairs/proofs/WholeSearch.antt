@@ -22,6 +22,7 @@ use Rattle.pc_ground.specs.Grounded.{grounded}
 use Rattle.pc_ground.specs.Variables.{variable_count}
 use Rattle.pc_components.specs.View.{variable_number}
 use Rattle.pc_problem.specs.Laws.{AreSearchedBy, WholeIsSearched}
+use Rattle.pc_problem.specs.Room.{HasRoom}
 use Rattle.pc_solver.specs.InLog.{clause_on}
 use Rattle.pc_solver.specs.Solver.{Spends, Problem, SolverView, HasLog, IsProblem, IsLawfulLog, IsSolverLog}
 use Rattle.pc_solver.specs.Spending.{SpendsIn, marked}
@@ -149,10 +150,10 @@ none_spent sheet most t log = let own = variable_count sheet in spends_on own 0 
 pub within_more : (sheet : Sheet) (few most : ℕ) (a b : Tally) (log grown : List LogLine) → few ≤ most → SpendsIn (variable_count sheet) few a b log grown → SpendsIn (variable_count sheet) most a b log grown
 within_more sheet few most a b log grown less h = spends_on (variable_count sheet) few 0 most a b b log grown grown (omega (arith, less)) h (spends_none (variable_count sheet) b grown)
 
-pub still_few : (own most : ℕ) (a b : Tally) (log grown : List LogLine) → SpendsIn own most a b log grown → a.limit < 2 ^ 64 → most < 2 ^ 64 → a.learned < 2 ^ 120 → a.calls < 2 ^ 120 → (b.learned < 2 ^ 126) × (b.calls < 2 ^ 126)
-still_few own most a b log grown s limit few learned calls = (
-  omega (arith, s.learned, s.spare, s.few, ap (λ (n : ℕ). n) s.limit, b.within_limit, limit, few, learned),
-  omega (arith, s.calls, s.few, few, calls),
+pub still_few : (own most : ℕ) (a b : Tally) (log grown : List LogLine) → SpendsIn own most a b log grown → a.limit < 2 ^ 64 → most < 2 ^ 64 → HasRoom 120 a → HasRoom 126 b
+still_few own most a b log grown s limit few room = (
+  omega (arith, s.learned, s.spare, s.few, ap (λ (n : ℕ). n) s.limit, b.within_limit, limit, few, room.0),
+  omega (arith, s.calls, s.few, few, room.1),
 )
 
 none_over : (clause : List Lit) → IsOverNegated [] clause → clause ≡ []

@@ -1,6 +1,6 @@
 //! Whether a set of entries can stand where a target doesn't hold.
 
-ghost use Rattle.std.specs.Prelude.{◌≡◌, ◌<◌, ◌^◌, ◌∷◌, ◌++◌, [], All, IfErr, IfOk, length, map, true};
+ghost use Rattle.std.specs.Prelude.{◌≡◌, ◌∷◌, ◌++◌, [], All, IfErr, IfOk, length, map, true};
 ghost use Rattle.pc_lits.specs.Literals.{negated};
 ghost use Rattle.pc_sheet.specs.Entailment.{IsAssignment};
 ghost use Rattle.pc_components.specs.Pairs.{entry_literal, target_literal, IsValueOfCell};
@@ -8,6 +8,7 @@ ghost use Rattle.pc_ground.specs.Variables.{variable_count};
 ghost use Rattle.pc_solver.specs.Spending.{SpendsIn, StopSays};
 ghost use Rattle.pc_repairs.specs.inside.Asking.{AskSays, IsAsked};
 ghost use Rattle.pc_repairs.specs.inside.Tasks.{IsTask};
+ghost use Rattle.pc_problem.specs.Room.{HasRoom};
 
 use crate::blocks::literal_of;
 use crate::task::Task;
@@ -64,8 +65,7 @@ pub(crate) fn ask(
     requires holds { target.holds ≡ true }
     requires asked { IsAsked task.book.now [] solver.old log.old }
     requires shown { IsAssignment task.book.now.universe shown.old }
-    requires few_learned { tally.old.learned < 2 ^ 126 }
-    requires few_calls { tally.old.calls < 2 ^ 126 }
+    requires counts { HasRoom 126 tally.old }
     ensures asked { IsAsked task.entry.book.now [] solver.new log.new }
     ensures shown { IsAssignment task.entry.book.now.universe shown.new }
     ensures spends { SpendsIn (variable_count task.entry.book.now) 1 tally.old tally.new log.old

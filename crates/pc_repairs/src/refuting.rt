@@ -8,6 +8,7 @@ ghost use Rattle.pc_repairs.specs.Blocks.{blocks_for};
 ghost use Rattle.pc_repairs.specs.Searches.{IsRefutedAt, IsWholeSearch};
 ghost use Rattle.pc_repairs.specs.inside.Asking.{IsAsked};
 ghost use Rattle.pc_repairs.specs.inside.Tasks.{IsTask};
+ghost use Rattle.pc_problem.specs.Room.{HasRoom};
 
 use crate::blocks::add_blocks;
 use crate::task::{Numbers, Task};
@@ -34,8 +35,7 @@ fn refute_blocked(
     requires exact { AreExact task.book.now sets.now }
     requires asked { IsAsked task.book.now [] solver.old [] }
     requires new_log { log.old ≡ [] }
-    requires few_learned { tally.old.learned < 2 ^ 126 }
-    requires few_calls { tally.old.calls < 2 ^ 126 }
+    requires counts { HasRoom 126 tally.old }
     ensures refuted { IfOk result (IsRefutedAt task.entry.book.now log.new) }
     ensures stop { IfErr result (StopSays tally.new) }
     ensures search { IsWholeSearch task.entry.book.now (blocks_for task.entry.book.now sets.now) 1
@@ -65,8 +65,7 @@ fn refute_task(
         task.cells.now }
     requires exact { AreExact task.book.now sets.now }
     requires new_log { log.old ≡ [] }
-    requires few_learned { tally.old.learned < 2 ^ 126 }
-    requires few_calls { tally.old.calls < 2 ^ 126 }
+    requires counts { HasRoom 126 tally.old }
     ensures refuted { IfOk result (IsRefutedAt task.entry.book.now log.new) }
     ensures stop { IfErr result (StopSays tally.new) }
     ensures search { IsWholeSearch task.entry.book.now (blocks_for task.entry.book.now sets.now) 1

@@ -11,6 +11,7 @@ ghost use Rattle.pc_repairs.specs.Lacking.{LackSays};
 ghost use Rattle.pc_repairs.specs.Searches.{IsWholeSearch};
 ghost use Rattle.pc_repairs.specs.inside.Asking.{AddsLacking, AllSay, IsAsked};
 ghost use Rattle.pc_repairs.specs.inside.Tasks.{IsTask};
+ghost use Rattle.pc_problem.specs.Room.{HasRoom};
 
 use crate::asking::ask;
 use crate::task::{Numbers, Task};
@@ -63,8 +64,7 @@ fn add_lacking(
     requires holds { target.holds ≡ true }
     requires asked { IsAsked task.book.now [] search.old.solver log.old }
     requires shown { IsAssignment task.book.now.universe search.old.shown }
-    requires few_learned { tally.old.learned < 2 ^ 126 }
-    requires few_calls { tally.old.calls < 2 ^ 126 }
+    requires counts { HasRoom 126 tally.old }
     ensures asked { IsAsked task.entry.book.now [] search.new.solver log.new }
     ensures shown { IsAssignment task.entry.book.now.universe search.new.shown }
     ensures spends { SpendsIn (variable_count task.entry.book.now) 1 tally.old tally.new log.old
@@ -110,8 +110,7 @@ fn add_all(
     requires asked { IsAsked task.book.now [] search.old.solver log.old }
     requires shown { IsAssignment task.book.now.universe search.old.shown }
     requires none { search.old.found ≡ [] }
-    requires few_learned { tally.old.learned < 2 ^ 120 }
-    requires few_calls { tally.old.calls < 2 ^ 120 }
+    requires counts { HasRoom 120 tally.old }
     ensures asked { IsAsked task.entry.book.now [] search.new.solver log.new }
     ensures spends { SpendsIn (variable_count task.entry.book.now) (length sets.now) tally.old
         tally.new log.old log.new }
@@ -158,8 +157,7 @@ fn lacking_by_search(
     requires target { IsTargetIn task.book.now.universe target }
     requires holds { target.holds ≡ true }
     requires new_log { log.old ≡ [] }
-    requires few_learned { tally.old.learned < 2 ^ 120 }
-    requires few_calls { tally.old.calls < 2 ^ 120 }
+    requires counts { HasRoom 120 tally.old }
     ensures says { IfOk result (LackSays task.entry.book.now sets.now target) }
     ensures stop { IfErr result (StopSays tally.new) }
     ensures search { IsWholeSearch task.entry.book.now [] (length sets.now) tally.old tally.new

@@ -23,13 +23,9 @@ add_lacking-requires-clause-asked c = c.loop-place.invariant.asked
 pub add_lacking-requires-clause-shown : goal.add_lacking-requires-clause-shown
 add_lacking-requires-clause-shown c = c.loop-place.invariant.shown
 
-pub add_lacking-requires-clause-few_learned : goal.add_lacking-requires-clause-few_learned
-add_lacking-requires-clause-few_learned c =
-    (still_few (variable_count c.args.task.book.now) c.loop-place.place c.args.tally.now c.loop-place.tally c.args.log.now c.loop-place.log c.loop-place.invariant.spends c.recall_limit.ensures (omega (arith, c.loop-place-test.true)) c.requires.few_learned c.requires.few_calls).0
-
-pub add_lacking-requires-clause-few_calls : goal.add_lacking-requires-clause-few_calls
-add_lacking-requires-clause-few_calls c =
-    (still_few (variable_count c.args.task.book.now) c.loop-place.place c.args.tally.now c.loop-place.tally c.args.log.now c.loop-place.log c.loop-place.invariant.spends c.recall_limit.ensures (omega (arith, c.loop-place-test.true)) c.requires.few_learned c.requires.few_calls).1
+pub add_lacking-requires-clause-counts : goal.add_lacking-requires-clause-counts
+add_lacking-requires-clause-counts c =
+    still_few (variable_count c.args.task.book.now) c.loop-place.place c.args.tally.now c.loop-place.tally c.args.log.now c.loop-place.log c.loop-place.invariant.spends c.recall_limit.ensures (omega (arith, c.loop-place-test.true)) c.requires.counts
 
 pub returns-in_err-add_lacking-clause-spends : goal.returns-in_err-add_lacking-clause-spends
 returns-in_err-add_lacking-clause-spends c =
