@@ -35,13 +35,14 @@ fn replace(alloc: Global, state: &mut State, budget: u64, book: Book) -> Result<
 }
 
 // The book with the rule, whose name is new.
-fn with_new_rule(alloc: Global, book: &Book, rule: Rule) -> Result<Book, EditRefused>
-    requires rule { IsWellFormedRule book.now.universe (rule_of rule) }
-    requires few { length book.now.rules < most_rules }
-    ensures book { IfOk result (λ b. b ≡ with_rule book.now (rule_of rule)) }
-    ensures new { IfOk result (λ _. IsNewName book.now.rules rule.name) }
-    ensures duplicate { ¬ IsNewName book.now.rules rule.name → result ≡ Err DuplicateRule }
-    ensures refused { (budget : ℕ) → IfErr result (IsAddCause book.now (rule_of rule) budget) }
+fn with_new_rule(alloc: Global, book: &mut Book, rule: Rule) -> Result<Book, EditRefused>
+    requires rule { IsWellFormedRule book.old.universe (rule_of rule) }
+    requires few { length book.old.rules < most_rules }
+    ensures same { book.new ≡ book.old }
+    ensures book { IfOk result (λ b. b ≡ with_rule book.old (rule_of rule)) }
+    ensures new { IfOk result (λ _. IsNewName book.old.rules rule.name) }
+    ensures duplicate { ¬ IsNewName book.old.rules rule.name → result ≡ Err DuplicateRule }
+    ensures refused { (budget : ℕ) → IfErr result (IsAddCause book.old (rule_of rule) budget) }
 {
     well_formed(book);
     match place_of_rule(book.rules(), rule.name.as_str()) {
@@ -66,7 +67,7 @@ pub(crate) fn add_rule(
     ensures refused { IfErr result (IsAddCause state.old.book (rule_of rule) budget) }
     ensures kept { OnErr result (IsSame state.old state.new) }
 {
-    match with_new_rule(alloc, &state.book, rule) {
+    match with_new_rule(alloc, &mut state.book, rule) {
         Ok(book) => replace(alloc, state, budget, book),
         Err(refused) => Err(refused),
     }

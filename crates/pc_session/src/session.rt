@@ -16,7 +16,7 @@ ghost use Rattle.pc_ask.specs.Asking.{AreReadSizes, AskSays, AskStops, IsPartSea
 ghost use Rattle.pc_repairs.specs.Searches.{IsWholeSearch};
 ghost use Rattle.pc_sheet.specs.Views.{rule_of};
 ghost use Rattle.pc_sheet.specs.Weight.{weight};
-ghost use Rattle.pc_sheet.specs.WellFormed.{is_of_cell, IsEntryOf, IsWellFormedRule};
+ghost use Rattle.pc_sheet.specs.WellFormed.{is_of_cell, IsEntryOf, IsWellFormed, IsWellFormedRule};
 ghost use Rattle.pc_sheet.specs.declared.ids.Entry.{Entry};
 ghost use Rattle.pc_session.specs.Answers.{AreSpare, AreUnused, HasPlaceFor, IsUnchanged, OthersStay, StandsAlone, Stay, Steps};
 ghost use Rattle.pc_session.specs.Arena.{IsBounded, IsBoundedBySpent, IsWithinSpent};
@@ -44,7 +44,7 @@ use pc_log::Log;
 use pc_reason::{Reason, Reasons};
 use pc_sheet::{CellId, Entry, Rule, Target, ValueId};
 use pc_world_list::{Choices, Worlds};
-use std::alloc::Global;
+use std::alloc::{AllocError, Global};
 use std::marker::Model;
 
 /// A book under edits, with a reason for each implied target. It is seen as its sheet, the budget, the tally of the last
@@ -315,6 +315,16 @@ impl Session {
     }
 
     // Questions
+
+    /// The book with one more rule, as the last one: the asked book, where the rule denies a formula. It shares declarations
+    /// and rules with the session's, which stays as it is.
+    pub fn book_with(&mut self, rule: Rule) -> Result<Book, AllocError>
+        requires { IsWellFormed (with_rule self.old.sheet (rule_of rule)) }
+        ensures same { self.new ≡ self.old }
+        ensures book { IfOk result (λ book. book ≡ with_rule self.old.sheet (rule_of rule)) }
+    {
+        self.state.book.with_rule(self.alloc, rule)
+    }
 
     /// Whether the entries imply the formula that the last rule of the asked book denies: the asked book is the session's with
     /// that rule. Ok is the formula's least support with what a certificate of it is made of; `None` exactly where the formula

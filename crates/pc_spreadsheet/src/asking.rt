@@ -127,7 +127,7 @@ fn answer_with(alloc: Global, session: &mut Session, rule: Rule, notes: &mut Spe
     ensures answers { (f : Statement) → rule_of rule ≡ denial f →
         Answers session.old.budget session.old.sheet f notes.old notes.new result }
 {
-    match session.book().with_rule(alloc, rule) {
+    match session.book_with(rule) {
         Ok(book) => answer_by(alloc, session, book, notes),
         Err(AllocError) => Reply::Memory,
     }
