@@ -11,7 +11,7 @@ ghost use Rattle.pc_repairs.specs.inside.Tasks.{IsTask};
 ghost use Rattle.pc_problem.specs.Room.{HasRoom};
 
 use crate::blocks::literal_of;
-use crate::task::Task;
+use crate::task::WholeTask;
 use pc_books::Assignment;
 use pc_ground::Ground;
 use pc_lits::{Lit, Tally};
@@ -32,7 +32,7 @@ fn goal_of(ground: &Ground, target: Target) -> Lit
 }
 
 /// That the set's entries stand, oldest first, and that the target's cell hasn't its value.
-fn assumptions(task: Task<'_>, set: &[Entry], target: Target) -> Result<Vec<Lit>, AllocError>
+fn assumptions(task: WholeTask<'_>, set: &[Entry], target: Target) -> Result<Vec<Lit>, AllocError>
     requires set { All (λ e. IsValueOfCell task.ground.now.sizes e.cell e.value) set.now }
     requires target { IsValueOfCell task.ground.now.sizes target.cell target.value }
     requires holds { target.holds ≡ true }
@@ -50,7 +50,7 @@ fn assumptions(task: Task<'_>, set: &[Entry], target: Target) -> Result<Vec<Lit>
 /// Whether some fitting assignment has the set and lacks the target. If so it is read; else the one before stays. The solver
 /// has no blocks.
 pub(crate) fn ask(
-    task: Task<'_>,
+    task: WholeTask<'_>,
     set: &[Entry],
     target: Target,
     solver: &mut Solver<'_>,

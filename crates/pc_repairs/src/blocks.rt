@@ -9,7 +9,7 @@ ghost use Rattle.pc_repairs.specs.inside.Asking.{IsAsked};
 ghost use Rattle.pc_repairs.specs.inside.Tasks.{IsTask};
 ghost use Rattle.pc_repairs.specs.inside.Walks.{starts_with};
 
-use crate::task::Task;
+use crate::task::WholeTask;
 use pc_ground::Ground;
 use pc_lits::Lit;
 use pc_problem::laws::whole_is_searched;
@@ -38,7 +38,7 @@ fn is_next(set: &[Entry], next: usize, entry: Entry) -> bool
 }
 
 // The clause of the entries that aren't in the set, whose entries stand in the order of the book's.
-fn block_of(task: Task<'_>, set: &[Entry]) -> Result<Vec<Lit>, AllocError>
+fn block_of(task: WholeTask<'_>, set: &[Entry]) -> Result<Vec<Lit>, AllocError>
     requires task { IsTask task.book.now task.ground.now task.axioms.now task.variables.now
         task.cells.now }
     requires among { IsSublist task.book.now.entries set.now }
@@ -59,7 +59,7 @@ fn block_of(task: Task<'_>, set: &[Entry]) -> Result<Vec<Lit>, AllocError>
 
 /// Adds the block of each of the maximal sets, in the order of the sets.
 pub(crate) fn add_blocks(
-    task: Task<'_>,
+    task: WholeTask<'_>,
     sets: &Worlds,
     solver: &mut Solver<'_>,
 ) -> Result<(), AllocError>

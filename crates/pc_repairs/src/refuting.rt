@@ -11,7 +11,7 @@ ghost use Rattle.pc_repairs.specs.inside.Tasks.{IsTask};
 ghost use Rattle.pc_problem.specs.Room.{HasRoom};
 
 use crate::blocks::add_blocks;
-use crate::task::{Numbers, Task};
+use crate::task::{Numbers, WholeTask};
 use pc_books::{Book, well_formed};
 use pc_ground::Ground;
 use pc_laws::consistent_is_in_maximal;
@@ -24,7 +24,7 @@ use std::alloc::Global;
 
 // Adds the blocks of the sets, and makes the one call.
 fn refute_blocked(
-    task: Task<'_>,
+    task: WholeTask<'_>,
     sets: &Worlds,
     solver: &mut Solver<'_>,
     log: &mut Log,
@@ -56,7 +56,7 @@ fn refute_blocked(
 
 // The same with a solver of its own.
 fn refute_task(
-    task: Task<'_>,
+    task: WholeTask<'_>,
     sets: &Worlds,
     log: &mut Log,
     tally: &mut Tally,
@@ -97,7 +97,7 @@ pub fn refute(
         log.new }
 {
     let numbers = Numbers::of(alloc, book, ground)?;
-    let task = Task {
+    let task = WholeTask {
         alloc,
         book,
         ground,

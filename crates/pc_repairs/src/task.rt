@@ -29,7 +29,7 @@ pub struct Numbers {
 
 /// A book with its clauses, and the numbers of all of its axioms, variables and cells.
 #[derive(Clone, Copy)]
-pub struct Task<'g> {
+pub struct WholeTask<'g> {
     pub alloc: Global,
     pub book: &'g Book,
     pub ground: &'g Ground,
@@ -92,7 +92,7 @@ impl Numbers {
     }
 }
 
-impl<'g> Task<'g> {
+impl<'g> WholeTask<'g> {
     /// A solver over all of the book, which has no blocks and has derived nothing yet. The pairs are decided first,
     /// and none is to be shown true.
     pub fn solver(self) -> Result<Solver<'g>, AllocError>

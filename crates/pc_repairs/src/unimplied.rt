@@ -14,7 +14,7 @@ ghost use Rattle.pc_repairs.specs.inside.Tasks.{IsTask};
 ghost use Rattle.pc_problem.specs.Room.{HasRoom};
 
 use crate::asking::ask;
-use crate::task::{Numbers, Task};
+use crate::task::{Numbers, WholeTask};
 use pc_books::{Assignment, Book, has_target, well_formed};
 use pc_ground::Ground;
 use pc_laws::implied_is_by_maximal_set;
@@ -48,7 +48,7 @@ fn all_lack(sets: &Worlds, target: Target) -> bool
 
 // Adds the set at this place with an assignment that lacks the target, if there is one. Its own one may do.
 fn add_lacking(
-    task: Task<'_>,
+    task: WholeTask<'_>,
     sets: &Worlds,
     place: usize,
     target: Target,
@@ -95,7 +95,7 @@ fn add_lacking(
 
 // Adds each set with an assignment that lacks the target, until one has none.
 fn add_all(
-    task: Task<'_>,
+    task: WholeTask<'_>,
     sets: &Worlds,
     target: Target,
     search: &mut Search<'_>,
@@ -127,7 +127,7 @@ fn add_all(
 }
 
 // A search of all of the book, which has found nothing.
-fn new_search<'g>(task: Task<'g>) -> Result<Search<'g>, AllocError>
+fn new_search<'g>(task: WholeTask<'g>) -> Result<Search<'g>, AllocError>
     requires { IsTask task.book.now task.ground.now task.axioms.now task.variables.now
         task.cells.now }
     ensures asked { IfOk result (λ s. IsAsked task.entry.book.now [] s.solver []) }
@@ -145,7 +145,7 @@ fn new_search<'g>(task: Task<'g>) -> Result<Search<'g>, AllocError>
 
 // The sets with assignments that lack the target, by a search.
 fn lacking_by_search(
-    task: Task<'_>,
+    task: WholeTask<'_>,
     sets: &Worlds,
     target: Target,
     log: &mut Log,
@@ -202,7 +202,7 @@ pub fn lacking(
         return Ok(Some(sets.copy()?));
     }
     let numbers = Numbers::of(alloc, book, ground)?;
-    let task = Task {
+    let task = WholeTask {
         alloc,
         book,
         ground,

@@ -16,7 +16,7 @@ use crate::state::State;
 use pc_books::Book;
 use pc_cache::{Cache, Patch};
 use pc_reason::Refutation;
-use pc_theory::{Disproof, Fault, Found, Theory, search_book};
+use pc_theory::{Disproof, Fault, FoundBook, Theory, search_book};
 use std::alloc::{AllocError, Global};
 
 // The reasons that were found, in their places.
@@ -75,7 +75,7 @@ pub(crate) fn load_state(alloc: Global, book: Book, budget: u64) -> Result<State
     let mut patch = Patch::new(alloc);
     match search_book(alloc, &book, budget, &mut patch) {
         Ok(
-            Found {
+            FoundBook {
                 theory,
                 worlds,
                 spending,

@@ -18,7 +18,7 @@ use crate::searching::search_parts;
 use crate::spending::{PartSpending, Spending};
 use crate::starting::start_parts;
 use crate::stop::Halt;
-use crate::task::{Fitted, Task};
+use crate::task::{Fitted, BookTask};
 use crate::theory::Theory;
 use crate::totals::total;
 use pc_accept::certificates_are_sound;
@@ -83,7 +83,7 @@ impl From<GroundFault> for Fault {
 
 /// What is found of a whole book: its theory, the worlds of each part, and what was spent.
 #[derive(Drop)]
-pub struct Found {
+pub struct FoundBook {
     pub theory: Theory,
     pub worlds: Vec<Worlds>,
     pub spending: Spending,
@@ -130,7 +130,7 @@ struct Parted {
 // First asks each part whether its rules are consistent, and then lists its worlds and finds its reasons. The trails serve one
 // part after the other.
 fn list_parts(
-    task: Task<'_>,
+    task: BookTask<'_>,
     spent: &mut u64,
     parts: &mut Vec<PartSpending>,
     patch: &mut Patch,
@@ -166,7 +166,7 @@ fn list_parts(
 }
 
 // Searches a book's parts, and tells what was spent.
-fn search_task(task: Task<'_>, patch: &mut Patch) -> Result<Searched, PartFault>
+fn search_task(task: BookTask<'_>, patch: &mut Patch) -> Result<Searched, PartFault>
     requires ready { IsReady task.book.now task.ground.now task.components.now }
     requires few { length task.components.now.cells ≤ 4097 }
     requires blank { patch.old.rows ≡ [] }
@@ -245,7 +245,7 @@ pub fn search_book(
     book: &Book,
     budget: u64,
     patch: &mut Patch,
-) -> Result<Found, Fault>
+) -> Result<FoundBook, Fault>
     requires blank { patch.old.rows ≡ [] }
     ensures found { IfOk result (λ f. AreFound book.now budget f.theory f.worlds.items
         patch.new.rows f.spending) }
@@ -259,7 +259,7 @@ pub fn search_book(
         components,
         searched,
     } = part_book(alloc, book)?;
-    let task = Task {
+    let task = BookTask {
         alloc,
         book,
         ground: &ground,
@@ -273,7 +273,7 @@ pub fn search_book(
                 worlds,
                 spending,
             },
-        ) => Ok(Found {
+        ) => Ok(FoundBook {
             theory: Theory {
                 ground,
                 components,

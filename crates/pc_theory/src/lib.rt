@@ -17,7 +17,7 @@ mod task;
 mod theory;
 mod totals;
 
-pub use book::{Disproof, Fault, Found, search_book};
+pub use book::{Disproof, Fault, FoundBook, search_book};
 pub use edits::PartTargets;
 pub use reading::read_values;
 pub use spending::{PartSpending, Spending};

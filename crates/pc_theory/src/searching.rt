@@ -17,7 +17,7 @@ ghost use Rattle.pc_theory.specs.Theories.{rules_alone, IsPartNumbered};
 
 use crate::spending::PartSpending;
 use crate::targets::targets_on;
-use crate::task::{Fitted, Task};
+use crate::task::{Fitted, BookTask};
 use pc_books::few_cells;
 use pc_cache::Patch;
 use pc_kept::laws::kept_parts_are_searched;
@@ -38,7 +38,7 @@ struct Asked {
 }
 
 // What stands on a part's cells, and what is asked of them.
-fn asked_on(task: Task<'_>, cells: &[CellId]) -> Result<Asked, AllocError>
+fn asked_on(task: BookTask<'_>, cells: &[CellId]) -> Result<Asked, AllocError>
     requires { All (λ c. c.0 < length (cell_sizes task.book.now.universe)) cells.now }
     ensures on { IfOk result (λ a. a.entries.items ≡ entries_on (map number_of cells.now)
         task.entry.book.now.entries) }

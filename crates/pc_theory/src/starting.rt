@@ -11,7 +11,7 @@ ghost use Rattle.pc_theory.specs.inside.Calling.{EndSays, IsCalled, IsEmptyAt, I
 use crate::reading::read_values;
 use crate::spending::PartSpending;
 use crate::stop::Halt;
-use crate::task::Task;
+use crate::task::BookTask;
 use pc_books::Assignment;
 use pc_justify_laws::{names_are_of_their_sheet, own_lines_are_named, trimmed_lines_refute};
 use pc_kept::laws::kept_parts_are_searched;
@@ -29,7 +29,7 @@ struct Derivation {
 }
 
 // Keeps what derives the empty clause.
-fn refuted(task: Task<'_>, log: &Log, last: StepId) -> Result<Derivation, AllocError>
+fn refuted(task: BookTask<'_>, log: &Log, last: StepId) -> Result<Derivation, AllocError>
     requires ready { IsReady task.book.now task.ground.now task.components.now }
     requires empty { IsEmptyAt task.book.now log.now last }
     ensures { IfOk result (λ r. RefutesRules task.entry.book.now (names_of task.entry.book.now)
@@ -62,7 +62,7 @@ struct Called<'g> {
 
 // A solver of a part, which has made no call.
 fn new_solver<'g>(
-    task: Task<'g>,
+    task: BookTask<'g>,
     number: usize,
     trails: &mut SpareTrails,
 ) -> Result<Solver<'g>, AllocError>
@@ -89,7 +89,7 @@ fn new_solver<'g>(
 
 // Makes the first call of a part's solver.
 fn first_call(
-    task: Task<'_>,
+    task: BookTask<'_>,
     solver: &mut Solver<'_>,
     log: &mut Log,
     tally: &mut Tally,
@@ -122,7 +122,7 @@ fn first_call(
 
 // Makes the first call of a part.
 fn call_part<'g>(
-    task: Task<'g>,
+    task: BookTask<'g>,
     number: usize,
     limit: u64,
     trails: &mut SpareTrails,
@@ -183,7 +183,7 @@ fn keep<'g>(
 // Makes the first call of the next part, and reads the values of its cells, which mean nothing where the limit is reached. The
 // solver is kept without its trail.
 fn start_part<'g>(
-    task: Task<'g>,
+    task: BookTask<'g>,
     spent: &mut u64,
     base: &mut Assignment,
     trails: &mut SpareTrails,
@@ -226,7 +226,7 @@ fn start_part<'g>(
 /// Makes the first call of each part, all on one trail. The base is at first the first value of each cell, and then fits the
 /// book.
 pub(crate) fn start_parts<'g>(
-    task: Task<'g>,
+    task: BookTask<'g>,
     spent: &mut u64,
     trails: &mut SpareTrails,
     parts: &mut Vec<PartSpending>,

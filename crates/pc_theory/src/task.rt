@@ -7,7 +7,7 @@ use std::alloc::Global;
 /// A book with its clauses and parts, each part with the axioms that searches take, and how many literals may be placed for all
 /// of them.
 #[derive(Clone, Copy)]
-pub(crate) struct Task<'g> {
+pub(crate) struct BookTask<'g> {
     pub(crate) alloc: Global,
     pub(crate) book: &'g Book,
     pub(crate) ground: &'g Ground,
@@ -18,6 +18,6 @@ pub(crate) struct Task<'g> {
 /// The same with an assignment that fits the book.
 #[derive(Clone, Copy)]
 pub(crate) struct Fitted<'g> {
-    pub(crate) task: Task<'g>,
+    pub(crate) task: BookTask<'g>,
     pub(crate) base: &'g Assignment,
 }

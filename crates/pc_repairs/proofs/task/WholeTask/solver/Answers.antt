@@ -2,7 +2,7 @@ use Rattle.std.proofs.Common.{◌∙◌, [], sym, subst}
 use Rattle.pc_solver.specs.Solver.{SolverView}
 use Rattle.pc_repairs.specs.inside.Asking.{IsAsked}
 use Rattle.pc_repairs.proofs.WholeSearch.{asked_new, asked_problem}
-use Rattle.pc_repairs.proofs.task.Task.solver.Goals as goal
+use Rattle.pc_repairs.proofs.task.WholeTask.solver.Goals as goal
 
 pub new-requires : goal.new-requires
 new-requires c =
