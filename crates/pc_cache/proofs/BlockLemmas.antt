@@ -1,5 +1,6 @@
 -- Blocks, to which lines are added.
-use Rattle.std.proofs.Common.{◌≡◌, ◌≢◌, ℕ, zero, suc, ◌+◌, ◌*◌, ◌<◌, ◌≤◌, inl, inr, true, false, cond, List, [], ◌∷◌, ◌++◌, Option, Some, None, length, get_or, set, take, map, refl, sym, ap, ◌∙◌, subst, arith, All}
+use Rattle.std.proofs.Common.{◌≡◌, ◌≢◌, ℕ, zero, suc, ◌+◌, ◌*◌, ◌<◌, ◌≤◌, inl, inr, true, false, cond, List, [], ◌∷◌, ◌++◌, Option, Some, None, length, get_or, set, take, map, refl, sym, ap, ◌∙◌, subst, arith, All, ltb-true}
+use Rattle.std.specs.Prelude.{nat_lt}
 use Rattle.std.proofs.lemmas.Bool.{cases_eq}
 use Rattle.std.proofs.lemmas.List.{get_or_append_left, get_or-append-add, get_or_default, get_or_push, get_or-set_same, get_or-set_other, length-append, length-set, take_all, take_more}
 use Rattle.std.proofs.lemmas.List.Elements.{All-append, All-cons, All-nil, Contains-get_or}
@@ -12,12 +13,11 @@ use Rattle.pc_log.proofs.PickedLemmas.{picked_are, picked_bytes, picked_length, 
 use Rattle.pc_log.proofs.SparseLemmas.{line_in_is}
 use Rattle.pc_sheet.specs.declared.ids.Target.{Target}
 use Rattle.pc_reason.specs.Reasons.{Justification}
-use Rattle.pc_cache.specs.Rows.{TargetRow, bytes_of_rows, is_same_target, row_bytes, row_of}
+use Rattle.pc_cache.specs.Rows.{Cached, TargetRow, bytes_alive, bytes_of_rows, is_same_target, least, lines_of_rows, row_bytes, row_lines, row_of}
 use Rattle.pc_cache.specs.inside.Kept.{block_at, bytes_of_blocks, kept_or_none, rows_in, AreRowsIn, IsRowIn, KeepsBlocks}
 use Rattle.pc_cache.specs.inside.Moved.{moved_row, moved_rows}
 use Rattle.pc_cache.specs.declared.row.Row.{Row}
 use Rattle.pc_cache.specs.declared.row.Slot.{Slot}
-use Rattle.pc_cache.proofs.SlotLemmas.{bytes_of_rows-push}
 
 pub keeps_all : (blocks : List (List (Option LogLine))) → KeepsBlocks blocks blocks
 keeps_all blocks = (omega arith, λ b low i line at. at)
@@ -171,8 +171,30 @@ lines_count : (lines : List LogLine) → 16 * length lines ≤ bytes_of lines
 lines_count [] = omega arith
 lines_count (line ∷ lines) = omega (arith, sum_by-cons line_bytes line lines, line_counts line, lines_count lines)
 
-pub least_of : (blocks : List (List (Option LogLine))) (r : Row) (count : ℕ) → count ≡ length r.places → 16 * count ≤ row_bytes (kept_or_none blocks (Some r))
-least_of blocks r count is = omega (arith, is, lines_count (picked (block_at blocks r.block) r.places), picked_length (line_in (block_at blocks r.block)) r.places)
+pub lines_in_row : (blocks : List (List (Option LogLine))) (r : Row) (count : ℕ) → count ≡ length r.places → 16 * count ≡ 16 * row_lines (kept_or_none blocks (Some r))
+lines_in_row blocks r count is = omega (arith, is, picked_length (line_in (block_at blocks r.block)) r.places)
+
+row_few : (row : Option Justification) → 16 * row_lines row ≤ row_bytes row
+row_few None = omega arith
+row_few (Some j) = lines_count j.lines
+
+rows_few : (rows : List TargetRow) → 16 * lines_of_rows rows ≤ bytes_of_rows rows
+rows_few [] = omega arith
+rows_few (r ∷ rs) = omega (arith, row_few r.row, rows_few rs)
+
+least_right : (a b : ℕ) → least a b ≤ b
+least_right a b = elim (nat_lt a b) as (λ x. nat_lt a b ≡ x → cond x a b ≤ b) [
+  | true ↦ λ low. omega (arith, ltb-true a b low)
+  | false ↦ λ low. omega arith
+] refl
+
+pub alive_few : (c : Cached) → bytes_alive c ≤ bytes_of_rows c.rows
+alive_few c = omega (arith, least_right c.live (16 * lines_of_rows c.rows), rows_few c.rows)
+
+pub alive_is : (blocks : List (List (Option LogLine))) (lent slots : List Slot) (live sum : ℕ) (c : Cached) → lent ≡ slots → sum ≡ 16 * lines_of_rows (rows_in blocks lent) → rows_in blocks slots ≡ c.rows → live ≡ c.live
+    → least live sum ≡ bytes_alive c
+alive_is blocks lent slots live sum c same is rows alive =
+    ap (λ (n : ℕ). least n sum) alive ∙ ap (least c.live) (is ∙ ap (λ (ss : List Slot). 16 * lines_of_rows (rows_in blocks ss)) same ∙ ap (λ (rs : List TargetRow). 16 * lines_of_rows rs) rows)
 
 -- a block counts for no more than all of them
 one_of : (blocks : List (List (Option LogLine))) (b : ℕ) → bytes_there (block_at blocks b) ≤ bytes_of_blocks blocks
@@ -199,13 +221,17 @@ pub applied_bytes : (blocks from into : List (List (Option LogLine))) (slots : L
     → bytes_of_blocks blocks ≡ bytes → bytes_of_blocks into ≤ bytes + bytes_of_rows patch
 applied_bytes blocks from into slots patch bytes sum alone rows were = omega (arith, sum, alone, ap bytes_of_rows rows, were)
 
-pub least_more : (blocks : List (List (Option LogLine))) (slots : List Slot) (k : ℕ) (d : Slot) (total more : ℕ) → k < length slots → total ≤ bytes_of_rows (rows_in blocks (take k slots)) → more ≤ row_bytes (kept_or_none blocks (get_or slots k d).row)
-    → total + more ≤ bytes_of_rows (rows_in blocks (take (k + 1) slots))
-least_more blocks slots k d total more low was is =
-    omega (arith, was, is, ap (λ (xs : List Slot). bytes_of_rows (rows_in blocks xs)) (take_more slots k d low), bytes_of_rows-push blocks (take k slots) (get_or slots k d))
+lines_of_rows-push : (blocks : List (List (Option LogLine))) (slots : List Slot) (s : Slot) → lines_of_rows (rows_in blocks (slots ++ s ∷ [])) ≡ lines_of_rows (rows_in blocks slots) + row_lines (kept_or_none blocks s.row)
+lines_of_rows-push blocks [] s = omega arith
+lines_of_rows-push blocks (x ∷ xs) s = omega (arith, lines_of_rows-push blocks xs s)
 
-pub least_all : (blocks : List (List (Option LogLine))) (slots : List Slot) (k total : ℕ) → length slots ≤ k → total ≤ bytes_of_rows (rows_in blocks (take k slots)) → total ≤ bytes_of_rows (rows_in blocks slots)
-least_all blocks slots k total all was = subst (λ (xs : List Slot). total ≤ bytes_of_rows (rows_in blocks xs)) (take_all k slots all) was
+pub lines_more : (blocks : List (List (Option LogLine))) (slots : List Slot) (k : ℕ) (d : Slot) (total more : ℕ) → k < length slots → total ≡ 16 * lines_of_rows (rows_in blocks (take k slots))
+    → more ≡ 16 * row_lines (kept_or_none blocks (get_or slots k d).row) → total + more ≡ 16 * lines_of_rows (rows_in blocks (take (k + 1) slots))
+lines_more blocks slots k d total more low was is =
+    omega (arith, was, is, ap (λ (xs : List Slot). lines_of_rows (rows_in blocks xs)) (take_more slots k d low), lines_of_rows-push blocks (take k slots) (get_or slots k d))
+
+pub lines_all : (blocks : List (List (Option LogLine))) (slots : List Slot) (k total : ℕ) → length slots ≤ k → total ≡ 16 * lines_of_rows (rows_in blocks (take k slots)) → total ≡ 16 * lines_of_rows (rows_in blocks slots)
+lines_all blocks slots k total all was = subst (λ (xs : List Slot). total ≡ 16 * lines_of_rows (rows_in blocks xs)) (take_all k slots all) was
 
 -- ---- bytes of blocks, one after another
 

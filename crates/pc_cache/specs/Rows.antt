@@ -1,5 +1,5 @@
 -- Rows: of each target what is kept of why it is implied, or nothing.
-use Rattle.std.specs.Prelude.{◌≡◌, ℕ, ◌+◌, ◌⊎◌, ◌==◌, ◌&&◌, Bool, true, false, List, [], ◌∷◌, Option, Some, None, cond, map}
+use Rattle.std.specs.Prelude.{◌≡◌, ℕ, ◌+◌, ◌⊎◌, ◌*◌, ◌==◌, ◌&&◌, Bool, true, false, List, [], ◌∷◌, Option, Some, None, cond, length, map, nat_lt}
 use Rattle.std.specs.Bool.{beq}
 use Rattle.pc_sheet.specs.declared.ids.Entry.{Entry}
 use Rattle.pc_sheet.specs.declared.ids.Target.{Target}
@@ -77,12 +77,13 @@ abbrev pub HaveTargets : List TargetRow → List TargetRow → Type 0
 HaveTargets rows [] = Unit {0}
 HaveTargets rows (c ∷ cs) = HasRowOf rows c.target × HaveTargets rows cs
 
--- the rows of all targets of a book, the bytes that the lines count for in which the derivations are kept, and those of the lines on
--- which no row rests
+-- the rows of all targets of a book, the bytes that the lines count for in which the derivations are kept, those of the lines on
+-- which no row rests, and what all lines counted for after the last compaction, or after the first ones were put
 pub record Cached : Type 0 where
   pub rows : List TargetRow
   pub bytes : ℕ
   pub spare : ℕ
+  pub live : ℕ
 
 -- ---- how many bytes rows count for
 
@@ -93,3 +94,26 @@ row_bytes (Some j) = bytes_of j.lines
 abbrev pub bytes_of_rows : List TargetRow → ℕ
 bytes_of_rows [] = 0
 bytes_of_rows (r ∷ rs) = row_bytes r.row + bytes_of_rows rs
+
+-- how many lines rows have, were none shared
+abbrev pub row_lines : Option Justification → ℕ
+row_lines None = 0
+row_lines (Some j) = length j.lines
+
+abbrev pub lines_of_rows : List TargetRow → ℕ
+lines_of_rows [] = 0
+lines_of_rows (r ∷ rs) = row_lines r.row + lines_of_rows rs
+
+-- ---- when derivations are compacted
+
+abbrev pub least : ℕ → ℕ → ℕ
+least a b = cond (nat_lt a b) a b
+
+-- how many bytes the lines of the rows alone may count for: what all counted for after the last compaction, or 16 for each line of each
+-- row, where that is less
+abbrev pub bytes_alive : Cached → ℕ
+bytes_alive c = least c.live (16 * lines_of_rows c.rows)
+
+-- what counts as live after changes: what all lines count for, where there were none, and else what counted before
+abbrev pub live_after : ℕ → ℕ → ℕ → ℕ
+live_after before live after = cond (before == 0) after live

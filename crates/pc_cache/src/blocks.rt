@@ -3,11 +3,11 @@
 //! Each block has lines of one log, at their places in it. That rows are of the same log is tested line by line, since nobody
 //! says so; where they aren't, another block is begun.
 
-ghost use Rattle.std.specs.Prelude.{◌≡◌, ◌≢◌, ◌<◌, ◌≤◌, ◌^◌, ◌+◌, ◌⊎◌, ℕ, [], List, Option, None, All, Contains, IfOk, IfSome, IsTrue, OnErr, OnOk, length, map};
+ghost use Rattle.std.specs.Prelude.{◌≡◌, ◌≢◌, ◌<◌, ◌≤◌, ◌^◌, ◌+◌, ◌*◌, ◌⊎◌, ℕ, [], List, Option, None, All, Contains, IfOk, IfSome, IsTrue, OnErr, OnOk, length, map};
 ghost use Rattle.pc_log.specs.Lines.{LogLine};
 ghost use Rattle.pc_log.specs.Sizes.{bytes_of};
 ghost use Rattle.pc_log.specs.Sparse.{line_at, line_in, AddsOnly, IsThere, Keeps, LinesStand, MayStand};
-ghost use Rattle.pc_cache.specs.Rows.{bytes_of_rows, row_bytes};
+ghost use Rattle.pc_cache.specs.Rows.{bytes_of_rows, lines_of_rows, row_lines};
 ghost use Rattle.pc_cache.specs.inside.Kept.{block_at, bytes_of_blocks, kept_or_none, rows_in, AreRowsIn, IsRowIn, KeepsBlocks};
 ghost use Rattle.pc_cache.specs.inside.Patched.{last_in, settled_in, ShareBlock};
 ghost use Rattle.pc_cache.specs.inside.Rested.{IsRowKept};
@@ -144,23 +144,23 @@ pub(crate) fn blocks_bytes(blocks: &[SparseLog]) -> u128
     total
 }
 
-/// At least so many bytes the lines of the rows count for, were none shared.
+/// 16 for each line of each row.
 pub(crate) fn rows_bytes(slots: &[Slot]) -> u128
     requires few { length slots.now ≤ 2 ^ 21 }
     ensures { (blocks : List (List (Option LogLine))) →
-        result ≤ bytes_of_rows (rows_in blocks slots.now) }
+        result ≡ 16 * lines_of_rows (rows_in blocks slots.now) }
 {
     let mut total = 0;
     for slot in slots {
-        total += least_bytes(&slot.row);
+        total += line_bytes(&slot.row);
     }
     total
 }
 
 // 16 for each line.
-fn least_bytes(row: &Option<Row>) -> u128
-    ensures most { (blocks : List (List (Option LogLine))) →
-        result ≤ row_bytes (kept_or_none blocks row.now) }
+fn line_bytes(row: &Option<Row>) -> u128
+    ensures exact { (blocks : List (List (Option LogLine))) →
+        result ≡ 16 * row_lines (kept_or_none blocks row.now) }
     ensures few { result < 2 ^ 69 }
 {
     match row {

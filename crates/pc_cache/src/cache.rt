@@ -9,7 +9,7 @@ ghost use Rattle.pc_sheet.specs.Entailment.{cell_sizes};
 ghost use Rattle.pc_sheet.specs.declared.ids.Target.{Target};
 ghost use Rattle.pc_reason.specs.Reasons.{justification_of};
 ghost use Rattle.pc_reason.specs.Targets.{IsTargetIn};
-ghost use Rattle.pc_cache.specs.Rows.{bytes_of_rows, lacks_row, row_after, row_bytes, row_of, targets_of, uses_entry, AreDistinct, AreEmpty, HasRowOf, HaveTargets};
+ghost use Rattle.pc_cache.specs.Rows.{bytes_alive, bytes_of_rows, lacks_row, least, live_after, row_after, row_bytes, row_of, targets_of, uses_entry, AreDistinct, AreEmpty, HasRowOf, HaveTargets};
 ghost use Rattle.pc_cache.specs.Targets.{targets};
 ghost use Rattle.pc_cache.specs.Lent.{IsLentFor};
 ghost use Rattle.pc_cache.specs.Patches.{patch_bytes};
@@ -27,17 +27,16 @@ use pc_log::{Derivation, SparseLog};
 use pc_reason::Reason;
 use pc_sheet::{CellId, Entry, Target};
 use std::alloc::{AllocError, Global};
-use std::cmp::min;
 use std::marker::Model;
 
 /// Of each target of a book why it is implied, or nothing. It is seen as the list of these rows, with the bytes that the lines
-/// count for in which all derivations lie, and those of the lines on which no row rests.
+/// count for in which all derivations lie, those of the lines on which no row rests, and what counts as live.
 #[derive(Drop)]
 pub struct Cache {
     blocks: Vec<SparseLog>,
     // How many bytes their lines count for.
     bytes: u128,
-    // The same after the first rows were put, or after the last compaction.
+    // The same after the last compaction, or after the first lines were put.
     live: u128,
     // Places of blocks that had no line after the last compaction, where others may be put.
     free: Vec<usize>,
@@ -56,7 +55,7 @@ impl Model for Cache {
     ghost use Rattle.pc_cache.specs.inside.Cached.{cached_in, IsKept};
     ghost use Rattle.pc_cache.specs.inside.Kept.{bytes_of_blocks};
 
-    ghost view = { λ c. cached_in c.blocks.items c.slots.items };
+    ghost view = { λ c. cached_in c.blocks.items c.slots.items c.live };
 
     ghost invariant = { λ c. (c.bytes ≡ bytes_of_blocks c.blocks.items) ×
         IsKept c.blocks.items c.starts.items c.slots.items };
@@ -72,6 +71,7 @@ impl Cache {
         ensures once { IfOk result (λ cache. AreDistinct cache.rows) }
         ensures empty { IfOk result (λ cache. AreEmpty cache.rows) }
         ensures bytes { IfOk result (λ cache. cache.bytes ≡ 0) }
+        ensures live { IfOk result (λ cache. cache.live ≡ 0) }
     {
         let mut starts = Vec::new(alloc);
         let mut slots = Vec::new(alloc);
@@ -139,17 +139,19 @@ impl Cache {
         ensures targets { targets_of self.new.rows ≡ targets_of self.old.rows }
         ensures bytes { OnOk result (self.new.bytes ≤ self.old.bytes + bytes_of_rows patch.rows) }
         ensures exact { OnOk result (self.new.bytes ≡ self.old.bytes + patch_bytes patch) }
+        ensures live { OnOk result (self.new.live ≡
+            live_after self.old.bytes self.old.live self.new.bytes) }
         ensures err { OnErr result (self.new ≡ self.old) }
     {
         if !patch.whole {
             return Err(AllocError);
         }
         let bytes = total_of(self.bytes, blocks_bytes(&patch.blocks))?;
-        let first = self.blocks.len() == 0;
+        let live = live_then(self.bytes, self.live, bytes);
         let mut changes = patch.slots;
         take_blocks(patch.blocks, &mut changes, &mut self.free, &mut self.blocks)?;
         self.bytes = bytes;
-        self.live = live_after(first, self.live, bytes);
+        self.live = live;
         put_slots(&self.starts, &mut self.slots, changes);
         Ok(())
     }
@@ -160,6 +162,7 @@ impl Cache {
         ensures bytes { OnOk result (self.new.bytes + self.old.spare ≡ self.old.bytes) }
         ensures few { OnOk result (self.new.bytes ≤ bytes_of_rows self.old.rows) }
         ensures spare { OnOk result (self.new.spare ≡ 0) }
+        ensures live { OnOk result (self.new.live ≡ self.new.bytes) }
         ensures err { OnErr result (self.new ≡ self.old) }
     {
         let alloc = *self.slots.allocator();
@@ -180,17 +183,28 @@ impl Cache {
         self.bytes
     }
 
-    /// How many bytes the lines of the rows alone may count for: at most those of each row counted by itself. It takes no memory.
+    /// How many bytes the lines of the rows alone may count for: what all lines counted for after the last compaction, or 16 for
+    /// each line of each row, where that is less. It takes no memory.
     pub fn live_bytes(&self) -> u128
-        ensures { result ≤ bytes_of_rows self.now.rows }
+        ensures exact { result ≡ bytes_alive self.now }
+        ensures most { result ≤ bytes_of_rows self.now.rows }
     {
-        min(self.live, rows_bytes(&self.slots))
+        least_of(self.live, rows_bytes(&self.slots))
     }
 }
 
-// After the first rows, how many bytes the lines count for.
-fn live_after(first: bool, live: u128, bytes: u128) -> u128 {
-    if first { bytes } else { live }
+// What counts as live once the lines count for so many bytes, where they counted for so many before.
+fn live_then(before: u128, live: u128, bytes: u128) -> u128
+    ensures { result ≡ live_after before live bytes }
+{
+    if before == 0 { bytes } else { live }
+}
+
+// The lesser one of two numbers.
+fn least_of(one: u128, other: u128) -> u128
+    ensures { result ≡ least one other }
+{
+    if one < other { one } else { other }
 }
 
 // The sum. Past the largest number the answer is want of memory.

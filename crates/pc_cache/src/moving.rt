@@ -1,8 +1,8 @@
 //! Blocks that move among others, and the rows with them.
 
 ghost use Rattle.std.specs.Prelude.{◌≡◌, ◌+◌, ◌<◌, [], IfOk, IfSome, IsTrue, OnErr, OnOk, length, set};
-ghost use Rattle.pc_cache.specs.inside.Kept.{block_at, bytes_of_blocks, rows_in, AreRowsIn, KeepsBlocks};
-ghost use Rattle.pc_cache.specs.inside.Moved.{moved_row, moved_rows};
+ghost use Rattle.pc_cache.specs.inside.Kept.{block_at, AreRowsIn};
+ghost use Rattle.pc_cache.specs.inside.Moved.{moved_row, moved_rows, AreTaken};
 
 use crate::row::{Row, Slot};
 use pc_log::SparseLog;
@@ -17,11 +17,8 @@ pub(crate) fn take_blocks(
     into: &mut Vec<SparseLog>,
 ) -> Result<(), AllocError>
     requires { AreRowsIn from.items slots.old }
-    ensures keeps { OnOk result (KeepsBlocks into.old.items into.new.items) }
-    ensures are { OnOk result (AreRowsIn into.new.items slots.new) }
-    ensures same { OnOk result (rows_in into.new.items slots.new ≡ rows_in from.items slots.old) }
-    ensures bytes { OnOk result (bytes_of_blocks into.new.items ≡
-        bytes_of_blocks into.old.items + bytes_of_blocks from.items) }
+    ensures taken { OnOk result (AreTaken from.items slots.old into.old.items into.new.items
+        slots.new) }
     ensures err { OnErr result (into.new.items ≡ into.old.items) }
 {
     if from.len() == 1 {
@@ -43,11 +40,8 @@ fn take_alone(
     requires one { length from.items ≡ 1 }
     requires within { place < length into.old.items }
     requires empty { block_at into.old.items place ≡ [] }
-    ensures keeps { OnOk result (KeepsBlocks into.old.items into.new.items) }
-    ensures are { OnOk result (AreRowsIn into.new.items slots.new) }
-    ensures same { OnOk result (rows_in into.new.items slots.new ≡ rows_in from.items slots.old) }
-    ensures bytes { OnOk result (bytes_of_blocks into.new.items ≡
-        bytes_of_blocks into.old.items + bytes_of_blocks from.items) }
+    ensures taken { OnOk result (AreTaken from.items slots.old into.old.items into.new.items
+        slots.new) }
     ensures err { OnErr result (into.new.items ≡ into.old.items) }
 {
     let mut blocks = from;
@@ -72,11 +66,8 @@ fn take_behind(
     into: &mut Vec<SparseLog>,
 ) -> Result<(), AllocError>
     requires { AreRowsIn from.items slots.old }
-    ensures keeps { OnOk result (KeepsBlocks into.old.items into.new.items) }
-    ensures are { OnOk result (AreRowsIn into.new.items slots.new) }
-    ensures same { OnOk result (rows_in into.new.items slots.new ≡ rows_in from.items slots.old) }
-    ensures bytes { OnOk result (bytes_of_blocks into.new.items ≡
-        bytes_of_blocks into.old.items + bytes_of_blocks from.items) }
+    ensures taken { OnOk result (AreTaken from.items slots.old into.old.items into.new.items
+        slots.new) }
     ensures err { OnErr result (into.new.items ≡ into.old.items) }
 {
     let mut blocks = from;

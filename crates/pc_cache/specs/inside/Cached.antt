@@ -14,5 +14,5 @@ pub record IsKept (blocks : List (List (Option LogLine))) (starts : List ℕ) (s
   pub rows : AreRowsIn blocks slots
   pub few : length slots ≤ 2 ^ 21
 
-abbrev pub cached_in : List (List (Option LogLine)) → List Slot → Cached
-cached_in blocks slots = record { rows = rows_in blocks slots; bytes = bytes_of_blocks blocks; spare = spare_in slots 0 blocks }
+abbrev pub cached_in : List (List (Option LogLine)) → List Slot → ℕ → Cached
+cached_in blocks slots live = record { rows = rows_in blocks slots; bytes = bytes_of_blocks blocks; spare = spare_in slots 0 blocks; live = live }

@@ -16,6 +16,9 @@ invariant_of-self c = (
   rested_kept c.self.inside.blocks.items c.in_ok-kept.kept.items c.self.inside.starts.items c.self.inside.slots.items c.deref-2.result.now c.self.invariant.1 c.deref-2.ensures.value c.in_ok-kept.ensures.are,
 )
 
+pub returns-clause-live : goal.returns-clause-live
+returns-clause-live c = c.blocks_bytes-self-inside.ensures ∙ ap bytes_of_blocks c.deref-4.ensures.value
+
 pub returns-clause-rows : goal.returns-clause-rows
 returns-clause-rows c = rested_rows c.self.inside.blocks.items c.deref.result.now c.in_ok-kept.kept.items c.self.inside.slots.items c.deref-2.result.now c.args.self.now.rows c.deref.ensures.value c.deref-2.ensures.value c.in_ok-kept.ensures.rows (ap (λ (r : Cached). r.rows) c.self.view_is)
 

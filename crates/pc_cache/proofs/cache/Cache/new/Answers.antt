@@ -1,4 +1,4 @@
-use Rattle.std.proofs.Common.{◌≤◌, ◌^◌, length, arith, ap, sym, ◌∙◌}
+use Rattle.std.proofs.Common.{◌≤◌, ◌^◌, length, arith, ap, refl, sym, ◌∙◌}
 use Rattle.pc_sheet.specs.Entailment.{cell_sizes}
 use Rattle.pc_cache.specs.inside.Kept.{bytes_of_blocks}
 use Rattle.pc_cache.proofs.Fresh.{cell_more, fresh_is_kept, fresh_rows, fresh_targets}
@@ -28,4 +28,5 @@ returns c =
       once = rows.1;
       empty = rows.2;
       bytes = ap bytes_of_blocks c.new.ensures.items;
+      live = refl;
     }
