@@ -1,7 +1,9 @@
-use Rattle.std.proofs.Common.{OnOk, subst}
+use Rattle.std.proofs.Common.{OnErr, OnOk, subst, sym}
 use Rattle.std.proofs.lemmas.Result.{IfErr-weaker}
+use Rattle.pc_sheet.specs.Sheet.{Sheet}
 use Rattle.pc_sheet.specs.Views.{rule_of}
 use Rattle.pc_session.specs.inside.Loaded.{IsLoaded}
+use Rattle.pc_session.specs.inside.States.{IsSame}
 use Rattle.pc_session.specs.Rules.{IsAddCause, IsRuleCause}
 use Rattle.pc_session.specs.declared.refused.EditRefused.TheVariants.{DuplicateRule}
 use Rattle.pc_session.proofs.RuleEdits.{add_cause_of}
@@ -9,7 +11,14 @@ use Rattle.pc_session.proofs.Viewing.{same_err, same_itself}
 use Rattle.pc_session.proofs.rules.add_rule.Goals as goal
 
 pub returns-in-Err-clause-kept : goal.returns-in-Err-clause-kept
-returns-in-Err-clause-kept c = same_itself c.args.state.now
+returns-in-Err-clause-kept c =
+    let s = c.args.state.now in
+    subst (λ (b : Sheet). IsSame s (record s { book = b })) (sym c.in-Err.ensures.same) (same_itself s)
+
+pub returns-in-Ok-clause-kept : goal.returns-in-Ok-clause-kept
+returns-in-Ok-clause-kept c =
+    let s = c.args.state.now in
+    subst (λ (b : Sheet). OnErr c.replace.result (IsSame (record s { book = b }) c.replace.new.state)) c.in-Ok.ensures.same c.replace.ensures.kept
 
 pub returns-in-Err-clause-refused : goal.returns-in-Err-clause-refused
 returns-in-Err-clause-refused c = c.in-Err.ensures.refused c.args.budget
