@@ -1,11 +1,12 @@
 //! When the kept derivations are compacted.
 //!
-//! A reason that is replaced leaves its lines behind. They are dropped at the start of an edit that searches, where all lines
-//! count for 1,048,576 bytes more than twice what was left the last time (or than twice 16 for each line of each reason, where
-//! that is less). So it comes once for each 1,048,576 bytes that were put or left behind since; it then goes over the places
-//! of every row.
+//! A reason that is replaced leaves its lines behind. They are dropped at the start of an edit that searches, exactly where all
+//! lines count for 1,048,576 bytes more than twice what was left the last time or, where that was nothing, than twice what was
+//! put first (or than twice 16 for each line of each reason, where that is less). By the first it comes once for each 1,048,576
+//! bytes that were put since; by the last, where few reasons rest on many long lines, at each such edit. It then goes over the
+//! places of every row.
 ghost use Rattle.std.specs.Prelude.{◌≡◌, ◌≤◌, ◌+◌, ◌*◌, OnErr, OnOk, nat_lt};
-ghost use Rattle.pc_session.specs.Arena.{compacted, IsLeft};
+ghost use Rattle.pc_session.specs.Arena.{compacted, IsLeft, IsLeftWhereDue};
 
 use pc_cache::Cache;
 use std::alloc::AllocError;
@@ -23,6 +24,7 @@ pub(crate) fn compact_if_due(cache: &mut Cache) -> Result<(), AllocError>
     ensures ok { OnOk result (cache.new.bytes ≤ compacted cache.old.rows cache.old.bytes) }
     ensures left { OnOk result (IsLeft cache.old.bytes cache.old.spare cache.new.bytes
         cache.new.spare) }
+    ensures due { OnOk result (IsLeftWhereDue cache.old cache.new) }
     ensures err { OnErr result (cache.new ≡ cache.old) }
 {
     if is_due(cache.arena_bytes(), cache.live_bytes()) {

@@ -1,6 +1,6 @@
 use Rattle.std.proofs.Common.{arith, ◌+◌, ◌*◌, inl, refl, sym, ◌∙◌, ap}
 use Rattle.std.specs.Prelude.{nat_lt}
-use Rattle.pc_session.proofs.Compacted.{least, left_compacted, not_due}
+use Rattle.pc_session.proofs.Compacted.{least, left_compacted, not_due, where_due, where_not_due}
 use Rattle.pc_session.proofs.compaction.compact_if_due.Goals as goal
 
 pub returns-in_ok-compact-clause-ok : goal.returns-in_ok-compact-clause-ok
@@ -14,8 +14,17 @@ returns-in_ok-compact-clause-left c =
 
 pub returns-else-is_due-clause-ok : goal.returns-else-is_due-clause-ok
 returns-else-is_due-clause-ok c =
-    not_due c.args.cache.now.rows c.args.cache.now.bytes c.live_bytes.result c.live_bytes.ensures
+    not_due c.args.cache.now.rows c.args.cache.now.bytes c.live_bytes.result c.live_bytes.ensures.most
     (ap (nat_lt (2 * c.live_bytes.result + 1048576)) (sym c.arena_bytes.ensures.exact) ∙ sym c.is_due.ensures ∙ c.if-is_due.false)
 
 pub returns-else-is_due-clause-left : goal.returns-else-is_due-clause-left
 returns-else-is_due-clause-left c = inl (refl, refl)
+
+pub returns-in_ok-compact-clause-due : goal.returns-in_ok-compact-clause-due
+returns-in_ok-compact-clause-due c =
+    let told = c.in_ok-compact.ensures in
+    where_due c.args.cache.now c.compact.new.self c.live_bytes.result c.arena_bytes.result c.is_due.result c.live_bytes.ensures.exact c.arena_bytes.ensures.exact c.is_due.ensures c.if-is_due.true
+    (record { rows = c.compact.ensures.rows; bytes = told.bytes; spare = told.spare; live = told.live })
+
+pub returns-else-is_due-clause-due : goal.returns-else-is_due-clause-due
+returns-else-is_due-clause-due c = where_not_due c.args.cache.now c.live_bytes.result c.arena_bytes.result c.is_due.result c.live_bytes.ensures.exact c.arena_bytes.ensures.exact c.is_due.ensures c.if-is_due.false
