@@ -18,7 +18,7 @@ use crate::searching::search_parts;
 use crate::spending::{PartSpending, Spending};
 use crate::starting::start_parts;
 use crate::stop::Halt;
-use crate::task::{Fitted, BookTask};
+use crate::task::{BookTask, Fitted};
 use crate::theory::Theory;
 use crate::totals::total;
 use pc_accept::certificates_are_sound;

@@ -17,7 +17,7 @@ ghost use Rattle.pc_theory.specs.Theories.{rules_alone, IsPartNumbered};
 
 use crate::spending::PartSpending;
 use crate::targets::targets_on;
-use crate::task::{Fitted, BookTask};
+use crate::task::{BookTask, Fitted};
 use pc_books::few_cells;
 use pc_cache::Patch;
 use pc_kept::laws::kept_parts_are_searched;
