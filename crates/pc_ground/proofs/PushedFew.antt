@@ -1,5 +1,5 @@
 -- What a last rule comes to has numbers of 32 bits, since all of the sheet has.
-use Rattle.std.proofs.Common.{◌≡◌, ℕ, ◌+◌, ◌-◌, ◌≤◌, List, [], ◌∷◌, ◌++◌, get_or, map, length, All, ap, sym, ◌∙◌, arith, length-append}
+use Rattle.std.proofs.Common.{◌≡◌, ℕ, ◌+◌, ◌-◌, ◌≤◌, List, [], ◌∷◌, ◌++◌, get_or, map, length, All, ap, sym, ◌∙◌, subst, arith, length-append}
 use Rattle.std.proofs.lemmas.List.{get_or-map, get_or_push, length-map}
 use Rattle.std.proofs.lemmas.List.Elements.{All-contains, Contains-append_right}
 use Rattle.std.proofs.lemmas.List.Sums.{sum_by_push}
@@ -29,55 +29,76 @@ use Rattle.pc_ground.proofs.Many.{clauses_few}
 use Rattle.pc_ground.proofs.PieceCellsListed.{cells_listed}
 use Rattle.pc_ground.proofs.Pushed.{ground_grows, pieces_counted, rules_counted, whole_axioms, whole_clauses, whole_count, whole_reads, whole_symbols}
 
-module _ (s : Sheet) (r : NamedStatement) (formed : IsWellFormed (with_rule s r)) where
-  pub rule_sorted : IsWellSorted s.universe [] r.states
-  rule_sorted = (All-contains (IsWellFormedRule s.universe) (s.rules ++ r ∷ []) r formed.rules.each (Contains-append_right s.rules (r ∷ []) r (contains_first r []))).sorted
+module _ (s : Sheet) (r : NamedStatement) (b : Sheet) (is : b ≡ with_rule s r) (formed : IsWellFormed b) where
+  whole_formed : IsWellFormed (with_rule s r)
+  whole_formed = subst IsWellFormed is formed
 
-  pub few_variables : variable_count s + count_nodes s.universe r.states ≤ weight (with_rule s r)
+  pub few_variables : variable_count s + count_nodes s.universe r.states ≤ weight b
   few_variables =
-      let a = variables_within (with_rule s r) formed in
-      let b = whole_count s r in
-      omega (arith, a, b)
+      let a = variables_within (with_rule s r) whole_formed in
+      let c = whole_count s r in
+      let d = ap weight is in
+      omega (arith, a, c, d)
 
-  pub few_pieces : length (grounded s).reads + piece_count s.universe r.states ≤ weight (with_rule s r)
+  pub few_pieces : length (grounded s).reads + piece_count s.universe r.states ≤ weight b
   few_pieces =
       let u = s.universe in
-      let a = pieces_within (with_rule s r) formed in
-      let b = rules_counted u (s.rules ++ r ∷ []) in
+      let a = pieces_within (with_rule s r) whole_formed in
+      let c = rules_counted u (s.rules ++ r ∷ []) in
       let d = ap length (cells_listed (with_rule s r)) in
       let e = ap length (whole_reads s r) ∙ length-append (grounded s).reads (piece_cells u [] r.states) in
       let f = pieces_counted u [] r.states in
-      omega (arith, a, b, d, e, f)
+      let g = ap weight is in
+      omega (arith, a, c, d, e, f, g)
 
-  pub few_symbols : length (nodes_below s.universe (length s.rules) [] r.states) ≤ weight (with_rule s r)
+  pub few_symbols : length (nodes_below s.universe (length s.rules) [] r.states) ≤ weight b
   few_symbols =
       let a = (all_named (with_rule s r)).many_variables in
-      let b = ap length (whole_symbols s r) ∙ length-append (variables s) (nodes_below s.universe (length s.rules) [] r.states) in
-      let d = variables_within (with_rule s r) formed in
-      omega (arith, a, b, d)
+      let c = ap length (whole_symbols s r) ∙ length-append (variables s) (nodes_below s.universe (length s.rules) [] r.states) in
+      let d = variables_within (with_rule s r) whole_formed in
+      let e = ap weight is in
+      omega (arith, a, c, d, e)
 
-  pub few_names : length (map name_of (rule_axioms s.universe (length s.rules) r)) ≤ weight (with_rule s r) + length (cell_sizes s.universe)
+  pub few_names : length (map name_of (rule_axioms s.universe (length s.rules) r)) ≤ weight b + length (cell_sizes b.universe)
   few_names =
       let own = map name_of (rule_axioms s.universe (length s.rules) r) in
       let a = (all_named (with_rule s r)).many_axioms in
-      let b = ap length (whole_axioms s r) ∙ length-append (map name_of (axioms s)) own in
+      let c = ap length (whole_axioms s r) ∙ length-append (map name_of (axioms s)) own in
       let d = clauses_few (with_rule s r) in
-      omega (arith, a, b, d)
+      let e = ap weight is in
+      let f = ap (λ (x : Sheet). length (cell_sizes x.universe)) is in
+      omega (arith, a, c, d, e, f)
 
 -- ---- the rule by its place
 
-module _ (s : Sheet) (r : NamedStatement) (rules : List Rule) (i : ℕ) (x : Rule) (items : map rule_of rules ≡ s.rules ++ r ∷ []) (at : i ≡ length rules - 1) where
+module _ (s : Sheet) (r : NamedStatement) (b : Sheet) (is : b ≡ with_rule s r) (rules : List Rule) (i : ℕ) (items : map rule_of rules ≡ b.rules) (at : i ≡ length rules - 1) where
+  items_are : map rule_of rules ≡ s.rules ++ r ∷ []
+  items_are = items ∙ ap (λ (x : Sheet). x.rules) is
+
   pub last_place : i ≡ length s.rules
   last_place =
       let a = length-map rules rule_of in
-      let b = ap length items ∙ length-append s.rules (r ∷ []) in
-      omega (arith, a, b, at)
+      let c = ap length items_are ∙ length-append s.rules (r ∷ []) in
+      omega (arith, a, c, at)
 
-  pub last_is : x ≡ get_or rules i x → rule_of x ≡ r
-  last_is is =
-      let a = length-map rules rule_of in
-      let b = ap length items ∙ length-append s.rules (r ∷ []) in
-      ap rule_of is ∙ sym (get_or-map rule_of rules i x (rule_of x) (omega (arith, a, b, at))) ∙ ap (λ l. get_or l i (rule_of x)) items ∙ get_or_push s.rules r (rule_of x) i (sym last_place)
+  module _ (x d : Rule) (found : x ≡ get_or rules i d) where
+    pub last_is : rule_of x ≡ r
+    last_is =
+        let a = length-map rules rule_of in
+        let c = ap length items_are ∙ length-append s.rules (r ∷ []) in
+        ap rule_of found ∙ sym (get_or-map rule_of rules i d (rule_of d) (omega (arith, a, c, at))) ∙ ap (λ l. get_or l i (rule_of d)) items_are ∙ get_or_push s.rules r (rule_of d) i (sym last_place)
+
+    pub last_sorted : IsWellFormed b → IsWellSorted b.universe [] (rule_of x).states
+    last_sorted formed =
+        let whole = subst IsWellFormed is formed in
+        let sorted : IsWellSorted s.universe [] r.states = (All-contains (IsWellFormedRule s.universe) (s.rules ++ r ∷ []) r whole.rules.each (Contains-append_right s.rules (r ∷ []) r (contains_first r []))).sorted in
+        subst (λ (q : NamedStatement). IsWellSorted b.universe [] q.states) (sym last_is) (subst (λ (y : Sheet). IsWellSorted y.universe [] r.states) (sym is) sorted)
+
+    pub last_nodes : count_nodes b.universe (rule_of x).states ≡ count_nodes s.universe r.states
+    last_nodes = ap (λ (y : Sheet). count_nodes y.universe (rule_of x).states) is ∙ ap (λ (q : NamedStatement). count_nodes s.universe q.states) last_is
+
+    pub last_pieces : piece_count b.universe (rule_of x).states ≡ piece_count s.universe r.states
+    last_pieces = ap (λ (y : Sheet). piece_count y.universe (rule_of x).states) is ∙ ap (λ (q : NamedStatement). piece_count s.universe q.states) last_is
 
 -- ---- how much it weighs
 
@@ -106,12 +127,14 @@ module _ (g : Grounded) (u u' : Universe) (n n' p j : ℕ) (sizes : List ℕ) (r
 -- ---- with it behind the ground
 
 module _ (s : Sheet) (r : NamedStatement) (g : Grounded) (is : g ≡ grounded s) (d : Draft) (own : IsOwnOf g s.universe (length s.rules) r d) where
-  pub clauses_within : (cs : List (List Lit)) → cs ≡ g.clauses ++ d.nodes.clauses → length cs ≤ weight (with_rule s r) + length (cell_sizes s.universe)
-  clauses_within cs c =
+  pub clauses_within : (b : Sheet) → b ≡ with_rule s r → (cs : List (List Lit)) → cs ≡ g.clauses ++ d.nodes.clauses → length cs ≤ weight b + length (cell_sizes b.universe)
+  clauses_within b whole cs c =
       let all : cs ≡ clauses (with_rule s r) = c ∙ ap (λ xs. g.clauses ++ xs) own.clauses ∙ ap (λ (h : Grounded). h.clauses ++ own_clauses s.universe h.sizes h.variables r) is ∙ sym (whole_clauses s r) in
       let many = ap length all in
       let few = clauses_few (with_rule s r) in
-      omega (arith, many, few)
+      let same = ap weight whole in
+      let cells = ap (λ (x : Sheet). length (cell_sizes x.universe)) whole in
+      omega (arith, many, few, same, cells)
 
   pub whole_made : (cs : List (List Lit)) (v : ℕ) (ns : NameLists) (os : List Span) (rs : List (List ℕ))
       → cs ≡ g.clauses ++ d.nodes.clauses → v ≡ g.variables + count_nodes s.universe r.states → ns ≡ named g.names d.nodes.names.variables d.nodes.names.axioms → os ≡ g.owners ++ d.owners.items → rs ≡ g.reads ++ d.reads
