@@ -30,3 +30,10 @@ pub(crate) struct Binder<'a> {
     pub(crate) place: Place<'a>,
     pub(crate) sort: SortId,
 }
+
+/// Where a node of two parts stands, with the variable of the second.
+#[derive(Clone, Copy)]
+pub(crate) struct Fork<'a> {
+    pub(crate) place: Place<'a>,
+    pub(crate) second: u32,
+}

@@ -11,10 +11,11 @@ ghost use Rattle.pc_sheet.specs.WellSorted.{IsWellSorted};
 ghost use Rattle.pc_axiom_names.specs.Listed.{no_names};
 ghost use Rattle.pc_ground.specs.Variables.{count_nodes, count_all, nodes_of_rule, nodes_below, nodes_from, pairs_from};
 ghost use Rattle.pc_ground.specs.Ground.{rule_axioms, rules_axioms, cells_axioms};
-ghost use Rattle.pc_ground.specs.ByNumber.{lit, joined_clauses, roots_of_values, node_clauses, rules_clauses, cells_clauses, IsSortedIn, AreSortedIn, AreSorted, AreRulesSorted};
+ghost use Rattle.pc_ground.specs.ByNumber.{lit, joined_clauses, roots_of_values, node_clauses, rules_clauses, cells_clauses, IsSortedIn, AreSorted, AreRulesSorted};
 ghost use Rattle.pc_ground.specs.Naming.{name_of, named};
 ghost use Rattle.pc_ground.specs.Owners.{cells_times, piece_count, piece_count_of_parts, piece_count_of_rules, of_one, span, span_at, spans, spans_of_rules, no_groups};
 ghost use Rattle.pc_ground.specs.PieceCells.{piece_cells, piece_cells_of_rules};
+ghost use Rattle.pc_ground.specs.inside.Fitting.{ArePartsFit, IsBodyFit};
 ghost use Rattle.pc_ground.specs.inside.Places.{own_named, spot, value_spot, clauses_at, axioms_at, names_at, cells_at, spans_at, reads_at, clauses_of_parts, names_of_parts, owners_of_parts, reads_of_parts, own_joined, clauses_joined, names_joined, owners_joined, owners_of_joint, clauses_of_values, names_of_values, owners_of_values, reads_of_values, clauses_of_instances, names_of_instances, owners_of_instances};
 
 use crate::cells::Cells;
@@ -207,11 +208,7 @@ impl Grounding<'_> {
         parts: &[Formula],
         piece: u32,
     ) -> Result<(), AllocError>
-        requires sorted { AreSortedIn self.now.book.now.universe (length place.scope.now)
-            (statements_of (map statement_of parts.now)) }
-        requires few { length parts.now < 4194304 }
-        requires room { place.first + 1 + count_all self.now.book.now.universe
-            (statements_of (map statement_of parts.now)) < 2 ^ 32 }
+        requires parts { ArePartsFit self.now place parts.now }
         requires pieces { piece + piece_count_of_parts self.now.book.now.universe
             (statements_of (map statement_of parts.now)) < 2 ^ 32 }
         ensures clauses { OnOk result (draft.new.nodes.clauses ≡ draft.old.nodes.clauses ++
@@ -240,11 +237,7 @@ impl Grounding<'_> {
         parts: &[Formula],
         piece: u32,
     ) -> Result<(), AllocError>
-        requires sorted { AreSortedIn self.now.book.now.universe (length place.scope.now)
-            (statements_of (map statement_of parts.now)) }
-        requires few { length parts.now < 4194304 }
-        requires room { place.first + 1 + count_all self.now.book.now.universe
-            (statements_of (map statement_of parts.now)) < 2 ^ 32 }
+        requires parts { ArePartsFit self.now place parts.now }
         requires pieces { piece + piece_count_of_parts self.now.book.now.universe
             (statements_of (map statement_of parts.now)) < 2 ^ 32 }
         ensures clauses { OnOk result (draft.new.nodes.clauses ≡ draft.old.nodes.clauses ++
@@ -314,12 +307,7 @@ impl Grounding<'_> {
         body: &Formula,
         piece: u32,
     ) -> Result<(), AllocError>
-        requires sort { binder.sort.0 < length self.now.book.now.universe.sorts }
-        requires depth { length binder.place.scope.now < most_depth }
-        requires sorted { IsSortedIn self.now.book.now.universe (length binder.place.scope.now + 1)
-            (statement_of body.now) }
-        requires room { binder.place.first + 1 + size_of self.now.book.now.universe binder.sort *
-            count_nodes self.now.book.now.universe (statement_of body.now) < 2 ^ 32 }
+        requires body { IsBodyFit self.now binder (statement_of body.now) }
         requires pieces { piece + size_of self.now.book.now.universe binder.sort *
             piece_count self.now.book.now.universe (statement_of body.now) < 2 ^ 32 }
         ensures clauses { OnOk result (draft.new.nodes.clauses ≡ draft.old.nodes.clauses ++
@@ -359,13 +347,8 @@ impl Grounding<'_> {
         body: &Formula,
         piece: u32,
     ) -> Result<(), AllocError>
-        requires sort { binder.sort.0 < length self.now.book.now.universe.sorts }
         requires some { 0 < size_of self.now.book.now.universe binder.sort }
-        requires depth { length binder.place.scope.now < most_depth }
-        requires sorted { IsSortedIn self.now.book.now.universe (length binder.place.scope.now + 1)
-            (statement_of body.now) }
-        requires room { binder.place.first + 1 + size_of self.now.book.now.universe binder.sort *
-            count_nodes self.now.book.now.universe (statement_of body.now) < 2 ^ 32 }
+        requires body { IsBodyFit self.now binder (statement_of body.now) }
         requires pieces { piece + size_of self.now.book.now.universe binder.sort *
             piece_count self.now.book.now.universe (statement_of body.now) < 2 ^ 32 }
         ensures clauses { OnOk result (draft.new.nodes.clauses ≡ draft.old.nodes.clauses ++

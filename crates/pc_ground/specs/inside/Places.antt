@@ -17,6 +17,7 @@ use Rattle.pc_ground.specs.declared.counting.Counting.{Counting}
 use Rattle.pc_ground.specs.declared.grounding.Grounding.{Grounding}
 use Rattle.pc_ground.specs.declared.grounding.Place.{Place}
 use Rattle.pc_ground.specs.declared.grounding.Binder.{Binder}
+use Rattle.pc_ground.specs.declared.grounding.Fork.{Fork}
 use Rattle.pc_ground.specs.declared.owners.Span.{Span}
 use Rattle.pc_ground.specs.ByNumber.{Clause, joined_clauses, roots, roots_of_values, node_clauses, parts_clauses, instances_clauses, count_clauses, counters_clauses}
 use Rattle.pc_ground.specs.Ground.{GroundAxiom, node_axioms, parts_axioms, counters_axioms}
@@ -79,6 +80,26 @@ module _ (g : Grounding) (at : Spot) (s : Statement) where
 
   abbrev pub reads_at : List (List ℕ)
   reads_at = piece_cells g.book.now.universe at.scope s
+
+-- ---- two parts of the node that stands there
+
+module _ (g : Grounding) (at : Fork) (s t : Statement) where
+  abbrev pub clauses_of_two : List Clause
+  clauses_of_two = node_clauses g.book.now.universe g.cells.now (at.place.first + 1) at.place.scope.now s ++ node_clauses g.book.now.universe g.cells.now at.second at.place.scope.now t
+
+  abbrev pub nodes_of_two : List Symbol
+  nodes_of_two = nodes_below g.book.now.universe at.place.path.now.rule (at.place.path.now.steps.items ++ 0 ∷ []) s ++ nodes_below g.book.now.universe at.place.path.now.rule (at.place.path.now.steps.items ++ 1 ∷ []) t
+
+  abbrev pub axioms_of_two : List GroundAxiom
+  axioms_of_two =
+      node_axioms g.book.now.universe at.place.path.now.rule (at.place.path.now.steps.items ++ 0 ∷ []) at.place.scope.now s
+      ++ node_axioms g.book.now.universe at.place.path.now.rule (at.place.path.now.steps.items ++ 1 ∷ []) at.place.scope.now t
+
+  abbrev pub names_of_two : NameLists → NameLists
+  names_of_two names = named names nodes_of_two (map name_of axioms_of_two)
+
+  abbrev pub cells_of_two : List ℕ
+  cells_of_two = cells_under g.book.now.universe at.place.scope.now s ++ cells_under g.book.now.universe at.place.scope.now t
 
 -- ---- parts of a conjunction or disjunction that stands there
 

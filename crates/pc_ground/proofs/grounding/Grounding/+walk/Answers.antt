@@ -17,7 +17,7 @@ walk-walk_joint-requires t c =
     let h = parts_of_and u (length c.args.place.scope.now) c.args.formula.now c.in-And.parts fs c.in-And.is c.deref.ensures.value c.requires.sorted in
     let e = and_is c.args.formula.now c.in-And.parts c.in-And.is ∙ ap (λ gs. all_of (statements_of (map statement_of gs))) (sym c.deref.ensures.value) in
     let ss = statements_of (map statement_of fs) in
-    (search (rules, the_lemmas), (h.sorted, (h.few, (joint_room u (statement_of c.args.formula.now) ss c.args.place.first e c.requires.room, joint_pieces u (statement_of c.args.formula.now) ss c.args.piece e c.requires.pieces))))
+    (search (rules, the_lemmas), (record { sorted = h.sorted; few = h.few; room = joint_room u (statement_of c.args.formula.now) ss c.args.place.first e c.requires.room }, joint_pieces u (statement_of c.args.formula.now) ss c.args.piece e c.requires.pieces))
 
 pub walk-returns-in-And-clause-names : goal.walk-returns-in-And-clause-names
 walk-returns-in-And-clause-names t c =
