@@ -12,6 +12,7 @@ pub mod Owned
 pub mod OwnedByParts
 pub mod OwnAlone
 pub mod Placing
+pub mod Linking
 pub mod TurnedRight
 pub mod TurnedMeans
 pub mod RowsAdded

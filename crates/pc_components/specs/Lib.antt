@@ -2,7 +2,7 @@ pub mod PartAxioms
 pub mod Used
 pub mod Laws
 pub mod View
-pub mod Buckets
+pub mod Links
 pub mod Pairs
 pub mod Labels
 pub mod Traversal

@@ -45,7 +45,7 @@ fn is_open(labels: &[usize], cell: usize) -> bool
 fn no_labels(alloc: Global, count: usize) -> Result<Vec<usize>, AllocError>
     ensures { IfOk result (λ labels. labels.items ≡ replicate count count) }
 {
-    let mut labels = Vec::new(alloc);
+    let mut labels = Vec::with_capacity(alloc, count)?;
     for _ in 0..count {
         labels.push(count)?;
     }

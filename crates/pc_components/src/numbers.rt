@@ -39,7 +39,7 @@ pub(crate) fn number_cells(
     ensures count { IfOk result (λ found. found.1 ≡ length (own_firsts labels.now)) }
     ensures small { IfOk result (λ found. found.1 ≤ length labels.now) }
 {
-    let mut numbers = Vec::new(alloc);
+    let mut numbers = Vec::with_capacity(alloc, labels.len())?;
     let mut count = 0;
     for c in 0..labels.len() {
         let number = number_of_cell(&numbers, count, labels[c], c);
@@ -73,7 +73,7 @@ pub(crate) fn numbers_of_pieces(
 ) -> Result<Vec<usize>, AllocError>
     ensures { IfOk result (λ found. found.items ≡ map (piece_number numbers.now last) rows.now) }
 {
-    let mut found = Vec::new(alloc);
+    let mut found = Vec::with_capacity(alloc, rows.len())?;
     for i in 0..rows.len() {
         found.push(number_of_piece(rows.get(i), numbers, last))?;
     }

@@ -57,7 +57,7 @@ fn marks_of_spans(
     ensures { IfOk result (λ marks. marks.items ≡
         map (λ span. is_among (row_of numbers.now span) number) spans.now) }
 {
-    let mut marks = Vec::new(alloc);
+    let mut marks = Vec::with_capacity(alloc, spans.len())?;
     for span in spans {
         marks.push(is_among(row_of(numbers, *span), number))?;
     }
