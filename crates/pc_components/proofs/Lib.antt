@@ -24,3 +24,5 @@ pub mod NumbersRight
 pub mod Solvable
 pub mod MarksRight
 pub mod PieceRight
+pub mod AskedLabels
+pub mod TiedRight

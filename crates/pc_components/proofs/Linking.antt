@@ -1,5 +1,5 @@
 -- Places that are linked in one list, and buckets of them.
-use Rattle.std.proofs.Common.{◌≡◌, ℕ, zero, suc, ◌+◌, ◌-◌, ◌<◌, ◌≤◌, ◌==◌, Bool, true, false, cond, nat_lt, List, [], ◌∷◌, ◌++◌, map, append-nil, append_assoc, length, replicate, set, Some, slice_get, slice_index_or, eq-eqb, refl, ap, sym, ◌∙◌, subst, arith}
+use Rattle.std.proofs.Common.{◌≡◌, ℕ, zero, suc, ◌+◌, ◌-◌, ◌<◌, ◌≤◌, ◌==◌, true, false, cond, nat_lt, List, [], ◌∷◌, ◌++◌, map, append-nil, append_assoc, length, replicate, set, Some, slice_get, slice_index_or, eq-eqb, refl, ap, sym, ◌∙◌, subst, arith}
 use Rattle.pc_components.specs.declared.turned.Link.{Link}
 use Rattle.pc_components.specs.Links.{no_link, linked_from, AreLinked}
 use Rattle.pc_components.specs.inside.Within.{AreBelow}

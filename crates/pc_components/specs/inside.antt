@@ -6,3 +6,4 @@ pub mod Turned
 pub mod Spans
 pub mod ClauseVariables
 pub mod Marks
+pub mod Tied

@@ -2,7 +2,8 @@
 ghost use Rattle.std.specs.Prelude.{◌≡◌, ◌<◌, ◌^◌, All, IfOk, length, map, slice_get, Some};
 ghost use Rattle.std.specs.List.{AllZip};
 ghost use Rattle.pc_components.specs.PartAxioms.{AreVariablesOf};
-ghost use Rattle.pc_components.specs.View.{AreComponentsOf, variable_number};
+ghost use Rattle.pc_components.specs.View.{AreComponentsOf, number_of, variable_number};
+ghost use Rattle.pc_components.specs.inside.Tied.{firsts_by_number};
 ghost use Rattle.pc_ground.specs.Ground.{clauses};
 ghost use Rattle.pc_ground.specs.Grounded.{grounded};
 
@@ -11,6 +12,7 @@ use crate::narrow::{
 };
 use crate::numbers::rows_of_each;
 use crate::part_numbers::PartNumbers;
+use crate::tied::first_cells;
 use crate::turned::turn;
 use crate::variables::variables_of_parts;
 use pc_books::{Book, few_cells, well_formed};
@@ -79,6 +81,14 @@ impl Components {
         ensures { slice_get self.now.numbers cell.0 ≡ Some result }
     {
         self.numbers[usize::from(cell.0)]
+    }
+
+    /// The first cell of each cell's part.
+    pub(crate) fn labels(&self, alloc: Global) -> Result<Vec<usize>, AllocError>
+        ensures { IfOk result (λ labels. labels.items ≡
+            firsts_by_number (map (map number_of) self.now.cells) self.now.numbers) }
+    {
+        first_cells(alloc, &self.cells, &self.numbers)
     }
 
     /// The same parts, each with these axioms in the place of its own, and with the variables that they name. An error is want

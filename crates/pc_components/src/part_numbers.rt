@@ -65,7 +65,7 @@ fn marks_of_spans(
 }
 
 impl PartNumbers {
-    /// The numbers of a book's parts, from the labels of its cells.
+    /// The numbers of a book's parts.
     #[tactic(auto, using(crate::proofs::RowsWithin::rows_within))]
     pub(crate) fn new(
         alloc: Global,
@@ -77,9 +77,25 @@ impl PartNumbers {
             found.pieces.items) }
     {
         well_formed(book);
+        let labels = labels_by(alloc, ground.reads(), book.cells())?;
+        PartNumbers::by_labels(alloc, book, ground, &labels)
+    }
+
+    /// The numbers of a book's parts, from the labels of its cells.
+    pub(crate) fn by_labels(
+        alloc: Global,
+        book: &Book,
+        ground: &Ground,
+        labels: &[usize],
+    ) -> Result<PartNumbers, AllocError>
+        requires ground { ground.now ≡ grounded book.now }
+        requires labels { labels.now ≡ labels_of book.now }
+        ensures { IfOk result (λ found. HasNumbers book.now found.parts found.cells.items
+            found.pieces.items) }
+    {
+        well_formed(book);
         let rows = ground.reads();
-        let labels = labels_by(alloc, rows, book.cells())?;
-        let (cells, parts) = number_cells(alloc, &labels)?;
+        let (cells, parts) = number_cells(alloc, labels)?;
         let pieces = numbers_of_pieces(alloc, rows, &cells, parts)?;
         Ok(PartNumbers {
             parts: parts + count_last(rows),
