@@ -18,9 +18,9 @@ use Rattle.pc_cert.specs.declared.cert.CertPart.{CertPart}
 use Rattle.pc_cert.specs.declared.cert.CertPart.TheVariants.{Axiom, Step, Block}
 use Rattle.pc_cert.specs.declared.cert.CertLine.{CertLine}
 use Rattle.pc_cert.specs.ReadFor.{IsNamedIn, IsPartOver}
-use Rattle.pc_checker.specs.Made.{IsPrepared}
 use Rattle.pc_checker.specs.inside.Parts.{places_meant, IsGoodPart, AreGoodBelow, EndsAmong, fault_by}
 use Rattle.pc_checker.specs.Verdicts.{Numbered, IsFirstAtFault, ClaimStands, blocks_in, IsVerdict}
+use Rattle.pc_checker.proofs.ExactClauses.{IsExact}
 use Rattle.pc_checker.proofs.ListLemmas.{cut_at}
 use Rattle.pc_checker.proofs.HintLemmas.{all_below}
 use Rattle.pc_checker.proofs.Derivations.{named_step, ends_named, kept_names, length-lines_from, line_at, same_line}
@@ -39,7 +39,7 @@ no_line = record { line = 0; part = Axiom (Any (record { 0 = 0 })) }
 
 module _ (sheet : Sheet) (blocks : List (List Literal)) (symbols more : List Symbol) (distinct : AreSymbolsDistinct (symbols ++ more)) (clauses : List (List Lit)) (axioms : List Bool) (lines : List CertLine)
     (count : length clauses ≡ length lines) (within : All (All (IsNamedIn (symbols ++ more))) clauses) (over : All (λ l. IsPartOver sheet symbols l.part) lines)
-    (each : (i : ℕ) (d : CertLine) → i < length lines → IsPrepared sheet blocks (symbols ++ more) (get_or clauses i []) (get_or axioms i false) (get_or lines i d).part) where
+    (each : (i : ℕ) (d : CertLine) → i < length lines → IsExact sheet blocks (symbols ++ more) (get_or clauses i []) (get_or axioms i false) (get_or lines i d).part) where
   abbrev names : List Symbol
   names = symbols ++ more
 
@@ -57,7 +57,7 @@ module _ (sheet : Sheet) (blocks : List (List Literal)) (symbols more : List Sym
 
   -- ---- one line
 
-  part_good : (i : ℕ) (part : CertPart) → i < length lines → IsPartOver sheet symbols part → IsPrepared sheet blocks names (get_or clauses i []) (get_or axioms i false) part
+  part_good : (i : ℕ) (part : CertPart) → i < length lines → IsPartOver sheet symbols part → IsExact sheet blocks names (get_or clauses i []) (get_or axioms i false) part
       → IsGoodPart clauses axioms i part → IsLineClauseBeside sheet blocks named_clauses i (line_of i (part_of symbols part)) (get_or named_clauses i [])
   part_good i (Axiom a) less is_over is good =
       subst (IsClauseOf sheet (axiom_of a)) (sym (clause_at i less)) (marked (get_or axioms i false) _ _ good is)
@@ -69,7 +69,7 @@ module _ (sheet : Sheet) (blocks : List (List Literal)) (symbols more : List Sym
       (clause_at i less ∙ same, good.0, subst (λ c. IsGoodStep opposite c (clauses_at named_clauses places)) same step)
   part_good i (Block j) less is_over is good = subst (λ c. slice_get blocks j ≡ Some c) (sym (clause_at i less)) (marked (get_or axioms i false) _ _ good is)
 
-  good_part : (i : ℕ) (part : CertPart) → i < length lines → IsPartOver sheet symbols part → IsPrepared sheet blocks names (get_or clauses i []) (get_or axioms i false) part
+  good_part : (i : ℕ) (part : CertPart) → i < length lines → IsPartOver sheet symbols part → IsExact sheet blocks names (get_or clauses i []) (get_or axioms i false) part
       → (c : List Literal) → IsLineClauseBeside sheet blocks named_clauses i (line_of i (part_of symbols part)) c → IsGoodPart clauses axioms i part
   good_part i (Axiom a) less is_over is c h = unmarked (get_or axioms i false) _ _ is (λ none. none c h)
   good_part i (Step clause hints) less is_over is c h =

@@ -13,6 +13,9 @@ pub mod ReadLemmas
 pub mod RoomLemmas
 pub mod LineClauseLemmas
 pub mod Made
+pub mod OnceLemmas
+pub mod SameClauses
+pub mod ExactClauses
 pub mod CheckedLines
 pub mod CheckVerdict
 pub mod Acceptance

@@ -22,7 +22,7 @@ other_sign false true h = λ same. false≢true same
 other_sign false false h = λ same. true≢false h
 
 -- one literal more of that sign
-marked_push : (sign : Bool) (lits : List Lit) (x : Lit) (values : List (Option Bool)) → IsInRange values x → x.sign ≡ sign → AreMarked sign lits values
+pub marked_push : (sign : Bool) (lits : List Lit) (x : Lit) (values : List (Option Bool)) → IsInRange values x → x.sign ≡ sign → AreMarked sign lits values
     → AreMarked sign (lits ++ x ∷ []) (set values x.variable.0 (Some x.sign))
 marked_push sign lits x values room is_of marked l within of =
     let before : IsInRange values l = omega (arith, length-set values x.variable.0 (Some x.sign)) in
@@ -39,7 +39,7 @@ marked_push sign lits x values room is_of marked l within of =
     (cases_eq l.variable.0 x.variable.0)
 
 -- a literal of the other sign is none of those that are asked for
-marked_skip : (sign : Bool) (lits : List Lit) (x : Lit) (values : List (Option Bool)) → x.sign ≢ sign → AreMarked sign lits values → AreMarked sign (lits ++ x ∷ []) values
+pub marked_skip : (sign : Bool) (lits : List Lit) (x : Lit) (values : List (Option Bool)) → x.sign ≢ sign → AreMarked sign lits values → AreMarked sign (lits ++ x ∷ []) values
 marked_skip sign lits x values other marked l within of = (
   λ is. Contains-append_left lits (x ∷ []) l ((marked l within of).0 is),
   λ has. ⊎_elim ((marked l within of).1) (λ same. absurd (other (ap (λ (m : Lit). m.sign) same ∙ of))) (Contains-push_cases lits x l has),

@@ -1,10 +1,11 @@
 -- What room is made of: symbols in their order, and lines one after the other.
-use Rattle.std.proofs.Common.{◌≡◌, ℕ, ◌+◌, ◌<◌, inl, inr, Bool, false, List, [], ◌∷◌, ◌++◌, map, take, length, get_or, All, Contains, Some, slice_get, refl, ap, sym, ◌∙◌, subst, arith}
+use Rattle.std.proofs.Common.{append-nil, Option, ◌≡◌, ℕ, ◌+◌, ◌<◌, inl, inr, Bool, false, List, [], ◌∷◌, ◌++◌, map, take, length, get_or, All, Contains, Some, slice_get, refl, ap, sym, ◌∙◌, subst, arith}
 use Rattle.std.proofs.lemmas.Bool.{cases_order}
 use Rattle.std.proofs.lemmas.List.{map_more, take-map, length-map, length-append, length-take-le, get_or-take, get_or-map, get_or_default, get_or_append_left, get_or_push}
 use Rattle.std.proofs.lemmas.List.Elements.{All-weaker, All-push}
 use Rattle.pc_sheet.specs.Sheet.{Sheet}
 use Rattle.pc_lits.specs.declared.literal.Lit.{Lit}
+use Rattle.pc_lits.specs.Values.{IsInRange}
 use Rattle.pc_accept.specs.Literals.{Symbol, node, Literal}
 use Rattle.pc_accept.specs.Axioms.{IsClauseOf, negated_entry}
 use Rattle.pc_accept.specs.Accepts.{value_of_entry}
@@ -17,11 +18,13 @@ use Rattle.pc_cert.specs.declared.cert.CertPart.{CertPart}
 use Rattle.pc_cert.specs.declared.cert.CertPart.TheVariants.{Axiom, Step, Block}
 use Rattle.pc_cert.specs.declared.cert.CertLine.{CertLine}
 use Rattle.pc_cert.specs.ReadFor.{IsNamedIn, IsPartOver}
+use Rattle.pc_checker.specs.LineClauses.{HasSame}
 use Rattle.pc_checker.specs.Made.{IsPrepared, value_said}
 use Rattle.pc_cert.specs.Keys.{IsNumberedAs}
 use Rattle.pc_cert.specs.Numbered.{StartsWith}
-use Rattle.pc_checker.specs.inside.Prepared.{IsLinePrepared, ArePrepared}
+use Rattle.pc_checker.specs.inside.Prepared.{IsLinePrepared, IsStepInRange, ArePrepared}
 use Rattle.pc_checker.proofs.AxiomLemmas.{match_along}
+use Rattle.pc_checker.proofs.SameClauses.{same_back, all_same}
 use Rattle.pc_checker.proofs.DraftLemmas.{grows_on, named_still, names_still}
 
 pub numbered_more : (symbols : List SymbolRead) (i : ℕ) (x : SymbolRead) (old new : List Symbol) (n : ℕ) → i < length symbols → x ≡ get_or symbols i x → AreSymbolsDistinct (map symbol_of symbols)
@@ -69,6 +72,29 @@ part_over sheet old new (Block j) g over = over
 pub line_over : (sheet : Sheet) (lines : List CertLine) (n : ℕ) (line : CertLine) (old new : List Symbol) → n < length lines → line ≡ get_or lines n line → StartsWith old new → All (λ l. IsPartOver sheet old l.part) lines
     → IsPartOver sheet new line.part
 line_over sheet lines n line old new within is g over = part_over sheet old new line.part g (subst (λ (l : CertLine). IsPartOver sheet old l.part) (sym is) (over n line within))
+
+part_in_range : (sheet : Sheet) (symbols : List Symbol) (marks : List (Option Bool)) (part : CertPart) → length marks ≡ length symbols → IsPartOver sheet symbols part → IsStepInRange marks part
+part_in_range sheet symbols marks (Axiom a) count over = tt
+part_in_range sheet symbols marks (Step c hints) count over = All-weaker (IsNamedIn symbols) (IsInRange marks) (λ l named. omega (arith, named, count)) c.items over
+part_in_range sheet symbols marks (Block j) count over = tt
+
+-- there is a mark for each of a line's variables
+pub step_in_range : (sheet : Sheet) (lines : List CertLine) (n : ℕ) (line : CertLine) (symbols : List Symbol) (marks : List (Option Bool)) → n < length lines → line ≡ get_or lines n line → length marks ≡ length symbols
+    → All (λ l. IsPartOver sheet symbols l.part) lines → IsStepInRange marks line.part
+step_in_range sheet lines n line symbols marks within is count over =
+    part_in_range sheet symbols marks line.part count (subst (λ (l : CertLine). IsPartOver sheet symbols l.part) (sym is) (over n line within))
+
+-- a step is prepared by the same literals
+pub step_prepared : (sheet : Sheet) (blocks : List (List Literal)) (names : List Symbol) (part step : CertPart) (c once : List Lit) (before after : List (List Lit)) → part ≡ step → All (IsNamedIn names) c
+    → HasSame once c → IsPrepared sheet blocks names once false step → after ≡ before ++ once ∷ [] → IsLinePrepared sheet blocks part names names before after false
+step_prepared sheet blocks names part step c once before after is over same prepared pushed =
+    subst (λ p. IsLinePrepared sheet blocks p names names before after false) (sym is) (record {
+      grows = ([], sym (append-nil names));
+      clause = once;
+      pushed = pushed;
+      within = all_same (IsNamedIn names) c once (same_back once c same) over;
+      prepared = prepared;
+    })
 
 pub prepared_more : (sheet : Sheet) (blocks : List (List Literal)) (lines : List CertLine) (n : ℕ) (line : CertLine) (symbols old new : List Symbol) (before after : List (List Lit)) (marks more : List Bool) (good : Bool) → n < length lines
     → line ≡ get_or lines n line → ArePrepared sheet blocks lines n symbols old before marks → IsLinePrepared sheet blocks line.part old new before after good → more ≡ marks ++ good ∷ []

@@ -1,5 +1,5 @@
 -- The clauses of lines, where lines share them.
-use Rattle.std.specs.Prelude.{◌≡◌, ℕ, ◌<◌, List, [], map, length, slice_index_or, All}
+use Rattle.std.specs.Prelude.{◌≡◌, ◌↔◌, ℕ, ◌<◌, List, [], map, length, slice_index_or, All, Contains}
 use Rattle.pc_lits.specs.declared.literal.Lit.{Lit}
 use Rattle.pc_axiom_names.specs.Views.{axiom_of}
 use Rattle.pc_cert.specs.declared.cert.CertPart.{CertPart}
@@ -12,6 +12,10 @@ clauses_by stored places = map (λ place. slice_index_or stored place []) places
 -- each place is one of the store's
 abbrev pub AreStored : List (List Lit) → List ℕ → Type 0
 AreStored stored places = All (λ place. place < length stored) places
+
+-- the same literals, however often each
+abbrev pub HasSame : List Lit → List Lit → Type 0
+HasSame clause other = (m : Lit) → Contains clause m ↔ Contains other m
 
 -- both lines take the same axiom, or the clause of the same set
 abbrev pub TakeSame : CertPart → CertPart → Type 0

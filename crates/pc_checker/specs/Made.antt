@@ -19,16 +19,17 @@ use Rattle.pc_cert.specs.Views.{said_of, set_of, symbols_of, literal_of, reading
 use Rattle.pc_cert.specs.ReadFor.{IsNamedIn, IsReadFor}
 use Rattle.pc_checker.specs.declared.scratch.Scratch.{Scratch}
 use Rattle.pc_checker.specs.Entered.{AreEnteredPairs, HasEachPair}
+use Rattle.pc_checker.specs.LineClauses.{HasSame}
 use Rattle.pc_checker.specs.Verdicts.{AreApart, values_in, allowed_in}
 
 abbrev pub value_said : Said → ValueId
 value_said s = s.entry.value
 
--- a step's own literals; or an axiom's or a set's clause, where it is marked as one, and no such clause where it isn't
+-- a step's own literals, however often each; or an axiom's or a set's clause, where it is marked as one, and no such clause where it isn't
 abbrev pub IsPrepared : Sheet → List (List Literal) → List Symbol → List Lit → Bool → CertPart → Type 0
 IsPrepared sheet blocks names clause good (Axiom a) =
     MatchBool good (IsClauseOf sheet (axiom_of a) (map (literal_of names) clause)) ((c : List Literal) → ¬ IsClauseOf sheet (axiom_of a) c)
-IsPrepared sheet blocks names clause good (Step c hints) = clause ≡ c.items
+IsPrepared sheet blocks names clause good (Step c hints) = HasSame clause c.items
 IsPrepared sheet blocks names clause good (Block j) =
     MatchBool good (slice_get blocks j ≡ Some (map (literal_of names) clause)) ((c : List Literal) → ¬ (slice_get blocks j ≡ Some c))
 

@@ -4,3 +4,4 @@ pub mod Numbers
 pub mod Alike
 pub mod Parts
 pub mod RowParts
+pub mod Once

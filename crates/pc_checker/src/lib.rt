@@ -13,6 +13,7 @@ mod hints;
 mod law;
 mod line_clauses;
 mod node;
+mod once;
 mod room;
 mod scratch;
 mod sets;

@@ -8,7 +8,7 @@ ghost use Rattle.pc_checker.specs.Drafts.{AreWritten};
 ghost use Rattle.pc_checker.specs.Entered.{HasEachPair};
 ghost use Rattle.pc_checker.specs.Made.{IsMadeFor, blocks_said, set_values, value_said};
 ghost use Rattle.pc_cert.specs.ReadFor.{IsPartOver, IsReadFor, IsSetSaidOf};
-ghost use Rattle.pc_checker.specs.inside.Prepared.{ArePrepared, AreValuesPrepared, IsDerivationPrepared, IsLinePrepared, IsRepeated};
+ghost use Rattle.pc_checker.specs.inside.Prepared.{ArePrepared, AreValuesPrepared, IsDerivationPrepared, IsLinePrepared, IsRepeated, IsStepInRange};
 ghost use Rattle.pc_checker.specs.Verdicts.{allowed_in};
 ghost use Rattle.pc_checker.specs.inside.Written.{IsBlockWritten};
 
@@ -16,6 +16,7 @@ use crate::alike::first_apart;
 use crate::draft::ClauseDraft;
 use crate::entered::entered_pairs;
 use crate::line_clauses::LineClauses;
+use crate::once::each_once;
 use crate::scratch::Scratch;
 use crate::sets::write_outside;
 use crate::shared::Shared;
@@ -34,6 +35,13 @@ struct Place<'a> {
     part: &'a CertPart,
     earlier: Option<usize>,
     axioms: &'a [bool],
+}
+
+// Marks by which clauses are made: one for each pair of a cell and a value, and one for each symbol of the certificate.
+#[derive(Drop)]
+struct Marks {
+    pairs: Values,
+    symbols: Values,
 }
 
 /// Takes all memory for the check of a certificate that was read for this book.
@@ -141,7 +149,10 @@ fn prepare_lines(
     ensures { OnOk result (ArePrepared book.now (blocks_said book.now sets.now) lines.now
         (length lines.now) draft.old.symbols draft.new.symbols clauses.new axioms.new.items) }
 {
-    let mut marks = room_for_pairs(alloc, book)?;
+    let mut marks = Marks {
+        pairs: room_for_pairs(alloc, book)?,
+        symbols: Values::new(alloc, draft.symbols())?,
+    };
     let mut shared = Shared::new(alloc);
     for (place, line) in lines.iter().enumerate() {
         let earlier = shared.earlier(alloc, lines, place)?;
@@ -164,14 +175,16 @@ fn prepare_place(
     place: Place<'_>,
     draft: &mut ClauseDraft,
     clauses: &mut LineClauses,
-    marks: &mut Values,
+    marks: &mut Marks,
 ) -> Result<bool, AllocError>
     requires over { IsPartOver book.now draft.old.symbols place.part.now }
     requires sets { All (IsSetSaidOf book.now) place.sets.now }
-    requires marks { HasEachPair book.now marks.old }
+    requires pairs { HasEachPair book.now marks.old.pairs }
+    requires symbols { IsStepInRange marks.old.symbols place.part.now }
     requires earlier { IfSome place.earlier (λ j. (j < length clauses.old) ×
         (j < length place.axioms.now)) }
-    ensures room { length marks.new ≡ length marks.old }
+    ensures pairs { length marks.new.pairs ≡ length marks.old.pairs }
+    ensures symbols { length marks.new.symbols ≡ length marks.old.symbols }
     ensures by_itself { IfNone place.entry.earlier
         (IfOk result (IsLinePrepared book.now (blocks_said book.now place.entry.sets.now)
         place.entry.part.now draft.old.symbols draft.new.symbols clauses.old clauses.new)) }
@@ -196,29 +209,32 @@ fn prepare_line(
     part: &CertPart,
     draft: &mut ClauseDraft,
     clauses: &mut LineClauses,
-    marks: &mut Values,
+    marks: &mut Marks,
 ) -> Result<bool, AllocError>
     requires over { IsPartOver book.now draft.old.symbols part.now }
     requires sets { All (IsSetSaidOf book.now) sets.now }
-    requires marks { HasEachPair book.now marks.old }
-    ensures room { length marks.new ≡ length marks.old }
+    requires pairs { HasEachPair book.now marks.old.pairs }
+    requires symbols { IsStepInRange marks.old.symbols part.now }
+    ensures pairs { length marks.new.pairs ≡ length marks.old.pairs }
+    ensures symbols { length marks.new.symbols ≡ length marks.old.symbols }
     ensures prepared { IfOk result (IsLinePrepared book.now (blocks_said book.now sets.now) part.now
         draft.old.symbols draft.new.symbols clauses.old clauses.new) }
 {
     match part {
         CertPart::Axiom(axiom) => {
             draft.begin();
-            let good = write_axiom(alloc, book, axiom, draft, marks)?;
+            let good = write_axiom(alloc, book, axiom, draft, &mut marks.pairs)?;
             clauses.push(draft.literals())?;
             Ok(good)
         }
         CertPart::Step { clause, .. } => {
-            clauses.push(clause)?;
+            let once = each_once(alloc, clause, &mut marks.symbols)?;
+            clauses.push(&once)?;
             Ok(false)
         }
         CertPart::Block(place) => {
             draft.begin();
-            let good = write_block(alloc, book, sets, *place, draft, marks)?;
+            let good = write_block(alloc, book, sets, *place, draft, &mut marks.pairs)?;
             clauses.push(draft.literals())?;
             Ok(good)
         }

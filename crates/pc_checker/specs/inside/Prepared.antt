@@ -3,9 +3,11 @@ use Rattle.std.specs.Prelude.{◌≡◌, ℕ, ◌<◌, Bool, Option, false, List
 use Rattle.pc_sheet.specs.Sheet.{Sheet}
 use Rattle.pc_sheet.specs.declared.ids.ValueId.{ValueId}
 use Rattle.pc_lits.specs.declared.literal.Lit.{Lit}
+use Rattle.pc_lits.specs.Values.{IsInRange}
 use Rattle.pc_accept.specs.Literals.{Symbol, Literal}
 use Rattle.pc_cert.specs.declared.cert.Cert.{Cert}
 use Rattle.pc_cert.specs.declared.cert.CertPart.{CertPart}
+use Rattle.pc_cert.specs.declared.cert.CertPart.TheVariants.{Axiom, Step, Block}
 use Rattle.pc_cert.specs.declared.cert.CertLine.{CertLine}
 use Rattle.pc_cert.specs.ReadFor.{IsNamedIn, IsSaidOf, IsSetSaidOf, IsReadFor}
 use Rattle.pc_cert.specs.declared.cert.SaidSet.{SaidSet}
@@ -23,6 +25,12 @@ pub record IsLinePrepared (sheet : Sheet) (blocks : List (List Literal)) (part :
   pub pushed : after ≡ before ++ clause ∷ []
   pub within : All (IsNamedIn new) clause
   pub prepared : IsPrepared sheet blocks new clause good part
+
+-- there is a mark for each variable of a step
+abbrev pub IsStepInRange : List (Option Bool) → CertPart → Type 0
+IsStepInRange marks (Axiom a) = Unit {0}
+IsStepInRange marks (Step c hints) = All (IsInRange marks) c.items
+IsStepInRange marks (Block j) = Unit {0}
 
 -- the clause and the mark of an earlier line are taken once more
 pub record IsRepeated (earlier : ℕ) (marks : List Bool) (old new : List Symbol) (before after : List (List Lit)) (good : Bool) : Type 0 where
