@@ -20,7 +20,7 @@ pub fn sets_by_part<C: Choices>(alloc: Global, view: &C) -> Result<Vec<PartSets<
     ensures { IfOk result (λ parts. AllZip (IsPartSets (C.sheet view.now))
         (chosen_parts (C.sheet view.now)) parts.items) }
 {
-    let mut parts = Vec::new(alloc);
+    let mut parts = Vec::with_capacity(alloc, view.parts())?;
     for part in 0..view.parts() {
         parts.push(PartSets {
             cells: view.cells(part),
