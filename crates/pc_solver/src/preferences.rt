@@ -2,14 +2,16 @@
 //!
 //! Activities as in Chaff and MiniSat: a variable's activity is at first the number of its literals in the used axioms. It rises
 //! at each literal that the analysis of a conflict meets, and later conflicts count for more. Restarts come at the conflict
-//! counts of Luby, Sinclair and Zuckerman, found by Knuth's reluctant doubling. Where the first own variables are preferred,
+//! counts of Luby, Sinclair and Zuckerman, found by Knuth's reluctant doubling, and after each conflict that was sought to teach
+//! a merged clause, which changes no activity. Where the first own variables are preferred,
 //! activities are theirs alone, and the others come after them, in their order. No contract rests on any of it. The own
 //! variables are to rise; where they don't, some may be left out.
 
+use crate::merges::Merges;
 use crate::order::{Order, SCALE};
 use crate::places::Places;
 use crate::signs::Signs;
-use pc_lits::{Lit, Var};
+use pc_lits::{ClauseStore, Lit, Var};
 use std::alloc::{AllocError, Global};
 
 // Past this step all activities are made smaller. The first step is `SCALE`.
@@ -36,6 +38,8 @@ pub struct Preferences {
     left: u64,
     runs: u64,
     length: u64,
+    // what leaves come to together, which the search is led to learn
+    merges: Merges,
 }
 
 impl Preferences {
@@ -54,6 +58,7 @@ impl Preferences {
             left: SHORTEST_RUN,
             runs: 1,
             length: 1,
+            merges: Merges::new(alloc),
         })
     }
 
@@ -91,6 +96,9 @@ impl Preferences {
 
     /// Raises the activity of each literal's variable.
     pub fn raise_all(&mut self, own: &[Var], clause: &[Lit]) {
+        if self.merges.has_begun() {
+            return;
+        }
         for lit in clause {
             self.raise(own, lit.var());
         }
@@ -114,6 +122,38 @@ impl Preferences {
         }
     }
 
+    /// Guesses what leaves come to together, of these axioms over variables whose first `count` are those of pairs.
+    pub fn merge(
+        &mut self,
+        alloc: Global,
+        axioms: &ClauseStore,
+        used: &[u32],
+        own: &[Var],
+        count: usize,
+    ) {
+        let _ = self.merges.find(alloc, axioms, used, own, count);
+    }
+
+    /// What leaves come to together.
+    pub fn merges(&self) -> &Merges {
+        &self.merges
+    }
+
+    /// A literal is decided for the merged clause.
+    pub fn begin_lesson(&mut self) {
+        self.merges.begin();
+    }
+
+    /// The merged clause is taught, or isn't worth it.
+    pub fn end_lesson(&mut self) {
+        self.merges.end();
+    }
+
+    /// The variable's place among the own ones.
+    pub fn place_of(&self, own: &[Var], variable: Var) -> Option<usize> {
+        self.places.of(own, variable)
+    }
+
     /// Another search made this literal true.
     pub fn expect(&mut self, own: &[Var], lit: Lit) {
         if let Some(place) = self.places.of(own, lit.variable) {
@@ -129,6 +169,7 @@ impl Preferences {
     /// A call begins.
     pub fn begin(&mut self) {
         self.signs.begin();
+        self.merges.look_again();
     }
 
     /// The place of the next variable that is to be shown true.
@@ -178,17 +219,24 @@ impl Preferences {
 
     /// Counts a conflict, and answers whether the search is to begin anew.
     pub fn note_conflict(&mut self) -> bool {
+        if self.merges.has_begun() {
+            self.merges.end();
+            self.merges.look_again();
+            return true;
+        }
         self.step = self.step.saturating_add(self.step / 12);
         if self.step > LARGEST_STEP {
             self.make_smaller();
         }
         if self.signs.note_conflict() {
+            self.merges.look_again();
             return true;
         }
         self.left = self.left.saturating_sub(1);
         if self.left > 0 {
             return false;
         }
+        self.merges.look_again();
         self.begin_run();
         true
     }

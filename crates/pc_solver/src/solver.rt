@@ -112,7 +112,7 @@ impl<'g> Solver<'g> {
     pub fn prefer_first(&mut self, count: usize)
         ensures { self.new ≡ self.old }
     {
-        self.search.preferences.prefer_first(count);
+        self.search.prefer_first(count);
     }
 
     /// From now on no variable is decided true so that the answers show it. It is for a solver that isn't asked what can be true.

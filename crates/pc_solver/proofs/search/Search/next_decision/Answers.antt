@@ -11,8 +11,8 @@ pub next_assumption-requires : goal.next_assumption-requires
 next_assumption-requires c =
     own_in_range c.self.inside.clauses.own c.self.inside.trail.variables c.args.assumed.now c.self.invariant.over_own.in_range (subst (λ (s : SearchView). IsOverOwn s.clauses.own c.args.assumed.now) (sym c.self.view_is) c.requires)
 
-pub most_active-requires : goal.most_active-requires
-most_active-requires c = rw c.own.ensures c.self.invariant.over_own.in_range
+pub preferred-requires : goal.preferred-requires
+preferred-requires c = rw c.own.ensures c.self.invariant.over_own.in_range
 
 pub returns-in-Place-clause-says : goal.returns-in-Place-clause-says
 returns-in-Place-clause-says c =
