@@ -19,7 +19,7 @@ use Rattle.pc_reason.specs.Fitting.{IsFitting}
 use Rattle.pc_accept.specs.Asked.{asked}
 use Rattle.pc_ask.specs.Asking.{IsAskedPart}
 use Rattle.pc_ask.proofs.Chosen.{shared}
-use Rattle.pc_ask.proofs.Reading.{pieces_pushed, last_is}
+use Rattle.pc_components.proofs.AskedLabels.{pieces_pushed, last_is}
 use Rattle.pc_ask.proofs.Tied.{asked_division}
 
 module _ (sheet : Sheet) (f : Statement) (formed : IsWellFormed (asked sheet f)) (q : Part) (h : IsAskedPart (asked sheet f) q) (base : List ValueId) (fit : IsFitting sheet base)

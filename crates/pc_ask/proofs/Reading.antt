@@ -17,6 +17,7 @@ use Rattle.pc_sheet.specs.WellFormed.{IsEntryOf, IsWellFormed}
 use Rattle.pc_sheet.specs.declared.ids.CellId.{CellId}
 use Rattle.pc_sheet.specs.declared.ids.ValueId.{ValueId}
 use Rattle.pc_sheet.specs.declared.ids.Entry.{Entry}
+use Rattle.pc_components.proofs.AskedLabels.{last_is, pieces_pushed}
 use Rattle.pc_components.proofs.Assigned.{within_length}
 use Rattle.pc_parts.specs.Pieces.{Piece, piece, pieces, pieces_below, pieces_from, ReadsCell}
 use Rattle.pc_parts.specs.Parts.{Part, AreApart, IsDivision}
@@ -42,21 +43,6 @@ use Rattle.pc_ask.proofs.Chosen.{division_is, divided_is, joined_fit, joined_has
 
 -- ---- the last piece of an asked sheet
 
-pub at_last : {X : Type 0} (xs : List X) (x : X) → slice_get (xs ++ x ∷ []) (length xs) ≡ Some x
-at_last [] x = refl
-at_last (y ∷ ys) x = at_last ys x
-
-pub last_is : {X : Type 0} (xs all : List X) (x y : X) → all ≡ xs ++ x ∷ [] → slice_get all (length all - 1) ≡ Some y → x ≡ y
-last_is xs all x y is at =
-    let place : length all - 1 ≡ length xs = omega (arith, ap length is, length-append xs (x ∷ [])) in
-    same_some (sym (at_last xs x) ∙ (ap (λ ys. slice_get ys (length xs)) (sym is) ∙ (ap (slice_get all) (sym place) ∙ at)))
-
-pub pieces_pushed : (u : Universe) (f : Statement) (r : ℕ) (rules : List NamedStatement) → (k : ℕ) × (pieces_from u r (rules ++ denial f ∷ []) ≡ pieces_from u r rules ++ piece k [] [] (negation f) ∷ [])
-pieces_pushed u f r [] = (r, refl)
-pieces_pushed u f r (rule ∷ rules) =
-    let rest = pieces_pushed u f (r + 1) rules in
-    (rest.0, ap (λ ps. pieces_below u r [] [] rule.states ++ ps) rest.1 ∙ sym (append_assoc (pieces_below u r [] [] rule.states) (pieces_from u (r + 1) rules) (piece rest.0 [] [] (negation f) ∷ [])))
-
 last_reads_there : LeavesReadTheCells → (sheet : Sheet) (f : Statement) → IsWellFormed (asked sheet f) → (reads : List ℕ)
     → slice_get (map (cells_of sheet.universe) (pieces (asked sheet f))) (length (map (cells_of sheet.universe) (pieces (asked sheet f))) - 1) ≡ Some reads → (c : ℕ) → Contains reads c ↔ Reads sheet.universe f c
 last_reads_there leaves sheet f formed reads at c =
@@ -72,14 +58,6 @@ pub last_reads : LeavesReadTheCells → (sheet : Sheet) (f : Statement) (book : 
     → slice_get (map (cells_of book.universe) (pieces book)) (length (map (cells_of book.universe) (pieces book)) - 1) ≡ Some reads → (c : ℕ) → Contains reads c ↔ Reads sheet.universe f c
 last_reads leaves sheet f book is formed reads at =
     last_reads_there leaves sheet f (subst IsWellFormed is formed) reads (subst (λ (b : Sheet). slice_get (map (cells_of b.universe) (pieces b)) (length (map (cells_of b.universe) (pieces b)) - 1) ≡ Some reads) is at)
-
-pub some_pieces : (sheet : Sheet) (f : Statement) (book : Sheet) → book ≡ asked sheet f → 0 < length (map (cells_of book.universe) (pieces book))
-some_pieces sheet f book is = subst (λ (b : Sheet). 0 < length (map (cells_of b.universe) (pieces b))) (sym is) by
-  where
-    by : 0 < length (map (cells_of sheet.universe) (pieces (asked sheet f)))
-    by =
-        let pushed = pieces_pushed sheet.universe f 0 sheet.rules in
-        omega (arith, length-map (pieces (asked sheet f)) (cells_of sheet.universe), ap length pushed.1, length-append (pieces sheet) (piece pushed.0 [] [] (negation f) ∷ []))
 
 -- ---- beyond an assignment
 

@@ -26,7 +26,7 @@ use Rattle.pc_repairs.specs.declared.part_sets.PartSets.{PartSets}
 use Rattle.pc_ask.specs.Asking.{IsAskedPart}
 use Rattle.pc_ask.specs.inside.Reading.{is_cell_of, is_on_some, is_read, AreLastReads}
 use Rattle.pc_ask.proofs.Lists.{there_any, zip_there}
-use Rattle.pc_ask.proofs.Reading.{pieces_pushed, last_is}
+use Rattle.pc_components.proofs.AskedLabels.{pieces_pushed, last_is}
 
 -- a part without cells has none
 no_cells : (ps : List Piece) (part : Part) (c : ℕ) → Contains (part_without_cells ps) part → ¬ Contains part.cells c

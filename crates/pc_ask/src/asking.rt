@@ -4,6 +4,7 @@ ghost use Rattle.pc_sheet.specs.Sheet.{Sheet, Statement};
 ghost use Rattle.pc_sheet.specs.Limits.{most_weight};
 ghost use Rattle.pc_sheet.specs.Weight.{weight};
 ghost use Rattle.pc_accept.specs.Asked.{asked};
+ghost use Rattle.pc_components.specs.View.{AreComponentsOf};
 ghost use Rattle.pc_ground.specs.Grounded.{grounded};
 ghost use Rattle.pc_log.specs.Lines.{LogLine};
 ghost use Rattle.pc_repairs.specs.Searches.{IsWholeSearch};
@@ -18,6 +19,7 @@ use crate::finding::{Found, find};
 use crate::narrowing::Choosing;
 use crate::part::{Task, asked_part, axioms_over, part_solver};
 use pc_books::{Book, few_entries, well_formed};
+use pc_components::Components;
 use pc_ground::Ground;
 use pc_laws::different_sublists_are_ordered;
 use pc_lits::Tally;
@@ -27,37 +29,47 @@ use pc_solver::Stop;
 use pc_world_list::Choices;
 use std::alloc::{AllocError, Global};
 
+/// A book in which something is asked by its last rule, and the parts of the book without that rule.
+#[derive(Clone, Copy)]
+pub struct Question<'a> {
+    pub book: &'a Book,
+    pub components: &'a Components,
+}
+
 // Searches the asked book by its ground for what is asked about: the part alone that has what is asked.
 fn search_book<'a, 'b, C: Choices>(
     alloc: Global,
     view: &C,
-    book: &'a Book,
+    question: Question<'a>,
     ground: &'a Ground,
     chosen: &'a Candidates<'b>,
     log: &mut Log,
     tally: &mut Tally,
 ) -> Result<Option<Found>, Stop>
-    requires ground { ground.now ≡ grounded book.now }
+    requires ground { ground.now ≡ grounded question.book.now }
     requires literals { All (All (λ l. l.variable.0 < ground.now.variables)) ground.now.clauses }
-    requires asked { (f : Statement) × (book.now ≡ asked (C.sheet view.now) f) }
-    requires chosen { AreCandidates (C.sheet view.now) book.now chosen.now.entries.items
-        chosen.now.fitting.now chosen.now.parts.items }
+    requires components { AreComponentsOf (C.sheet view.now) question.components.now }
+    requires asked { (f : Statement) × (question.book.now ≡ asked (C.sheet view.now) f) }
+    requires chosen { AreCandidates (C.sheet view.now) question.book.now
+        chosen.now.entries.items chosen.now.fitting.now chosen.now.parts.items }
     requires new_log { log.old ≡ [] }
     requires few_learned { tally.old.learned < 2 ^ 120 }
     requires few_calls { tally.old.calls < 2 ^ 120 }
-    ensures says { (f : Statement) → book.now ≡ asked (C.sheet view.now) f →
+    ensures says { (f : Statement) → question.entry.book.now ≡ asked (C.sheet view.now) f →
         IfOk result (SearchSays (C.sheet view.now) f log.new) }
     ensures stop { IfErr result (StopSays tally.new) }
-    ensures search { IsSearchOf (C.sheet view.now) book.now tally.old tally.new log.new }
+    ensures search { IsSearchOf (C.sheet view.now) question.entry.book.now tally.old tally.new
+        log.new }
 {
     different_sublists_are_ordered();
     parts_are_searched();
+    let book = question.book;
     let own = view.book();
     well_formed(own);
     well_formed(book);
     few_entries(book);
     ground.few_axioms();
-    let part = asked_part(alloc, book, ground)?;
+    let part = asked_part(alloc, book, ground, question.components)?;
     let axioms = axioms_over(alloc, book, ground, &part)?;
     let mut solver = part_solver(alloc, book, ground, &part, &axioms)?;
     let choosing = Choosing {
@@ -109,65 +121,75 @@ fn answer_of(
 fn ask_grounded<C: Choices>(
     alloc: Global,
     view: &C,
-    book: &Book,
+    question: Question<'_>,
     ground: &Ground,
     log: &mut Log,
     tally: &mut Tally,
 ) -> Result<Option<Answer>, AskStop>
-    requires ground { ground.now ≡ grounded book.now }
-    requires small { weight book.now ≤ most_weight }
+    requires ground { ground.now ≡ grounded question.book.now }
+    requires small { weight question.book.now ≤ most_weight }
     requires literals { All (All (λ l. l.variable.0 < ground.now.variables)) ground.now.clauses }
-    requires asked { (f : Statement) × (book.now ≡ asked (C.sheet view.now) f) }
+    requires components { AreComponentsOf (C.sheet view.now) question.components.now }
+    requires asked { (f : Statement) × (question.book.now ≡ asked (C.sheet view.now) f) }
     requires new_log { log.old ≡ [] }
     requires few_learned { tally.old.learned < 2 ^ 120 }
     requires few_calls { tally.old.calls < 2 ^ 120 }
-    ensures says { (f : Statement) → book.now ≡ asked (C.sheet view.now) f →
+    ensures says { (f : Statement) → question.entry.book.now ≡ asked (C.sheet view.now) f →
         IfOk result (AskSays (C.sheet view.now) f log.new) }
-    ensures stop { IfErr result (AskStops book.now tally.new) }
-    ensures search { (f : Statement) (entries sets : ℕ) → book.now ≡ asked (C.sheet view.now) f →
+    ensures stop { IfErr result (AskStops question.entry.book.now tally.new) }
+    ensures search { (f : Statement) (entries sets : ℕ) →
+        question.entry.book.now ≡ asked (C.sheet view.now) f →
         AreReadSizes (C.sheet view.now) f entries sets →
-        IsWholeSearch book.now [] (sets * (entries + 2) + 1) tally.old tally.new log.new }
-    ensures whole { (most : ℕ) × IsWholeSearch book.now [] most tally.old tally.new log.new }
-    ensures part { (most : ℕ) × IsPartSearch book.now most tally.old tally.new log.new }
+        IsWholeSearch question.entry.book.now [] (sets * (entries + 2) + 1) tally.old tally.new
+        log.new }
+    ensures whole { (most : ℕ) × IsWholeSearch question.entry.book.now [] most tally.old tally.new
+        log.new }
+    ensures part { (most : ℕ) × IsPartSearch question.entry.book.now most tally.old tally.new
+        log.new }
 {
-    let chosen = find_candidates(alloc, view, book, ground)?;
-    let found = search_book(alloc, view, book, ground, &chosen, log, tally)?;
+    let chosen = find_candidates(alloc, view, question.book, ground)?;
+    let found = search_book(alloc, view, question, ground, &chosen, log, tally)?;
     let answer = answer_of(alloc, ground, found)?;
     Ok(answer)
 }
 
 /// Whether the view's entries imply the formula that the last rule of the asked book denies: the asked book is the view's
-/// with that rule. Ok is the formula's least support with what a certificate of it is made of; `None` exactly where the formula
-/// isn't implied. Only the part with the last rule is searched, which ties the parts together that the formula reads. The log
-/// is empty before. Whatever is answered, tally and log have what was done. The ground is the view's: what the rule comes to is
-/// pushed on top of it, and taken away again.
+/// with that rule, and the parts are the view's. Ok is the formula's least support with what a certificate of it is made of;
+/// `None` exactly where the formula isn't implied. Only the part with the last rule is searched, which ties the parts together
+/// that the formula reads. The log is empty before. Whatever is answered, tally and log have what was done. The ground is the
+/// view's: what the rule comes to is pushed on top of it, and taken away again.
 pub fn ask<C: Choices>(
     alloc: Global,
     view: &C,
-    book: &Book,
+    question: Question<'_>,
     ground: &mut Ground,
     log: &mut Log,
     tally: &mut Tally,
 ) -> Result<Option<Answer>, AskStop>
     requires ground { ground.old ≡ grounded (C.sheet view.now) }
-    requires asked { (f : Statement) × (book.now ≡ asked (C.sheet view.now) f) }
+    requires components { AreComponentsOf (C.sheet view.now) question.components.now }
+    requires asked { (f : Statement) × (question.book.now ≡ asked (C.sheet view.now) f) }
     requires new_log { log.old ≡ [] }
     requires few_learned { tally.old.learned < 2 ^ 120 }
     requires few_calls { tally.old.calls < 2 ^ 120 }
     ensures same { ground.new ≡ ground.old }
-    ensures says { (f : Statement) → book.now ≡ asked (C.sheet view.now) f →
+    ensures says { (f : Statement) → question.entry.book.now ≡ asked (C.sheet view.now) f →
         IfOk result (AskSays (C.sheet view.now) f log.new) }
-    ensures large { IfOk result (λ _. weight book.now ≤ most_weight) }
-    ensures stop { IfErr result (AskStops book.now tally.new) }
-    ensures search { (f : Statement) (entries sets : ℕ) → book.now ≡ asked (C.sheet view.now) f →
+    ensures large { IfOk result (λ _. weight question.entry.book.now ≤ most_weight) }
+    ensures stop { IfErr result (AskStops question.entry.book.now tally.new) }
+    ensures search { (f : Statement) (entries sets : ℕ) →
+        question.entry.book.now ≡ asked (C.sheet view.now) f →
         AreReadSizes (C.sheet view.now) f entries sets →
-        IsWholeSearch book.now [] (sets * (entries + 2) + 1) tally.old tally.new log.new }
-    ensures whole { (most : ℕ) × IsWholeSearch book.now [] most tally.old tally.new log.new }
-    ensures part { (most : ℕ) × IsPartSearch book.now most tally.old tally.new log.new }
+        IsWholeSearch question.entry.book.now [] (sets * (entries + 2) + 1) tally.old tally.new
+        log.new }
+    ensures whole { (most : ℕ) × IsWholeSearch question.entry.book.now [] most tally.old tally.new
+        log.new }
+    ensures part { (most : ℕ) × IsPartSearch question.entry.book.now most tally.old tally.new
+        log.new }
 {
     let size = ground.size();
-    ground.push_rule(alloc, book)?;
-    let answer = ask_grounded(alloc, view, book, ground, log, tally);
+    ground.push_rule(alloc, question.book)?;
+    let answer = ask_grounded(alloc, view, question, ground, log, tally);
     ground.pop_rule(size);
     answer
 }

@@ -16,5 +16,5 @@ mod refuting;
 mod ways;
 
 pub use answer::{Answer, AskStop};
-pub use asking::ask;
+pub use asking::{Question, ask};
 pub use proving::prove;

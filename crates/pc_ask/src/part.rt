@@ -2,13 +2,15 @@
 //! that the formula reads; no other part is searched.
 ghost use Rattle.std.specs.Prelude.{◌≡◌, ◌↔◌, ◌<◌, ◌^◌, [], ◌∷◌, ◌++◌, All, cond, IfOk, IsTrue, length, OnOk};
 ghost use Rattle.pc_sheet.specs.Sheet.{Sheet, Statement};
+ghost use Rattle.pc_sheet.specs.WellFormed.{IsWellFormed};
 ghost use Rattle.pc_accept.specs.Asked.{asked};
+ghost use Rattle.pc_components.specs.View.{AreComponentsOf};
 ghost use Rattle.pc_ground.specs.Ground.{clauses};
 ghost use Rattle.pc_ground.specs.Grounded.{grounded};
 ghost use Rattle.pc_ask.specs.inside.Parts.{AreAxiomsOver, AreMarked, AreMarkedBelow, IsAsked, IsAskedOver, IsMarkedClause};
 
 use pc_books::{Book, well_formed};
-use pc_components::{PartOfPiece, find_part_of_piece};
+use pc_components::{Components, PartOfPiece, find_last_part};
 use pc_ground::Ground;
 use pc_lits::{ClauseStore, Lit, Values, Var};
 use pc_problem::count_pairs;
@@ -25,18 +27,20 @@ pub(crate) struct Task<'g> {
     pub(crate) variables: &'g [Var],
 }
 
-/// The part that has what is asked: that of the last piece of the rules. An error is want of memory.
+/// The part that has what is asked: that of the last piece of the rules, from the parts of the book in which it is asked. An
+/// error is want of memory.
 pub(crate) fn asked_part(
     alloc: Global,
     book: &Book,
     ground: &Ground,
+    components: &Components,
 ) -> Result<PartOfPiece, AllocError>
     requires ground { ground.now ≡ grounded book.now }
-    requires asked { (sheet : Sheet) × (f : Statement) × (book.now ≡ asked sheet f) }
+    requires asked { (sheet : Sheet) × (f : Statement) × (book.now ≡ asked sheet f) ×
+        IsWellFormed sheet × AreComponentsOf sheet components.now }
     ensures { IfOk result (λ part. IsAskedOver book.now part.cells.items part.variables.items) }
 {
-    let last = ground.reads().len() - 1;
-    find_part_of_piece(alloc, book, ground, last)
+    find_last_part(alloc, book, ground, components)
 }
 
 // Marks for these variables.

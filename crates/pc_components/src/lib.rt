@@ -19,4 +19,4 @@ pub use laws::{
     part_axioms_are_for_their_parts, parts_are_in_their_ground, parts_are_solvable,
     parts_have_their_own_variables,
 };
-pub use piece_part::{PartOfPiece, find_last_part, find_part_of_piece};
+pub use piece_part::{PartOfPiece, find_last_part};

@@ -1,4 +1,4 @@
-//! The one part of a book that has a piece of its rules, without the rows of all the others.
+//! The one part of an asked book that has what is asked, without the rows of all the others.
 //!
 //! The parts of the book in which something is asked are known. The asked book has one piece more, which ties together the cells
 //! that it reads, and so the known parts that have them; all others stay as they are.
@@ -56,23 +56,6 @@ fn part_of_piece(
         cells: cells_of(alloc, &cells)?,
         variables: variables_of(alloc, &variables)?,
     })
-}
-
-/// The part with the piece of that number, by the book's ground, in time linear in the ground: each cell, axiom and variable
-/// is looked at, and only those of this part are kept. An error is want of memory.
-pub fn find_part_of_piece(
-    alloc: Global,
-    book: &Book,
-    ground: &Ground,
-    piece: usize,
-) -> Result<PartOfPiece, AllocError>
-    requires ground { ground.now ≡ grounded book.now }
-    requires piece { piece < length ground.now.reads }
-    ensures { IfOk result (λ part. IsPartOfPiece book.now piece part.cells.items
-        part.variables.items) }
-{
-    let numbers = PartNumbers::new(alloc, book, ground)?;
-    part_of_piece(alloc, book, ground, &numbers, piece)
 }
 
 /// The part of an asked book that has the last piece of its rules, which is what is asked, by the ground and by the parts of the

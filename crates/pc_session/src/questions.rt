@@ -12,7 +12,7 @@ ghost use Rattle.pc_repairs.specs.Searches.{IsWholeSearch};
 ghost use Rattle.pc_session.specs.inside.States.{IsKept};
 
 use crate::state::State;
-use pc_ask::{Answer, AskStop, ask};
+use pc_ask::{Answer, AskStop, Question, ask};
 use pc_books::{Assignment, Book};
 use pc_lits::Tally;
 use pc_log::Log;
@@ -94,7 +94,11 @@ pub(crate) fn ask_lent(
     let mut ground = state.theory.take_ground(alloc);
     let answer = {
         let lent = Lent { state: &*state };
-        ask(alloc, &lent, book, &mut ground, log, tally)
+        let question = Question {
+            book,
+            components: lent.state.theory.components(),
+        };
+        ask(alloc, &lent, question, &mut ground, log, tally)
     };
     state.theory.put_ground(ground);
     answer

@@ -2,7 +2,7 @@ use Rattle.std.proofs.Common.{◌≡◌, ◌<◌, ◌-◌, ◌∙◌, List, Some
 use Rattle.pc_ground.specs.GroundView.{Grounded}
 use Rattle.pc_repairs.specs.declared.part_sets.PartSets.{PartSets}
 use Rattle.pc_ask.specs.inside.Reading.{is_on_some, is_read}
-use Rattle.pc_ask.proofs.Reading.{some_pieces}
+use Rattle.pc_components.proofs.AskedLabels.{some_pieces}
 use Rattle.pc_ask.proofs.candidates.find_candidates.Goals as goal
 
 pub last_reads-requires : goal.last_reads-requires
