@@ -56,11 +56,7 @@ impl Merges {
         }
         let first = own[0].0;
         let last = own[count - 1].0;
-        let leaves = Leaves {
-            axioms,
-            used,
-            last,
-        };
+        let leaves = Leaves { axioms, used, last };
         let groups = leaves.groups(alloc)?;
         if groups.is_empty() {
             return Ok(());
@@ -113,7 +109,11 @@ impl Merges {
 
     /// The number of the clause that is looked at next.
     pub fn next(&self) -> usize {
-        if self.at < self.left.len() { self.left[self.at] } else { 0 }
+        if self.at < self.left.len() {
+            self.left[self.at]
+        } else {
+            0
+        }
     }
 
     /// Whether a literal was decided for the next clause.
@@ -277,7 +277,11 @@ impl<'a> Leaves<'a> {
 // The last read of a leaf, which comes before the atom.
 fn read_of(leaf: &[Lit]) -> Option<Lit> {
     let count = leaf.len();
-    if count < 2 { None } else { Some(leaf[count - 2]) }
+    if count < 2 {
+        None
+    } else {
+        Some(leaf[count - 2])
+    }
 }
 
 // Whether the clauses differ in their last literal but one alone, if at all.
