@@ -1,6 +1,8 @@
 -- Labels that are renamed in place, cell by cell, and rows of cells that are tied.
-use Rattle.std.proofs.Common.{◌≡◌, ℕ, zero, suc, ◌+◌, ◌<◌, ◌≤◌, List, [], ◌∷◌, map, drop, length, get_or, set, refl, ap, sym, ◌∙◌, arith}
-use Rattle.pc_parts.specs.Components.{relabeled, all_relabeled, pairs_of}
+use Rattle.std.proofs.Common.{◌≡◌, ℕ, zero, suc, ◌+◌, ◌<◌, ◌≤◌, ◌==◌, Bool, true, false, cond, ◌||◌, List, [], ◌∷◌, map, drop, length, get_or, set, eqb-true, refl, ap, sym, ◌∙◌, arith}
+use Rattle.std.specs.Prelude.{min}
+use Rattle.std.proofs.Math.Nat.{min-eq_left}
+use Rattle.pc_parts.specs.Components.{label_of, renamed, relabeled, all_relabeled, pairs_of}
 
 -- the first k have become what f gives
 pub front : (ℕ → ℕ) → ℕ → List ℕ → List ℕ
@@ -45,6 +47,22 @@ one_more f k xs before now d value is so put =
 
 pub all_done : (f : ℕ → ℕ) (k : ℕ) (xs now : List ℕ) → IsFront f k xs now → length xs ≤ k → now ≡ map f xs
 all_done f k xs now is l = is ∙ front_all f k xs l
+
+-- ---- two cells that have one label: nothing is renamed
+
+label_kept : (a l : ℕ) → renamed (a ∷ a ∷ []) l ≡ l
+label_kept a l = by (a == l) refl
+  where
+    by : (c : Bool) → (a == l) ≡ c → cond (c || (c || false)) (min a a) l ≡ l
+    by true is = let k : a ≤ a = omega arith in min-eq_left k ∙ eqb-true a l is
+    by false is = refl
+
+labels_kept : (a : ℕ) (labels : List ℕ) → map (renamed (a ∷ a ∷ [])) labels ≡ labels
+labels_kept a [] = refl
+labels_kept a (l ∷ ls) = ap (λ x. x ∷ map (renamed (a ∷ a ∷ [])) ls) (label_kept a l) ∙ ap (λ xs. l ∷ xs) (labels_kept a ls)
+
+pub tied_already : (first second : ℕ) (labels : List ℕ) → label_of labels first ≡ label_of labels second → labels ≡ relabeled (first ∷ second ∷ []) labels
+tied_already first second labels same = sym (ap (λ o. map (renamed (label_of labels first ∷ o ∷ [])) labels) (sym same) ∙ labels_kept (label_of labels first) labels)
 
 -- ---- rows of cells
 

@@ -70,6 +70,9 @@ fn tie(labels: &mut Vec<usize>, first: usize, second: usize)
 {
     let one = label_of(labels, first);
     let other = label_of(labels, second);
+    if one == other {
+        return;
+    }
     rename(labels, one, other);
 }
 
