@@ -1,15 +1,14 @@
 -- What a statement reads of a sheet's parts.
-use Rattle.std.proofs.Common.{◌≡◌, ◌↔◌, ℕ, zero, suc, ◌+◌, ◌-◌, ◌≤◌, ◌<◌, ◌==◌, inl, inr, Bool, true, false, List, [], ◌∷◌, ◌++◌, filter, length, map, None, Some, slice_get, AllPairs, Contains, arith, eqb-true, eq-eqb, ap, refl, sym, ◌∙◌, subst, zero-add, length-append}
+use Rattle.std.proofs.Common.{◌≡◌, ◌↔◌, ℕ, zero, suc, ◌+◌, ◌-◌, ◌≤◌, ◌==◌, inl, inr, Bool, true, false, List, [], ◌∷◌, ◌++◌, filter, length, map, None, Some, slice_get, AllPairs, Contains, arith, eqb-true, eq-eqb, ap, refl, sym, ◌∙◌, subst, zero-add}
 use Rattle.std.specs.List.{AllZip, flat_map, list_any}
 use Rattle.std.proofs.lemmas.Bool.{cases_Bool, cases_lt, false≢true}
-use Rattle.std.proofs.lemmas.List.{append_assoc, length-map, map-append}
+use Rattle.std.proofs.lemmas.List.{length-map, map-append}
 use Rattle.std.proofs.lemmas.List.Elements.{All-contains, Contains-append_right}
 use Rattle.std.proofs.lemmas.List.Kept.{AllPairs-filter}
 use Rattle.pc_lemmas.proofs.Elements.{all_from, contains_first, contains_map, contains_mapped, contains_none, flat_there, there_flat, kept, kept_is}
-use Rattle.pc_lemmas.proofs.Options.{same_some}
 use Rattle.pc_laws.proofs.Contained.{sub_contained}
 use Rattle.pc_laws.proofs.Different.{exact_as_long}
-use Rattle.pc_sheet.specs.Sheet.{Universe, Sheet, Statement, NamedStatement, negation}
+use Rattle.pc_sheet.specs.Sheet.{Universe, Sheet, Statement, negation}
 use Rattle.pc_sheet.specs.Entailment.{cell_sizes, HasEntry, IsAssignment, IsConsistent, IsSublist, Fits, Shows}
 use Rattle.pc_sheet.specs.MaximalSets.{ListsExactly, IsMaximalSet}
 use Rattle.pc_sheet.specs.Sizes.{product}
@@ -19,7 +18,7 @@ use Rattle.pc_sheet.specs.declared.ids.ValueId.{ValueId}
 use Rattle.pc_sheet.specs.declared.ids.Entry.{Entry}
 use Rattle.pc_components.proofs.AskedLabels.{last_is, pieces_pushed}
 use Rattle.pc_components.proofs.Assigned.{within_length}
-use Rattle.pc_parts.specs.Pieces.{Piece, piece, pieces, pieces_below, pieces_from, ReadsCell}
+use Rattle.pc_parts.specs.Pieces.{Piece, piece, pieces, ReadsCell}
 use Rattle.pc_parts.specs.Parts.{Part, AreApart, IsDivision}
 use Rattle.pc_parts.specs.Leaves.{LeavesReadTheCells, cells_of}
 use Rattle.pc_parts.specs.Laws.{AreDivided, AgreeAt, TruthIsByReads}
@@ -33,7 +32,7 @@ use Rattle.pc_world_list.specs.Worlds.{set_of}
 use Rattle.pc_world_list.specs.Choices.{cell_number}
 use Rattle.pc_world_list.specs.Chosen.{chosen_parts}
 use Rattle.pc_reason.specs.Fitting.{IsFitting}
-use Rattle.pc_accept.specs.Asked.{EntailsStatement, denial, asked}
+use Rattle.pc_accept.specs.Asked.{EntailsStatement, asked}
 use Rattle.pc_repairs.specs.inside.Joining.{IsPartSets, joined_by, many_sets}
 use Rattle.pc_repairs.specs.declared.part_sets.PartSets.{PartSets}
 use Rattle.pc_ask.specs.Asking.{AreReadSizes, IsOnRead, Reads, ReadsPart}

@@ -25,11 +25,12 @@ use Rattle.pc_parts.proofs.Divided.{apart_first, apart_rest}
 use Rattle.pc_parts.proofs.Found.{parts_are_found}
 use Rattle.pc_parts.proofs.Joining.{among_contains, contains_among}
 use Rattle.pc_parts.proofs.LeafReads.{leaves_read_the_cells}
+use Rattle.pc_components.proofs.AskedLabels.{some_pieces}
 use Rattle.pc_world_list.specs.Chosen.{chosen_parts}
 use Rattle.pc_accept.specs.Asked.{asked}
 use Rattle.pc_ask.specs.Asking.{IsOnRead, Reads, ReadsPart}
 use Rattle.pc_ask.proofs.Lists.{any_there, filtered_is, there_any}
-use Rattle.pc_ask.proofs.Reading.{last_reads, some_pieces}
+use Rattle.pc_ask.proofs.Reading.{last_reads}
 use Rattle.pc_ground.specs.Variables.{variable_count}
 use Rattle.pc_enough_laws.proofs.Sets.{sets_few}
 use Rattle.pc_run_laws.specs.Enough.{IsEnoughToAsk}
