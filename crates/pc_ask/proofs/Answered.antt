@@ -1,5 +1,5 @@
 -- What is found over an asked sheet is its answer.
-use Rattle.std.proofs.Common.{◌≡◌, ◌↔◌, ℕ, ◌-◌, ◌≤◌, ◌+◌, ◌*◌, ◌<◌, ◌^◌, List, [], filter, length, Option, None, Some, All, Contains, arith, ap, sym, ◌∙◌, subst}
+use Rattle.std.proofs.Common.{◌≡◌, ◌↔◌, ℕ, ◌≤◌, ◌+◌, ◌*◌, ◌<◌, ◌^◌, List, [], filter, length, Option, None, Some, All, Contains, arith, ap, sym, ◌∙◌, subst}
 use Rattle.std.specs.List.{AllZip}
 use Rattle.std.proofs.Math.Nat.{mul-le-mul_right}
 use Rattle.std.proofs.lemmas.List.Elements.{All-contains, All-filter}

@@ -1,5 +1,5 @@
 -- Assignments that are joined of some parts' own: they fit, and what can stand together on these parts is had by one of them.
-use Rattle.std.proofs.Common.{◌≡◌, ◌≢◌, ℕ, ◌*◌, ◌<◌, ◌⊎◌, inl, inr, true, List, [], ◌∷◌, length, map, slice_get, AllPairs, Contains, arith, ap, refl, sym, ◌∙◌, subst, length-append, suc-mul, zero-mul}
+use Rattle.std.proofs.Common.{◌≡◌, ◌≢◌, ℕ, ◌*◌, ◌<◌, ◌⊎◌, inl, inr, List, [], ◌∷◌, length, map, slice_get, AllPairs, Contains, arith, ap, refl, sym, ◌∙◌, subst, length-append, suc-mul, zero-mul}
 use Rattle.std.specs.List.{AllZip}
 use Rattle.std.proofs.lemmas.Bool.{cases_Bool, false≢true}
 use Rattle.std.proofs.lemmas.List.{length-map}

@@ -1,5 +1,5 @@
 -- What fits the part of an asked sheet that has what is asked, laid over what fits the sheet.
-use Rattle.std.proofs.Common.{◌≡◌, ℕ, ◌-◌, ◌⊎◌, inl, inr, List, [], ◌∷◌, Contains, sym, ◌∙◌, subst}
+use Rattle.std.proofs.Common.{◌≡◌, ℕ, ◌⊎◌, inl, inr, List, [], ◌∷◌, Contains, sym, ◌∙◌, subst}
 use Rattle.std.proofs.lemmas.List.Elements.{All-contains, Contains-append_cases}
 use Rattle.pc_lemmas.proofs.Elements.{all_from, contains_cases, contains_none}
 use Rattle.pc_sheet.specs.Sheet.{Universe, Sheet, Statement, negation}

@@ -1,5 +1,5 @@
 -- What a statement reads of a sheet's parts.
-use Rattle.std.proofs.Common.{◌≡◌, ◌↔◌, ℕ, zero, suc, ◌+◌, ◌-◌, ◌≤◌, ◌==◌, inl, inr, Bool, true, false, List, [], ◌∷◌, ◌++◌, filter, length, map, None, Some, slice_get, AllPairs, Contains, arith, eqb-true, eq-eqb, ap, refl, sym, ◌∙◌, subst, zero-add}
+use Rattle.std.proofs.Common.{◌≡◌, ◌↔◌, ℕ, zero, suc, ◌-◌, ◌≤◌, ◌==◌, inl, inr, Bool, true, false, List, [], ◌∷◌, ◌++◌, filter, length, map, None, Some, slice_get, AllPairs, Contains, arith, eqb-true, eq-eqb, ap, refl, sym, ◌∙◌, subst, zero-add}
 use Rattle.std.specs.List.{AllZip, flat_map, list_any}
 use Rattle.std.proofs.lemmas.Bool.{cases_Bool, cases_lt, false≢true}
 use Rattle.std.proofs.lemmas.List.{length-map, map-append}

@@ -1,5 +1,5 @@
 -- The cells that a sheet's rules tie together are tied together in the asked sheet: what its last piece reads ties the read parts.
-use Rattle.std.proofs.Common.{◌≡◌, ◌==◌, ℕ, ◌+◌, ◌-◌, inl, inr, true, List, [], ◌∷◌, ◌++◌, filter, map, Contains, eqb-true, ap, sym, ◌∙◌, subst}
+use Rattle.std.proofs.Common.{◌≡◌, ◌==◌, ℕ, inl, inr, true, List, [], ◌∷◌, ◌++◌, filter, map, Contains, eqb-true, ap, sym, ◌∙◌, subst}
 use Rattle.std.specs.List.{AllZip}
 use Rattle.std.proofs.lemmas.List.{map-append}
 use Rattle.std.proofs.lemmas.List.Elements.{All-contains, Contains-append_left, Contains-append_cases}
