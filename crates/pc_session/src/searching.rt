@@ -1,5 +1,5 @@
 //! What an edit of a cell's entries can change, and its search.
-ghost use Rattle.std.specs.Prelude.{◌≡◌, ◌+◌, ◌≤◌, Contains, IfErr, IfOk, None, OnOk};
+ghost use Rattle.std.specs.Prelude.{◌≡◌, ◌+◌, ◌≤◌, Contains, false, IfErr, IfOk, None, OnOk};
 ghost use Rattle.pc_cache.specs.Patches.{patch_bytes};
 ghost use Rattle.pc_parts.specs.Parts.{Part};
 ghost use Rattle.pc_search.specs.Found.{Finds};
@@ -29,12 +29,23 @@ use pc_theory::{PartSpending, PartTargets, alone};
 use pc_world_list::Worlds;
 use std::alloc::{AllocError, Global};
 
-/// What an edit asks: the number of the part that has the cell, a copy of its worlds, and the targets that are searched.
+/// What an edit asks: the number of the part that has the cell, a copy of its worlds where no entry is added, and the targets
+/// that are searched.
 #[derive(Drop)]
 pub(crate) struct Asked {
     pub(crate) part: usize,
     pub(crate) worlds: Worlds,
     pub(crate) targets: Vec<Target>,
+}
+
+// A copy of a part's worlds for an edit that adds nothing. Where an entry is added a search lists them anew.
+fn copied_worlds(alloc: Global, worlds: &Worlds, adds: bool) -> Result<Worlds, AllocError>
+    ensures { IfOk result (λ copied. adds ≡ false → copied ≡ worlds.now) }
+{
+    if adds {
+        return Ok(Worlds::new(alloc));
+    }
+    worlds.copy()
 }
 
 /// What the edit asks, before it is made. Each target that it can change is asked for once.
@@ -46,8 +57,9 @@ pub(crate) fn ask(alloc: Global, state: &State, change: Change) -> Result<Asked,
 {
     let part = state.theory.part_of(&state.book, change.cell);
     let cells = state.theory.cells(&state.book, part);
-    let targets = stale_targets(alloc, state, cells, change.taken, change.adds())?;
-    let worlds = state.worlds[part].copy()?;
+    let adds = change.adds();
+    let targets = stale_targets(alloc, state, cells, change.taken, adds)?;
+    let worlds = copied_worlds(alloc, &state.worlds[part], adds)?;
     Ok(Asked {
         part,
         worlds,
@@ -92,7 +104,7 @@ fn search(
     }
 }
 
-/// Searches what the edit has asked. The book has the edit, and the worlds that were asked for have it.
+/// Searches what the edit has asked. The book has the edit, and the worlds that were copied have it.
 pub(crate) fn find(
     alloc: Global,
     state: &State,

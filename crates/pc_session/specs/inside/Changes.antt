@@ -42,7 +42,8 @@ pub record IsChangeOf (sheet : Sheet) (change : Change) : Type 0 where
   pub is_edit : IsEditOf change.cell (takes change.taken) (as_list change.added)
   pub formed : IsWellFormed (made_of sheet change)
 
--- The part of that number has the cell, these are its worlds before the edit, and the targets are those on its cells that the edit can change.
+-- The part of that number has the cell, these are its worlds before the edit, where no entry is added, and the targets are those on its
+-- cells that the edit can change.
 pub record IsAskedFor (s : State) (change : Change) (asked : Asked) : Type 0 where
   pub few : asked.part ≤ most_cells
   pub part : Part
@@ -52,7 +53,7 @@ pub record IsAskedFor (s : State) (change : Change) (asked : Asked) : Type 0 whe
   pub at : slice_get s.theory.components.cells asked.part ≡ Some cells
   pub are : part.cells ≡ map number_of cells
   pub targets : asked.targets.items ≡ stale_on s.cache.rows (takes change.taken) (adds_one change.added) (cell_sizes s.book.universe) cells
-  pub worlds : (p : Part) → IsPartNumbered (rules_alone s.book) asked.part p → AreWorldsOf s.book p asked.worlds
+  pub worlds : change.added ≡ None → (p : Part) → IsPartNumbered (rules_alone s.book) asked.part p → AreWorldsOf s.book p asked.worlds
 
 -- In the edited book: these are the worlds of the part of that number, a row for each of the targets was found, and so much was spent within
 -- the limit on the part.

@@ -28,7 +28,7 @@ pub find-requires-clause-left : goal.find-requires-clause-left
 find-requires-clause-left c none p at =
     let a = c.args in
     let is = c.requires.asked in
-    c.make.ensures.worlds none p (is.worlds p (numbered_old a.state.now a.change a.asked is c.requires.state c.make.new.book c.in_ok-make.ensures.book p at))
+    c.make.ensures.worlds none p (is.worlds none p (numbered_old a.state.now a.change a.asked is c.requires.state c.make.new.book c.in_ok-make.ensures.book p at))
 
 pub put_in_place-requires : goal.put_in_place-requires
 put_in_place-requires c =
