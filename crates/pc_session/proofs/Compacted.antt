@@ -1,5 +1,5 @@
 -- How many bytes the lines count for where they are compacted when it is due.
-use Rattle.std.proofs.Common.{◌≡◌, ℕ, ◌+◌, ◌*◌, ◌≤◌, Bool, true, false, inr, List, refl, sym, ap, ◌∙◌, arith, ltb-true, ltb-false}
+use Rattle.std.proofs.Common.{◌≡◌, ℕ, ◌+◌, ◌*◌, ◌≤◌, Bool, true, false, inr, List, refl, sym, ap, ◌∙◌, arith, le-ltb, ltb-true, ltb-false}
 use Rattle.std.specs.Prelude.{cond, nat_lt}
 use Rattle.pc_cache.specs.Rows.{Cached, TargetRow, bytes_alive, bytes_of_rows}
 use Rattle.pc_session.specs.Arena.{compacted, is_due, IsCompacted, IsLeft, IsLeftWhereDue}
@@ -14,6 +14,10 @@ not_due rows bytes live few rest =
       | true ↦ λ due. absurd (omega (arith, ltb-true (2 * bytes_of_rows rows + 1048576) bytes due, few, ltb-false (2 * live + 1048576) bytes rest))
       | false ↦ λ due. omega arith
     ] refl
+
+-- up to 1,048,576 nothing is due, however few are live
+pub few_undue : (bytes live : ℕ) → bytes ≤ 1048576 → nat_lt (2 * live + 1048576) bytes ≡ false
+few_undue bytes live few = le-ltb (2 * live + 1048576) bytes (omega (arith, few))
 
 -- where it is due, there are more than 1,048,576
 pub left_compacted : (bytes spare live new spare_after : ℕ) → nat_lt (2 * live + 1048576) bytes ≡ true → new + spare ≡ bytes → spare_after ≡ 0 → IsLeft bytes spare new spare_after

@@ -4,18 +4,19 @@
 //! lines count for 1,048,576 bytes more than twice what was left the last time or, where that was nothing, than twice what was
 //! put first (or than twice 16 for each line of each reason, where that is less). By the first it comes once for each 1,048,576
 //! bytes that were put since; by the last, where few reasons rest on many long lines, at each such edit. It then goes over the
-//! places of every row.
-ghost use Rattle.std.specs.Prelude.{◌≡◌, ◌≤◌, ◌+◌, ◌*◌, OnErr, OnOk, nat_lt};
+//! places of every row. The rows are counted only where all lines count for more than 1,048,576 bytes: below, nothing is due.
+ghost use Rattle.std.specs.Prelude.{◌≡◌, ◌<◌, ◌≤◌, ◌+◌, ◌*◌, OnErr, OnOk, nat_lt};
 ghost use Rattle.pc_session.specs.Arena.{compacted, IsLeft, IsLeftWhereDue};
 
 use pc_cache::Cache;
 use std::alloc::AllocError;
 
-// Whether the first is more than twice the second and 1,048,576 more.
+// Whether the first, which is more than 1,048,576, is that much more than twice the second.
 fn is_due(arena: u128, live: u128) -> bool
+    requires { 1048576 < arena }
     ensures { result ≡ nat_lt (2 * live + 1048576) arena }
 {
-    1_048_576 < arena && live <= (arena - 1_048_577) / 2
+    live <= (arena - 1_048_577) / 2
 }
 
 /// Compacts the derivations where it is due. All reasons stay; without memory all stays as it is.
@@ -27,7 +28,11 @@ pub(crate) fn compact_if_due(cache: &mut Cache) -> Result<(), AllocError>
     ensures due { OnOk result (IsLeftWhereDue cache.old cache.new) }
     ensures err { OnErr result (cache.new ≡ cache.old) }
 {
-    if is_due(cache.arena_bytes(), cache.live_bytes()) {
+    let arena = cache.arena_bytes();
+    if arena <= 1_048_576 {
+        return Ok(());
+    }
+    if is_due(arena, cache.live_bytes()) {
         cache.compact()?;
     }
     Ok(())
