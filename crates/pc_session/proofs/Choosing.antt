@@ -149,10 +149,6 @@ module _ (sheet : Sheet) (theory : TheoryView) (known : IsTheory (rules_alone sh
 
 -- ---- numbers of marked parts
 
-pub no_places : (n k : ℕ) → places_from k (replicate n false) ≡ []
-no_places zero k = refl
-no_places (suc n) k = no_places n (k + 1)
-
 places_push : (marks : List Bool) (b : Bool) (k : ℕ) → places_from k (marks ++ b ∷ []) ≡ places_from k marks ++ cond b ((k + length marks) ∷ []) []
 places_push [] b k = ap (λ n. cond b (n ∷ []) []) (let is : k ≡ k + 0 = omega arith in is)
 places_push (m ∷ ms) b k = by m (places_push ms b (k + 1))

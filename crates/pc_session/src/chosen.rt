@@ -1,8 +1,8 @@
 //! Which parts of a book have entries, as a mark for each part.
 //!
-//! The numbers of the marked parts are kept in order, so that they are lent at once. They are gathered anew where a mark
-//! changes: where a part gets its first entry or loses its last one.
-ghost use Rattle.std.specs.Prelude.{◌≡◌, ◌≤◌, ◌<◌, ◌+◌, ◌++◌, ◌∷◌, [], cond, false, IfOk, length, replicate, set, slice_get, Some, take};
+//! The numbers of the marked parts are kept in order, so that they are lent at once. They are gathered once for all marks of a
+//! book, and anew where a mark changes: where a part gets its first entry or loses its last one.
+ghost use Rattle.std.specs.Prelude.{◌≡◌, ◌≤◌, ◌<◌, ◌+◌, ◌++◌, ◌∷◌, [], cond, IfOk, length, set, slice_get, Some, take};
 ghost use Rattle.pc_parts.specs.Parts.{Part};
 ghost use Rattle.pc_parts.specs.PartSheets.{is_on};
 ghost use Rattle.pc_parts.specs.Unions.{has_entries};
@@ -64,14 +64,16 @@ fn gather(marks: &[bool], numbers: &mut Vec<usize>) -> usize
 }
 
 impl Chosen {
-    /// No part of so many has a mark.
-    pub(crate) fn new(alloc: Global, parts: usize) -> Result<Chosen, AllocError>
-        ensures { IfOk result (λ chosen. chosen ≡ replicate parts false) }
+    /// These marks, with the numbers of the marked parts gathered once.
+    fn of(alloc: Global, marks: Vec<bool>) -> Result<Chosen, AllocError>
+        ensures { IfOk result (λ chosen. chosen ≡ marks.items) }
     {
+        let mut numbers = vec![in alloc; 0; marks.len()]?;
+        let count = gather(&marks, &mut numbers);
         Ok(Chosen {
-            marks: vec![in alloc; false; parts]?,
-            numbers: vec![in alloc; 0; parts]?,
-            count: 0,
+            marks,
+            numbers,
+            count,
         })
     }
 
@@ -137,15 +139,24 @@ pub(crate) fn choose(chosen: &mut Chosen, theory: &Theory, book: &Book, part: us
     chosen.mark(part, has_entries(book, theory, part));
 }
 
+// A mark for each part of the book: whether it has entries.
+fn marks_of(alloc: Global, book: &Book, theory: &Theory) -> Result<Vec<bool>, AllocError>
+    requires { IsTheory (rules_alone book.now) theory.now }
+    ensures { IfOk result (λ marks. AreChosen book.now marks.items) }
+{
+    let entries = book.entries();
+    let mut marks = vec![in alloc; false; theory.components().len()]?;
+    for entry in entries {
+        marks[theory.part_of(book, entry.cell)] = true;
+    }
+    Ok(marks)
+}
+
 /// The marks of a book's parts.
 pub(crate) fn chosen_of(alloc: Global, book: &Book, theory: &Theory) -> Result<Chosen, AllocError>
     requires { IsTheory (rules_alone book.now) theory.now }
     ensures { IfOk result (AreChosen book.now) }
 {
-    let entries = book.entries();
-    let mut chosen = Chosen::new(alloc, theory.components().len())?;
-    for entry in entries {
-        chosen.mark(theory.part_of(book, entry.cell), true);
-    }
-    Ok(chosen)
+    let marks = marks_of(alloc, book, theory)?;
+    Chosen::of(alloc, marks)
 }

@@ -1,4 +1,4 @@
-use Rattle.std.proofs.Common.{List, take, get_or, false, replicate, length, All, ap, sym, ◌∙◌, subst}
+use Rattle.std.proofs.Common.{◌≡◌, List, take, get_or, set, false, true, replicate, length, All, rules, ap, sym, ◌∙◌, subst}
 use Rattle.std.proofs.lemmas.List.{take_more}
 use Rattle.pc_sheet.specs.WellFormed.{IsEntryOf}
 use Rattle.pc_sheet.specs.declared.ids.Entry.{Entry}
@@ -9,13 +9,14 @@ use Rattle.pc_theory.proofs.Parted.{as_many}
 use Rattle.pc_session.specs.inside.Chosen.{AreChosen}
 use Rattle.pc_session.proofs.Choosing.{mark_more, none_marked}
 use Rattle.pc_session.proofs.Resting.{cell_of}
-use Rattle.pc_session.proofs.chosen.chosen_of.Goals as goal
+use Rattle.pc_session.proofs.chosen.marks_of.Goals as goal
 
 pub loop-entry-init : goal.loop-entry-init
 loop-entry-init c =
     let book = c.args.book.now in
     let theory = c.args.theory.now in
-    c.in_ok-chosen.ensures
+    let none : c.in_ok-marks.marks.items ≡ replicate c.len.result false = search rules in
+    none
     ∙ (ap (λ n. replicate n false) (c.len.ensures ∙ (ap (λ (k : Kept). length k.cells) c.components.ensures ∙ as_many book theory.components (all_searched (rules_alone book) theory.components c.requires.components)))
     ∙ none_marked book theory c.requires)
 
@@ -33,5 +34,5 @@ loop-entry-preserved c =
     let i = c.loop-entry.entry-index in
     let h = c.part_of.ensures.has in
     let blank : Entry = record { cell = record { 0 = 0 }; value = record { 0 = 0 } } in
-    subst (λ (xs : List Entry). AreChosen (record book { entries = xs }) c.mark.new.self) (sym (take_more es i blank c.loop-entry-test.true))
-    (c.mark.ensures ∙ mark_more book c.args.theory.now c.requires (take i es) (get_or es i blank) c.loop-entry.chosen c.loop-entry.invariant c.part_of.result h.0 h.1 h.2)
+    subst (λ (xs : List Entry). AreChosen (record book { entries = xs }) (set c.loop-entry.marks.items c.part_of.result true)) (sym (take_more es i blank c.loop-entry-test.true))
+    (mark_more book c.args.theory.now c.requires (take i es) (get_or es i blank) c.loop-entry.marks.items c.loop-entry.invariant c.part_of.result h.0 h.1 h.2)
