@@ -1,7 +1,6 @@
-use Rattle.std.proofs.Common.{◌≡◌, [], List, Contains, ap, sym, ◌∙◌, subst}
+use Rattle.std.proofs.Common.{[], List, Contains, ap, sym, ◌∙◌, subst}
 use Rattle.pc_justify_laws.specs.Edits.{HasNone, edited}
 use Rattle.pc_parts.specs.Parts.{Part}
-use Rattle.pc_search.specs.Parts.{AreWorldsOf}
 use Rattle.pc_sheet.specs.Sheet.{Sheet}
 use Rattle.pc_sheet.specs.declared.ids.Entry.{Entry}
 use Rattle.pc_session.specs.inside.Taken.{takes}
