@@ -19,3 +19,4 @@ pub mod Changed
 pub mod Compacted
 pub mod SpentBytes
 pub mod LentGround
+pub mod SeenEdits

@@ -1,5 +1,5 @@
 -- Entries that an edit takes away, and what is left.
-use Rattle.std.proofs.Common.{◌≡◌, ◌≢◌, ℕ, ◌<◌, inl, inr, Bool, true, false, cond, not, eqb, eq-eqb, ◌&&◌, ◌||◌, List, [], ◌∷◌, ◌++◌, filter, length, All, Contains, arith, ap, refl, sym, ◌∙◌, subst}
+use Rattle.std.proofs.Common.{◌≡◌, ◌≢◌, ◌↔◌, ℕ, ◌<◌, inl, inr, Bool, true, false, cond, not, eqb, eq-eqb, ◌&&◌, ◌||◌, List, [], ◌∷◌, ◌++◌, filter, length, All, Contains, arith, ap, refl, sym, ◌∙◌, subst}
 use Rattle.std.specs.List.{list_any}
 use Rattle.std.proofs.lemmas.Bool.{cases_Bool, eqb-true, false≢true}
 use Rattle.std.proofs.lemmas.List.{append-nil}
@@ -17,6 +17,7 @@ use Rattle.pc_parts.specs.PartSheets.{is_on, sheet_of}
 use Rattle.pc_justify_laws.specs.Edits.{HasNone, edited, takes_none}
 use Rattle.pc_world_list.specs.Worlds.{AllFit, AreExact, WorldView}
 use Rattle.pc_search.specs.Parts.{AreWorldsOf}
+use Rattle.pc_session.specs.Answers.{StandsAlone}
 use Rattle.pc_lemmas.proofs.Elements.{all_from, contains_cases, contains_first, contains_later, contains_none, kept, kept_all, kept_is}
 use Rattle.pc_theory.proofs.Lists.{all_in, few_filtered}
 
@@ -179,3 +180,16 @@ pub none_alone : (e : Entry) (es : List Entry) → list_any (is_rival e) es ≡ 
 none_alone e es none = all_from (λ f. f ≡ e) (entries_of e.cell es) (λ f has.
     let from = kept_is (is_of_cell e.cell) es f has in
     same_value e f from.1 (all_in (λ x. is_rival e x ≡ false) es f (none_of (is_rival e) es none) from.0))
+
+-- ---- what tests tell of a cell's entries, where these are read anew for each
+
+-- the entry doesn't stand
+pub lacks_by : (stands : Bool) (e : Entry) (es read : List Entry) → stands ≡ false → (stands ≡ true) ↔ Contains read e → read ≡ es → ¬ Contains es e
+lacks_by stands e es read fails says is has = false≢true (sym fails ∙ says.1 (subst (λ (xs : List Entry). Contains xs e) (sym is) has))
+
+-- it stands, and none is its rival
+pub alone_by : (stands some : Bool) (e : Entry) (es read again : List Entry) → stands ≡ true → (stands ≡ true) ↔ Contains read e → read ≡ es → some ≡ false → some ≡ list_any (is_rival e) again → again ≡ es → StandsAlone es e
+alone_by stands some e es read again passes says is fails rivals same = (
+  subst (λ (xs : List Entry). Contains xs e) is (says.0 passes),
+  none_alone e es (subst (λ (xs : List Entry). list_any (is_rival e) xs ≡ false) same (sym rivals ∙ fails)),
+)

@@ -1,4 +1,4 @@
-use Rattle.std.proofs.Common.{◌≡◌, List, Contains, true, false, sym, ◌∙◌, subst}
+use Rattle.std.proofs.Common.{◌≡◌, List, true, sym, ◌∙◌, subst}
 use Rattle.std.specs.List.{list_any}
 use Rattle.std.proofs.lemmas.Bool.{false≢true}
 use Rattle.pc_sheet.specs.declared.ids.Entry.{Entry}
@@ -6,7 +6,7 @@ use Rattle.pc_books.specs.Edits.{is_rival}
 use Rattle.pc_session.specs.declared.taken.Taken.TheVariants as taken
 use Rattle.pc_session.proofs.Changed.{entering_new, taking_some}
 use Rattle.pc_session.proofs.Resting.{cell_of}
-use Rattle.pc_session.proofs.TakenEntries.{alone_none, none_alone}
+use Rattle.pc_session.proofs.TakenEntries.{alone_by, alone_none, lacks_by}
 use Rattle.pc_session.proofs.entering.enter.Goals as goal
 
 -- ---- a new value
@@ -14,11 +14,11 @@ use Rattle.pc_session.proofs.entering.enter.Goals as goal
 pub edit-requires-clause-change : goal.edit-requires-clause-change
 edit-requires-clause-change c =
     entering_new c.entering_edits.ensures c.args.state.now.book c.args.entry c.entries.ensures.well_formed c.requires.entry
-    (λ has. false≢true (sym c.if-not-stands.true ∙ c.stands.ensures.1 (subst (λ (es : List Entry). Contains es c.args.entry) (sym c.entries.ensures.items) has)))
+    (lacks_by c.stands.result c.args.entry c.args.state.now.book.entries c.entries.result.now c.if-not-stands.true c.stands.ensures c.entries.ensures.items)
 
 pub returns-then-not-stands-clause-standing : goal.returns-then-not-stands-clause-standing
 returns-then-not-stands-clause-standing c alone =
-    absurd (false≢true (sym c.if-not-stands.true ∙ c.stands.ensures.1 (subst (λ (es : List Entry). Contains es c.args.entry) (sym c.entries.ensures.items) alone.0)))
+    absurd (lacks_by c.stands.result c.args.entry c.args.state.now.book.entries c.entries.result.now c.if-not-stands.true c.stands.ensures c.entries.ensures.items alone.0)
 
 -- ---- a value that stands
 
@@ -36,14 +36,10 @@ pub returns-clause-book : goal.returns-clause-book
 returns-clause-book c =
     let b = c.args.state.now.book in
     let e = c.args.entry in
-    let stands : Contains b.entries e = subst (λ (es : List Entry). Contains es e) c.entries.ensures.items (c.stands.ensures.0 c.if-not-stands.false) in
-    let none : list_any (is_rival e) b.entries ≡ false = subst (λ (es : List Entry). list_any (is_rival e) es ≡ false) c.entries-2.ensures.items (sym c.takes_some.ensures ∙ c.if-takes_some.false) in
-    sym ((c.entering_edits.ensures b e).alone stands (none_alone e b.entries none))
+    let alone = alone_by c.stands.result c.takes_some.result e b.entries c.entries.result.now c.entries-2.result.now c.if-not-stands.false c.stands.ensures c.entries.ensures.items c.if-takes_some.false c.takes_some.ensures c.entries-2.ensures.items in
+    sym ((c.entering_edits.ensures b e).alone alone.0 alone.1)
 
 pub returns-clause-spends : goal.returns-clause-spends
 returns-clause-spends c not_alone =
-    let b = c.args.state.now.book in
-    let e = c.args.entry in
-    let stands : Contains b.entries e = subst (λ (es : List Entry). Contains es e) c.entries.ensures.items (c.stands.ensures.0 c.if-not-stands.false) in
-    let none : list_any (is_rival e) b.entries ≡ false = subst (λ (es : List Entry). list_any (is_rival e) es ≡ false) c.entries-2.ensures.items (sym c.takes_some.ensures ∙ c.if-takes_some.false) in
-    absurd (not_alone (stands, none_alone e b.entries none))
+    absurd (not_alone (alone_by c.stands.result c.takes_some.result c.args.entry c.args.state.now.book.entries c.entries.result.now c.entries-2.result.now
+    c.if-not-stands.false c.stands.ensures c.entries.ensures.items c.if-takes_some.false c.takes_some.ensures c.entries-2.ensures.items))

@@ -1,17 +1,14 @@
-use Rattle.std.proofs.Common.{◌≡◌, Contains, Ok, Some, IfErr, OnOk, refl, ap, sym, subst}
-use Rattle.std.proofs.lemmas.Result.{on_ok_weaker, on_err_weaker}
+use Rattle.std.proofs.Common.{◌≡◌, Contains, Ok, Some, IfErr, OnOk, sym, subst}
 use Rattle.pc_sheet.specs.WellFormed.{IsEntryOf}
 use Rattle.pc_sheet.specs.declared.ids.Entry.{Entry}
 use Rattle.pc_books.specs.Edits.{also_entered}
-use Rattle.pc_components.specs.View.{Kept}
 use Rattle.pc_justify_laws.specs.Edits.{takes_none}
-use Rattle.pc_theory.specs.Theories.{TheoryView}
-use Rattle.pc_session.specs.Answers.{HasPlaceFor, OthersStay, Stay, Steps}
-use Rattle.pc_session.specs.Arena.{IsBounded, IsBoundedBySpent}
+use Rattle.pc_session.specs.Answers.{HasPlaceFor}
 use Rattle.pc_session.specs.Causes.{IsEntryCause}
 use Rattle.pc_session.specs.inside.States.{viewed}
 use Rattle.pc_session.specs.Views.{IsTallyOf, SessionView, counts_of, none_spent}
-use Rattle.pc_session.proofs.Viewing.{but_seen, kept_after, still_seen}
+use Rattle.pc_session.proofs.SeenEdits.{edit_seen, IsSeenEdit}
+use Rattle.pc_session.proofs.Viewing.{but_seen, kept_after}
 use Rattle.pc_session.proofs.session.Session.also.Goals as goal
 
 pub also-requires-clause-entry : goal.also-requires-clause-entry
@@ -29,19 +26,19 @@ also-requires-clause-place c =
 pub invariant_of-self : goal.invariant_of-self
 invariant_of-self c = kept_after c.also.result c.self.inside.state c.also.new.state c.also.ensures.left (λ left. left.state) c.also.ensures.chosen c.also.ensures.kept c.self.invariant
 
+-- what every edit of a cell's entries says
+said : (c : goal.After-also) → IsSeenEdit c.also.result c.args.cell takes_none c.args.self.now (viewed c.self.inside.budget c.also.new.state)
+said c =
+    edit_seen c.also.result c.args.cell takes_none c.self.inside.budget c.self.inside.state c.also.new.state c.args.self.now c.self.view_is c.also.ensures.theory c.also.ensures.left c.also.ensures.kept
+
 pub returns-clause-unchanged : goal.returns-clause-unchanged
-returns-clause-unchanged c = on_err_weaker c.also.result (still_seen c.self.inside.budget c.self.inside.state c.also.new.state _ c.self.view_is) c.also.ensures.kept
+returns-clause-unchanged c = (said c).unchanged
 
 pub returns-clause-parts : goal.returns-clause-parts
-returns-clause-parts c =
-    let of : TheoryView → Kept = λ t. t.components in
-    let P : SessionView → Type 0 = λ v. c.also.new.state.theory.components ≡ v.components in
-    subst P c.self.view_is (ap of c.also.ensures.theory)
+returns-clause-parts c = (said c).parts
 
 pub returns-clause-budget : goal.returns-clause-budget
-returns-clause-budget c =
-    let P : SessionView → Type 0 = λ v. c.self.inside.budget ≡ v.budget in
-    subst P c.self.view_is refl
+returns-clause-budget c = (said c).budget
 
 pub returns-clause-refused : goal.returns-clause-refused
 returns-clause-refused c =
@@ -72,30 +69,16 @@ returns-clause-standing c =
     subst P c.self.view_is (λ standing. let told = c.also.ensures.standing standing in (told.0, but_seen c.self.inside.budget o.book o c.also.new.state told.1))
 
 pub returns-clause-stays : goal.returns-clause-stays
-returns-clause-stays c =
-    let o = c.self.inside.state in
-    let P : SessionView → Type 0 = λ v. OnOk c.also.result (Stay takes_none v.rows c.also.new.state.cache.rows) in
-    subst P c.self.view_is (on_ok_weaker c.also.result (λ left. left.stays) c.also.ensures.left)
+returns-clause-stays c = (said c).stays
 
 pub returns-clause-others : goal.returns-clause-others
-returns-clause-others c =
-    let o = c.self.inside.state in
-    let P : SessionView → Type 0 = λ v. OnOk c.also.result (OthersStay c.args.cell v.components v.rows c.also.new.state.cache.rows) in
-    subst P c.self.view_is (on_ok_weaker c.also.result (λ left. left.others) c.also.ensures.left)
+returns-clause-others c = (said c).others
 
 pub returns-clause-steps : goal.returns-clause-steps
-returns-clause-steps c =
-    let o = c.self.inside.state in
-    let P : SessionView → Type 0 = λ v. OnOk c.also.result (Steps v.rows c.also.new.state.cache.rows (counts_of c.also.new.state.tally)) in
-    subst P c.self.view_is (on_ok_weaker c.also.result (λ left. left.steps) c.also.ensures.left)
+returns-clause-steps c = (said c).steps
 
 pub returns-clause-arena : goal.returns-clause-arena
-returns-clause-arena c =
-    let o = c.self.inside.state in
-    let P : SessionView → Type 0 = λ v. OnOk c.also.result (IsBounded v.rows v.bytes c.also.new.state.cache.rows c.also.new.state.cache.bytes) in
-    subst P c.self.view_is (on_ok_weaker c.also.result (λ left. left.bytes) c.also.ensures.left)
+returns-clause-arena c = (said c).arena
 
 pub returns-clause-bytes : goal.returns-clause-bytes
-returns-clause-bytes c =
-    let P : SessionView → Type 0 = λ v. OnOk c.also.result (IsBoundedBySpent v c.args.cell (viewed c.self.inside.budget c.also.new.state)) in
-    subst P c.self.view_is (on_ok_weaker c.also.result (λ left. left.spent) c.also.ensures.left)
+returns-clause-bytes c = (said c).bytes

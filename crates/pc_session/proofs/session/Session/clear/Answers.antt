@@ -1,20 +1,10 @@
-use Rattle.std.proofs.Common.{◌≡◌, [], Contains, Ok, Err, Some, IfErr, OnOk, refl, ap, sym, subst}
-use Rattle.std.proofs.lemmas.Result.{on_ok_weaker, on_err_weaker}
+use Rattle.std.proofs.Common.{sym}
 use Rattle.pc_sheet.specs.WellFormed.{is_of_cell}
-use Rattle.pc_sheet.specs.declared.ids.Entry.{Entry}
 use Rattle.pc_books.specs.Edits.{without_cell}
-use Rattle.pc_components.specs.View.{Kept}
-use Rattle.pc_justify_laws.specs.Edits.{HasNone, edited}
-use Rattle.pc_theory.specs.Theories.{TheoryView}
-use Rattle.pc_session.specs.Answers.{AreSpare, AreUnused, OthersStay, Stay, Steps}
-use Rattle.pc_session.specs.Arena.{IsBounded, IsBoundedBySpent}
-use Rattle.pc_session.specs.Causes.{IsRemovalCause}
 use Rattle.pc_session.specs.inside.States.{viewed}
-use Rattle.pc_session.specs.Views.{IsTallyOf, SessionView, counts_of, none_spent}
-use Rattle.pc_session.specs.declared.refused.EditRefused.TheVariants.{NoEntry}
-use Rattle.pc_session.proofs.Resting.{spare_unused}
 use Rattle.pc_session.proofs.TakenEntries.{has_not_none, of_that_cell}
-use Rattle.pc_session.proofs.Viewing.{but_seen, kept_after, still_seen}
+use Rattle.pc_session.proofs.SeenEdits.{edit_seen, removal_seen, IsSeenEdit, IsSeenRemoval}
+use Rattle.pc_session.proofs.Viewing.{kept_after}
 use Rattle.pc_session.proofs.session.Session.clear.Goals as goal
 
 pub remove-requires-clause-taken : goal.remove-requires-clause-taken
@@ -25,78 +15,56 @@ remove-requires-clause-taken c =
 pub invariant_of-self : goal.invariant_of-self
 invariant_of-self c = kept_after c.remove.result c.self.inside.state c.remove.new.state c.remove.ensures.left (λ left. left.state) c.remove.ensures.chosen c.remove.ensures.kept c.self.invariant
 
+-- what every edit of a cell's entries says
+said : (c : goal.After-remove) → IsSeenEdit c.remove.result c.args.cell (is_of_cell c.args.cell) c.args.self.now (viewed c.self.inside.budget c.remove.new.state)
+said c =
+    edit_seen c.remove.result c.args.cell (is_of_cell c.args.cell) c.self.inside.budget c.self.inside.state c.remove.new.state c.args.self.now c.self.view_is c.remove.ensures.theory c.remove.ensures.left c.remove.ensures.kept
+
 pub returns-clause-unchanged : goal.returns-clause-unchanged
-returns-clause-unchanged c = on_err_weaker c.remove.result (still_seen c.self.inside.budget c.self.inside.state c.remove.new.state _ c.self.view_is) c.remove.ensures.kept
+returns-clause-unchanged c = (said c).unchanged
 
 pub returns-clause-parts : goal.returns-clause-parts
-returns-clause-parts c =
-    let of : TheoryView → Kept = λ t. t.components in
-    let P : SessionView → Type 0 = λ v. c.remove.new.state.theory.components ≡ v.components in
-    subst P c.self.view_is (ap of c.remove.ensures.theory)
+returns-clause-parts c = (said c).parts
 
 pub returns-clause-budget : goal.returns-clause-budget
-returns-clause-budget c =
-    let P : SessionView → Type 0 = λ v. c.self.inside.budget ≡ v.budget in
-    subst P c.self.view_is refl
+returns-clause-budget c = (said c).budget
+
+-- what every removal says
+gone : (c : goal.After-remove) → IsSeenRemoval c.remove.result c.args.cell (is_of_cell c.args.cell) (λ s. without_cell s c.args.cell) c.args.self.now (viewed c.self.inside.budget c.remove.new.state)
+gone c =
+    let o = c.self.inside.state in
+    removal_seen c.remove.result c.args.cell (is_of_cell c.args.cell) (λ s. without_cell s c.args.cell) c.self.inside.budget o c.remove.new.state c.args.self.now c.self.view_is c.self.invariant.state (sym (c.clearing_edits.ensures o.book c.args.cell).clears)
+    c.remove.ensures.book c.remove.ensures.refused c.remove.ensures.none c.remove.ensures.unused c.remove.ensures.spends
 
 pub returns-clause-refused : goal.returns-clause-refused
-returns-clause-refused c =
-    let o = c.self.inside.state in
-    let same : edited o.book (is_of_cell c.args.cell) [] ≡ without_cell o.book c.args.cell = sym (c.clearing_edits.ensures o.book c.args.cell).clears in
-    let P : SessionView → Type 0 = λ v. IfErr c.remove.result (IsRemovalCause (is_of_cell c.args.cell) v.sheet.entries (without_cell v.sheet c.args.cell) c.args.cell v.budget) in
-    subst P c.self.view_is (subst (λ s. IfErr c.remove.result (IsRemovalCause (is_of_cell c.args.cell) o.book.entries s c.args.cell c.self.inside.budget)) same c.remove.ensures.refused)
+returns-clause-refused c = (gone c).refused
 
 pub returns-clause-sheet : goal.returns-clause-sheet
-returns-clause-sheet c =
-    let o = c.self.inside.state in
-    let same : edited o.book (is_of_cell c.args.cell) [] ≡ without_cell o.book c.args.cell = sym (c.clearing_edits.ensures o.book c.args.cell).clears in
-    let P : SessionView → Type 0 = λ v. OnOk c.remove.result (c.remove.new.state.book ≡ without_cell v.sheet c.args.cell) in
-    subst P c.self.view_is (subst (λ s. OnOk c.remove.result (c.remove.new.state.book ≡ s)) same c.remove.ensures.book)
+returns-clause-sheet c = (gone c).sheet
 
 pub returns-clause-spends : goal.returns-clause-spends
-returns-clause-spends c =
-    let P : SessionView → Type 0 = λ v. OnOk c.remove.result ((¬ AreUnused (is_of_cell c.args.cell) v.rows) → IsTallyOf c.remove.new.state.book (Some c.args.cell) v.budget (counts_of c.remove.new.state.tally)) in
-    subst P c.self.view_is c.remove.ensures.spends
+returns-clause-spends c = (gone c).spends
 
 pub returns-clause-no_entry : goal.returns-clause-no_entry
-returns-clause-no_entry c =
-    let P : SessionView → Type 0 = λ v. HasNone (is_of_cell c.args.cell) v.sheet.entries → c.remove.result ≡ Err NoEntry in
-    subst P c.self.view_is c.remove.ensures.none
+returns-clause-no_entry c = (gone c).none
 
 pub returns-clause-unused : goal.returns-clause-unused
-returns-clause-unused c =
-    let o = c.self.inside.state in
-    let same : edited o.book (is_of_cell c.args.cell) [] ≡ without_cell o.book c.args.cell = sym (c.clearing_edits.ensures o.book c.args.cell).clears in
-    let P : SessionView → Type 0 = λ v. (f : Entry) → Contains v.sheet.entries f → f.cell ≡ c.args.cell → AreUnused (is_of_cell c.args.cell) v.rows → (c.remove.result ≡ Ok tt) × (viewed c.self.inside.budget c.remove.new.state ≡ record v { sheet = without_cell v.sheet c.args.cell; tally = none_spent v.budget }) in
-    subst P c.self.view_is (λ f there of_cell unused. let told = c.remove.ensures.unused (has_not_none (is_of_cell c.args.cell) o.book.entries f there (of_that_cell c.args.cell f of_cell)) unused in (told.0, subst (λ s. viewed c.self.inside.budget c.remove.new.state ≡ record (viewed c.self.inside.budget o) { sheet = s; tally = none_spent c.self.inside.budget }) same (but_seen c.self.inside.budget (edited o.book (is_of_cell c.args.cell) []) o c.remove.new.state told.1)))
+returns-clause-unused c f there of_cell = (gone c).unused (has_not_none (is_of_cell c.args.cell) c.args.self.now.sheet.entries f there (of_that_cell c.args.cell f of_cell))
 
 pub returns-clause-spare : goal.returns-clause-spare
-returns-clause-spare c =
-    let o = c.self.inside.state in
-    let P : SessionView → Type 0 = λ v. (f : Entry) → Contains v.sheet.entries f → f.cell ≡ c.args.cell → AreSpare v.sheet (is_of_cell c.args.cell) → c.remove.result ≡ Ok tt in
-    subst P c.self.view_is (λ f there of_cell spare. (c.remove.ensures.unused (has_not_none (is_of_cell c.args.cell) o.book.entries f there (of_that_cell c.args.cell f of_cell)) (spare_unused o.book o.cache.rows (is_of_cell c.args.cell) c.self.invariant.state.places c.self.invariant.state.reasons spare)).0)
+returns-clause-spare c f there of_cell = (gone c).spare (has_not_none (is_of_cell c.args.cell) c.args.self.now.sheet.entries f there (of_that_cell c.args.cell f of_cell))
 
 pub returns-clause-stays : goal.returns-clause-stays
-returns-clause-stays c =
-    let P : SessionView → Type 0 = λ v. OnOk c.remove.result (Stay (is_of_cell c.args.cell) v.rows c.remove.new.state.cache.rows) in
-    subst P c.self.view_is (on_ok_weaker c.remove.result (λ left. left.stays) c.remove.ensures.left)
+returns-clause-stays c = (said c).stays
 
 pub returns-clause-others : goal.returns-clause-others
-returns-clause-others c =
-    let P : SessionView → Type 0 = λ v. OnOk c.remove.result (OthersStay c.args.cell v.components v.rows c.remove.new.state.cache.rows) in
-    subst P c.self.view_is (on_ok_weaker c.remove.result (λ left. left.others) c.remove.ensures.left)
+returns-clause-others c = (said c).others
 
 pub returns-clause-steps : goal.returns-clause-steps
-returns-clause-steps c =
-    let P : SessionView → Type 0 = λ v. OnOk c.remove.result (Steps v.rows c.remove.new.state.cache.rows (counts_of c.remove.new.state.tally)) in
-    subst P c.self.view_is (on_ok_weaker c.remove.result (λ left. left.steps) c.remove.ensures.left)
+returns-clause-steps c = (said c).steps
 
 pub returns-clause-arena : goal.returns-clause-arena
-returns-clause-arena c =
-    let P : SessionView → Type 0 = λ v. OnOk c.remove.result (IsBounded v.rows v.bytes c.remove.new.state.cache.rows c.remove.new.state.cache.bytes) in
-    subst P c.self.view_is (on_ok_weaker c.remove.result (λ left. left.bytes) c.remove.ensures.left)
+returns-clause-arena c = (said c).arena
 
 pub returns-clause-bytes : goal.returns-clause-bytes
-returns-clause-bytes c =
-    let P : SessionView → Type 0 = λ v. OnOk c.remove.result (IsBoundedBySpent v c.args.cell (viewed c.self.inside.budget c.remove.new.state)) in
-    subst P c.self.view_is (on_ok_weaker c.remove.result (λ left. left.spent) c.remove.ensures.left)
+returns-clause-bytes c = (said c).bytes
