@@ -17,7 +17,7 @@ use crate::answer::{Answer, AskStop};
 use crate::candidates::{Candidates, find_candidates};
 use crate::finding::{Found, find};
 use crate::narrowing::Choosing;
-use crate::part::{Task, asked_part, axioms_over, part_solver};
+use crate::part::{AskTask, asked_part, axioms_over, part_solver};
 use pc_books::{Book, few_entries, well_formed};
 use pc_components::Components;
 use pc_ground::Ground;
@@ -73,7 +73,7 @@ fn search_book<'a, 'b, C: Choices>(
     let axioms = axioms_over(alloc, book, ground, &part)?;
     let mut solver = part_solver(alloc, book, ground, &part, &axioms)?;
     let choosing = Choosing {
-        task: Task {
+        task: AskTask {
             alloc,
             book,
             ground,

@@ -8,7 +8,7 @@ ghost use Rattle.pc_ask.specs.inside.Parts.{IsAsked};
 ghost use Rattle.pc_ask.specs.inside.Ways.{most_tried};
 ghost use Rattle.pc_solver.specs.declared.stop.Stop.TheVariants.{Memory};
 
-use crate::part::Task;
+use crate::part::AskTask;
 use crate::refuting::refute_set;
 use crate::ways::{MOST_TRIED, count_ways, way_at};
 use pc_books::Assignment;
@@ -23,7 +23,7 @@ use std::alloc::AllocError;
 /// of each part it is asked about the entries that the way's assignment has.
 #[derive(Clone, Copy)]
 pub(crate) struct Choosing<'a, 'b> {
-    pub(crate) task: Task<'a>,
+    pub(crate) task: AskTask<'a>,
     pub(crate) entries: &'a [Entry],
     pub(crate) fitting: &'b Assignment,
     pub(crate) parts: &'a [PartSets<'b>],

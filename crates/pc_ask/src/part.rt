@@ -20,7 +20,7 @@ use std::alloc::{AllocError, Global};
 
 /// An asked book with its clauses, and the variables of the part that has what is asked.
 #[derive(Clone, Copy)]
-pub(crate) struct Task<'g> {
+pub(crate) struct AskTask<'g> {
     pub(crate) alloc: Global,
     pub(crate) book: &'g Book,
     pub(crate) ground: &'g Ground,

@@ -6,7 +6,7 @@ ghost use Rattle.pc_solver.specs.Spending.{SpendsIn, StopSays};
 ghost use Rattle.pc_ask.specs.inside.Narrowing.{RefuteSays};
 ghost use Rattle.pc_ask.specs.inside.Parts.{IsAskable, IsAsked, IsTask};
 
-use crate::part::Task;
+use crate::part::AskTask;
 use pc_components::axioms_are_for_their_sheet;
 use pc_lits::{Lit, Tally};
 use pc_log::{Log, StepId};
@@ -16,7 +16,7 @@ use pc_solver::{Outcome, Solver, Stop};
 use std::alloc::AllocError;
 
 // That the entries stand, in their order.
-fn assumptions(task: Task<'_>, set: &[Entry]) -> Result<Vec<Lit>, AllocError>
+fn assumptions(task: AskTask<'_>, set: &[Entry]) -> Result<Vec<Lit>, AllocError>
     requires task { IsTask task.book.now task.ground.now }
     requires set { All (IsAskable task.book.now) set.now }
     ensures { IfOk result (λ lits.
@@ -32,7 +32,7 @@ fn assumptions(task: Task<'_>, set: &[Entry]) -> Result<Vec<Lit>, AllocError>
 /// The line that derives that some entry of the set doesn't stand, or `None` where some assignment fits the book and has the
 /// set: one of the part that has what is asked, laid over one that fits the rest. It takes one call of the solver.
 pub(crate) fn refute_set(
-    task: Task<'_>,
+    task: AskTask<'_>,
     set: &[Entry],
     solver: &mut Solver<'_>,
     log: &mut Log,
