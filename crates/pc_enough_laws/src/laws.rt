@@ -1,4 +1,5 @@
 //! The laws, as contracts.
+ghost use Rattle.pc_enough_laws.specs.Bytes.{SpentBytesAreBounded, WorkedBytes};
 ghost use Rattle.pc_enough_laws.specs.Laws.{LawfulLogsLearnFew, MaximalSetsAreFew, PartsSpendLess, LawfulSpendingsAreOfLess, PartsNeedNoMore, EnoughIsNeverSpent, CountsAreBounded, EnoughIsNeverSpentWhole, EntryEditsSpendOnOnePart, WholeSpendingsLearnFew};
 
 /// A lawful log has fewer learned clauses than three to the number of its variables, where some axiom has no literal together
@@ -51,4 +52,15 @@ pub fn whole_spendings_learn_few()
 /// Where the limit is enough for so many calls, no spending of at most so many on a whole sheet is lawful.
 pub fn enough_is_never_spent_whole()
     ensures { EnoughIsNeverSpentWhole }
+{}
+
+/// Of what searches of touched parts keep, the placed literals and the calls are enough to know a bound, with the parts' axioms and
+/// the sheet's variables.
+pub fn spent_bytes_are_bounded()
+    ensures { SpentBytesAreBounded }
+{}
+
+/// How many bytes searches of two parts may keep.
+pub fn spent_bytes_are_worked()
+    ensures { WorkedBytes }
 {}
