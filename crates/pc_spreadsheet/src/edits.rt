@@ -120,7 +120,7 @@ pub(crate) fn add_rule(
     }
 }
 
-//// Drops the rule of that name.
+/// Drops the rule of that name.
 pub(crate) fn drop_rule(session: &mut Session, name: &Name, notes: &mut Spendings) -> Told
     ensures { Obeys (state_of session.old, notes.old) (asks_drop name.now) result
         (state_of session.new, notes.new) }
