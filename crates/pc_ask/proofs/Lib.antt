@@ -10,6 +10,7 @@ pub mod Overlaid
 pub mod Places
 pub mod Proved
 pub mod Reading
+pub mod ReadMarks
 pub mod Searched
 pub mod Spent
 pub mod Tied

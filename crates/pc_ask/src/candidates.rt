@@ -1,11 +1,10 @@
 //! What is asked about: the entries on the parts that a formula reads, and these parts with their maximal sets.
-ghost use Rattle.std.specs.Prelude.{◌≡◌, ◌-◌, ◌<◌, filter, IfOk, length, slice_get, Some};
+ghost use Rattle.std.specs.Prelude.{◌≡◌, ◌-◌, ◌<◌, ◌==◌, ◌||◌, ℕ, filter, IfOk, length, OnOk, slice_get, Some};
 ghost use Rattle.pc_accept.specs.Sets.{is_in, those_in};
 ghost use Rattle.pc_accept.specs.Asked.{asked};
 ghost use Rattle.pc_ground.specs.Grounded.{grounded};
-ghost use Rattle.pc_parts.specs.PartSheets.{is_among};
 ghost use Rattle.pc_sheet.specs.Sheet.{Statement};
-ghost use Rattle.pc_ask.specs.inside.Reading.{are_read, AreCandidates, is_cell_of, is_on_some, is_read};
+ghost use Rattle.pc_ask.specs.inside.Reading.{are_marked, AreCandidates, AreMarksOf, has_mark, is_cell_of, is_marked, is_on_some, is_read};
 
 use pc_books::{Assignment, Book, well_formed};
 use pc_ground::Ground;
@@ -14,30 +13,66 @@ use pc_sheet::{CellId, Entry};
 use pc_world_list::Choices;
 use std::alloc::{AllocError, Global};
 
-fn is_among(cells: &[usize], cell: CellId) -> bool
-    ensures { result ≡ is_among cells.now cell.0 }
+// Marks the cell of that number.
+fn mark(marks: &mut Vec<bool>, cell: usize) -> Result<(), AllocError>
+    ensures { OnOk result ((c : ℕ) →
+        has_mark marks.new.items c ≡ (has_mark marks.old.items c || cell == c)) }
 {
-    for other in cells {
-        if *other == usize::from(cell.0) {
-            return true;
-        }
+    'room: while marks.len() <= cell {
+        marks.push(false)?;
     }
-    false
+    marks[cell] = true;
+    Ok(())
 }
 
-// Whether one of the cells is read.
-fn are_read(reads: &[usize], cells: &[CellId]) -> bool
-    ensures { result ≡ are_read reads.now cells.now }
+// Marks of the cells that are read.
+fn read_marks(alloc: Global, reads: &[usize]) -> Result<Vec<bool>, AllocError>
+    ensures { IfOk result (λ marks. AreMarksOf reads.now marks.items) }
+{
+    let mut marks = Vec::new(alloc);
+    for cell in reads {
+        mark(&mut marks, *cell)?;
+    }
+    Ok(marks)
+}
+
+// Whether the cell of that number has a mark.
+fn has_mark(marks: &[bool], cell: usize) -> bool
+    ensures { result ≡ has_mark marks.now cell }
+{
+    cell < marks.len() && marks[cell]
+}
+
+// Whether one of the cells has a mark.
+fn are_marked(marks: &[bool], cells: &[CellId]) -> bool
+    ensures { result ≡ are_marked marks.now cells.now }
 {
     for cell in cells {
-        if is_among(reads, *cell) {
+        if has_mark(marks, usize::from(cell.0)) {
             return true;
         }
     }
     false
 }
 
-// The parts with a cell that is read.
+// The parts with a cell that has a mark.
+fn marked_parts<'a>(
+    alloc: Global,
+    all: &[PartSets<'a>],
+    marks: &[bool],
+) -> Result<Vec<PartSets<'a>>, AllocError>
+    ensures { IfOk result (λ parts. parts.items ≡ filter (is_marked marks.now) all.now) }
+{
+    let mut parts = Vec::new(alloc);
+    for part in all {
+        if are_marked(marks, part.cells) {
+            parts.push(*part)?;
+        }
+    }
+    Ok(parts)
+}
+
+// The parts with a cell that is read. A cell is read as often as leaves have it, so the reads are gone over once.
 fn read_parts<'a>(
     alloc: Global,
     all: &[PartSets<'a>],
@@ -45,13 +80,8 @@ fn read_parts<'a>(
 ) -> Result<Vec<PartSets<'a>>, AllocError>
     ensures { IfOk result (λ parts. parts.items ≡ filter (is_read reads.now) all.now) }
 {
-    let mut parts = Vec::new(alloc);
-    for part in all {
-        if are_read(reads, part.cells) {
-            parts.push(*part)?;
-        }
-    }
-    Ok(parts)
+    let marks = read_marks(alloc, reads)?;
+    marked_parts(alloc, all, &marks)
 }
 
 fn is_cell_of(cell: CellId, part: PartSets<'_>) -> bool

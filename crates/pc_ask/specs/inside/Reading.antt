@@ -1,5 +1,5 @@
 -- The parts that a statement reads, and what is on them.
-use Rattle.std.specs.Prelude.{◌≡◌, ℕ, ◌-◌, ◌==◌, Bool, List, Some, filter, length, map, slice_get}
+use Rattle.std.specs.Prelude.{◌≡◌, ℕ, ◌-◌, ◌==◌, Bool, List, Some, false, filter, length, map, slice_get, slice_index_or}
 use Rattle.std.specs.List.{AllZip, list_any}
 use Rattle.pc_sheet.specs.Sheet.{Sheet}
 use Rattle.pc_sheet.specs.declared.ids.CellId.{CellId}
@@ -19,6 +19,21 @@ are_read reads cells = list_any (λ c. is_among reads c.0) cells
 
 abbrev pub is_read : List ℕ → PartSets → Bool
 is_read reads p = are_read reads p.cells.now
+
+-- whether the cell of that number has a mark
+abbrev pub has_mark : List Bool → ℕ → Bool
+has_mark marks c = slice_index_or marks c false
+
+-- the marks of the cells that are read
+abbrev pub AreMarksOf : List ℕ → List Bool → Type 0
+AreMarksOf reads marks = (c : ℕ) → has_mark marks c ≡ is_among reads c
+
+-- one of the cells has a mark
+abbrev pub are_marked : List Bool → List CellId → Bool
+are_marked marks cells = list_any (λ c. has_mark marks c.0) cells
+
+abbrev pub is_marked : List Bool → PartSets → Bool
+is_marked marks p = are_marked marks p.cells.now
 
 abbrev pub is_cell_of : CellId → PartSets → Bool
 is_cell_of c p = list_any (λ d. d.0 == c.0) p.cells.now
