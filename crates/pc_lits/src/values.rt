@@ -7,10 +7,10 @@ use crate::{Lit, Var};
 use std::alloc::{AllocError, Global};
 use std::marker::Model;
 
-// A value counts only while its stamp is the present one.
+// A value counts only while its stamp is the present one. It is small, since searches read values at random.
 #[derive(Clone, Copy)]
 struct Cell {
-    stamp: u64,
+    stamp: u16,
     value: bool,
 }
 
@@ -21,11 +21,11 @@ impl Cell {
     };
 }
 
-/// A partial assignment: for each variable a truth value or none. Clearing takes constant time.
+/// A partial assignment: for each variable a truth value or none. Clearing takes constant time, but for one time in 65,535.
 #[derive(Drop)]
 pub struct Values {
     cells: Vec<Cell>,
-    present: u64,
+    present: u16,
 }
 
 impl Model for Values {
@@ -122,7 +122,7 @@ impl Values {
     pub fn clear(&mut self)
         ensures { self.new ≡ replicate (length self.old) None }
     {
-        if self.present == u64::MAX {
+        if self.present == u16::MAX {
             self.cells.fill(Cell::BLANK);
             self.present = 1;
         } else {
