@@ -9,26 +9,32 @@ use std::alloc::{AllocError, Global};
 /// By how much activities are made smaller.
 pub const SCALE: u64 = 65_536;
 
+// The spot of a place that isn't in the heap.
+const NOWHERE: u32 = u32::MAX;
+
 /// Places with their activities, of which some stand in a heap.
 #[derive(Drop)]
 pub struct Order {
     activities: Vec<u64>,
     // the heap: the first `filled` of these
-    heap: Vec<usize>,
+    heap: Vec<u32>,
     filled: usize,
-    // where each place stands in the heap, if it does
-    spots: Vec<Option<usize>>,
+    // where each place stands in the heap, and `NOWHERE` if it doesn't
+    spots: Vec<u32>,
 }
 
 impl Order {
     /// All places below `count`, without activity. It takes all the memory that it will need.
     pub fn new(alloc: Global, count: usize) -> Result<Order, AllocError> {
+        if count >= NOWHERE as usize {
+            return Err(AllocError);
+        }
         let activities = vec![in alloc; 0; count]?;
         let mut heap = Vec::with_capacity(alloc, count)?;
         let mut spots = Vec::with_capacity(alloc, count)?;
         for place in 0..count {
-            heap.push(place)?;
-            spots.push(Some(place))?;
+            heap.push(place as u32)?;
+            spots.push(place as u32)?;
         }
         Ok(Order {
             activities,
@@ -54,7 +60,7 @@ impl Order {
         }
         let place = self.at(0);
         if place < self.spots.len() {
-            self.spots[place] = None;
+            self.spots[place] = NOWHERE;
         }
         self.filled -= 1;
         if self.filled > 0 {
@@ -66,7 +72,7 @@ impl Order {
     /// Puts the place into the heap, if it isn't there.
     pub fn put_back(&mut self, place: usize) {
         if place < self.spots.len() && self.filled < self.heap.len() {
-            if self.spots[place].is_none() {
+            if self.spots[place] == NOWHERE {
                 let spot = self.filled;
                 self.filled += 1;
                 self.rise(spot, place);
@@ -89,8 +95,9 @@ impl Order {
             self.activities[place] = self.activities[place].saturating_add(step);
         }
         if place < self.spots.len() {
-            if let Some(spot) = self.spots[place] {
-                self.rise(spot, place);
+            let spot = self.spots[place];
+            if spot != NOWHERE {
+                self.rise(spot as usize, place);
             }
         }
     }
@@ -107,7 +114,7 @@ impl Order {
     pub fn keep_below(&mut self, count: usize) {
         self.filled = 0;
         for place in 0..self.spots.len() {
-            self.spots[place] = None;
+            self.spots[place] = NOWHERE;
         }
         for place in 0..self.spots.len() {
             if place < count {
@@ -129,7 +136,7 @@ impl Order {
     // The place at this spot of the heap.
     fn at(&self, spot: usize) -> usize {
         if spot < self.heap.len() {
-            self.heap[spot]
+            self.heap[spot] as usize
         } else {
             0
         }
@@ -137,9 +144,13 @@ impl Order {
 
     // Sets the place at this spot of the heap.
     fn set(&mut self, spot: usize, place: usize) {
-        if spot < self.heap.len() && place < self.spots.len() {
-            self.heap[spot] = place;
-            self.spots[place] = Some(spot);
+        if spot < self.heap.len()
+            && place < self.spots.len()
+            && spot < NOWHERE as usize
+            && place < NOWHERE as usize
+        {
+            self.heap[spot] = place as u32;
+            self.spots[place] = spot as u32;
         }
     }
 
