@@ -8,12 +8,15 @@ use pc_lits::Lit;
 use std::alloc::{AllocError, Global};
 use std::marker::Model;
 
+// How many literals there are at most: where a clause ends fits into half a word.
+const MOST: usize = u32::MAX as usize;
+
 /// Clauses whose literals may be exchanged.
 #[derive(Drop)]
 pub struct Bodies {
     literals: Vec<Lit>,
-    // Where each clause ends among the literals.
-    ends: Vec<usize>,
+    // Where each clause ends among the literals, in half a word, since they are read at random.
+    ends: Vec<u32>,
 }
 
 impl Model for Bodies {
@@ -51,9 +54,16 @@ impl Bodies {
         ensures ok { OnOk result (self.new ≡ self.old ++ clause.now ∷ []) }
         ensures err { OnErr result (self.new ≡ self.old) }
     {
+        let more = clause.len();
+        if more > MOST {
+            return Err(AllocError);
+        }
+        if self.literals.len() > MOST - more {
+            return Err(AllocError);
+        }
         self.ends.reserve(1)?;
         self.literals.extend_from_slice(clause)?;
-        let end = self.literals.len();
+        let end = self.literals.len() as u32;
         self.ends.push(end)?;
         Ok(())
     }
@@ -99,7 +109,7 @@ impl Bodies {
 }
 
 // Where a clause begins and ends among `len` literals.
-fn span(ends: &[usize], number: usize, len: usize) -> (usize, usize)
+fn span(ends: &[u32], number: usize, len: usize) -> (usize, usize)
     requires ends { AreEnds len 0 ends.now }
     requires number { number < length ends.now }
     ensures rises { result.0 ≤ result.1 }
@@ -107,13 +117,17 @@ fn span(ends: &[usize], number: usize, len: usize) -> (usize, usize)
     ensures start { result.0 ≡ slice_index (0 ∷ ends.now) number }
     ensures end { result.1 ≡ slice_index ends.now number }
 {
-    (end_of(ends, number), ends[number])
+    (end_of(ends, number), ends[number] as usize)
 }
 
 // Where the first `count` clauses end.
-fn end_of(ends: &[usize], count: usize) -> usize
+fn end_of(ends: &[u32], count: usize) -> usize
     requires { count ≤ length ends.now }
     ensures { result ≡ slice_index (0 ∷ ends.now) count }
 {
-    if count == 0 { 0 } else { ends[count - 1] }
+    if count == 0 {
+        0
+    } else {
+        ends[count - 1] as usize
+    }
 }

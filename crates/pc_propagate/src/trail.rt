@@ -53,10 +53,10 @@ pub enum Placed {
     Spent,
 }
 
-// The place and the level of a variable's entry.
+// The place and the level of a variable's entry. They are read at random, so each takes half a word.
 #[derive(Clone, Copy)]
 struct Slot {
-    place: usize,
+    place: u32,
     level: u32,
 }
 
@@ -195,7 +195,7 @@ impl Trail {
         requires { HasValue self.now.entries variable }
         ensures { IsEntryOfVariable self.now.entries variable result }
     {
-        self.slot_of(variable).place
+        self.slot_of(variable).place as usize
     }
 
     /// The level of the variable's literal: how many decisions there are up to it.
@@ -211,7 +211,7 @@ impl Trail {
         requires { HasValue self.now.entries variable }
         ensures { IsReasonOf self.now.entries variable result }
     {
-        let place = self.slot_of(variable).place;
+        let place = self.slot_of(variable).place as usize;
         self.entries[place].reason
     }
 
@@ -306,7 +306,7 @@ impl Trail {
             IsLastOpen negated (falses (take place self.old.entries)) (clause_at axioms more reason)
             is.entry.literal → IsOver axioms more self.new }
     {
-        let place = self.slot_of(variable).place;
+        let place = self.slot_of(variable).place as usize;
         let literal = self.entries[place].literal;
         self.entries[place] = TrailEntry {
             literal,
@@ -335,7 +335,7 @@ impl Trail {
         ensures pushed { self.new ≡ record self.old { entries = self.old.entries ++ entry ∷ [] } }
         ensures fits { length self.old.entries < self.old.variables }
     {
-        let place = self.entries.len();
+        let place = self.entries.len() as u32;
         self.values.assign(entry.literal);
         let _ = self.entries.push(entry);
         self.level += entry.levels();

@@ -2,6 +2,11 @@ use Rattle.std.proofs.Common.{rules, ◌≡◌, ◌≤◌, ◌++◌, length, ari
 use Rattle.pc_lits.proofs.RowsLemmas.{AreEnds-push, rows_from-push}
 use Rattle.pc_propagate.proofs.bodies.Bodies.push.Goals as goal
 
+pub overflow_cast-end : goal.overflow_cast-end
+overflow_cast-end c =
+    let end : c.len-end.result ≡ length (c.self.inside.literals.items ++ c.args.clause.now) = search rules in
+    omega (arith, end, length-append c.self.inside.literals.items c.args.clause.now, c.len.ensures, c.self.inside.literals.ok.0, c.if-more-gt-MOST.false, c.if-len-more.false)
+
 pub invariant_of-self-2 : goal.invariant_of-self-2
 invariant_of-self-2 c =
     let end : c.len-end.result ≡ length (c.self.inside.literals.items ++ c.args.clause.now) = search rules in
