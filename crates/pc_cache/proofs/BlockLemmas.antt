@@ -1,6 +1,5 @@
 -- Blocks, to which lines are added.
-use Rattle.std.proofs.Common.{◌≡◌, ◌≢◌, ℕ, zero, suc, ◌+◌, ◌*◌, ◌<◌, ◌≤◌, inl, inr, true, false, cond, List, [], ◌∷◌, ◌++◌, Option, Some, None, length, get_or, set, take, map, refl, sym, ap, ◌∙◌, subst, arith, All, ltb-true}
-use Rattle.std.specs.Prelude.{nat_lt}
+use Rattle.std.proofs.Common.{◌≡◌, ◌≢◌, ℕ, zero, suc, ◌+◌, ◌*◌, ◌<◌, ◌≤◌, inl, inr, true, false, cond, List, [], ◌∷◌, ◌++◌, Option, Some, None, length, get_or, set, take, map, min, refl, sym, ap, ◌∙◌, subst, arith, All}
 use Rattle.std.proofs.lemmas.Bool.{cases_eq}
 use Rattle.std.proofs.lemmas.List.{get_or_append_left, get_or-append-add, get_or_default, get_or_push, get_or-set_same, get_or-set_other, length-append, length-set, take_all, take_more}
 use Rattle.std.proofs.lemmas.List.Elements.{All-append, All-cons, All-nil, Contains-get_or}
@@ -13,7 +12,7 @@ use Rattle.pc_log.proofs.PickedLemmas.{picked_are, picked_bytes, picked_length, 
 use Rattle.pc_log.proofs.SparseLemmas.{line_in_is}
 use Rattle.pc_sheet.specs.declared.ids.Target.{Target}
 use Rattle.pc_reason.specs.Reasons.{Justification}
-use Rattle.pc_cache.specs.Rows.{Cached, TargetRow, bytes_alive, bytes_of_rows, is_same_target, least, lines_of_rows, row_bytes, row_lines, row_of}
+use Rattle.pc_cache.specs.Rows.{Cached, TargetRow, bytes_alive, bytes_of_rows, is_same_target, lines_of_rows, row_bytes, row_lines, row_of}
 use Rattle.pc_cache.specs.inside.Kept.{block_at, bytes_of_blocks, kept_or_none, rows_in, AreRowsIn, IsRowIn, KeepsBlocks}
 use Rattle.pc_cache.specs.inside.Moved.{moved_row, moved_rows}
 use Rattle.pc_cache.specs.declared.row.Row.{Row}
@@ -182,19 +181,13 @@ rows_few : (rows : List TargetRow) → 16 * lines_of_rows rows ≤ bytes_of_rows
 rows_few [] = omega arith
 rows_few (r ∷ rs) = omega (arith, row_few r.row, rows_few rs)
 
-least_right : (a b : ℕ) → least a b ≤ b
-least_right a b = elim (nat_lt a b) as (λ x. nat_lt a b ≡ x → cond x a b ≤ b) [
-  | true ↦ λ low. omega (arith, ltb-true a b low)
-  | false ↦ λ low. omega arith
-] refl
-
 pub alive_few : (c : Cached) → bytes_alive c ≤ bytes_of_rows c.rows
-alive_few c = omega (arith, least_right c.live (16 * lines_of_rows c.rows), rows_few c.rows)
+alive_few c = omega (arith, rows_few c.rows)
 
 pub alive_is : (blocks : List (List (Option LogLine))) (lent slots : List Slot) (live sum : ℕ) (c : Cached) → lent ≡ slots → sum ≡ 16 * lines_of_rows (rows_in blocks lent) → rows_in blocks slots ≡ c.rows → live ≡ c.live
-    → least live sum ≡ bytes_alive c
+    → min live sum ≡ bytes_alive c
 alive_is blocks lent slots live sum c same is rows alive =
-    ap (λ (n : ℕ). least n sum) alive ∙ ap (least c.live) (is ∙ ap (λ (ss : List Slot). 16 * lines_of_rows (rows_in blocks ss)) same ∙ ap (λ (rs : List TargetRow). 16 * lines_of_rows rs) rows)
+    ap (λ (n : ℕ). min n sum) alive ∙ ap (min c.live) (is ∙ ap (λ (ss : List Slot). 16 * lines_of_rows (rows_in blocks ss)) same ∙ ap (λ (rs : List TargetRow). 16 * lines_of_rows rs) rows)
 
 -- a block counts for no more than all of them
 one_of : (blocks : List (List (Option LogLine))) (b : ℕ) → bytes_there (block_at blocks b) ≤ bytes_of_blocks blocks

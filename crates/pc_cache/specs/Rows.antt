@@ -1,5 +1,5 @@
 -- Rows: of each target what is kept of why it is implied, or nothing.
-use Rattle.std.specs.Prelude.{◌≡◌, ℕ, ◌+◌, ◌⊎◌, ◌*◌, ◌==◌, ◌&&◌, Bool, true, false, List, [], ◌∷◌, Option, Some, None, cond, length, map, nat_lt}
+use Rattle.std.specs.Prelude.{◌≡◌, ℕ, ◌+◌, ◌⊎◌, ◌*◌, ◌==◌, ◌&&◌, Bool, true, false, List, [], ◌∷◌, Option, Some, None, cond, length, map, min}
 use Rattle.std.specs.Bool.{beq}
 use Rattle.pc_sheet.specs.declared.ids.Entry.{Entry}
 use Rattle.pc_sheet.specs.declared.ids.Target.{Target}
@@ -106,13 +106,10 @@ lines_of_rows (r ∷ rs) = row_lines r.row + lines_of_rows rs
 
 -- ---- when derivations are compacted
 
-abbrev pub least : ℕ → ℕ → ℕ
-least a b = cond (nat_lt a b) a b
-
 -- how many bytes the lines of the rows alone may count for: what all counted for after the last compaction, or 16 for each line of each
 -- row, where that is less
 abbrev pub bytes_alive : Cached → ℕ
-bytes_alive c = least c.live (16 * lines_of_rows c.rows)
+bytes_alive c = min c.live (16 * lines_of_rows c.rows)
 
 -- what counts as live after changes: what all lines count for, where there were none, and else what counted before
 abbrev pub live_after : ℕ → ℕ → ℕ → ℕ

@@ -9,7 +9,7 @@ ghost use Rattle.pc_sheet.specs.Entailment.{cell_sizes};
 ghost use Rattle.pc_sheet.specs.declared.ids.Target.{Target};
 ghost use Rattle.pc_reason.specs.Reasons.{justification_of};
 ghost use Rattle.pc_reason.specs.Targets.{IsTargetIn};
-ghost use Rattle.pc_cache.specs.Rows.{bytes_alive, bytes_of_rows, lacks_row, least, live_after, row_after, row_bytes, row_of, targets_of, uses_entry, AreDistinct, AreEmpty, HasRowOf, HaveTargets};
+ghost use Rattle.pc_cache.specs.Rows.{bytes_alive, bytes_of_rows, lacks_row, live_after, row_after, row_bytes, row_of, targets_of, uses_entry, AreDistinct, AreEmpty, HasRowOf, HaveTargets};
 ghost use Rattle.pc_cache.specs.Targets.{targets};
 ghost use Rattle.pc_cache.specs.Lent.{IsLentFor};
 ghost use Rattle.pc_cache.specs.Patches.{patch_bytes};
@@ -189,7 +189,7 @@ impl Cache {
         ensures exact { result ≡ bytes_alive self.now }
         ensures most { result ≤ bytes_of_rows self.now.rows }
     {
-        least_of(self.live, rows_bytes(&self.slots))
+        self.live.min(rows_bytes(&self.slots))
     }
 }
 
@@ -198,13 +198,6 @@ fn live_then(before: u128, live: u128, bytes: u128) -> u128
     ensures { result ≡ live_after before live bytes }
 {
     if before == 0 { bytes } else { live }
-}
-
-// The lesser one of two numbers.
-fn least_of(one: u128, other: u128) -> u128
-    ensures { result ≡ least one other }
-{
-    if one < other { one } else { other }
 }
 
 // The sum. Past the largest number the answer is want of memory.
