@@ -40,45 +40,32 @@ index-requires c =
     let many : length c.args.begun.now.narrowing.sets ≡ length c.args.begun.now.numbers.items = c.requires.live.many in
     omega (arith, below, many)
 
-pub returns-in-None-clause-implied : goal.returns-in-None-clause-implied
-returns-in-None-clause-implied c sheet cells h = (
-  λ e. (cc),
-  λ implied. absurd (none_implied sheet cells c.args.self.ground.now.sizes c.args.self.entries.now (basis_of c.args.solver.now) c.args.self.worlds.now c.args.target h c.consistent_is_in_maximal.ensures c.different_sublists_are_ordered.ensures (record { sets = c.args.begun.now.narrowing.sets; numbers = c.args.begun.now.numbers }) c.requires.live
-      (countered_here (basis_of c.args.solver.now) c.args.begun.now.narrowing.inquiry.question c.args.begun.now.narrowing.inquiry.question (map (entry_literal c.args.self.ground.now.sizes) c.args.self.entries.now) (target_literal c.args.self.ground.now.sizes c.args.target) c.args.begun.now.narrowing.sets c.args.begun.now.narrowing.sets
-      refl c.requires.begun.literals c.requires.begun.goal refl
-      (at_none c.in_ok-found.found c.in-None.is c.in_ok-found.ensures.none)) implied),
-)
+pub returns-in-None-clause-found : goal.returns-in-None-clause-found
+returns-in-None-clause-found c = record {
+  least = λ sheet cells h. tt;
+  implied = λ sheet cells h. (
+    λ e. (cc),
+    λ implied. absurd (none_implied sheet cells c.args.self.ground.now.sizes c.args.self.entries.now (basis_of c.args.solver.now) c.args.self.worlds.now c.args.target h c.consistent_is_in_maximal.ensures c.different_sublists_are_ordered.ensures (record { sets = c.args.begun.now.narrowing.sets; numbers = c.args.begun.now.numbers }) c.requires.live
+        (countered_here (basis_of c.args.solver.now) c.args.begun.now.narrowing.inquiry.question c.args.begun.now.narrowing.inquiry.question (map (entry_literal c.args.self.ground.now.sizes) c.args.self.entries.now) (target_literal c.args.self.ground.now.sizes c.args.target) c.args.begun.now.narrowing.sets c.args.begun.now.narrowing.sets
+        refl c.requires.begun.literals c.requires.begun.goal refl
+        (at_none c.in_ok-found.found c.in-None.is c.in_ok-found.ensures.none)) implied),
+  );
+  world = tt;
+  derived = tt;
+}
 
-pub returns-in_ok-support-in-Some-clause-least : goal.returns-in_ok-support-in-Some-clause-least
-returns-in_ok-support-in-Some-clause-least c sheet cells h =
+pub returns-in_ok-support-in-Some-clause-found : goal.returns-in_ok-support-in-Some-clause-found
+returns-in_ok-support-in-Some-clause-found c =
     let n = narrowed_here (basis_of c.args.solver.now) c.args.begun.now.narrowing.inquiry.question c.args.begun.now.narrowing.inquiry.question (map (entry_literal c.args.self.ground.now.sizes) c.args.self.entries.now) (target_literal c.args.self.ground.now.sizes c.args.target) c.narrow.new.log c.args.begun.now.narrowing.sets c.args.begun.now.narrowing.sets c.narrow.new.self.left c.in-Some.witness
     refl c.requires.begun.literals c.requires.begun.goal refl
     (at_some (IsNarrowed (basis_of c.args.solver.now) c.args.begun.now.narrowing.inquiry.question.literals.items c.args.begun.now.narrowing.inquiry.question.goal c.narrow.new.log c.args.begun.now.narrowing.sets c.narrow.new.self.left 0) c.in_ok-found.found c.in-Some.witness c.in-Some.is c.in_ok-found.ensures.some) in
     let items : c.in_ok-support-in-Some.support.items ≡ chosen c.narrow.new.self.left c.args.self.entries.now = c.in_ok-support-in-Some.ensures in
-    subst (λ (s : List Entry). IsLeastSupport sheet s c.args.target) (sym items) (least_support sheet cells c.args.self.ground.now.sizes c.args.self.entries.now (basis_of c.args.solver.now) c.args.self.worlds.now c.args.target h c.consistent_is_in_maximal.ensures c.different_sublists_are_ordered.ensures (record { sets = c.args.begun.now.narrowing.sets; numbers = c.args.begun.now.numbers }) c.requires.live c.narrow.new.log c.narrow.new.self.left c.in-Some.witness n)
-
-pub returns-in_ok-support-in-Some-clause-implied : goal.returns-in_ok-support-in-Some-clause-implied
-returns-in_ok-support-in-Some-clause-implied c sheet cells h =
-    let n = narrowed_here (basis_of c.args.solver.now) c.args.begun.now.narrowing.inquiry.question c.args.begun.now.narrowing.inquiry.question (map (entry_literal c.args.self.ground.now.sizes) c.args.self.entries.now) (target_literal c.args.self.ground.now.sizes c.args.target) c.narrow.new.log c.args.begun.now.narrowing.sets c.args.begun.now.narrowing.sets c.narrow.new.self.left c.in-Some.witness
-    refl c.requires.begun.literals c.requires.begun.goal refl
-    (at_some (IsNarrowed (basis_of c.args.solver.now) c.args.begun.now.narrowing.inquiry.question.literals.items c.args.begun.now.narrowing.inquiry.question.goal c.narrow.new.log c.args.begun.now.narrowing.sets c.narrow.new.self.left 0) c.in_ok-found.found c.in-Some.witness c.in-Some.is c.in_ok-found.ensures.some) in
-    (λ e. implied_by sheet cells c.args.self.ground.now.sizes c.args.self.entries.now (basis_of c.args.solver.now) c.args.self.worlds.now c.args.target h c.consistent_is_in_maximal.ensures c.different_sublists_are_ordered.ensures (record { sets = c.args.begun.now.narrowing.sets; numbers = c.args.begun.now.numbers }) c.requires.live c.narrow.new.log c.narrow.new.self.left c.in-Some.witness n, λ implied. refl)
-
-pub returns-in_ok-support-in-Some-clause-world : goal.returns-in_ok-support-in-Some-clause-world
-returns-in_ok-support-in-Some-clause-world c =
-    let n = narrowed_here (basis_of c.args.solver.now) c.args.begun.now.narrowing.inquiry.question c.args.begun.now.narrowing.inquiry.question (map (entry_literal c.args.self.ground.now.sizes) c.args.self.entries.now) (target_literal c.args.self.ground.now.sizes c.args.target) c.narrow.new.log c.args.begun.now.narrowing.sets c.args.begun.now.narrowing.sets c.narrow.new.self.left c.in-Some.witness
-    refl c.requires.begun.literals c.requires.begun.goal refl
-    (at_some (IsNarrowed (basis_of c.args.solver.now) c.args.begun.now.narrowing.inquiry.question.literals.items c.args.begun.now.narrowing.inquiry.question.goal c.narrow.new.log c.args.begun.now.narrowing.sets c.narrow.new.self.left 0) c.in_ok-found.found c.in-Some.witness c.in-Some.is c.in_ok-found.ensures.some) in
-    let items : c.in_ok-support-in-Some.support.items ≡ chosen c.narrow.new.self.left c.args.self.entries.now = c.in_ok-support-in-Some.ensures in
-    subst (λ (s : List Entry). IsSomeAnd (slice_get c.args.self.worlds.now c.index.result.now) (λ w. IsContained s w.entries)) (sym items) (world_has c.requires.asked.0 c.requires.asked.1 c.args.self.ground.now.sizes c.args.self.entries.now (basis_of c.args.solver.now) c.args.self.worlds.now c.args.target c.requires.asked.2 c.consistent_is_in_maximal.ensures c.different_sublists_are_ordered.ensures (record { sets = c.args.begun.now.narrowing.sets; numbers = c.args.begun.now.numbers }) c.requires.live c.narrow.new.log c.narrow.new.self.left c.in-Some.witness n c.index.result.now (slice_get_read c.args.begun.now.numbers.items (length c.args.begun.now.numbers.items) c.in-Some.witness.world c.index.result.now refl (let below = slice_get_within c.args.begun.now.narrowing.sets c.in-Some.witness.world n.witness.set n.witness.at in let many : length c.args.begun.now.narrowing.sets ≡ length c.args.begun.now.numbers.items = c.requires.live.many in omega (arith, below, many)) c.index.ensures))
-
-pub returns-in_ok-support-in-Some-clause-derived : goal.returns-in_ok-support-in-Some-clause-derived
-returns-in_ok-support-in-Some-clause-derived c =
-    let n = narrowed_here (basis_of c.args.solver.now) c.args.begun.now.narrowing.inquiry.question c.args.begun.now.narrowing.inquiry.question (map (entry_literal c.args.self.ground.now.sizes) c.args.self.entries.now) (target_literal c.args.self.ground.now.sizes c.args.target) c.narrow.new.log c.args.begun.now.narrowing.sets c.args.begun.now.narrowing.sets c.narrow.new.self.left c.in-Some.witness
-    refl c.requires.begun.literals c.requires.begun.goal refl
-    (at_some (IsNarrowed (basis_of c.args.solver.now) c.args.begun.now.narrowing.inquiry.question.literals.items c.args.begun.now.narrowing.inquiry.question.goal c.narrow.new.log c.args.begun.now.narrowing.sets c.narrow.new.self.left 0) c.in_ok-found.found c.in-Some.witness c.in-Some.is c.in_ok-found.ensures.some) in
-    let items : c.in_ok-support-in-Some.support.items ≡ chosen c.narrow.new.self.left c.args.self.entries.now = c.in_ok-support-in-Some.ensures in
-    subst (λ (s : List Entry). DerivesFrom c.args.self.ground.now.sizes s c.args.target c.args.solver.now.problem.axioms c.narrow.new.log c.in-Some.witness.line) (sym items) (derives c.requires.asked.0 c.requires.asked.1 c.args.self.ground.now.sizes c.args.self.entries.now (basis_of c.args.solver.now) c.args.self.worlds.now c.args.target c.requires.asked.2 c.consistent_is_in_maximal.ensures c.different_sublists_are_ordered.ensures (record { sets = c.args.begun.now.narrowing.sets; numbers = c.args.begun.now.numbers }) c.requires.live c.narrow.new.log c.narrow.new.self.left c.in-Some.witness n)
+    record {
+      least = λ sheet cells h. subst (λ (s : List Entry). IsLeastSupport sheet s c.args.target) (sym items) (least_support sheet cells c.args.self.ground.now.sizes c.args.self.entries.now (basis_of c.args.solver.now) c.args.self.worlds.now c.args.target h c.consistent_is_in_maximal.ensures c.different_sublists_are_ordered.ensures (record { sets = c.args.begun.now.narrowing.sets; numbers = c.args.begun.now.numbers }) c.requires.live c.narrow.new.log c.narrow.new.self.left c.in-Some.witness n);
+      implied = λ sheet cells h. (λ e. implied_by sheet cells c.args.self.ground.now.sizes c.args.self.entries.now (basis_of c.args.solver.now) c.args.self.worlds.now c.args.target h c.consistent_is_in_maximal.ensures c.different_sublists_are_ordered.ensures (record { sets = c.args.begun.now.narrowing.sets; numbers = c.args.begun.now.numbers }) c.requires.live c.narrow.new.log c.narrow.new.self.left c.in-Some.witness n, λ implied. refl);
+      world = subst (λ (s : List Entry). IsSomeAnd (slice_get c.args.self.worlds.now c.index.result.now) (λ w. IsContained s w.entries)) (sym items) (world_has c.requires.asked.0 c.requires.asked.1 c.args.self.ground.now.sizes c.args.self.entries.now (basis_of c.args.solver.now) c.args.self.worlds.now c.args.target c.requires.asked.2 c.consistent_is_in_maximal.ensures c.different_sublists_are_ordered.ensures (record { sets = c.args.begun.now.narrowing.sets; numbers = c.args.begun.now.numbers }) c.requires.live c.narrow.new.log c.narrow.new.self.left c.in-Some.witness n c.index.result.now (slice_get_read c.args.begun.now.numbers.items (length c.args.begun.now.numbers.items) c.in-Some.witness.world c.index.result.now refl (let below = slice_get_within c.args.begun.now.narrowing.sets c.in-Some.witness.world n.witness.set n.witness.at in let many : length c.args.begun.now.narrowing.sets ≡ length c.args.begun.now.numbers.items = c.requires.live.many in omega (arith, below, many)) c.index.ensures));
+      derived = subst (λ (s : List Entry). DerivesFrom c.args.self.ground.now.sizes s c.args.target c.args.solver.now.problem.axioms c.narrow.new.log c.in-Some.witness.line) (sym items) (derives c.requires.asked.0 c.requires.asked.1 c.args.self.ground.now.sizes c.args.self.entries.now (basis_of c.args.solver.now) c.args.self.worlds.now c.args.target c.requires.asked.2 c.consistent_is_in_maximal.ensures c.different_sublists_are_ordered.ensures (record { sets = c.args.begun.now.narrowing.sets; numbers = c.args.begun.now.numbers }) c.requires.live c.narrow.new.log c.narrow.new.self.left c.in-Some.witness n);
+    }
 
 pub returns-in_err-append-clause-seen : goal.returns-in_err-append-clause-seen
 returns-in_err-append-clause-seen c =
