@@ -97,10 +97,10 @@ fn search(
 {
     match added {
         Some(_) => asked.search_part(place, patch),
-        None => match asked.find_reasons(&left, place, patch) {
-            Ok(()) => Ok(left),
-            Err(stop) => Err(stop),
-        },
+        None => {
+            asked.find_reasons(&left, place, patch)?;
+            Ok(left)
+        }
     }
 }
 
