@@ -11,7 +11,7 @@ pub mod Views
 pub mod ReadFor
 pub mod Examples
 pub mod Keys
-pub mod KeysView
+pub mod Links
 pub mod Numbered
 pub mod Standing
 pub mod Gathered

@@ -1,31 +1,59 @@
 // Symbols with their numbers.
 
-ghost use Rattle.std.specs.Prelude.{◌≡◌, [], IfOk, OnErr, length};
-ghost use Rattle.pc_cert.specs.Keys.{IsKey, IsNumberedAs, symbol_by};
+ghost use Rattle.std.specs.Prelude.{◌≡◌, ◌≤◌, ◌∷◌, ◌++◌, [], ℕ, List, IfOk, OnErr, length};
+ghost use Rattle.pc_accept.specs.Axioms.{child_of, each_below};
+ghost use Rattle.pc_accept.specs.Literals.{node};
+ghost use Rattle.pc_cert.specs.Keys.{IsKey, IsNumberedAs, AreNumberedAs, key_of, symbol_by};
 ghost use Rattle.pc_cert.specs.Views.{AreSymbolsDistinct, symbol_of};
 
 use crate::cert::Symbol;
-use indexmap::IndexSet;
+use crate::fronts::Fronts;
+use crate::links::{Links, number_below};
+use pc_sheet::NodePath;
 use std::alloc::{AllocError, Global};
 use std::marker::Model;
 
-/// Symbols in the order in which they were numbered, from 0, each once. They are found by hashing.
+/// Symbols in the order in which they were numbered, from 0, each once. They are found by hashing: the numbers before the last one
+/// of a symbol's key once for all keys that begin with them, as those of a node's children do, and then a pair of numbers.
 #[derive(Drop)]
 pub struct Numbering {
-    keys: IndexSet<Vec<u32>>,
+    fronts: Fronts,
+    links: Links,
 }
 
 impl Model for Numbering {
-    ghost use Rattle.std.specs.Prelude.{List, map};
+    ghost use Rattle.std.specs.Prelude.{All, List, map};
     ghost use Rattle.pc_accept.specs.Literals.{Symbol};
-    ghost use Rattle.pc_cert.specs.Keys.{symbol_of_key};
-    ghost use Rattle.pc_cert.specs.KeysView.{AreKeys};
+    ghost use Rattle.pc_cert.specs.Links.{symbol_in, IsLinkIn};
 
     ghost Value = { List Symbol };
 
-    ghost view = { λ n. map symbol_of_key n.keys.keys };
+    ghost view = { λ n. map (symbol_in n.fronts) n.links };
 
-    ghost invariant = { λ n. AreKeys n.keys.keys };
+    ghost invariant = { λ n. All (IsLinkIn n.fronts) n.links };
+}
+
+// A key's numbers before the last one, and that.
+#[tactic(auto, using(crate::proofs::KeyLemmas::none_is_empty))]
+fn parted(key: &[u32]) -> (&[u32], u32)
+    requires { IsKey key.now }
+    ensures { key.now ≡ result.0.now ++ result.1 ∷ [] }
+{
+    match key.split_last() {
+        Some((last, front)) => (front, *last),
+        None => unreachable!(),
+    }
+}
+
+// The key of a node, with which those of its children begin.
+fn node_key(alloc: Global, path: &NodePath) -> Result<Vec<u32>, AllocError>
+    ensures { IfOk result (λ key. key.items ≡ key_of (node path.now.rule path.now.steps.items)) }
+{
+    let mut key = Vec::new(alloc);
+    key.push(1)?;
+    key.push(path.rule)?;
+    key.extend_from_slice(&path.steps)?;
+    Ok(key)
 }
 
 impl Numbering {
@@ -33,7 +61,8 @@ impl Numbering {
         ensures { result ≡ [] }
     {
         Numbering {
-            keys: IndexSet::new(alloc),
+            fronts: Fronts::new(alloc),
+            links: Links::new(alloc),
         }
     }
 
@@ -42,7 +71,8 @@ impl Numbering {
         ensures count { result ≡ length self.now }
         ensures distinct { AreSymbolsDistinct self.now }
     {
-        self.keys.len() as u32
+        self.fronts.recall_different();
+        self.links.len()
     }
 
     /// The number of the symbol with this key, which gets the next one if it has none.
@@ -51,12 +81,11 @@ impl Numbering {
         ensures ok { IfOk result (IsNumberedAs self.old self.new (symbol_by key.now)) }
         ensures err { OnErr result (self.new ≡ self.old) }
     {
-        if self.keys.len() >= u32::MAX as usize {
-            return Err(AllocError);
-        }
-        let key = Vec::from_slice(alloc, key)?;
-        let (place, _) = self.keys.insert_full(key)?;
-        Ok(place as u32)
+        let parts = parted(key);
+        let place = self.fronts.place(alloc, parts.0)?;
+        self.fronts.recall_different();
+        let number = self.links.number(place, parts.1)?;
+        Ok(number)
     }
 
     /// The number of the symbol, which gets the next one if it has none.
@@ -68,12 +97,30 @@ impl Numbering {
                 self.number(alloc, &[0, u32::from(cell.0), u32::from(value.0)])
             }
             Symbol::Node(path) => {
-                let mut key = Vec::new(alloc);
-                key.push(1)?;
-                key.push(path.rule)?;
-                key.extend_from_slice(&path.steps)?;
+                let key = node_key(alloc, path)?;
                 self.number(alloc, &key)
             }
         }
+    }
+
+    /// The numbers of a node's first children, one after the other: each gets the next one if it has none. Where memory runs out some
+    /// of the first have numbers.
+    pub fn number_children(
+        &mut self,
+        alloc: Global,
+        parent: &NodePath,
+        count: u32,
+    ) -> Result<Vec<u32>, AllocError>
+        ensures ok { IfOk result (λ v. AreNumberedAs self.old self.new
+            (each_below count (child_of parent.now.rule parent.now.steps.items)) v.items) }
+        ensures err { OnErr result ((j : ℕ) × (ns : List ℕ) × (j ≤ count) ×
+            AreNumberedAs self.old self.new
+            (each_below j (child_of parent.now.rule parent.now.steps.items)) ns) }
+    {
+        let front = node_key(alloc, parent)?;
+        let place = self.fronts.place(alloc, &front)?;
+        self.fronts.recall_different();
+        let numbers = number_below(alloc, &mut self.links, place, count)?;
+        Ok(numbers)
     }
 }

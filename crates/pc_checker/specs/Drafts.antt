@@ -1,5 +1,6 @@
 -- A clause that is being written.
-use Rattle.std.specs.Prelude.{◌≡◌, List, [], ◌∷◌, ◌++◌}
+use Rattle.std.specs.Prelude.{◌≡◌, ℕ, Bool, List, [], ◌∷◌, ◌++◌}
+use Rattle.pc_lits.specs.declared.literal.Lit.{Lit}
 use Rattle.pc_cert.specs.Numbered.{StartsWith}
 use Rattle.pc_accept.specs.Literals.{Symbol, Literal}
 
@@ -7,6 +8,10 @@ use Rattle.pc_accept.specs.Literals.{Symbol, Literal}
 pub record Draft : Type 0 where
   pub symbols : List Symbol
   pub clause : List Literal
+
+-- the literal of that sign on the variable of that number
+abbrev pub lit_of : Bool → ℕ → Lit
+lit_of sign n = record { variable = record { 0 = n }; sign = sign }
 
 -- one literal more
 pub record IsLiteralWritten (old new : Draft) (l : Literal) : Type 0 where

@@ -28,27 +28,6 @@ pub(crate) fn write_values(
     Ok(())
 }
 
-/// Writes each child of a node with this sign.
-pub(crate) fn write_children(
-    alloc: Global,
-    parent: &NodePath,
-    count: u32,
-    sign: bool,
-    draft: &mut ClauseDraft,
-) -> Result<(), AllocError>
-    ensures { OnOk result
-        (AreWritten draft.old draft.new
-        (each_below count (λ k. record {
-          what = child_of parent.now.rule parent.now.steps.items k;
-          sign = sign;
-        }))) }
-{
-    for child in 0..count {
-        draft.push_child(alloc, parent, child, sign)?;
-    }
-    Ok(())
-}
-
 /// Writes that the node has this truth where some of these children, of which each has this sign, are so.
 pub(crate) fn write_parts(
     alloc: Global,

@@ -1,10 +1,10 @@
 //! A clause that is being written.
 
-ghost use Rattle.std.specs.Prelude.{◌≡◌, ◌∷◌, ◌++◌, [], All, OnOk, length, map};
+ghost use Rattle.std.specs.Prelude.{◌≡◌, ◌∷◌, ◌++◌, [], All, IfOk, OnOk, length, map};
 ghost use Rattle.pc_accept.specs.Literals.{pair, node};
-ghost use Rattle.pc_accept.specs.Axioms.{child_of};
+ghost use Rattle.pc_accept.specs.Axioms.{child_of, each_below};
 ghost use Rattle.pc_cert.specs.Views.{literal_of, AreSymbolsDistinct};
-ghost use Rattle.pc_checker.specs.Drafts.{IsLiteralWritten};
+ghost use Rattle.pc_checker.specs.Drafts.{lit_of, AreWritten, IsLiteralWritten};
 ghost use Rattle.pc_cert.specs.Keys.{IsKey, symbol_by};
 ghost use Rattle.pc_cert.specs.ReadFor.{IsNamedIn};
 
@@ -127,6 +127,27 @@ impl ClauseDraft {
         self.push_node(alloc, parent.rule, &steps, sign)
     }
 
+    /// Adds each of so many children of a node, the first ones, with this sign.
+    pub(crate) fn push_children(
+        &mut self,
+        alloc: Global,
+        parent: &NodePath,
+        count: u32,
+        sign: bool,
+    ) -> Result<(), AllocError>
+        ensures { OnOk result
+            (AreWritten self.old self.new
+            (each_below count (λ k. record {
+              what = child_of parent.now.rule parent.now.steps.items k;
+              sign = sign;
+            }))) }
+    {
+        let numbers = self.names.number_children(alloc, parent, count)?;
+        let lits = signed(alloc, &numbers, sign)?;
+        self.lits.extend_from_slice(&lits)?;
+        Ok(())
+    }
+
     // Adds a literal by its symbol's key.
     fn push(&mut self, alloc: Global, key: &[u32], sign: bool) -> Result<(), AllocError>
         requires { IsKey key.now }
@@ -143,4 +164,18 @@ impl ClauseDraft {
         })?;
         Ok(())
     }
+}
+
+// The literals of that sign on the variables of these numbers.
+fn signed(alloc: Global, numbers: &[u32], sign: bool) -> Result<Vec<Lit>, AllocError>
+    ensures { IfOk result (λ lits. lits.items ≡ map (lit_of sign) numbers.now) }
+{
+    let mut lits = Vec::new(alloc);
+    for number in numbers {
+        lits.push(Lit {
+            variable: Var(*number),
+            sign,
+        })?;
+    }
+    Ok(lits)
 }

@@ -7,7 +7,7 @@ ghost use Rattle.pc_sheet.specs.Nodes.{kind_at};
 ghost use Rattle.pc_sheet.specs.declared.nodes.NodeKind.{NodeKind};
 ghost use Rattle.pc_checker.specs.inside.Written.{IsWritten, IsNumberWritten, clauses_of_many};
 
-use crate::axiom::{write_children, write_parts};
+use crate::axiom::write_parts;
 use crate::counting::{Counted, write_count, write_counter_at};
 use crate::draft::ClauseDraft;
 use pc_books::Book;
@@ -158,6 +158,6 @@ fn write_many(
         return Ok(false);
     }
     draft.push_node(alloc, path.rule, &path.steps, sign)?;
-    write_children(alloc, path, count, !sign, draft)?;
+    draft.push_children(alloc, path, count, !sign)?;
     Ok(true)
 }

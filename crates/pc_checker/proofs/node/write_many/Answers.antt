@@ -15,5 +15,5 @@ returns-then-place-count-2 c =
 
 pub returns : goal.returns
 returns c =
-    many_long (node c.args.path.now.rule c.args.path.now.steps.items) (child_of c.args.path.now.rule c.args.path.now.steps.items) c.args.sign c.args.count c.args.number c.args.draft.now c.push_node.new.self c.write_children.new.draft
-    c.requires (λ z. omega arith) (omega arith) (rw c.deref.ensures.value at c.in_ok-push_node.ensures) c.in_ok-write_children.ensures
+    many_long (node c.args.path.now.rule c.args.path.now.steps.items) (child_of c.args.path.now.rule c.args.path.now.steps.items) c.args.sign c.args.count c.args.number c.args.draft.now c.push_node.new.self c.push_children.new.self
+    c.requires (λ z. omega arith) (omega arith) (rw c.deref.ensures.value at c.in_ok-push_node.ensures) c.in_ok-push_children.ensures
