@@ -1,11 +1,11 @@
 //! The clauses of nodes that are no atoms.
 
 ghost use Rattle.std.specs.Prelude.{◌≡◌, [], IfOk, Some};
-ghost use Rattle.pc_accept.specs.Axioms.{child_of, clauses_of_kind, IsClauseOfKind};
+ghost use Rattle.pc_accept.specs.Axioms.{child_of, IsClauseOfKind};
 ghost use Rattle.pc_accept.specs.Literals.{node};
 ghost use Rattle.pc_sheet.specs.Nodes.{kind_at};
 ghost use Rattle.pc_sheet.specs.declared.nodes.NodeKind.{NodeKind};
-ghost use Rattle.pc_checker.specs.inside.Written.{IsWritten, IsNumberWritten, clauses_of_many};
+ghost use Rattle.pc_checker.specs.inside.Written.{IsWritten, IsKindWritten, IsNumberWritten, clauses_of_many};
 
 use crate::axiom::write_parts;
 use crate::counting::{Counted, write_count, write_counter_at};
@@ -60,8 +60,7 @@ fn write_not(
 ) -> Result<bool, AllocError>
     requires { draft.old.clause ≡ [] }
     ensures { IfOk result
-        (IsNumberWritten (clauses_of_kind (node path.now.rule path.now.steps.items)
-        (child_of path.now.rule path.now.steps.items) NodeKind.Not) number draft.old draft.new) }
+        (IsKindWritten path.now NodeKind.Not number draft.old draft.new) }
 {
     if number == 1 {
         write_parts(alloc, path, false, &[(0, false)], draft)?;
@@ -82,9 +81,7 @@ fn write_implies(
 ) -> Result<bool, AllocError>
     requires { draft.old.clause ≡ [] }
     ensures { IfOk result
-        (IsNumberWritten (clauses_of_kind (node path.now.rule path.now.steps.items)
-        (child_of path.now.rule path.now.steps.items) NodeKind.Implies) number draft.old
-        draft.new) }
+        (IsKindWritten path.now NodeKind.Implies number draft.old draft.new) }
 {
     if number == 1 {
         write_parts(alloc, path, false, &[(0, false), (1, true)], draft)?;
@@ -109,8 +106,7 @@ fn write_iff(
 ) -> Result<bool, AllocError>
     requires { draft.old.clause ≡ [] }
     ensures { IfOk result
-        (IsNumberWritten (clauses_of_kind (node path.now.rule path.now.steps.items)
-        (child_of path.now.rule path.now.steps.items) NodeKind.Iff) number draft.old draft.new) }
+        (IsKindWritten path.now NodeKind.Iff number draft.old draft.new) }
 {
     if number == 1 {
         write_parts(alloc, path, false, &[(0, false), (1, true)], draft)?;

@@ -1,8 +1,10 @@
 -- When an axiom's clause was written.
 use Rattle.std.specs.Prelude.{◌≡◌, ℕ, Bool, not, MatchBool, List, [], ◌∷◌, ◌++◌, slice_get, Some}
 use Rattle.pc_sheet.specs.Sheet.{Sheet}
-use Rattle.pc_accept.specs.Literals.{Symbol, Literal}
-use Rattle.pc_accept.specs.Axioms.{Axiom, IsClauseOf, IsAtNumber, each_below}
+use Rattle.pc_sheet.specs.declared.nodes.NodeKind.{NodeKind}
+use Rattle.pc_sheet.specs.declared.nodes.NodePath.{NodePath}
+use Rattle.pc_accept.specs.Literals.{Symbol, node, Literal}
+use Rattle.pc_accept.specs.Axioms.{Axiom, child_of, clauses_of_kind, IsClauseOf, IsAtNumber, each_below}
 use Rattle.pc_accept.specs.Rows.{Part, clause_of, IsAtRow}
 use Rattle.pc_checker.specs.Drafts.{Draft}
 use Rattle.pc_cert.specs.Numbered.{StartsWith}
@@ -19,6 +21,10 @@ IsAxiomWritten sheet a = IsWritten (IsClauseOf sheet a)
 -- the clause of that number, from 1
 abbrev pub IsNumberWritten : List (List Literal) → ℕ → Draft → Draft → Bool → Type 0
 IsNumberWritten clauses i = IsWritten (IsAtNumber clauses i)
+
+-- the clause of that number, from 1, of the node to which the path leads, which is of that kind
+abbrev pub IsKindWritten : NodePath → NodeKind → ℕ → Draft → Draft → Bool → Type 0
+IsKindWritten path kind i = IsNumberWritten (clauses_of_kind (node path.rule path.steps.items) (child_of path.rule path.steps.items) kind) i
 
 -- the clause of a row
 abbrev pub IsRowWritten : List (Part Literal) → Draft → Draft → Bool → Type 0
