@@ -7,6 +7,8 @@ pub mod AskedLemmas
 pub mod WalkLemmas
 pub mod LearnLemmas
 pub mod WayLemmas
+pub mod FreeLemmas
+pub mod PointLemmas
 pub mod DeriveLemmas
 pub mod AssertLemmas
 pub mod NewLemmas

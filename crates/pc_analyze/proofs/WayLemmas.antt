@@ -1,5 +1,5 @@
 -- Ways from entries to a false clause, while an analysis goes back over the trail.
-use Rattle.std.proofs.Common.{◌≡◌, ◌≢◌, ℕ, ◌+◌, ◌-◌, ◌<◌, ◌≤◌, Bool, false, List, [], ◌∷◌, length, get_or, set, replicate, sym, ap, ◌∙◌, subst, arith, ⊎_elim, Contains, Some, IsNone, AllPairs, slice_get}
+use Rattle.std.proofs.Common.{◌≡◌, ◌≢◌, ℕ, ◌+◌, ◌-◌, ◌<◌, ◌≤◌, Bool, Option, false, inl, inr, ◌⊎◌, List, [], ◌∷◌, length, get_or, set, replicate, sym, ap, ◌∙◌, subst, arith, ⊎_elim, Contains, Some, IsNone, AllPairs, slice_get}
 use Rattle.std.proofs.lemmas.Bool.{cases_eq, cases_lt, cases_Bool, false≢true}
 use Rattle.std.proofs.lemmas.Option.{slice_get_within, get_or_from_slice_get, slice_get-get_or, same_Some}
 use Rattle.std.proofs.lemmas.List.{get_or-set_same, get_or-set_other}
@@ -15,8 +15,8 @@ use Rattle.pc_propagate.specs.Over.{AreJustified}
 use Rattle.pc_propagate.specs.Refs.{clause_at}
 use Rattle.pc_propagate.specs.Watched.{IsFalseAt}
 use Rattle.pc_analyze.specs.inside.Marking.{IsMarked, MarksClause, marks_from, AreNegations}
-use Rattle.pc_analyze.specs.FirstPoint.{StandsInReason, IsWay, Leads, IsOfFirstPoint}
-use Rattle.pc_analyze.specs.inside.Refuted.{AreLeading, ArePassed}
+use Rattle.pc_analyze.specs.FirstPoint.{StandsInReason, IsWay, IsWayBy, Leads, IsBannedAt, GivesWay, IsOfFirstFreePoint}
+use Rattle.pc_analyze.specs.inside.Refuted.{AreLeading, ArePassed, AreLeft, HasGivenWay}
 use Rattle.pc_propagate.proofs.PlaceLemmas.{false_at_contains, false_at_from, false_at_before, contains_false_at, place_is, not_both, false_at_unique}
 use Rattle.pc_analyze.proofs.LevelLemmas.{level_at-le, level_at-below}
 use Rattle.pc_analyze.proofs.MarkLemmas.{some_mark, unmarked, only_mark, mark_old, marked_within, unmarked_at_first}
@@ -168,57 +168,114 @@ module _ (attached : List ClauseRef) (axioms more : List (List Lit)) (entries : 
             (λ other. kept k below (old_later k next rest below other way))
             (cases_eq next place)
 
-  -- that past each entry from `place` on there is a way from an earlier one of the level: for one entry more
-  pub passed_more : (start place : ℕ) (marks : List Bool) → AreLeading axioms more entries conflict (place + 1) marks → (j : ℕ) → start ≤ j → j ≢ place → IsMarked marks j
-      → ArePassed axioms more entries conflict start (place + 1) → ArePassed axioms more entries conflict start place
-  passed_more start place marks met j late apart marked passed k after within =
+  -- that past each entry from `place` on there is a way from an earlier one of the level, or it is banned: for one entry more
+  pub passed_more : (banned : List (Option Bool)) (start place : ℕ) (marks : List Bool) → AreLeading axioms more entries conflict (place + 1) marks
+      → IsBannedAt banned entries place ⊎ ((j : ℕ) × (start ≤ j) × (j ≢ place) × IsMarked marks j)
+      → ArePassed axioms more banned entries conflict start (place + 1) → ArePassed axioms more banned entries conflict start place
+  passed_more banned start place marks met here passed k after within =
       ⊎_elim
-      (λ same.
-      let leads = met.leads j marked in
-      (j, late, omega (arith, leads.0, apart, same), subst (λ (n : ℕ). Leads axioms more entries conflict (n + 1) j) (sym same) leads.1))
+      (λ same. elim here [
+        | inl is_banned ↦ inl (subst (IsBannedAt banned entries) (sym same) is_banned)
+        | inr found ↦
+            let leads = met.leads found.0 found.3 in
+            inr (found.0, found.1, omega (arith, leads.0, found.2, same), subst (λ (n : ℕ). Leads axioms more entries conflict (n + 1) found.0) (sym same) leads.1)
+      ])
       (λ other. passed k (omega (arith, after, other)) within)
       (cases_eq k place)
 
   -- at first: past each entry after the false clause's last literal
-  pub passed_first : (start end : ℕ) → IsEnd entries conflict end → 0 < end → start ≤ end - 1 → ArePassed axioms more entries conflict start end
-  passed_first start end is positive late k after within =
+  pub passed_first : (banned : List (Option Bool)) (start end : ℕ) → IsEnd entries conflict end → 0 < end → start ≤ end - 1 → ArePassed axioms more banned entries conflict start end
+  passed_first banned start end is positive late k after within =
       ⊎_elim
       (λ none. absurd (omega (arith, none, positive)))
-      (λ last. (last.2.0, omega (arith, last.2.2, late), omega (arith, last.2.2, after), ([], (last.0, last.2.1, last.1))))
+      (λ last. inr (last.2.0, omega (arith, last.2.2, late), omega (arith, last.2.2, after), ([], (last.0, last.2.1, last.1))))
       is.1
 
-  -- what the walk ends with
-  pub first_point : (marks : List Bool) (clause : List Lit) (place start level : ℕ) → AreLeading axioms more entries conflict (place + 1) marks → ArePassed axioms more entries conflict start (place + 1)
-      → AreNegations entries marks place start clause → marks_from start marks ≡ 1 → IsMarked marks place → start ≤ place → place < length entries
+  -- a way by later entries is one by what has given way, and at the point there is no other
+  way_given : (banned : List (Option Bool)) (point place : ℕ) (way : List ℕ) → IsWay axioms more entries conflict (point + 1) place way → IsWayBy axioms more entries conflict (HasGivenWay banned entries point point) place way
+  way_given banned point place [] h = h
+  way_given banned point place (next ∷ rest) h = (inl (omega (arith, h.0)), h.1, way_given banned point next rest h.2)
+
+  given_way : (banned : List (Option Bool)) (point place : ℕ) (way : List ℕ) → ¬ IsBannedAt banned entries point → IsWayBy axioms more entries conflict (HasGivenWay banned entries point point) place way
+      → IsWay axioms more entries conflict (point + 1) place way
+  given_way banned point place [] free h = h
+  given_way banned point place (next ∷ rest) free h =
+      let later : point + 1 ≤ next = elim h.0 [
+        | inl after ↦ omega (arith, after)
+        | inr both ↦ elim (cases_eq next point) [
+          | inl same ↦ absurd (free (subst (IsBannedAt banned entries) same both.1))
+          | inr other ↦ omega (arith, both.0, other)
+        ]
+      ] in
+      (later, h.1, given_way banned point next rest free h.2)
+
+  -- the walk over the level leaves marks at those places that lead past the point
+  pub left_at_first : (banned : List (Option Bool)) (point : ℕ) (marks : List Bool) → ¬ IsBannedAt banned entries point → AreLeading axioms more entries conflict (point + 1) marks → AreLeft axioms more banned entries conflict point point marks
+  left_at_first banned point marks free met = record {
+    leads = λ k marked.
+        let was = met.leads k marked in
+        (λ given. not_given k was.0 given, (was.1.0, way_given banned point k was.1.0 was.1.1));
+    marked = λ k out leads. elim (cases_lt k (point + 1)) [
+      | inl early ↦ met.marked k early (leads.0, given_way banned point k leads.0 free leads.1)
+      | inr late ↦ absurd (out (inl (omega (arith, late))))
+    ];
+  }
+    where
+      not_given : (k : ℕ) → k < point + 1 → HasGivenWay banned entries point point k → ⊥
+      not_given k early (inl after) = omega (arith, early, after)
+      not_given k early (inr both) = free (subst (IsBannedAt banned entries) (let same : k ≡ point = omega (arith, early, both.0) in same) both.1)
+
+  -- what the walks end with
+  pub first_point : (banned : List (Option Bool)) (walked marks : List Bool) (clause : List Lit) (place start level : ℕ) → AreLeading axioms more entries conflict (place + 1) walked
+      → ArePassed axioms more banned entries conflict start (place + 1) → ¬ IsBannedAt banned entries place → marks_from start walked ≡ 1 → IsMarked walked place
+      → AreLeft axioms more banned entries conflict place 0 marks → AreNegations entries marks place start clause → ((k : ℕ) → start ≤ k → IsMarked marks k → k ≡ place) → IsMarked marks place → start ≤ place → place < length entries
       → level_at entries start ≡ level → level_at entries place ≡ level → ((d : TrailEntry) → IsNone (get_or entries start d).reason)
-      → IsOfFirstPoint axioms more entries conflict level clause
-  first_point marks clause place start level met passed negations one marked late within start_level place_level starts = record {
+      → IsOfFirstFreePoint axioms more banned entries conflict level clause
+  first_point banned walked marks clause place start level met passed free one walked_marked left negations alone marked late within start_level place_level starts = record {
     place = place;
     first = record {
       of_level = place_level;
-      leads = (met.leads place marked).1;
+      free = free;
+      leads = (met.leads place walked_marked).1;
       all_pass = λ k before leads.
           let k_marked = met.marked k (omega (arith, before)) leads in
           ⊎_elim
           (λ earlier. omega (arith, level_at-below entries k start no_entry earlier (omega (arith, late, within)) (starts no_entry), start_level))
-          (λ after. absurd (omega (arith, before, only_mark marks start place k one late after marked k_marked)))
+          (λ after. absurd (omega (arith, before, only_mark walked start place k one late after walked_marked k_marked)))
           (cases_lt k start);
-      none_later = λ k after k_within k_level.
-          let found = passed k (omega (arith, after)) k_within in
-          (found.0, found.2, omega (arith, start_level, k_level, level_at-le entries start found.0 found.1 (omega (arith, found.2, k_within)), level_at-le entries found.0 k (omega (arith, found.2)) k_within), found.3);
+      none_later = λ k after k_within k_level. elim (passed k (omega (arith, after)) k_within) [
+        | inl is_banned ↦ inl is_banned
+        | inr found ↦
+            inr (found.0, found.2, omega (arith, start_level, k_level, level_at-le entries start found.0 found.1 (omega (arith, found.2, k_within)), level_at-le entries found.0 k (omega (arith, found.2)) k_within), found.3)
+      ];
     };
     exactly = λ m. (
-      λ has. let at = only_marked entries marks clause place start negations one marked late m has in
-          let leads = met.leads at.0 at.1 in (at.0, omega (arith, leads.0), at.2, leads.1),
-      λ is. covers_all entries marks clause place start negations one marked late m is.0 (met.marked is.0 (omega (arith, is.1)) is.3) is.2,
+      λ has.
+          let at = only_marked entries marks clause place start negations alone marked m has in
+          let leads = left.leads at.0 at.1 in
+          (at.0, up_to at.0 leads.0, (λ is. leads.0 (inr (omega arith, is))), at.2, (leads.1.0, gives at.0 leads.1.0 leads.1.1)),
+      λ is.
+          let out : ¬ HasGivenWay banned entries place 0 is.0 = λ given. elim given [ inl after ↦ omega (arith, after, is.1) | inr both ↦ is.2 both.1 ] in
+          covers_all entries marks clause place start negations alone m is.0 (left.marked is.0 out (is.4.0, takes is.0 is.4.0 is.4.1)) is.3,
     );
   }
+    where
+      up_to : (k : ℕ) → ¬ HasGivenWay banned entries place 0 k → k ≤ place
+      up_to k out = elim (cases_lt place k) [ inl after ↦ absurd (out (inl after)) | inr early ↦ omega (arith, early) ]
+
+      gives : (k : ℕ) (way : List ℕ) → IsWayBy axioms more entries conflict (HasGivenWay banned entries place 0) k way → IsWayBy axioms more entries conflict (GivesWay banned entries place) k way
+      gives k [] h = h
+      gives k (next ∷ rest) h = (elim h.0 [ inl after ↦ inl after | inr both ↦ inr both.1 ], h.1, gives next rest h.2)
+
+      takes : (k : ℕ) (way : List ℕ) → IsWayBy axioms more entries conflict (GivesWay banned entries place) k way → IsWayBy axioms more entries conflict (HasGivenWay banned entries place 0) k way
+      takes k [] h = h
+      takes k (next ∷ rest) h = (elim h.0 [ inl after ↦ inl after | inr is ↦ inr (omega arith, is) ], h.1, takes next rest h.2)
 
 -- where the ways that lead from marks before `end` are kept by the walk, the marks before `place` are those of ways past it
-abbrev pub KeepsWays : List (List Lit) → List (List Lit) → List TrailEntry → ℕ → ℕ → List Bool → ℕ → List Bool → Type 0
-KeepsWays axioms more entries start end first place marks =
-    (conflict : List Lit) → AreLeading axioms more entries conflict end first → ArePassed axioms more entries conflict start end
-    → AreLeading axioms more entries conflict place marks × ArePassed axioms more entries conflict start place
+abbrev pub KeepsWays : List (List Lit) → List (List Lit) → List (Option Bool) → List TrailEntry → ℕ → ℕ → List Bool → ℕ → List Bool → Type 0
+KeepsWays axioms more banned entries start end first place marks =
+    (conflict : List Lit) → AreLeading axioms more entries conflict end first → ArePassed axioms more banned entries conflict start end
+    → AreLeading axioms more entries conflict place marks × ArePassed axioms more banned entries conflict start place
 
 -- two marks: one of them stands at another place
 pub other_mark : (marks : List Bool) (start place : ℕ) → start ≤ place → IsMarked marks place → 1 < marks_from start marks → (j : ℕ) × (start ≤ j) × (j ≢ place) × IsMarked marks j
@@ -229,16 +286,19 @@ other_mark marks start place late marked many =
     (other.0, other.1, apart, mark_old marks place other.0 false apart other.2)
 
 -- the analysis of a conflict
-pub walked_point : (attached : List ClauseRef) (axioms more : List (List Lit)) (entries : List TrailEntry) (conflict : List Lit) → AreJustified axioms more attached entries → AllPairs Differ entries
-    → (end start place level added n : ℕ) (blank first marks : List Bool) (clause : List Lit)
+pub walked_point : (attached : List ClauseRef) (axioms more : List (List Lit)) (banned : List (Option Bool)) (entries : List TrailEntry) (conflict : List Lit) → AreJustified axioms more attached entries → AllPairs Differ entries
+    → (end start place level added n : ℕ) (blank first walked marks : List Bool) (clause : List Lit)
     → blank ≡ replicate n false → MarksClause entries conflict end start blank first added → IsEnd entries conflict end → AreFalse negated (falses entries) conflict
-    → (AreLeading axioms more entries conflict end first → ArePassed axioms more entries conflict start end
-    → AreLeading axioms more entries conflict (place + 1) marks × ArePassed axioms more entries conflict start (place + 1))
-    → AreNegations entries marks place start clause → marks_from start marks ≡ 1 → IsMarked marks place → start ≤ place → place < end → end ≤ length entries
+    → (AreLeading axioms more entries conflict end first → ArePassed axioms more banned entries conflict start end
+    → AreLeading axioms more entries conflict (place + 1) walked × ArePassed axioms more banned entries conflict start (place + 1))
+    → (AreLeft axioms more banned entries conflict place place walked → AreLeft axioms more banned entries conflict place 0 marks)
+    → ¬ IsBannedAt banned entries place → marks_from start walked ≡ 1 → IsMarked walked place
+    → AreNegations entries marks place start clause → ((k : ℕ) → start ≤ k → IsMarked marks k → k ≡ place) → IsMarked marks place → start ≤ place → place < end → end ≤ length entries
     → level_at entries start ≡ level → level_at entries (end - 1) ≡ level → ((d : TrailEntry) → IsNone (get_or entries start d).reason)
-    → IsOfFirstPoint axioms more entries conflict level clause
-walked_point attached axioms more entries conflict justified different end start place level added n blank first marks clause is marked_first is_end is_false kept negations one marked late early within start_level end_level starts =
+    → IsOfFirstFreePoint axioms more banned entries conflict level clause
+walked_point attached axioms more banned entries conflict justified different end start place level added n blank first walked marks clause is marked_first is_end is_false kept left free one walked_marked negations alone marked late early within start_level end_level starts =
     let found = kept (met_first attached axioms more entries conflict justified different end start added n blank first is marked_first is_end is_false)
-    (passed_first attached axioms more entries conflict justified different start end is_end (omega (arith, early)) (omega (arith, late, early))) in
-    first_point attached axioms more entries conflict justified different marks clause place start level found.0 found.1 negations one marked late (omega (arith, early, within)) start_level
+    (passed_first attached axioms more entries conflict justified different banned start end is_end (omega (arith, early)) (omega (arith, late, early))) in
+    first_point attached axioms more entries conflict justified different banned walked marks clause place start level found.0 found.1 free one walked_marked
+    (left (left_at_first attached axioms more entries conflict justified different banned place walked free found.0)) negations alone marked late (omega (arith, early, within)) start_level
     (omega (arith, level_at-le entries start place late (omega (arith, early, within)), level_at-le entries place (end - 1) (omega (arith, early)) (omega (arith, early, within)), start_level, end_level)) starts

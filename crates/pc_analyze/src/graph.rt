@@ -1,9 +1,11 @@
 //! What an analysis walks over.
 
-ghost use Rattle.std.specs.Prelude.{◌≡◌};
+ghost use Rattle.std.specs.Prelude.{◌≡◌, ◌<◌, ◌≤◌, ◌↔◌, IsTrue, IfSome, length};
 ghost use Rattle.pc_propagate.specs.Refs.{clause_at, IsRef};
+ghost use Rattle.pc_analyze.specs.FirstPoint.{IsBannedAt};
+ghost use Rattle.pc_analyze.specs.inside.Graph.{trail_of, IsBannedIn};
 
-use pc_lits::{ClauseStore, Lit};
+use pc_lits::{ClauseStore, Lit, Values};
 use pc_propagate::{ClauseRef, Trail};
 
 /// The implication graph of a trail: each entry with a reason follows from those that made the reason's other literals
@@ -23,4 +25,37 @@ impl<'a> ImplicationGraph<'a> {
     {
         reference.clause(self.axioms, self.more)
     }
+}
+
+/// The implication graph of a conflict, and the literals that no learned clause is to have, if there are any.
+#[derive(Clone, Copy)]
+pub(crate) struct ConflictGraph<'a> {
+    pub(crate) graph: ImplicationGraph<'a>,
+    pub(crate) banned: Option<&'a Values>,
+}
+
+impl<'a> ConflictGraph<'a> {
+    // Whether what the entry at this place made false is banned.
+    pub(crate) fn is_banned(&self, place: usize) -> bool
+        requires within { place < length (trail_of self.now) }
+        requires room { IfSome self.now.banned (λ values. self.now.graph.trail.now.variables ≤
+            length values.now) }
+        ensures { IsTrue result ↔ IsBannedIn self.now place }
+    {
+        match self.banned {
+            None => false,
+            Some(values) => is_false_in(self.graph.trail, place, values),
+        }
+    }
+}
+
+// Whether what the entry at this place made false is true by these values.
+fn is_false_in(trail: &Trail, place: usize, values: &Values) -> bool
+    requires within { place < length trail.now.entries }
+    requires room { trail.now.variables ≤ length values.now }
+    ensures { IsTrue result ↔ IsBannedAt values.now trail.now.entries place }
+{
+    let count = trail.len();
+    prove!(place < count);
+    values.is_true(trail.at(place).negated())
 }

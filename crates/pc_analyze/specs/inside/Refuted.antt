@@ -1,5 +1,5 @@
 -- What the hints so far show, while an analysis goes back over the trail.
-use Rattle.std.specs.Prelude.{◌≡◌, ℕ, ◌+◌, ◌<◌, ◌≤◌, ◌⊎◌, Bool, List, [], ◌∷◌, ◌++◌, Contains, take, length, slice_index_or, IsNone}
+use Rattle.std.specs.Prelude.{◌≡◌, ℕ, ◌+◌, ◌<◌, ◌≤◌, ◌⊎◌, Bool, List, [], ◌∷◌, ◌++◌, Contains, Option, take, length, slice_index_or, IsNone}
 use Rattle.pc_lits.specs.declared.literal.Lit.{Lit}
 use Rattle.pc_lits.specs.Steps.{AreFalse, IsLastOpen}
 use Rattle.pc_propagate.specs.declared.trail.TrailEntry.{TrailEntry}
@@ -8,7 +8,7 @@ use Rattle.pc_propagate.specs.Watched.{IsFalseAt}
 use Rattle.pc_analyze.specs.inside.Marking.{IsMarked}
 use Rattle.pc_analyze.specs.Learning.{IsInOne}
 use Rattle.pc_lits.specs.Literals.{negated}
-use Rattle.pc_analyze.specs.FirstPoint.{Leads}
+use Rattle.pc_analyze.specs.FirstPoint.{Leads, LeadsBy, IsBannedAt}
 
 -- each literal that became false at a marked place is among these
 abbrev pub Covers : List TrailEntry → List Bool → List Lit → Type 0
@@ -46,7 +46,22 @@ pub record AreLeading (axioms more : List (List Lit)) (entries : List TrailEntry
   pub leads : (k : ℕ) → IsMarked marks k → (k < from) × Leads axioms more entries conflict from k
   pub marked : (k : ℕ) → k < from → Leads axioms more entries conflict from k → IsMarked marks k
 
--- past each entry at `from` or later there is a way from an earlier one at `start` or later
-abbrev pub ArePassed : List (List Lit) → List (List Lit) → List TrailEntry → List Lit → ℕ → ℕ → Type 0
-ArePassed axioms more entries conflict start from =
-    (k : ℕ) → from ≤ k → k < length entries → (j : ℕ) × (start ≤ j) × (j < k) × Leads axioms more entries conflict (k + 1) j
+-- past each entry at `from` or later that isn't banned there is a way from an earlier one at `start` or later
+abbrev pub ArePassed : List (List Lit) → List (List Lit) → List (Option Bool) → List TrailEntry → List Lit → ℕ → ℕ → Type 0
+ArePassed axioms more banned entries conflict start from =
+    (k : ℕ) → from ≤ k → k < length entries → IsBannedAt banned entries k ⊎ ((j : ℕ) × (start ≤ j) × (j < k) × Leads axioms more entries conflict (k + 1) j)
+
+-- past the point, or banned and at `here` or later
+abbrev pub HasGivenWay : List (Option Bool) → List TrailEntry → ℕ → ℕ → ℕ → Type 0
+HasGivenWay banned entries place here k = (place < k) ⊎ ((here ≤ k) × IsBannedAt banned entries k)
+
+-- the marked places are those up to the point that haven't given way and have a way to the false clause by those that have
+pub record AreLeft (axioms more : List (List Lit)) (banned : List (Option Bool)) (entries : List TrailEntry) (conflict : List Lit) (place here : ℕ) (marks : List Bool) : Type 0 where
+  pub leads : (k : ℕ) → IsMarked marks k → (¬ HasGivenWay banned entries place here k) × LeadsBy axioms more entries conflict (HasGivenWay banned entries place here) k
+  pub marked : (k : ℕ) → ¬ HasGivenWay banned entries place here k → LeadsBy axioms more entries conflict (HasGivenWay banned entries place here) k → IsMarked marks k
+
+-- the hints refute every list of literals that has the marked ones and, beside these, only such as are false by the entries before
+-- `here`
+abbrev pub RefuteMarked : List TrailEntry → ℕ → List Bool → List (List Lit) → Type 0
+RefuteMarked entries here marks hints =
+    (lits : List Lit) → Covers entries marks lits → ((m : Lit) → Contains lits m → (k : ℕ) × ((k < here) ⊎ IsMarked marks k) × IsFalseAt entries k m) → RefutesByEach lits hints
