@@ -6,3 +6,4 @@ pub mod MarkedLemmas
 pub mod FromStored
 pub mod KeptSearched
 pub mod ByParts
+pub mod Polar

@@ -1,4 +1,5 @@
 //! What kept axioms are worth. Each function is a law: its contract holds for every sheet, and it does nothing.
+ghost use Rattle.pc_kept.specs.Polar.{NamedLiteralsAreRight};
 ghost use Rattle.pc_kept.specs.Laws.{KeptAxiomsAreForTheirParts, KeptByWhatIsStored, KeptPartsAreSearched, NoneOfTheUsedIsContained};
 
 /// The kept axioms of a part stand for the part's sheet on its cells.
@@ -19,4 +20,10 @@ pub fn kept_by_what_is_stored()
 /// A part is searched on its cells by its kept axioms, over the variables that these name.
 pub fn kept_parts_are_searched()
     ensures { KeptPartsAreSearched }
+{}
+
+/// Where axioms of nodes are left out whose own literals no kept axiom asks for, what kept axioms ask for or force is right where it
+/// is true.
+pub fn named_literals_are_right()
+    ensures { NamedLiteralsAreRight }
 {}
