@@ -2,5 +2,6 @@ pub mod Kept
 pub mod Components
 pub mod Laws
 pub mod Polar
+pub mod ByPolarity
 pub mod Stored
 pub mod inside

@@ -1,4 +1,5 @@
 //! What kept axioms are worth. Each function is a law: its contract holds for every sheet, and it does nothing.
+ghost use Rattle.pc_kept.specs.ByPolarity.{KeptAreByPolarity, KeptByPolarityAreKept, NoneIsContainedByPolarity};
 ghost use Rattle.pc_kept.specs.Polar.{NamedLiteralsAreRight};
 ghost use Rattle.pc_kept.specs.Laws.{KeptAxiomsAreForTheirParts, KeptByWhatIsStored, KeptPartsAreSearched, NoneOfTheUsedIsContained};
 
@@ -26,4 +27,15 @@ pub fn kept_parts_are_searched()
 /// is true.
 pub fn named_literals_are_right()
     ensures { NamedLiteralsAreRight }
+{}
+
+/// What is kept by polarity where nothing is banned is kept, and the other way round.
+pub fn kept_by_polarity_where_nothing_is_banned()
+    ensures kept { KeptByPolarityAreKept }
+    ensures by_polarity { KeptAreByPolarity }
+{}
+
+/// What contains no axiom kept by polarity, no literal that these force and no banned one contains no axiom of the part.
+pub fn none_is_contained_by_polarity()
+    ensures { NoneIsContainedByPolarity }
 {}
