@@ -121,7 +121,7 @@ yes_is : {P : Type 0} (d : IsDecided P) → (yes_of d ≡ true) ↔ P
 yes_is (inl p) = (λ e. p, λ q. refl)
 yes_is (inr n) = (λ e. absurd (false≢true e), λ q. absurd (n q))
 
-signed : (s b : Bool) {P : Type 0} → (b ≡ true) ↔ P → MatchBool s P (¬ P) → b ≡ s
+pub signed : (s b : Bool) {P : Type 0} → (b ≡ true) ↔ P → MatchBool s P (¬ P) → b ≡ s
 signed true b right h = right.1 h
 signed false true right h = absurd (h (right.0 refl))
 signed false false right h = refl

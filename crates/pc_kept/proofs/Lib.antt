@@ -7,3 +7,4 @@ pub mod FromStored
 pub mod KeptSearched
 pub mod ByParts
 pub mod Polar
+pub mod Settled

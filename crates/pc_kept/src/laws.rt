@@ -1,6 +1,7 @@
 //! What kept axioms are worth. Each function is a law: its contract holds for every sheet, and it does nothing.
 ghost use Rattle.pc_kept.specs.ByPolarity.{KeptAreByPolarity, KeptByPolarityAreKept, NoneIsContainedByPolarity};
 ghost use Rattle.pc_kept.specs.Polar.{NamedLiteralsAreRight};
+ghost use Rattle.pc_kept.specs.Settled.{NodesAreSettled};
 ghost use Rattle.pc_kept.specs.Laws.{KeptAxiomsAreForTheirParts, KeptByWhatIsStored, KeptPartsAreSearched, NoneOfTheUsedIsContained};
 
 /// The kept axioms of a part stand for the part's sheet on its cells.
@@ -38,4 +39,9 @@ pub fn kept_by_polarity_where_nothing_is_banned()
 /// What contains no axiom kept by polarity, no literal that these force and no banned one contains no axiom of the part.
 pub fn none_is_contained_by_polarity()
     ensures { NoneIsContainedByPolarity }
+{}
+
+/// The axioms that say what a statement's node means leave it one truth.
+pub fn nodes_are_settled()
+    ensures { NodesAreSettled }
 {}
