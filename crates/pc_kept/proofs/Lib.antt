@@ -8,3 +8,4 @@ pub mod KeptSearched
 pub mod ByParts
 pub mod Polar
 pub mod Settled
+pub mod CountersSettled

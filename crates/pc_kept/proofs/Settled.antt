@@ -1,5 +1,5 @@
 -- The axioms that say what a node means leave it one truth: with the other one, all others of its nodes are still true.
-use Rattle.std.proofs.Common.{◌≡◌, ◌≢◌, ℕ, ◌+◌, ◌↔◌, inl, inr, Bool, true, false, not, List, [], ◌∷◌, ◌++◌, append-nil, append_assoc, length, map, Contains, Some, arith, ap, sym, ◌∙◌, subst}
+use Rattle.std.proofs.Common.{◌≡◌, ◌≢◌, ℕ, ◌↔◌, inl, inr, Bool, true, false, not, List, [], ◌∷◌, ◌++◌, append-nil, append_assoc, length, map, Contains, Some, arith, ap, sym, ◌∙◌, subst}
 use Rattle.std.proofs.lemmas.Bool.{cases_Bool, false≢true}
 use Rattle.std.proofs.lemmas.List.{length-append}
 use Rattle.std.proofs.lemmas.List.Elements.{All-contains, Contains-append_cases}
@@ -35,7 +35,7 @@ steps_of : Symbol → List ℕ
 steps_of (pair c v) = []
 steps_of (node r path) = path
 
-same_steps : (r : ℕ) (xs ys : List ℕ) → node r xs ≡ node r ys → xs ≡ ys
+pub same_steps : (r : ℕ) (xs ys : List ℕ) → node r xs ≡ node r ys → xs ≡ ys
 unfolding steps_of
 same_steps r xs ys e = ap steps_of e
 

@@ -1,7 +1,7 @@
 //! What kept axioms are worth. Each function is a law: its contract holds for every sheet, and it does nothing.
 ghost use Rattle.pc_kept.specs.ByPolarity.{KeptAreByPolarity, KeptByPolarityAreKept, NoneIsContainedByPolarity};
 ghost use Rattle.pc_kept.specs.Polar.{NamedLiteralsAreRight};
-ghost use Rattle.pc_kept.specs.Settled.{NodesAreSettled};
+ghost use Rattle.pc_kept.specs.Settled.{CountersAreSettled, NodesAreSettled};
 ghost use Rattle.pc_kept.specs.Laws.{KeptAxiomsAreForTheirParts, KeptByWhatIsStored, KeptPartsAreSearched, NoneOfTheUsedIsContained};
 
 /// The kept axioms of a part stand for the part's sheet on its cells.
@@ -44,4 +44,9 @@ pub fn none_is_contained_by_polarity()
 /// The axioms that say what a statement's node means leave it one truth.
 pub fn nodes_are_settled()
     ensures { NodesAreSettled }
+{}
+
+/// The axioms of a counter leave it one truth.
+pub fn counters_are_settled()
+    ensures { CountersAreSettled }
 {}
