@@ -26,7 +26,7 @@ use Rattle.pc_components.proofs.Inside.{node_there}
 use Rattle.pc_kept.specs.ByPolarity.{meant_by}
 use Rattle.pc_kept.specs.Kept.{IsOfNode}
 use Rattle.pc_kept.specs.Settled.{IsMadeBy, CountersAreSettled}
-use Rattle.pc_kept.proofs.KeptFor.{signed}
+use Rattle.pc_kept.proofs.BySymbol.{signed}
 use Rattle.pc_kept.proofs.Settled.{same_steps}
 
 -- a row's axioms say what the node of that path means
@@ -40,7 +40,7 @@ rows_named r at i (row ∷ rows) =
     by (Some c) = All-cons (λ g. meant_by g.name ≡ Some (node r at)) _ [] refl (All-nil (λ g. meant_by g.name ≡ Some (node r at)))
 
 -- what says what a node means
-of_node : (x : Axiom) (p : Symbol) → meant_by x ≡ Some p → IsOfNode x
+pub of_node : (x : Axiom) (p : Symbol) → meant_by x ≡ Some p → IsOfNode x
 of_node (axiom_some c) p h = absurd (cc)
 of_node (axiom_one c v w) p h = absurd (cc)
 of_node (axiom_rule q) p h = absurd (cc)
@@ -108,7 +108,7 @@ module _ (r : ℕ) (path : List ℕ) (n m i j : ℕ) (l : i < n) (k : j < m) whe
 
 module _ (sheet : Sheet) (a : List ValueId) (assigned : IsAssignment sheet.universe a) (value : Symbol → Bool) (right : (x : Symbol) → (value x ≡ true) ↔ SymbolHolds sheet a x) where
   -- an axiom that says what a node means is true
-  meant : (g : GroundAxiom) → Contains (axioms sheet) g → IsOfNode g.name → Makes value g.clause
+  pub meant : (g : GroundAxiom) → Contains (axioms sheet) g → IsOfNode g.name → Makes value g.clause
   meant g g_in of = by g.name of g.clause (All-contains (λ q. IsClauseOf sheet q.name q.clause) (axioms sheet) g (all_right sheet) g_in)
     where
       by : (x : Axiom) → IsOfNode x → (clause : List Literal) → IsClauseOf sheet x clause → Makes value clause

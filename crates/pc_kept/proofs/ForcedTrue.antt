@@ -36,3 +36,11 @@ module _ (IsGiven : List Lit → Type 0) where
 
     pub always_true : (l : Lit) → IsForced IsGiven l → lit_true v l ≡ true
     always_true l h = forced_true h.0 h.1 l h.2
+
+-- what clauses force, more clauses force
+pub forced_by : (P Q : List Lit → Type 0) → ((c : List Lit) → P c → Q c) → (l : Lit) → IsForced P l → IsForced Q l
+forced_by P Q f l h = (h.0, all h.0 h.1, h.2)
+  where
+    all : (trues : List Lit) → AreForced P trues → AreForced Q trues
+    all [] a = tt
+    all (x ∷ xs) a = ((a.0.0, f a.0.0 a.0.1, a.0.2, a.0.3), all xs a.1)

@@ -32,17 +32,17 @@ no_less u p (Some n) [] = omega arith
 no_less u p (Some n) (k ∷ ks) = let rest = no_less u (p + 1 + nodes_before u n.1 k) (child u n k) ks in omega (arith, rest)
 
 -- nodes are numbered after pairs
-node_number : (sheet : Sheet) (x : Symbol) → IsNode x → sum (cell_sizes sheet.universe) ≤ number sheet x
+pub node_number : (sheet : Sheet) (x : Symbol) → IsNode x → sum (cell_sizes sheet.universe) ≤ number sheet x
 node_number sheet (pair c v) h = absurd h
 node_number sheet (node r path) h = let rest = no_less sheet.universe (sum (cell_sizes sheet.universe) + sum_by (nodes_of_rule sheet.universe) (take r sheet.rules)) (root_of (slice_get sheet.rules r)) path in omega (arith, rest)
 
-pair_early : (sizes : List ℕ) (c n w : ℕ) → slice_get sizes c ≡ Some n → w < n → sum (take c sizes) + w < sum sizes
+pub pair_early : (sizes : List ℕ) (c n w : ℕ) → slice_get sizes c ≡ Some n → w < n → sum (take c sizes) + w < sum sizes
 pair_early [] c n w at low = absurd (cc)
 pair_early (m ∷ ms) zero n w at low = let same : m ≡ n = cc in let all : sum (m ∷ ms) ≡ m + sum ms = sum_by-cons (λ x. x) m ms in let none : sum (take zero (m ∷ ms)) ≡ 0 = refl in omega (arith, low, same, all, none)
 pair_early (m ∷ ms) (suc c) n w at low = let rest = pair_early ms c n w at low in let all : sum (m ∷ ms) ≡ m + sum ms = sum_by-cons (λ x. x) m ms in let front : sum (m ∷ take c ms) ≡ m + sum (take c ms) = sum_by-cons (λ x. x) m (take c ms) in omega (arith, rest, all, front)
 
 -- a variable of a node's axiom that is numbered after the pairs is a node
-late_node : (sheet : Sheet) (x : Axiom) → IsOfNode x → (clause : List Literal) → IsClauseOf sheet x clause → (l : Literal) → Contains clause l → sum (cell_sizes sheet.universe) ≤ number sheet l.what → IsNode l.what
+pub late_node : (sheet : Sheet) (x : Axiom) → IsOfNode x → (clause : List Literal) → IsClauseOf sheet x clause → (l : Literal) → Contains clause l → sum (cell_sizes sheet.universe) ≤ number sheet l.what → IsNode l.what
 late_node sheet (axiom_some c) h clause is l has high = absurd h
 late_node sheet (axiom_one c v w) h clause is l has high = absurd h
 late_node sheet (axiom_rule r) h clause is l has high = absurd h

@@ -1,406 +1,315 @@
--- Kept axioms of a part stand for its sheet on its cells: values that make them true are, but for nodes that no kept axiom names, values that make all of the part's axioms true.
-use Rattle.std.proofs.Common.{◌≡◌, ℕ, zero, suc, ◌+◌, ◌<◌, ◌↔◌, inl, inr, if◌then◌else◌, Bool, true, false, not, cond, List, [], ◌∷◌, map, Contains, Option, None, Some, slice_get, MatchBool, arith, ap, refl, sym, ◌∙◌, subst, zero-add}
-use Rattle.std.proofs.lemmas.Bool.{cases_Bool, false≢true, or_cases, or_left, or_right}
-use Rattle.std.proofs.lemmas.List.Elements.{All-contains, Contains-append_cases}
+-- Kept axioms of a part stand for its sheet on its cells: what makes them true gives the cells values under which each piece is true. For a rule's
+-- node is true, and so is each child on the way to a piece, where it isn't true under the cells' values anyway.
+use Rattle.std.proofs.Common.{◌≡◌, ◌≢◌, ℕ, suc, ◌+◌, ◌⊎◌, inl, inr, Bool, true, List, [], ◌∷◌, ◌++◌, append-nil, append_assoc, length, Contains, Option, None, Some, slice_get, arith, ap, refl, sym, ◌∙◌, subst}
+use Rattle.std.proofs.lemmas.Bool.{false≢true}
+use Rattle.std.proofs.lemmas.List.{length-append}
+use Rattle.std.proofs.lemmas.List.Elements.{All-contains}
 use Rattle.pc_lits.specs.declared.literal.Lit.{Lit}
 use Rattle.pc_lits.specs.declared.literal.Var.{Var}
-use Rattle.pc_lits.specs.Truth.{lit_true, clause_true, IsTrueUnder}
-use Rattle.pc_sheet.specs.Sheet.{Universe, Sheet}
-use Rattle.pc_sheet.specs.Entailment.{cell_sizes, AreWithin, IsAssignment, Fits}
-use Rattle.pc_sheet.specs.Nodes.{Node}
-use Rattle.pc_sheet.specs.Reads.{number_of_cell}
-use Rattle.pc_sheet.specs.WellFormed.{IsWellFormed, IsEntryOf}
-use Rattle.pc_sheet.specs.declared.ids.CellId.{CellId}
+use Rattle.pc_sheet.specs.Sheet.{Sheet}
+use Rattle.pc_sheet.specs.Entailment.{cell_sizes, IsAssignment, Fits}
+use Rattle.pc_sheet.specs.Nodes.{Node, node_at, kind_of}
+use Rattle.pc_sheet.specs.WellFormed.{IsWellFormed}
 use Rattle.pc_sheet.specs.declared.ids.ValueId.{ValueId}
-use Rattle.pc_sheet.specs.declared.ids.Entry.{Entry}
-use Rattle.pc_laws.specs.Laws.{IsDecided}
-use Rattle.pc_laws.proofs.SomeAssignment.{some_assignment}
-use Rattle.pc_accept.specs.Literals.{Symbol, pair, node, Literal, SymbolHolds, LiteralHolds}
-use Rattle.pc_accept.specs.Axioms.{Axiom, axiom_some, axiom_one, axiom_rule, axiom_node, axiom_atom, negated_entry, pair_of, IsClauseOf}
-use Rattle.pc_accept.proofs.AxiomsTrue.{value_within, other_axioms_true}
-use Rattle.pc_accept.proofs.Decided.{decide_symbol}
-use Rattle.pc_lemmas.proofs.Options.{some_and}
-use Rattle.pc_lemmas.proofs.Elements.{contains_first, contains_later, contains_cases, contains_none, contains_map, contains_mapped}
-use Rattle.pc_parts.specs.Pieces.{Piece, pieces}
+use Rattle.pc_accept.specs.Literals.{Symbol, pair, node, Literal, positive, negative, opposite}
+use Rattle.pc_accept.specs.Axioms.{Axiom, axiom_some, axiom_one, axiom_rule, axiom_node, axiom_atom, clauses_of_node, child_of, IsAtNumber, IsClauseOfKind, IsClauseOf}
+use Rattle.pc_accept.proofs.Children.{node_is}
+use Rattle.pc_lemmas.proofs.Elements.{contains_first, contains_later, contains_cases, contains_none, all_from}
+use Rattle.pc_lemmas.proofs.Options.{some_and, same_some}
+use Rattle.pc_parts.specs.Pieces.{Piece, PieceHolds}
 use Rattle.pc_parts.specs.Parts.{Part, IsDivision}
-use Rattle.pc_parts.specs.PartSheets.{is_among, sheet_of}
-use Rattle.pc_parts.specs.Leaves.{cells_of, cells_under}
-use Rattle.pc_parts.proofs.Joining.{among_contains, contains_among}
-use Rattle.pc_parts.proofs.LeafReads.{leaves_read_the_cells}
-use Rattle.pc_ground.specs.Variables.{pair_at, variables, number}
-use Rattle.pc_ground.specs.Ground.{GroundAxiom, cell_axioms, axioms, lit_of, clause_of_axiom, clauses}
-use Rattle.pc_ground.specs.Laws.{var_of}
-use Rattle.pc_ground.proofs.Made.{Makes, Meets, one_value}
+use Rattle.pc_parts.specs.PartSheets.{sheet_of}
+use Rattle.pc_parts.proofs.Divided.{part_fits}
+use Rattle.pc_ground.specs.Variables.{variables, number}
+use Rattle.pc_ground.specs.Ground.{GroundAxiom, node_axioms, root_axiom, axioms, lit_of, clauses}
+use Rattle.pc_ground.proofs.Made.{Makes, unit, last}
 use Rattle.pc_ground.proofs.OfAxioms.{all_right}
 use Rattle.pc_ground.proofs.Symbols.{symbols_are_variables}
-use Rattle.pc_components.specs.PartAxioms.{IsAxiomOfPart, AreAxiomsOf, AreVariablesOf, IsUsed}
+use Rattle.pc_components.specs.PartAxioms.{IsAtOrUnder, OfSomePiece, IsAxiomOfPart, AreAxiomsOf, IsUsed}
 use Rattle.pc_components.specs.Used.{MeetsUsed, HasValues}
-use Rattle.pc_components.proofs.OwnAlone.{InPiece, all_in, one_path, one_node}
-use Rattle.pc_components.proofs.PartFor.{contains_slice, slice_map, slice_contains, same_clause, its_place, pair_in, part_axioms_are_for_their_parts}
-use Rattle.pc_components.proofs.Symbols.{rule_symbols, IsOfCell, cell_named, cell_there}
-use Rattle.pc_kept.specs.Kept.{IsAmong, IsNode, IsOfNode, IsTrueFromStart, IsUnneeded, AreMeanings, IsConstant, AreKept}
+use Rattle.pc_components.proofs.Inside.{rule_there}
+use Rattle.pc_components.proofs.OwnAlone.{one_path}
+use Rattle.pc_components.proofs.PartFor.{slice_contains, part_axioms_are_for_their_parts}
+use Rattle.pc_components.proofs.Way.{piece_at, piece_rule, IsAbove, above_piece, joint_clause, joint_number, way_clause, way_axiom, way_there}
+use Rattle.pc_solver.specs.Forced.{IsForced}
+use Rattle.pc_kept.specs.Kept.{IsAmong, IsTrueFromStart, IsConstant}
+use Rattle.pc_kept.specs.ByPolarity.{meant_by, IsNamedBy, IsBannedOut, AreKeptByPolarity, KeptByPolarityAreForTheirParts}
 use Rattle.pc_kept.specs.Laws.{KeptAxiomsAreForTheirParts}
-use Rattle.pc_kept.proofs.ForcedTrue.{stands, always_true}
+use Rattle.pc_kept.proofs.BySymbol.{has_sign, value}
+use Rattle.pc_kept.proofs.CellValues.{kept_made, number_there, has_value}
+use Rattle.pc_kept.proofs.CountersSettled.{meant}
+use Rattle.pc_kept.proofs.Decided.{decided_is, decided, decided_at, meaning_true}
+use Rattle.pc_kept.proofs.ForcedTrue.{stands, always_true, forced_by}
+use Rattle.pc_kept.proofs.NoneContained.{kept_are_by_polarity}
+use Rattle.pc_kept.proofs.Settled.{no_longer}
+use Rattle.pc_kept.proofs.ByNumber.{clause_at, literal_at, at_literal, same_symbol, same_literal, IsOwn, is_own, own_there}
+use Rattle.pc_kept.proofs.RightNodes.{stays, kept_axiom, Named, KeptClause, kept_clause, mentioned_used, named_by, own, own_assigned, truth, Asked, asked_right}
 
--- ---- clauses by number, and by symbol
+none_some : {X : Type 0} {x : X} → None ≡ Some x → ⊥
+none_some e = absurd (cc)
 
-has_sign : (s b : Bool) → (if s then b else not b) ≡ true → b ≡ s
-has_sign true b e = e
-has_sign false true e = absurd (false≢true e)
-has_sign false false e = refl
+-- of the two literals of a clause of a child on the way
+one_of_two : (l m n : Literal) → Contains (l ∷ m ∷ []) n → (n ≡ l) ⊎ (n ≡ m)
+one_of_two l m n has = elim (contains_cases l (m ∷ []) n has) [
+  | inl same ↦ inl (sym same)
+  | inr later ↦ elim (contains_cases m [] n later) [ inl same ↦ inr (sym same) | inr none ↦ absurd (contains_none n none) ]
+]
 
-of_sign : (s b : Bool) → b ≡ s → (if s then b else not b) ≡ true
-of_sign true b e = e
-of_sign false b e = ap not e
+module _ (sheet : Sheet) (formed : IsWellFormed sheet) (all : List Part) (division : IsDivision sheet all) (part : Part) (there : Contains all part) (used kept : List ℕ) (banned : List (Option Bool))
+    (of : AreAxiomsOf sheet part used) (are : AreKeptByPolarity sheet used kept banned) (v : Var → Bool) (met : MeetsUsed (clauses sheet) kept v) where
+  abbrev cells : List ValueId
+  cells = own sheet formed all division part there used kept banned of are v met
 
-module _ (sheet : Sheet) (v : Var → Bool) where
-  abbrev value : Symbol → Bool
-  value x = v (var_of sheet x)
+  abbrev given : IsAssignment sheet.universe cells
+  given = own_assigned sheet formed all division part there used kept banned of are v met
 
-  makes_of : (c : List Literal) → clause_true v (map (lit_of sheet) c) ≡ true → Makes value c
-  makes_of [] e = absurd (false≢true e)
-  makes_of (l ∷ ls) e = elim (or_cases (lit_true v (lit_of sheet l)) (clause_true v (map (lit_of sheet) ls)) e) [
-    | inl here ↦ (l, contains_first l ls, has_sign l.sign (value l.what) here)
-    | inr later ↦ let rest = makes_of ls later in (rest.0, contains_later l ls rest.0 rest.1, rest.2)
-  ]
+  -- under the cells' values
+  abbrev so_by_cells : Symbol → Bool
+  so_by_cells = truth sheet formed all division part there used kept banned of are v met
 
-  of_makes : (c : List Literal) → Makes value c → clause_true v (map (lit_of sheet) c) ≡ true
-  of_makes [] h = absurd (contains_none h.0 h.1)
-  of_makes (l ∷ ls) (m, there, is) = elim (contains_cases l ls m there) [
-    | inl same ↦ or_left (lit_true v (lit_of sheet l)) (clause_true v (map (lit_of sheet) ls)) (of_sign l.sign (value l.what) (subst (λ k. value k.what ≡ k.sign) (sym same) is))
-    | inr later ↦ or_right (lit_true v (lit_of sheet l)) (clause_true v (map (lit_of sheet) ls)) (of_makes ls (m, later, is))
-  ]
+  abbrev Right : Symbol → Type 0
+  Right x = so_by_cells x ≡ true
 
--- ---- truth values of symbols as those of variables
+  abbrev IsAsked : Symbol → Type 0
+  IsAsked x = Asked sheet formed all division part there used kept banned of are v met x
 
-module _ (sheet : Sheet) (truth : Symbol → Bool) where
-  at_place : Option Symbol → Bool
-  at_place None = false
-  at_place (Some x) = truth x
+  abbrev IsNamed : Lit → Type 0
+  IsNamed l = Named sheet formed all division part there used kept banned of are v met l
 
-  numbered_truth : Var → Bool
-  numbered_truth x = at_place (slice_get (variables sheet) x.0)
+  abbrev IsKeptClause : List Lit → Type 0
+  IsKeptClause c = KeptClause sheet formed all division part there used kept banned of are v met c
 
-  numbered_is : (x : Symbol) → Contains (variables sheet) x → numbered_truth (var_of sheet x) ≡ truth x
-  unfolding at_place numbered_truth
-  numbered_is x there = ap at_place (its_place sheet truth x there)
+  -- it is right, or the values make it true, and it is asked for
+  abbrev IsGood : Symbol → Type 0
+  IsGood x = Contains (variables sheet) x × (Right x ⊎ ((value sheet v x ≡ true) × IsAsked x))
 
--- the axiom whose clause has that number
-pub axiom_at : (sheet : Sheet) (k : ℕ) (clause : List Lit) → slice_get (clauses sheet) k ≡ Some clause → (g : GroundAxiom) × (slice_get (axioms sheet) k ≡ Some g) × (clause_of_axiom sheet g ≡ clause)
-axiom_at sheet k clause at = by (axioms sheet) k at
-  where
-    by : (gs : List GroundAxiom) (j : ℕ) → slice_get (map (clause_of_axiom sheet) gs) j ≡ Some clause → (g : GroundAxiom) × (slice_get gs j ≡ Some g) × (clause_of_axiom sheet g ≡ clause)
-    by [] j h = absurd (cc)
-    by (g ∷ gs) zero h = (g, refl, same_clause h)
-    by (g ∷ gs) (suc j) h = by gs j h
+  asked_used : (x : Symbol) → IsAsked x → IsUsed (clauses sheet) kept (number sheet x)
+  asked_used x (inl (k, h, has, other)) = mentioned_used sheet formed all division part there used kept banned of are v met (number sheet x) (k, h, lit_of sheet (positive x), has, refl)
+  asked_used x (inr forced) =
+      let at = stands IsKeptClause forced.0 forced.1 (lit_of sheet (positive x)) forced.2 in
+      mentioned_used sheet formed all division part there used kept banned of are v met (number sheet x) (at.1.0, at.1.1, lit_of sheet (positive x), subst (λ c. Contains c (lit_of sheet (positive x))) (sym at.1.2) at.2, refl)
 
--- ---- one value for each cell
+  forced_true : (l : Literal) → IsForced (IsAmong (clauses sheet) kept) (lit_of sheet l) → value sheet v l.what ≡ l.sign
+  forced_true l forced = has_sign l.sign (value sheet v l.what) (always_true (IsAmong (clauses sheet) kept) v (λ c h. met h.0 h.1 c h.2) (lit_of sheet l) forced)
 
-abbrev Chosen : (ℕ → ℕ → ValueId → Type 0) → List ℕ → ℕ → List ValueId → Type 0
-Chosen Q ns c a = (j n : ℕ) → slice_get ns j ≡ Some n → (v : ValueId) × (slice_get a j ≡ Some v) × Q (c + j) n v
+  asked_forced : (x : Symbol) → IsForced (IsAmong (clauses sheet) kept) (lit_of sheet (positive x)) → IsAsked x
+  asked_forced x forced = inr (forced_by (IsAmong (clauses sheet) kept) IsKeptClause (kept_clause sheet formed all division part there used kept banned of are v met) (lit_of sheet (positive x)) forced)
 
-chosen : (Q : ℕ → ℕ → ValueId → Type 0) (ns : List ℕ) (c : ℕ) → ((j n : ℕ) → slice_get ns j ≡ Some n → (v : ValueId) × (v.0 < n) × Q (c + j) n v) → (a : List ValueId) × AreWithin ns a × Chosen Q ns c a
-chosen Q [] c h = ([], tt, λ j n is. absurd (cc))
-chosen Q (n ∷ ns) c h =
-    let first = h 0 n refl in
-    let rest = chosen Q ns (c + 1) (λ j m is. let found = h (suc j) m is in let there : c + suc j ≡ c + 1 + j = omega arith in (found.0, found.1, subst (λ i. Q i m found.0) there found.2)) in
-    (first.0 ∷ rest.0, (first.1, rest.1), both n ns c first.0 first.2 rest.0 rest.2)
-  where
-    both : (n : ℕ) (ns : List ℕ) (c : ℕ) (v : ValueId) → Q (c + 0) n v → (a : List ValueId) → Chosen Q ns (c + 1) a → Chosen Q (n ∷ ns) c (v ∷ a)
-    both n ns c v q a rest zero m is = let same : n ≡ m = cc in (v, refl, subst (λ k. Q (c + 0) k v) same q)
-    both n ns c v q a rest (suc j) m is = let found = rest j m is in let there : c + 1 + j ≡ c + suc j = omega arith in (found.0, found.1, subst (λ i. Q i m found.0) there found.2)
+  kept_true : (k : ℕ) (g : GroundAxiom) → Contains kept k → slice_get (axioms sheet) k ≡ Some g → Makes (value sheet v) g.clause
+  kept_true = kept_made sheet formed all division part there used kept of (stays sheet formed all division part there used kept banned of are v met) v met
 
-same_value : (v : ValueId) (w : ℕ) → Some v ≡ Some (record { 0 = w }) → v.0 ≡ w
-same_value v w e = let f : Option ValueId → ℕ = elim [ None ↦ 0 | Some x ↦ x.0 ] in ap f e
+  -- ---- a rule's root
 
-abbrev yes_of : {P : Type 0} → IsDecided P → Bool
-yes_of (inl p) = true
-yes_of (inr n) = false
+  root_good : (p : Piece) → Contains part.pieces p → IsGood (node p.path.rule [])
+  root_good p c =
+      let r = p.path.rule in
+      let rule = piece_rule sheet p (division.pieces part there p c) in
+      let g = root_axiom r in
+      let g_in = rule_there sheet r rule.0 rule.1 g (contains_first g (node_axioms sheet.universe r [] [] rule.0.states)) in
+      let k = number_there sheet part used of g g_in (p, c, refl) in
+      let h = stays sheet formed all division part there used kept banned of are v met k.0 g k.1 k.2 (λ no. no) in
+      let l = positive (node r []) in (
+        symbols_are_variables sheet g g_in l (contains_first l []),
+        inr (
+          last (value sheet v) l (kept_true k.0 g h k.2),
+          inl (k.0, h, at_literal sheet k.0 g k.2 l (contains_first l []), λ o. none_some (ap (λ (q : GroundAxiom). meant_by q.name) (same_some (sym k.2 ∙ o.1)) ∙ o.3)),
+        ),
+      )
 
-yes_is : {P : Type 0} (d : IsDecided P) → (yes_of d ≡ true) ↔ P
-yes_is (inl p) = (λ e. p, λ q. refl)
-yes_is (inr n) = (λ e. absurd (false≢true e), λ q. absurd (n q))
+  -- ---- the child on the way
 
-pub signed : (s b : Bool) {P : Type 0} → (b ≡ true) ↔ P → MatchBool s P (¬ P) → b ≡ s
-signed true b right h = right.1 h
-signed false true right h = absurd (h (right.0 refl))
-signed false false right h = refl
+  module _ (p : Piece) (c : Contains part.pieces p) (path : List ℕ) (k : ℕ) (rest : List ℕ) (is : p.path.steps ≡ path ++ k ∷ rest) where
+    abbrev r : ℕ
+    r = p.path.rule
 
-not_of_node : (c : ℕ) (x : Axiom) → IsOfCell c x → ¬ IsOfNode x
-not_of_node c (axiom_some d) is h = h
-not_of_node c (axiom_one d v w) is h = h
-not_of_node c (axiom_rule r) is h = h
-not_of_node c (axiom_node r path i) is h = is
-not_of_node c (axiom_atom r path reads) is h = is
+    abbrev here : Symbol
+    here = node r path
 
-module _ (sheet : Sheet) (formed : IsWellFormed sheet) (all : List Part) (division : IsDivision sheet all) (part : Part) (there : Contains all part)
-    (used kept own : List ℕ) (of : AreAxiomsOf sheet part used) (are : AreKept sheet used kept) (vars : AreVariablesOf (clauses sheet) kept own) where
-  abbrev u : Universe
-  u = sheet.universe
+    abbrev child : Symbol
+    child = child_of r path k
 
-  abbrev sizes : List ℕ
-  sizes = cell_sizes u
+    abbrev g : GroundAxiom
+    g = way_axiom r path k
 
-  listed : (p : Piece) → Contains part.pieces p → Contains (pieces sheet) p
-  listed p h = division.pieces part there p h
+    above : IsAbove sheet r path k
+    above = above_piece sheet p (division.pieces part there p c) path k rest is
 
-  -- ---- an atom of the part reads cells of the part
+    g_in : Contains (axioms sheet) g
+    g_in = way_there sheet r path k above
 
-  reads_in : (r : ℕ) (path : List ℕ) (reads : List Entry) → IsAxiomOfPart part (axiom_atom r path reads) → InPiece u (pieces sheet) (axiom_atom r path reads) → (e : Entry) → Contains reads e → Contains part.cells e.cell.0
-  reads_in r path reads (p, p_in, (same, rest, at)) (q, q_in, (from, within)) e has =
-      let in_q : Contains (cells_of u q) e.cell.0 = All-contains (λ x. Contains (cells_of u q) (number_of_cell x)) reads e within has in
-      let rules : q.path.rule ≡ p.path.rule = from.0 ∙ sym same in
-      let steps = one_path sheet q p q_in (listed p p_in) rules from.1 rest (sym from.2 ∙ at) in
-      let nodes = one_node sheet q p q_in (listed p p_in) rules steps in
-      let in_p : Contains (cells_of u p) e.cell.0 = subst (λ (n : Node). Contains (cells_under u n.0 n.1) e.cell.0) nodes in_q in
-      division.reads part there p p_in e.cell.0 ((leaves_read_the_cells sheet formed p (listed p p_in) e.cell.0).0 in_p)
+    numbered : 1 + k ≡ k + 1
+    numbered = omega arith
 
-  pub number_there : (g : GroundAxiom) → Contains (axioms sheet) g → IsAxiomOfPart part g.name → (k : ℕ) × Contains used k × (slice_get (axioms sheet) k ≡ Some g)
-  number_there g g_in o = let k = contains_slice (axioms sheet) g g_in in (k.0, (of.exact k.0).1 (g, k.1, o), k.1)
+    at : (j : ℕ) × Contains used j × (slice_get (axioms sheet) j ≡ Some g)
+    at = number_there sheet part used of g g_in (inr (k, numbered, (p, c, (refl, rest, is))))
 
-  module _ (v : Var → Bool) (met : MeetsUsed (clauses sheet) kept v) where
-    kept_made : (k : ℕ) (g : GroundAxiom) → Contains kept k → slice_get (axioms sheet) k ≡ Some g → Makes (value sheet v) g.clause
-    kept_made k g h at = makes_of sheet v g.clause (met k h (clause_of_axiom sheet g) (slice_map (clause_of_axiom sheet) (axioms sheet) k g at))
+    here_there : Contains (variables sheet) here
+    here_there = symbols_are_variables sheet g g_in (negative here) (contains_first (negative here) (positive child ∷ []))
 
-    -- ---- the cells' values
+    child_in : Contains g.clause (positive child)
+    child_in = contains_later (negative here) (positive child ∷ []) (positive child) (contains_first (positive child) [])
 
-    of_cell : (c : ℕ) → Contains part.cells c → (x : Axiom) → IsOfCell c x → IsAxiomOfPart part x
-    of_cell c h (axiom_some d) is = subst (Contains part.cells) (sym is) h
-    of_cell c h (axiom_one d x w) is = subst (Contains part.cells) (sym is) h
-    of_cell c h (axiom_rule r) is = absurd is
-    of_cell c h (axiom_node r path i) is = absurd is
-    of_cell c h (axiom_atom r path reads) is = absurd is
+    child_there : Contains (variables sheet) child
+    child_there = symbols_are_variables sheet g g_in (positive child) child_in
 
-    cell_met : (c n : ℕ) → Contains part.cells c → slice_get sizes c ≡ Some n → Meets (value sheet v) (cell_axioms c n)
-    cell_met c n h is g g_there =
-        let of_c = All-contains (λ q. IsOfCell c q.name) (cell_axioms c n) g (cell_named c n) g_there in
-        let k = number_there g (cell_there sheet c n is g g_there) (of_cell c h g.name of_c) in
-        elim (are.each k.0 g k.1 k.2) [
-          | inl stays ↦ kept_made k.0 g stays k.2
-          | inr out ↦ absurd (not_of_node c g.name of_c out.0)
+    apart : child ≢ here
+    apart same = no_longer r path [] k same
+
+    -- it is above a piece, and so at or under none
+    not_under : (q : Piece) → Contains part.pieces q → IsAtOrUnder r path q → ⊥
+    not_under q q_in (same, more, steps) =
+        let whole : q.path.steps ++ (more ++ k ∷ rest) ≡ p.path.steps ++ [] = sym (append_assoc q.path.steps more (k ∷ rest)) ∙ ap (λ xs. xs ++ k ∷ rest) (sym steps) ∙ sym is ∙ sym (append-nil p.path.steps) in
+        let one = one_path sheet q p (division.pieces part there q q_in) (division.pieces part there p c) same (more ++ k ∷ rest) [] whole in
+        let long : length p.path.steps ≡ length path + length (k ∷ rest) = ap length is ∙ length-append path (k ∷ rest) in
+        let short : length path ≡ length q.path.steps + length more = ap length steps ∙ length-append q.path.steps more in
+        let equal : length q.path.steps ≡ length p.path.steps = ap length one in
+        let some : length (k ∷ rest) ≡ suc (length rest) = refl in
+        omega (arith, long, short, equal, some)
+
+    abbrev OfNode : ℕ → List Literal → Symbol → Type 0
+    OfNode i clause (pair d w) = ⊥
+    OfNode i clause (node q steps) = IsClauseOf sheet (axiom_node q steps i) clause × IsAxiomOfPart part (axiom_node q steps i)
+
+    abbrev OfAtom : Symbol → Type 0
+    OfAtom (pair d w) = ⊥
+    OfAtom (node q steps) = OfSomePiece part (IsAtOrUnder q steps)
+
+    no_node_own : (i : ℕ) (clause : List Literal) → OfNode i clause here → ¬ Contains clause (positive here)
+    no_node_own i clause (is_clause, inl (q, q_in, under)) has = not_under q q_in under
+    no_node_own i clause (is_clause, inr (j, number', (q, q_in, (same, more, steps)))) has =
+        let u = sheet.universe in
+        let n = some_and (node_at sheet r path) (λ n. IsClauseOfKind sheet r path (kind_of u n.1) i clause) is_clause in
+        let a = above_piece sheet q (division.pieces part there q q_in) path j more steps in
+        let node_same : n.0 ≡ a.joint = same_some (sym n.1 ∙ ap (λ x. node_at sheet x path) (sym same) ∙ a.at) in
+        let joint = joint_number sheet r path a.joint.1 a.is i clause (subst (λ (m : Node). IsClauseOfKind sheet r path (kind_of u m.1) i clause) node_same n.2) in
+        let place : i ≡ suc j = omega (arith, number') in
+        let at_j : slice_get (clauses_of_node here (child_of r path) u a.joint.1) j ≡ Some clause = subst (λ x. IsAtNumber (clauses_of_node here (child_of r path) u a.joint.1) x clause) place joint in
+        let way = joint_clause u here (child_of r path) a.joint.0 a.joint.1 a.is j a.next a.child_at in
+        let clause_is' : clause ≡ way_clause u here (child_of r path) j = same_some (sym at_j ∙ way) in
+        elim (one_of_two (negative here) (positive (child_of r path j)) (positive here) (subst (λ d. Contains d (positive here)) clause_is' has)) [
+          | inl equal ↦ false≢true (sym (ap (λ (m : Literal). m.sign) equal))
+          | inr equal ↦ no_longer r path [] j (sym (ap (λ (m : Literal). m.what) equal))
         ]
 
-    abbrev IsOwnValue : ℕ → ℕ → ValueId → Type 0
-    IsOwnValue c n x = Contains part.cells c → (value sheet v (pair_at c x.0) ≡ true) × ((k : ℕ) → k < n → value sheet v (pair_at c k) ≡ true → x.0 ≡ k)
+    -- no axiom of the part that says what it means has it as a true literal
+    no_own : (x : Axiom) (clause : List Literal) → IsClauseOf sheet x clause → meant_by x ≡ Some here → IsAxiomOfPart part x → ¬ Contains clause (positive here)
+    no_own (axiom_some d) clause is_clause h o has = none_some h
+    no_own (axiom_one d w y) clause is_clause h o has = none_some h
+    no_own (axiom_rule q) clause is_clause h o has = none_some h
+    no_own (axiom_node q steps i) clause is_clause h o has = no_node_own i clause (subst (OfNode i clause) (same_some h) (is_clause, o)) has
+    no_own (axiom_atom q steps reads) clause is_clause h o has = let under = subst OfAtom (same_some h) o in not_under under.0 under.1 under.2
 
-    a_value : (c n : ℕ) → slice_get sizes c ≡ Some n → (x : ValueId) × (x.0 < n) × IsOwnValue c n x
-    a_value c n is = elim (cases_Bool (is_among part.cells c)) [
-      | inl among ↦
-          let one = one_value (value sheet v) c n (cell_met c n (among_contains part.cells c among) is) in
-          (record { 0 = one.0 }, one.1, λ h. (one.2, one.3))
-      | inr lacks ↦
-          let base = some_assignment u formed.universe in
-          let x = value_within sizes base.0 base.1 c n is in
-          (x.0, x.2, λ h. absurd (false≢true (sym lacks ∙ contains_among part.cells c h)))
-    ]
-
-    values : (a : List ValueId) × AreWithin sizes a × Chosen IsOwnValue sizes 0 a
-    values = chosen IsOwnValue sizes 0 (λ j n is. let found = a_value j n is in (found.0, found.1, subst (λ i. IsOwnValue i n found.0) (sym (zero-add j)) found.2))
-
-    a : List ValueId
-    a = values.0
-
-    assigned : IsAssignment u a
-    unfolding a
-    assigned = values.1
-
-    has_value : (c : ℕ) → Contains part.cells c → (n w : ℕ) → slice_get sizes c ≡ Some n → w < n → (value sheet v (pair_at c w) ≡ true) ↔ (slice_get a c ≡ Some (record { 0 = w }))
-    unfolding a
-    has_value c h n w is below =
-        let found = values.2 c n is in
-        let q = (subst (λ i. IsOwnValue i n found.0) (zero-add c) found.2) h in (
-          λ t. found.1 ∙ ap (λ k. let x : ValueId = record { 0 = k } in Some x) (q.1 w below t),
-          λ e. ap (λ k. value sheet v (pair_at c k)) (sym (same_value found.0 w (sym found.1 ∙ e))) ∙ q.0,
-        )
-
-    -- ---- the same values, but for nodes that no kept axiom names, which are as they are under these cells' values
-
-    truth : Symbol → Bool
-    truth (pair c w) = value sheet v (pair c w)
-    truth (node r path) = cond (is_among own (number sheet (node r path))) (value sheet v (node r path)) (yes_of (decide_symbol sheet a (node r path)))
-
-    stays_pair : (c : CellId) (w : ValueId) → truth (pair c w) ≡ value sheet v (pair c w)
-    unfolding truth
-    stays_pair c w = refl
-
-    stays_node : (r : ℕ) (path : List ℕ) → is_among own (number sheet (node r path)) ≡ true → truth (node r path) ≡ value sheet v (node r path)
-    unfolding truth
-    stays_node r path h = ap (λ b. cond b (value sheet v (node r path)) (yes_of (decide_symbol sheet a (node r path)))) h
-
-    as_it_is : (r : ℕ) (path : List ℕ) → is_among own (number sheet (node r path)) ≡ false → (truth (node r path) ≡ true) ↔ SymbolHolds sheet a (node r path)
-    unfolding truth
-    as_it_is r path h =
-        let same = ap (λ b. cond b (value sheet v (node r path)) (yes_of (decide_symbol sheet a (node r path)))) h in
-        let yes = yes_is (decide_symbol sheet a (node r path)) in
-        (λ t. yes.0 (sym same ∙ t), λ s. same ∙ yes.1 s)
-
-    stays : (x : Symbol) → IsUsed (clauses sheet) kept (number sheet x) → truth x ≡ value sheet v x
-    stays (pair c w) h = stays_pair c w
-    stays (node r path) h = stays_node r path (contains_among own (number sheet (node r path)) ((vars.exact (number sheet (node r path))).1 h))
-
-    -- ---- what is kept
-
-    kept_true : (k : ℕ) (g : GroundAxiom) → Contains kept k → slice_get (axioms sheet) k ≡ Some g → Makes truth g.clause
-    kept_true k g h at =
-        let made = kept_made k g h at in
-        let named : IsUsed (clauses sheet) kept (number sheet made.0.what) =
-        (k, h, clause_of_axiom sheet g, slice_map (clause_of_axiom sheet) (axioms sheet) k g at, lit_of sheet made.0, contains_map (lit_of sheet) g.clause made.0 made.1, refl) in
-        (made.0, made.1, stays made.0.what named ∙ made.2)
-
-    -- ---- what is true from the start
-
-    start_true : (g : GroundAxiom) → IsTrueFromStart sheet kept g → Makes truth g.clause
-    start_true g (l, has, forced) =
-        let Is = IsAmong (clauses sheet) kept in
-        let is = always_true Is v (λ c h. met h.0 h.1 c h.2) (lit_of sheet l) forced in
-        let at = stands Is forced.0 forced.1 (lit_of sheet l) forced.2 in
-        let named : IsUsed (clauses sheet) kept (number sheet l.what) = (at.1.0, at.1.1, at.0, at.1.2, lit_of sheet l, at.2, refl) in
-        (l, has, stays l.what named ∙ has_sign l.sign (value sheet v l.what) is)
-
-    -- ---- what isn't needed
-
-    abbrev IsFit : Literal → Type 0
-    IsFit l = (truth l.what ≡ true) ↔ SymbolHolds sheet a l.what
-
-    node_fit : (l : Literal) (x : Symbol) → l.what ≡ x → IsNode x → ¬ IsUsed (clauses sheet) kept (number sheet x) → (truth x ≡ true) ↔ SymbolHolds sheet a x
-    node_fit l (pair c w) is h none = absurd h
-    node_fit l (node r path) is h none = elim (cases_Bool (is_among own (number sheet (node r path)))) [
-      | inl among ↦ absurd (none ((vars.exact (number sheet (node r path))).0 (among_contains own (number sheet (node r path)) among)))
-      | inr lacks ↦ as_it_is r path lacks
-    ]
-
-    read_fit : (e : Entry) → Contains part.cells e.cell.0 → IsEntryOf u e → (truth (pair_of e) ≡ true) ↔ SymbolHolds sheet a (pair_of e)
-    read_fit e h is =
-        let n = some_and (slice_get sizes e.cell.0) (λ n. e.value.0 < n) is in
-        let both = has_value e.cell.0 h n.0 e.value.0 n.1 n.2 in
-        let same = stays_pair e.cell e.value in
-        (λ t. both.0 (sym same ∙ t), λ s. same ∙ both.1 s)
-
-    fit_all : (x : Axiom) (clause : List Literal) → IsClauseOf sheet x clause → IsAxiomOfPart part x → InPiece u (pieces sheet) x → IsOfNode x
-        → ((l : Literal) → Contains clause l → IsNode l.what → ¬ IsUsed (clauses sheet) kept (number sheet l.what)) → (l : Literal) → Contains clause l → IsFit l
-    fit_all (axiom_some c) clause is o i h none l has = absurd h
-    fit_all (axiom_one c x w) clause is o i h none l has = absurd h
-    fit_all (axiom_rule r) clause is o i h none l has = absurd h
-    fit_all (axiom_node r path i) clause is o inside h none l has =
-        let a_node = rule_symbols IsNode sheet r path (λ steps. tt) i clause is l has in
-        node_fit l l.what refl a_node (none l has a_node)
-    fit_all (axiom_atom r path reads) clause is o inside h none l has =
-        let end : Literal = record { what = node r path; sign = is.truth } in
-        elim (Contains-append_cases (map negated_entry reads) (end ∷ []) l (subst (λ d. Contains d l) is.is has)) [
-          | inl read ↦
-              let e = contains_mapped negated_entry reads l read in
-              subst IsFit e.2 (read_fit e.0 (reads_in r path reads o inside e.0 e.1) (All-contains (IsEntryOf u) reads e.0 is.each e.1))
-          | inr last ↦ elim (contains_cases end [] l last) [
-            | inl is_end ↦
-                let a_node : IsNode l.what = subst (λ (m : Literal). IsNode m.what) is_end tt in
-                node_fit l l.what refl a_node (none l has a_node)
-            | inr nothing ↦ absurd (contains_none l nothing)
-          ]
+    -- so it is named where it is forced
+    forced_named : IsForced IsKeptClause (lit_of sheet (positive here)) → IsNamed (lit_of sheet (positive here))
+    forced_named forced =
+        let l = lit_of sheet (positive here) in
+        let stand = stands IsKeptClause forced.0 forced.1 l forced.2 in
+        let j = stand.1.0 in
+        let has : Contains (clause_at sheet j) l = subst (λ d. Contains d l) (sym stand.1.2) stand.2 in
+        elim (is_own sheet j (number sheet here)) [
+          | inl o ↦ absurd (by j stand.1.1 o has)
+          | inr other ↦ (j, stand.1.1, has, other)
         ]
+      where
+        by : (j : ℕ) → Contains kept j → IsOwn sheet j (number sheet here) → Contains (clause_at sheet j) (lit_of sheet (positive here)) → ⊥
+        by j h o has =
+            let axiom' = kept_axiom sheet formed all division part there used kept banned of are v met j h in
+            let same_axiom = same_some (sym axiom'.1 ∙ o.1) in
+            let g_there = slice_contains (axioms sheet) j o.0 o.1 in
+            let what : o.2 ≡ here = same_symbol sheet o.2 here (own_there sheet j (number sheet here) o) here_there o.4 in
+            let m = literal_at sheet j o.0 o.1 (lit_of sheet (positive here)) has in
+            let literal' = same_literal sheet m.0 (positive here) (symbols_are_variables sheet o.0 g_there m.0 m.1) here_there m.2 in
+            let is_clause = All-contains (λ q. IsClauseOf sheet q.name q.clause) (axioms sheet) o.0 (all_right sheet) g_there in
+            no_own o.0.name o.0.clause is_clause (o.3 ∙ ap Some what) (subst (λ (q : GroundAxiom). IsAxiomOfPart part q.name) same_axiom axiom'.2) (subst (Contains o.0.clause) literal' m.1)
 
-    is_other : (x : Axiom) → IsOfNode x → (clause : List Literal) → IsClauseOf sheet x clause → (l : Literal) × Contains clause l × LiteralHolds sheet a l
-    is_other (axiom_some c) h clause is = absurd h
-    is_other (axiom_one c x w) h clause is = absurd h
-    is_other (axiom_rule r) h clause is = absurd h
-    is_other (axiom_node r path i) h clause is = other_axioms_true sheet a assigned (axiom_node r path i) clause tt is
-    is_other (axiom_atom r path reads) h clause is = other_axioms_true sheet a assigned (axiom_atom r path reads) clause tt is
+    here_named : IsAsked here → IsNamed (lit_of sheet (positive here))
+    here_named (inl named) = named
+    here_named (inr forced) = forced_named forced
 
-    unneeded_true : (g : GroundAxiom) → Contains (axioms sheet) g → IsAxiomOfPart part g.name → IsOfNode g.name → IsUnneeded sheet kept g → Makes truth g.clause
-    unneeded_true g g_in o h none =
-        let is = All-contains (λ q. IsClauseOf sheet q.name q.clause) (axioms sheet) g (all_right sheet) g_in in
-        let inside = All-contains (λ q. InPiece u (pieces sheet) q.name) (axioms sheet) g (all_in sheet) g_in in
-        let l = is_other g.name h g.clause is in
-        (l.0, l.1, signed l.0.sign (truth l.0.what) (fit_all g.name g.clause is o inside h none l.0 l.1) l.2)
-
-    -- ---- what is so whatever values the cells have
-
-    as_decided : Symbol → Bool
-    as_decided x = yes_of (decide_symbol sheet a x)
-
-    decided_is : (x : Symbol) → (as_decided x ≡ true) ↔ SymbolHolds sheet a x
-    unfolding as_decided
-    decided_is x = yes_is (decide_symbol sheet a x)
-
-    out_decided : (x : Symbol) → IsNode x → ¬ IsUsed (clauses sheet) kept (number sheet x) → truth x ≡ as_decided x
-    unfolding truth as_decided
-    out_decided (pair c w) h none = absurd h
-    out_decided (node r path) h none = elim (cases_Bool (is_among own (number sheet (node r path)))) [
-      | inl among ↦ absurd (none ((vars.exact (number sheet (node r path))).0 (among_contains own (number sheet (node r path)) among)))
-      | inr lacks ↦ ap (λ b. cond b (value sheet v (node r path)) (yes_of (decide_symbol sheet a (node r path)))) lacks
+    not_banned : IsAsked here → ¬ IsBannedOut sheet kept banned g
+    not_banned asked (l, (has, means), bans, unnamed) = elim (one_of_two (negative here) (positive child) l has) [
+      | inl same ↦ unnamed (subst (λ (m : Literal). IsNamedBy sheet kept (opposite m)) (sym same) (named_by sheet formed all division part there used kept banned of are v met (positive here) here_there (here_named asked)))
+      | inr same ↦ apart (sym (same_some means ∙ ap (λ (m : Literal). m.what) same))
     ]
 
-    decided : Var → Bool
-    decided = numbered_truth sheet as_decided
-
-    decided_at : (x : Symbol) → Contains (variables sheet) x → decided (var_of sheet x) ≡ as_decided x
-    unfolding decided
-    decided_at x h = numbered_is sheet as_decided x h
-
-    meaning_true : (meanings : List ℕ) → AreMeanings sheet meanings → (clause : List Lit) → IsAmong (clauses sheet) meanings clause → IsTrueUnder decided clause
-    meaning_true meanings mean clause (k, k_in, at) =
-        let found = axiom_at sheet k clause at in
-        let g = found.0 in
-        let g_in = slice_contains (axioms sheet) k g found.1 in
-        let is = All-contains (λ q. IsClauseOf sheet q.name q.clause) (axioms sheet) g (all_right sheet) g_in in
-        let l = is_other g.name (mean k g k_in found.1) g.clause is in
-        let makes : Makes (value sheet decided) g.clause =
-        (l.0, l.1, decided_at l.0.what (symbols_are_variables sheet g g_in l.0 l.1) ∙ signed l.0.sign (as_decided l.0.what) (decided_is l.0.what) l.2) in
-        subst (IsTrueUnder decided) found.2 (of_makes sheet decided g.clause makes)
-
-    constant_true : (g : GroundAxiom) → Contains (axioms sheet) g → IsConstant sheet kept g → Makes truth g.clause
-    constant_true g g_in (l, has, is_node, none, (meanings, mean, forced)) =
-        let is = always_true (IsAmong (clauses sheet) meanings) decided (meaning_true meanings mean) (lit_of sheet l) forced in
-        let here = has_sign l.sign (value sheet decided l.what) is in
-        (l, has, out_decided l.what is_node none ∙ sym (decided_at l.what (symbols_are_variables sheet g g_in l has)) ∙ here)
-
-    -- ---- all
-
-    each_true : (k : ℕ) (g : GroundAxiom) → Contains used k → slice_get (axioms sheet) k ≡ Some g → IsAxiomOfPart part g.name → Makes truth g.clause
-    each_true k g h at o = elim (are.each k g h at) [
-      | inl stay ↦ kept_true k g stay at
-      | inr out ↦ elim out.1 [
-        | inl started ↦ start_true g started
-        | inr (inl none) ↦ unneeded_true g (slice_contains (axioms sheet) k g at) o out.0 none
-        | inr (inr constant) ↦ constant_true g (slice_contains (axioms sheet) k g at) constant
-      ]
+    started : (value sheet v here ≡ true) → IsTrueFromStart sheet kept g → (value sheet v child ≡ true) × IsAsked child
+    started t (l, has, forced) = elim (one_of_two (negative here) (positive child) l has) [
+      | inl same ↦ absurd (false≢true (sym (subst (λ (m : Literal). value sheet v m.what ≡ m.sign) same (forced_true l forced)) ∙ t))
+      | inr same ↦ (subst (λ (m : Literal). value sheet v m.what ≡ m.sign) same (forced_true l forced), asked_forced child (subst (λ (m : Literal). IsForced (IsAmong (clauses sheet) kept) (lit_of sheet m)) same forced))
     ]
 
-    whole : Var → Bool
-    whole = numbered_truth sheet truth
+    constant : IsAsked here → IsConstant sheet kept g → Right child
+    constant asked (l, has, a_node, unused, (meanings, mean, forced)) = elim (one_of_two (negative here) (positive child) l has) [
+      | inl same ↦ absurd (unused (subst (λ (m : Literal). IsUsed (clauses sheet) kept (number sheet m.what)) (sym same) (asked_used here asked)))
+      | inr same ↦
+          let Is = IsAmong (clauses sheet) meanings in
+          let forced' = subst (λ (m : Literal). IsForced Is (lit_of sheet m)) same forced in
+          let is_true = always_true Is (decided sheet cells given) (meaning_true sheet cells given meanings mean) (lit_of sheet (positive child)) forced' in
+          sym (decided_at sheet cells given child child_there) ∙ is_true
+    ]
 
-    whole_is : (x : Symbol) → Contains (variables sheet) x → whole (var_of sheet x) ≡ truth x
-    unfolding whole
-    whole_is x h = numbered_is sheet truth x h
+    right_below : Right here → Right child
+    right_below t =
+        let made = meant sheet cells given so_by_cells (decided_is sheet cells given) g g_in tt in
+        last so_by_cells (positive child) (unit so_by_cells (negative here) (positive child ∷ []) made t)
 
-    whole_met : MeetsUsed (clauses sheet) used whole
-    whole_met k h clause at =
-        let g = (of.exact k).0 h in
-        let made = each_true k g.0 h g.1 g.2 in
-        let makes : Makes (value sheet whole) g.0.clause =
-        (made.0, made.1, whole_is made.0.what (symbols_are_variables sheet g.0 (slice_contains (axioms sheet) k g.0 g.1) made.0 made.1) ∙ made.2) in
-        let clause_is : clause_of_axiom sheet g.0 ≡ clause = same_clause (sym (slice_map (clause_of_axiom sheet) (axioms sheet) k g.0 g.1) ∙ at) in
-        subst (IsTrueUnder whole) clause_is (of_makes sheet whole g.0.clause makes)
+    true_below : IsAsked here → value sheet v here ≡ true → Right child ⊎ ((value sheet v child ≡ true) × IsAsked child)
+    true_below asked t = elim (are.each at.0 g at.1 at.2) [
+      | inl h ↦
+          inr (
+            last (value sheet v) (positive child) (unit (value sheet v) (negative here) (positive child ∷ []) (kept_true at.0 g h at.2) t),
+            inl (
+              at.0,
+              h,
+              at_literal sheet at.0 g at.2 (positive child) child_in,
+              λ o.
+                  let means : here ≡ o.2 = same_some (ap (λ (q : GroundAxiom). meant_by q.name) (same_some (sym at.2 ∙ o.1)) ∙ o.3) in
+                  apart (sym (means ∙ same_symbol sheet o.2 child (own_there sheet at.0 (number sheet child) o) child_there o.4)),
+            ),
+          )
+      | inr (inl (a_node, inl from)) ↦ inr (started t from)
+      | inr (inl (a_node, inr (inl none))) ↦ absurd (none (negative here) (contains_first (negative here) (positive child ∷ [])) tt (asked_used here asked))
+      | inr (inl (a_node, inr (inr always))) ↦ inl (constant asked always)
+      | inr (inr out) ↦ absurd (not_banned asked out)
+    ]
 
-    whole_pair : (c n w : ℕ) → slice_get sizes c ≡ Some n → w < n → whole (var_of sheet (pair_at c w)) ≡ value sheet v (pair_at c w)
-    whole_pair c n w at below = whole_is (pair_at c w) (pair_in sheet c n w at below) ∙ stays_pair (record { 0 = c }) (record { 0 = w })
+    next_good : IsGood here → IsGood child
+    next_good (here_in, inl t) = (child_there, inl (right_below t))
+    next_good (here_in, inr (t, asked)) = (child_there, true_below asked t)
 
-    kept_fits : (b : List ValueId) × IsAssignment u b × Fits (sheet_of sheet part) b × HasValues sizes part.cells v b
-    kept_fits =
-        let are_for = part_axioms_are_for_their_parts sheet formed all division part there used of in
-        let fit = are_for.fits whole whole_met in (
-          fit.0,
-          fit.1,
-          fit.2,
-          λ c h n w at below.
-              let same = whole_pair c n w at below in
-              let both = fit.3 c h n w at below in
-              (λ t. both.0 (same ∙ t), λ e. sym same ∙ both.1 e),
-        )
+  down : (p : Piece) → Contains part.pieces p → (rest path : List ℕ) → p.path.steps ≡ path ++ rest → IsGood (node p.path.rule path) → IsGood (node p.path.rule p.path.steps)
+  down p c [] path is good = subst (λ xs. IsGood (node p.path.rule xs)) (sym (is ∙ append-nil path)) good
+  down p c (k ∷ ks) path is good = down p c ks (path ++ k ∷ []) (is ∙ sym (append_assoc path (k ∷ []) ks)) (next_good p c path k ks is good)
 
-pub kept_axioms_are_for_their_parts : KeptAxiomsAreForTheirParts
-kept_axioms_are_for_their_parts sheet formed all division part there used kept own of are vars =
+  -- ---- the pieces are true
+
+  piece_right : (p : Piece) → Contains part.pieces p → IsGood (node p.path.rule p.path.steps) → Right (node p.path.rule p.path.steps)
+  piece_right p c (p_there, inl t) = t
+  piece_right p c (p_there, inr (t, asked)) =
+      asked_right sheet formed all division part there used kept banned of are v met (node p.path.rule p.path.steps) tt (p, c, (refl, [], sym (append-nil p.path.steps))) p_there asked t
+
+  piece_true : (p : Piece) → Contains part.pieces p → PieceHolds sheet.universe cells p
+  piece_true p c =
+      let x = node p.path.rule p.path.steps in
+      let t = piece_right p c (down p c p.path.steps [] refl (root_good p c)) in
+      (node_is sheet cells p.path.rule p.path.steps p.node.0 p.node.1 (piece_at sheet p (division.pieces part there p c))).0 ((decided_is sheet cells given x).0 t)
+
+  kept_fits : (b : List ValueId) × IsAssignment sheet.universe b × Fits (sheet_of sheet part) b × HasValues (cell_sizes sheet.universe) part.cells v b
+  kept_fits = (
+    cells,
+    given,
+    part_fits sheet part cells (all_from (PieceHolds sheet.universe cells) part.pieces piece_true),
+    has_value sheet formed all division part there used kept of (stays sheet formed all division part there used kept banned of are v met) v met,
+  )
+
+pub kept_by_polarity_are_for_their_parts : KeptByPolarityAreForTheirParts
+kept_by_polarity_are_for_their_parts sheet formed all division part there used kept banned of are =
     let are_for = part_axioms_are_for_their_parts sheet formed all division part there used of in record {
-      fits = λ v met. kept_fits sheet formed all division part there used kept own of are vars v met;
+      fits = λ v met. kept_fits sheet formed all division part there used kept banned of are v met;
       meets = λ a assigned fits. let m = are_for.meets a assigned fits in (m.0, λ k h. m.1 k (are.among k h), m.2);
       by_cells = are_for.by_cells;
     }
+
+pub kept_axioms_are_for_their_parts : KeptAxiomsAreForTheirParts
+kept_axioms_are_for_their_parts sheet formed all division part there used kept own' of are vars =
+    kept_by_polarity_are_for_their_parts sheet formed all division part there used kept [] of (kept_are_by_polarity sheet used kept [] (λ l is. none_some is) are)

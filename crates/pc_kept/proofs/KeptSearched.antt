@@ -18,7 +18,8 @@ use Rattle.pc_components.proofs.Symbols.{cell_there}
 use Rattle.pc_problem.proofs.Entries.{on_distinct, on_cells, on_values}
 use Rattle.pc_problem.proofs.Made.{of_number, value_below, literal_below, at_slice, problem_made}
 use Rattle.pc_kept.specs.Laws.{KeptPartsAreSearched}
-use Rattle.pc_kept.proofs.KeptFor.{number_there, kept_axioms_are_for_their_parts}
+use Rattle.pc_kept.proofs.CellValues.{number_there}
+use Rattle.pc_kept.proofs.KeptFor.{kept_axioms_are_for_their_parts}
 
 pub kept_parts_are_searched : KeptPartsAreSearched
 kept_parts_are_searched sheet formed all division part there low cells used kept own cells_are of are vars = record {
@@ -33,7 +34,7 @@ kept_parts_are_searched sheet formed all division part there low cells used kept
     own_pairs = λ c x c_there below.
         let n = value_below (cell_sizes sheet.universe) c.0 x.0 (cell_in c c_there) below in
         let g = some_axiom c.0 n.0 in
-        let k = number_there sheet formed all division part there used kept (map variable_number own) of are vars g (cell_there sheet c.0 n.0 n.1 g (contains_first g (one_axioms c.0 0 n.0))) (in_part c c_there) in
+        let k = number_there sheet part used of g (cell_there sheet c.0 n.0 n.1 g (contains_first g (one_axioms c.0 0 n.0))) (in_part c c_there) in
         let l = positive (pair_at c.0 x.0) in
         let has = each_there n.0 (λ v. positive (pair_at c.0 v)) x.0 n.2 in
         elim (are.each k.0 g k.1 k.2) [

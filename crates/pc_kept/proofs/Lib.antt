@@ -9,3 +9,13 @@ pub mod ByParts
 pub mod Polar
 pub mod Settled
 pub mod CountersSettled
+pub mod BySymbol
+pub mod CellValues
+pub mod Decided
+pub mod Meant
+pub mod Reached
+pub mod NodesThere
+pub mod Failing
+pub mod Ranks
+pub mod ByNumber
+pub mod RightNodes

@@ -19,7 +19,7 @@ use Rattle.pc_components.proofs.PartFor.{slice_contains}
 use Rattle.pc_components.proofs.Symbols.{rule_symbols}
 use Rattle.pc_kept.specs.ByPolarity.{KeptByPolarityAreKept, KeptAreByPolarity, NoneIsContainedByPolarity}
 use Rattle.pc_kept.specs.Kept.{IsAmong, IsNode, IsOfNode, IsLeftOut}
-use Rattle.pc_kept.proofs.KeptFor.{axiom_at}
+use Rattle.pc_kept.proofs.BySymbol.{axiom_at}
 use Rattle.pc_kept.specs.Laws.{NoneOfTheUsedIsContained}
 
 -- it names a node

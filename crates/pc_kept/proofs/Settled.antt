@@ -29,7 +29,7 @@ use Rattle.pc_components.proofs.OwnAlone.{no_pair}
 use Rattle.pc_components.proofs.Symbols.{none_or_last, HasCounters, axiom_symbols}
 use Rattle.pc_kept.specs.ByPolarity.{meant_by}
 use Rattle.pc_kept.specs.Settled.{IsMadeBy, NodesAreSettled}
-use Rattle.pc_kept.proofs.KeptFor.{signed}
+use Rattle.pc_kept.proofs.BySymbol.{signed}
 
 steps_of : Symbol → List ℕ
 steps_of (pair c v) = []
@@ -39,7 +39,7 @@ pub same_steps : (r : ℕ) (xs ys : List ℕ) → node r xs ≡ node r ys → xs
 unfolding steps_of
 same_steps r xs ys e = ap steps_of e
 
-no_longer : (r : ℕ) (path more : List ℕ) (j : ℕ) → node r (path ++ j ∷ more) ≡ node r path → ⊥
+pub no_longer : (r : ℕ) (path more : List ℕ) (j : ℕ) → node r (path ++ j ∷ more) ≡ node r path → ⊥
 no_longer r path more j e =
     let same : length (path ++ j ∷ more) ≡ length path = ap length (same_steps r (path ++ j ∷ more) path e) in
     omega (arith, same, length-append path (j ∷ more))

@@ -7,7 +7,10 @@ use Rattle.pc_sheet.specs.WellFormed.{IsWellFormed}
 use Rattle.pc_accept.specs.Literals.{Symbol, node, Literal, opposite}
 use Rattle.pc_accept.specs.Axioms.{Axiom, axiom_some, axiom_one, axiom_rule, axiom_node, axiom_atom}
 use Rattle.pc_ground.specs.Ground.{GroundAxiom, axioms, lit_of, clauses}
-use Rattle.pc_components.specs.PartAxioms.{AreVariablesOf}
+use Rattle.pc_parts.specs.Parts.{Part, IsDivision}
+use Rattle.pc_parts.specs.PartSheets.{sheet_of}
+use Rattle.pc_components.specs.PartAxioms.{AreAxiomsOf, AreVariablesOf}
+use Rattle.pc_components.specs.Used.{AreFor}
 use Rattle.pc_lits.specs.Clauses.{IsSubclause}
 use Rattle.pc_solver.specs.Forced.{IsForced}
 use Rattle.pc_kept.specs.Kept.{IsAmong, IsNode, IsLeftOut, AreKept}
@@ -58,3 +61,10 @@ NoneIsContainedByPolarity =
     → ((l : Lit) → Contains clause l → ¬ MakesTrue banned l)
     → ((k : ℕ) (axiom_clause : List Lit) → Contains kept k → slice_get (clauses sheet) k ≡ Some axiom_clause → ¬ IsSubclause axiom_clause clause)
     → (k : ℕ) (axiom_clause : List Lit) → Contains used k → slice_get (clauses sheet) k ≡ Some axiom_clause → ¬ IsSubclause axiom_clause clause
+
+-- A part's axioms that are kept by polarity stand for the part's sheet on its cells, as all of its axioms do.
+abbrev pub KeptByPolarityAreForTheirParts : Type 0
+KeptByPolarityAreForTheirParts =
+    (sheet : Sheet) → IsWellFormed sheet → (all : List Part) → IsDivision sheet all → (part : Part) → Contains all part
+    → (used kept : List ℕ) (banned : List (Option Bool)) → AreAxiomsOf sheet part used → AreKeptByPolarity sheet used kept banned
+    → AreFor (sheet_of sheet part) part.cells (clauses sheet) kept

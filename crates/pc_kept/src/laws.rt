@@ -1,5 +1,5 @@
 //! What kept axioms are worth. Each function is a law: its contract holds for every sheet, and it does nothing.
-ghost use Rattle.pc_kept.specs.ByPolarity.{KeptAreByPolarity, KeptByPolarityAreKept, NoneIsContainedByPolarity};
+ghost use Rattle.pc_kept.specs.ByPolarity.{KeptAreByPolarity, KeptByPolarityAreForTheirParts, KeptByPolarityAreKept, NoneIsContainedByPolarity};
 ghost use Rattle.pc_kept.specs.Polar.{NamedLiteralsAreRight};
 ghost use Rattle.pc_kept.specs.Settled.{CountersAreSettled, NodesAreSettled};
 ghost use Rattle.pc_kept.specs.Laws.{KeptAxiomsAreForTheirParts, KeptByWhatIsStored, KeptPartsAreSearched, NoneOfTheUsedIsContained};
@@ -34,6 +34,11 @@ pub fn named_literals_are_right()
 pub fn kept_by_polarity_where_nothing_is_banned()
     ensures kept { KeptByPolarityAreKept }
     ensures by_polarity { KeptAreByPolarity }
+{}
+
+/// The axioms of a part that are kept by polarity stand for the part's sheet on its cells.
+pub fn kept_by_polarity_are_for_their_parts()
+    ensures { KeptByPolarityAreForTheirParts }
 {}
 
 /// What contains no axiom kept by polarity, no literal that these force and no banned one contains no axiom of the part.
