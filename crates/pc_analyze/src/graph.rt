@@ -1,6 +1,6 @@
 //! What an analysis walks over.
 
-ghost use Rattle.std.specs.Prelude.{◌≡◌, ◌<◌, ◌≤◌, ◌↔◌, IsTrue, IfSome, length};
+ghost use Rattle.std.specs.Prelude.{◌≡◌, ◌<◌, ◌↔◌, IsTrue, length};
 ghost use Rattle.pc_propagate.specs.Refs.{clause_at, IsRef};
 ghost use Rattle.pc_analyze.specs.FirstPoint.{IsBannedAt};
 ghost use Rattle.pc_analyze.specs.inside.Graph.{trail_of, IsBannedIn};
@@ -37,9 +37,7 @@ pub(crate) struct ConflictGraph<'a> {
 impl<'a> ConflictGraph<'a> {
     // Whether what the entry at this place made false is banned.
     pub(crate) fn is_banned(&self, place: usize) -> bool
-        requires within { place < length (trail_of self.now) }
-        requires room { IfSome self.now.banned (λ values. self.now.graph.trail.now.variables ≤
-            length values.now) }
+        requires { place < length (trail_of self.now) }
         ensures { IsTrue result ↔ IsBannedIn self.now place }
     {
         match self.banned {
@@ -51,11 +49,14 @@ impl<'a> ConflictGraph<'a> {
 
 // Whether what the entry at this place made false is true by these values.
 fn is_false_in(trail: &Trail, place: usize, values: &Values) -> bool
-    requires within { place < length trail.now.entries }
-    requires room { trail.now.variables ≤ length values.now }
+    requires { place < length trail.now.entries }
     ensures { IsTrue result ↔ IsBannedAt values.now trail.now.entries place }
 {
     let count = trail.len();
     prove!(place < count);
-    values.is_true(trail.at(place).negated())
+    let lit = trail.at(place).negated();
+    if lit.variable.0 as usize >= values.len() {
+        return false;
+    }
+    values.is_true(lit)
 }

@@ -1,6 +1,6 @@
 -- The implication graph that an analysis walks over.
 use denote.Ref.{Bor}
-use Rattle.std.specs.Prelude.{◌≡◌, ℕ, ◌≤◌, Bool, Option, None, Some, IfSome, IsNone, List, [], All, Contains, length, slice_get}
+use Rattle.std.specs.Prelude.{◌≡◌, ℕ, Bool, Option, None, Some, IsNone, List, [], All, Contains, slice_get}
 use Rattle.pc_lits.specs.declared.literal.Lit.{Lit}
 use Rattle.pc_lits.specs.declared.values.Values.{Values}
 use Rattle.pc_propagate.specs.declared.trail.TrailEntry.{TrailEntry}
@@ -46,6 +46,5 @@ IsBannedIn g place = IsBannedAt (banned_of g) g.graph.trail.now.entries place
 -- The graph is one, no decision made a banned literal false, and where one was made false at all, the trail was quiet at each decision.
 pub record IsConflictGraph (g : ConflictGraph) : Type 0 where
   pub graph : IsImplicationGraph g.graph
-  pub room : IfSome g.banned (λ values. g.graph.trail.now.variables ≤ length values.now)
   pub quiet : (place : ℕ) → IsBannedIn g place → WasQuiet g.graph.axioms.now g.graph.more.now g.graph.trail.now
   pub decided : (place : ℕ) (e : TrailEntry) → slice_get g.graph.trail.now.entries place ≡ Some e → IsNone e.reason → ¬ IsBannedIn g place

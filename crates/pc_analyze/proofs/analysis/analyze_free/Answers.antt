@@ -4,7 +4,6 @@ use Rattle.pc_analyze.proofs.analysis.analyze_free.Goals as goal
 pub analyze_on-requires-clause-graph : goal.analyze_on-requires-clause-graph
 analyze_on-requires-clause-graph c = record {
   graph = record { entries = c.len.ensures.entries; over = c.requires.over };
-  room = c.requires.room;
   quiet = λ place is. c.requires.quiet;
   decided = c.requires.decided;
 }
