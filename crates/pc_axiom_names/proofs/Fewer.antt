@@ -82,6 +82,12 @@ index_fewer (x ∷ xs) d zero k l = absurd (omega (arith, l))
 index_fewer (x ∷ xs) d (suc n) zero l = refl
 index_fewer (x ∷ xs) d (suc n) (suc k) l = index_fewer xs d n k (omega (arith, l))
 
+place_first : {X : Type 0} (xs : List X) (n k : ℕ) → k < n → k < length xs → k < length (take n xs)
+place_first [] n k l h = absurd (omega (arith, h))
+place_first (x ∷ xs) zero k l h = absurd (omega (arith, l))
+place_first (x ∷ xs) (suc n) zero l h = omega arith
+place_first (x ∷ xs) (suc n) (suc k) l h = let rest = place_first xs n k (omega (arith, l)) (omega (arith, h)) in omega (arith, rest)
+
 module _ (ps : List NodePath) (rs : List (List Entry)) (n m : ℕ) where
   symbol_fewer : (v : Stands) → IsStandsWithin n v → symbol_in (take n ps) v ≡ symbol_in ps v
   symbol_fewer (Pair c v) h = refl
@@ -121,3 +127,34 @@ module _ (ps : List NodePath) (rs : List (List Entry)) (n m : ℕ) where
       let a = symbols_fewer vs i (all_more own (take i vs) l (subst (AllByRecursion (IsStandsWithin own)) w h)) in
       let b = axioms_fewer xs j (subst (AllByRecursion (IsKeptWithin n m)) y g) in
       rw (q, s, w, y, ← e) (let c = a in let d = b in cc)
+
+  stand_first : (own : ℕ) (v : Stands) → own ≤ n → IsStandsWithin own v → IsStandsWithin (length ps) v → IsStandsWithin (length (take n ps)) v
+  stand_first own (Pair c v) l h p = tt
+  stand_first own (Node k) l h p = place_first ps n k (omega (arith, l, h)) p
+
+  kept_first : (a : KeptName) → IsKeptWithin n m a → IsKeptWithin (length ps) (length rs) a → IsKeptWithin (length (take n ps)) (length (take m rs)) a
+  kept_first (Any c) h p = tt
+  kept_first (One c v w) h p = tt
+  kept_first (Rule r) h p = tt
+  kept_first (Part k i) h p = place_first ps n k h p
+  kept_first (Atom k i) h p = (place_first ps n k h.0 p.0, place_first rs m i h.1 p.1)
+
+  stands_first : (own : ℕ) (vs : List Stands) (i : ℕ) → own ≤ n → AllByRecursion (IsStandsWithin own) (take i vs) → AllByRecursion (IsStandsWithin (length ps)) vs → AllByRecursion (IsStandsWithin (length (take n ps))) (take i vs)
+  stands_first own [] zero l h p = tt
+  stands_first own [] (suc i) l h p = tt
+  stands_first own (v ∷ vs) zero l h p = tt
+  stands_first own (v ∷ vs) (suc i) l h p = (stand_first own v l h.0 p.0, stands_first own vs i l h.1 p.1)
+
+  all_kept_first : (xs : List KeptName) (i : ℕ) → AllByRecursion (IsKeptWithin n m) (take i xs) → AllByRecursion (IsKeptWithin (length ps) (length rs)) xs → AllByRecursion (IsKeptWithin (length (take n ps)) (length (take m rs))) (take i xs)
+  all_kept_first [] zero h p = tt
+  all_kept_first [] (suc i) h p = tt
+  all_kept_first (x ∷ xs) zero h p = tt
+  all_kept_first (x ∷ xs) (suc i) h p = (kept_first x h.0 p.0, all_kept_first xs i h.1 p.1)
+
+  -- their places are within what is left
+  pub within_fewer : (qs : List NodePath) (ss : List (List Entry)) (own : ℕ) (vs ws : List Stands) (xs ys : List KeptName) (i j : ℕ) → own ≤ n → ws ≡ take i vs → ys ≡ take j xs → AllByRecursion (IsStandsWithin own) ws
+      → AllByRecursion (IsKeptWithin n m) ys → qs ≡ take n ps → ss ≡ take m rs → AreNamesWithin ps rs vs xs → AreNamesWithin qs ss ws ys
+  within_fewer qs ss own vs ws xs ys i j l w y h g q s p =
+      let a = stands_first own vs i l (subst (AllByRecursion (IsStandsWithin own)) w h) p.0 in
+      let b = all_kept_first xs j (subst (AllByRecursion (IsKeptWithin n m)) y g) p.1 in
+      rw (q, s, w, y) (a, b)

@@ -4,7 +4,9 @@ use Rattle.std.specs.List.{AllByRecursion}
 use Rattle.std.specs.Result.{OnErr}
 use Rattle.std.proofs.lemmas.List.{map-append}
 use Rattle.pc_sheet.specs.declared.nodes.NodePath.{NodePath}
+use Rattle.pc_sheet.specs.declared.ids.CellId.{CellId}
 use Rattle.pc_sheet.specs.declared.ids.Entry.{Entry}
+use Rattle.pc_sheet.specs.declared.ids.ValueId.{ValueId}
 use Rattle.pc_accept.specs.Literals.{node}
 use Rattle.pc_accept.specs.Axioms.{Axiom}
 use Rattle.pc_axiom_names.specs.declared.kept.Stands.{Stands}
@@ -93,6 +95,9 @@ all_push P [] y h p = (p, tt)
 all_push P (x ∷ xs) y h p = (h.0, all_push P xs y h.1 p)
 
 module _ (ps : List NodePath) (rs : List (List Entry)) (vs : List Stands) (xs : List KeptName) where
+  pub pair_within : (c : CellId) (v : ValueId) → AreNamesWithin ps rs vs xs → AreNamesWithin ps rs (vs ++ Pair c v ∷ []) xs
+  pair_within c v h = (all_push (IsStandsWithin (length ps)) vs (Pair c v) h.0 tt, h.1)
+
   pub node_within : (k rule : ℕ) (steps : List ℕ) → AreNamesWithin ps rs vs xs → IsPathAt ps k rule steps → AreNamesWithin ps rs (vs ++ Node k ∷ []) xs
   node_within k rule steps h at = (all_push (IsStandsWithin (length ps)) vs (Node k) h.0 at.0, h.1)
 

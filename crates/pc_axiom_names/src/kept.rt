@@ -1,8 +1,9 @@
 //! How names are kept: a path once for all names of its node that come one after another, reads in rows, and a name by
 //! its places among both.
-ghost use Rattle.std.specs.Prelude.{◌≡◌, ◌≤◌, ◌∷◌, ◌++◌, [], IfOk, IfSome, IsTrue, OnErr, OnOk, length, take};
+ghost use Rattle.std.specs.Prelude.{◌≡◌, ◌+◌, ◌≤◌, ◌∷◌, ◌++◌, [], IfOk, IfSome, IsTrue, OnErr, OnOk, length, map, take};
 ghost use Rattle.std.specs.List.{AllByRecursion};
-ghost use Rattle.pc_axiom_names.specs.Keeping.{ArePaths, IsPathAt, IsStandsWithin, IsKeptWithin, axiom_in, symbol_in};
+ghost use Rattle.pc_axiom_names.specs.Keeping.{ArePaths, AreRising, IsPathAt, IsStandsWithin, IsKeptLast, IsKeptWithin};
+ghost use Rattle.pc_axiom_names.specs.Keeping.{axiom_in, kept_paths, kept_rows, paths_of, symbol_in};
 ghost use Rattle.pc_axiom_names.specs.Shown.{axiom_shown, symbol_shown};
 
 use crate::axiom_name::AxiomRef;
@@ -48,7 +49,9 @@ fn is_same(left: &NodePath, right: &NodePath) -> bool
 
 /// The last place, if that path is there.
 fn last_place(paths: &[NodePath], path: &NodePath) -> Option<u32>
-    ensures { IfSome result (λ place. IsPathAt paths.now place path.now.rule path.now.steps.items) }
+    ensures here { IfSome result (λ place. IsPathAt paths.now place path.now.rule
+        path.now.steps.items) }
+    ensures last { IfSome result (λ place. length paths.now ≡ place + 1) }
 {
     let last = paths.last()?;
     if is_same(last, path) {
@@ -63,6 +66,7 @@ fn add_path(paths: &mut Vec<NodePath>, path: NodePath) -> Result<u32, AllocError
     ensures kept { take (length paths.old.items) paths.new.items ≡ paths.old.items }
     ensures here { IfOk result (λ place. IsPathAt paths.new.items place path.rule
         path.steps.items) }
+    ensures last { IfOk result (λ place. length paths.old.items ≤ place + 1) }
 {
     let place = next_place(paths.len())?;
     paths.push(path)?;
@@ -74,6 +78,7 @@ pub(crate) fn place_of(paths: &mut Vec<NodePath>, path: NodePath) -> Result<u32,
     ensures kept { take (length paths.old.items) paths.new.items ≡ paths.old.items }
     ensures here { IfOk result (λ place. IsPathAt paths.new.items place path.rule
         path.steps.items) }
+    ensures last { IfOk result (λ place. length paths.old.items ≤ place + 1) }
 {
     match last_place(paths, &path) {
         Some(place) => Ok(place),
@@ -86,6 +91,7 @@ fn path_place(paths: &mut Vec<NodePath>, path: &NodePath) -> Result<u32, AllocEr
     ensures kept { take (length paths.old.items) paths.new.items ≡ paths.old.items }
     ensures here { IfOk result (λ place. IsPathAt paths.new.items place path.now.rule
         path.now.steps.items) }
+    ensures last { IfOk result (λ place. length paths.old.items ≤ place + 1) }
 {
     match last_place(paths, path) {
         Some(place) => Ok(place),
@@ -119,6 +125,8 @@ pub(crate) fn kept_of(
     ensures paths { take (length paths.old.items) paths.new.items ≡ paths.old.items }
     ensures rows { take (length rows.old) rows.new ≡ rows.old }
     ensures within { IfOk result (λ kept. IsKeptWithin (length paths.new.items) (length rows.new)
+        kept) }
+    ensures last { IfOk result (λ kept. IsKeptLast (length paths.old.items) (length rows.old)
         kept) }
     ensures named { IfOk result (λ kept. axiom_in paths.new.items rows.new kept ≡
         axiom_shown name.entry) }
@@ -176,7 +184,7 @@ fn larger(left: usize, right: usize) -> usize
 
 /// How many paths a variable needs: up to its own.
 fn paths_for(stands: &Stands) -> usize
-    ensures { IsStandsWithin result stands.now }
+    ensures { result ≡ paths_of stands.now }
 {
     match stands {
         Stands::Pair(_, _) => 0,
@@ -184,20 +192,26 @@ fn paths_for(stands: &Stands) -> usize
     }
 }
 
-/// How many paths the variables need.
+/// How many paths the variables need: as many as the last node does, since its place is the highest.
 pub(crate) fn paths_for_all(variables: &[Stands]) -> usize
+    requires { AreRising 0 (map paths_of variables.now) }
     ensures { AllByRecursion (IsStandsWithin result) variables.now }
 {
-    let mut count = 0;
-    for stands in variables {
-        count = larger(count, paths_for(stands));
+    let mut left = variables.len();
+    while left > 0 {
+        left -= 1;
+        let count = paths_for(&variables[left]);
+        if count > 0 {
+            return count;
+        }
     }
-    count
+    0
 }
 
 /// How many paths and rows an axiom's name needs.
 fn kept_for(kept: &KeptName) -> (usize, usize)
-    ensures { IsKeptWithin result.0 result.1 kept.now }
+    ensures paths { result.0 ≡ kept_paths kept.now }
+    ensures rows { result.1 ≡ kept_rows kept.now }
 {
     match kept {
         KeptName::Any(_) => (0, 0),
@@ -208,19 +222,25 @@ fn kept_for(kept: &KeptName) -> (usize, usize)
     }
 }
 
-/// How many paths and rows the names of axioms need, where so many paths are there anyway.
+/// How many paths and rows the names of axioms need, where so many paths are there anyway: those of the last atom, and
+/// the paths of the nodes behind it.
 pub(crate) fn kept_for_all(paths: usize, axioms: &[KeptName]) -> (usize, usize)
+    requires paths { AreRising 0 (map kept_paths axioms.now) }
+    requires rows { AreRising 0 (map kept_rows axioms.now) }
     ensures paths { paths ≤ result.0 }
     ensures within { AllByRecursion (IsKeptWithin result.0 result.1) axioms.now }
 {
     let mut count = paths;
-    let mut rows = 0;
-    for kept in axioms {
-        let own = kept_for(kept);
+    let mut left = axioms.len();
+    while left > 0 {
+        left -= 1;
+        let own = kept_for(&axioms[left]);
         count = larger(count, own.0);
-        rows = larger(rows, own.1);
+        if own.1 > 0 {
+            return (count, own.1);
+        }
     }
-    (count, rows)
+    (count, 0)
 }
 
 fn copied_path(alloc: Global, path: &NodePath) -> Result<NodePath, AllocError>

@@ -33,13 +33,14 @@ pub struct Names {
 
 impl Model for Names {
     ghost use Rattle.pc_axiom_names.specs.Listed.{NameLists};
-    ghost use Rattle.pc_axiom_names.specs.Keeping.{AreNamesWithin, names_in};
+    ghost use Rattle.pc_axiom_names.specs.Keeping.{AreNamesWithin, ArePlacesRising, names_in};
 
     ghost Value = { NameLists };
 
     ghost view = { λ n. names_in n.paths.items n.reads n.variables.items n.axioms.items };
 
-    ghost invariant = { λ n. AreNamesWithin n.paths.items n.reads n.variables.items n.axioms.items };
+    ghost invariant = { λ n. AreNamesWithin n.paths.items n.reads n.variables.items n.axioms.items
+        × ArePlacesRising n.variables.items n.axioms.items };
 }
 
 impl Names {
@@ -99,8 +100,8 @@ impl Names {
         self.axioms.len()
     }
 
-    /// Keeps the names of the first variables and axioms alone, with the paths and reads that these have: all that are kept are
-    /// looked at. It takes no memory.
+    /// Keeps the names of the first variables and axioms alone, with the paths and reads that these have. From the end, what
+    /// is kept is looked at down to the last node and the last atom's axiom. It takes no memory.
     pub fn truncate(&mut self, variables: usize, axioms: usize)
         ensures { self.new ≡ first_names variables axioms self.old }
     {
