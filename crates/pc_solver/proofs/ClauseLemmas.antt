@@ -17,8 +17,8 @@ use Rattle.pc_propagate.specs.Quiet.{QuietIsKept, WasSettled}
 use Rattle.pc_propagate.specs.Laws.{ClausesMayBeAdded}
 use Rattle.pc_lits.specs.Literals.{negated}
 use Rattle.pc_lits.specs.Steps.{IsGoodStep, IsTautology}
-use Rattle.pc_lemmas.proofs.Elements.{contains_mapped, contains_cases}
-use Rattle.std.proofs.lemmas.List.Elements.{All-push, All-contains, Contains-append_left, Contains-push, Contains-push_cases}
+use Rattle.pc_lemmas.proofs.Elements.{contains_mapped, contains_cases, contains_none}
+use Rattle.std.proofs.lemmas.List.Elements.{All-push, All-contains, Contains-append_left, Contains-append_cases, Contains-push, Contains-push_cases}
 use Rattle.pc_log.specs.Derivations.{clause_of_line, hinted_clauses}
 use Rattle.pc_lits.specs.Clauses.{IsSubclause}
 use Rattle.pc_solver.specs.New.{AreNewClauses, HasNoForced, ContainNone}
@@ -28,7 +28,9 @@ use Rattle.pc_solver.specs.declared.clauses.KeptClause.{KeptClause}
 use Rattle.pc_solver.specs.declared.clauses.KeptClause.TheVariants.{Block, Learned, Dropped}
 use Rattle.pc_solver.specs.Clauses.{ClausesView, AreClauses, KeepsClauses, KeepsProblem, blank, number_of, line_of, IsStanding, IsKnown, IsOverOwn, used_clauses, blocks_among, blocks_of}
 use Rattle.pc_solver.specs.InLog.{StandsInLog, IsLogOf, IsShort, IsKeptAs, ContainsNoKnown}
-use Rattle.pc_solver.specs.inside.Search.{IsSearch, KnowsAll, IsNoted}
+use Rattle.pc_solver.specs.Banned.{AreAskable, HasNoBanned, IsLone}
+use Rattle.pc_solver.specs.inside.Search.{IsSearch, AreAllLone, KnowsAll, IsNoted}
+use Rattle.pc_solver.proofs.BannedLemmas.{asked_lone, free_learned}
 use Rattle.pc_solver.proofs.LogLemmas.{StandsInLog-last, StandsInLog-more, IsLogOf-line, IsLogOf-axiom, IsDerivation-line, lines-step}
 
 some_same : {A : Type 0} (x y : A) → ◌≡◌ {A = Option A} (Some x) (Some y) → x ≡ y
@@ -100,6 +102,7 @@ module _ (c : ClausesView) (place number : ℕ) (id : StepId) (within : place < 
     learned = λ i clause at. let was = h.learned i clause at in (was.0, was.1, was.2, (standing_kept c.kept place number id within is was.0).1 was.3);
     new = h.new;
     avoids = h.avoids;
+    free = h.free;
   }
     where
       found : (n : ℕ) (other : StepId) → n < length c.more → line_of (get_or (set c.kept place (Block number (Some id))) n blank) ≡ Some other → StandsInLog c.axioms log other (get_or c.more n [])
@@ -166,6 +169,7 @@ module _ (c : ClausesView) (blocks : ℕ) (h : AreClauses c blocks) (clause : Li
     learned = λ i other at. kept_still (logged.learned i other at);
     new = logged.new;
     avoids = logged.avoids;
+    free = logged.free;
   }
     where
       found : (n : ℕ) (other : StepId) → n < length (c.more ++ clause ∷ []) → line_of (get_or (c.kept ++ k ∷ []) n blank) ≡ Some other → StandsInLog c.axioms log other (get_or (c.more ++ clause ∷ []) n [])
@@ -370,6 +374,25 @@ derived_logged v c blocks h same clause id log stands logged =
     added_logged v blocks h clause (Learned id) [] log (blocks-push v.more v.kept clause (Learned id) h.kept_each) (subst (λ (w : ClausesView). IsLogOf w log) (sym same) logged)
     (λ other has. subst (λ (o : StepId). StandsInLog v.axioms log o clause) (some_same id other has) (subst (λ (w : ClausesView). StandsInLog w.axioms log id clause) (sym same) stands))
 
+-- ---- the clauses of which one literal at most has a banned negation
+
+pub lone_added : (c : ClausesView) (clause : List Lit) (k : KeptClause) → length c.kept ≡ length c.more → (IsSome (number_of k) → AreAskable c.banned clause) → AreAllLone c
+    → AreAllLone (record c { more = c.more ++ clause ∷ []; kept = c.kept ++ k ∷ [] })
+lone_added c clause k each asked h = record {
+  used = h.used;
+  blocks = λ block has. ⊎_elim
+      (λ was. h.blocks block was)
+      (λ new. by_number (number_of k) refl block new)
+      (Contains-append_cases (blocks_of c) (cond (is_some (number_of k)) (clause ∷ []) []) block (subst (λ (bs : List (List Lit)). Contains bs block) (blocks-push c.more c.kept clause k each) has));
+}
+  where
+    by_number : (o : Option ℕ) → number_of k ≡ o → (block : List Lit) → Contains (cond (is_some o) (clause ∷ []) []) block → IsLone c.banned block
+    by_number None is block new = absurd (contains_none block new)
+    by_number (Some n) is block new = ⊎_elim
+        (λ same. subst (IsLone c.banned) same (asked_lone c.banned clause (asked (rw is refl))))
+        (λ none. absurd (contains_none block none))
+        (contains_cases clause [] block new)
+
 -- ---- the trail
 
 module _ (law : ClausesMayBeAdded) (quiet : QuietIsKept) (v c : ClausesView) (blocks : ℕ) (h : AreClauses v blocks) (same : v ≡ c) (clause : List Lit) (k : KeptClause) where
@@ -387,11 +410,12 @@ module _ (law : ClausesMayBeAdded) (quiet : QuietIsKept) (v c : ClausesView) (bl
     ),
   )
 
-  pub added_search : IsOverOwn c.own clause → (t : TrailView) → IsSearch c t → IsSearch (record v { more = v.more ++ clause ∷ []; kept = v.kept ++ k ∷ [] }) t
-  added_search over t search = still (subst (λ (w : ClausesView). IsOverOwn w.own clause) (sym same) over) (subst (λ (w : ClausesView). IsSearch w t) (sym same) search)
+  pub added_search : IsOverOwn c.own clause → (IsSome (number_of k) → AreAskable c.banned clause) → (t : TrailView) → IsSearch c t → IsSearch (record v { more = v.more ++ clause ∷ []; kept = v.kept ++ k ∷ [] }) t
+  added_search over asked t search =
+      still (subst (λ (w : ClausesView). IsOverOwn w.own clause) (sym same) over) (subst (λ (w : ClausesView). IsSome (number_of k) → AreAskable w.banned clause) (sym same) asked) (subst (λ (w : ClausesView). IsSearch w t) (sym same) search)
     where
-      still : IsOverOwn v.own clause → IsSearch v t → IsSearch (record v { more = v.more ++ clause ∷ []; kept = v.kept ++ k ∷ [] }) t
-      still over before = record {
+      still : IsOverOwn v.own clause → (IsSome (number_of k) → AreAskable v.banned clause) → IsSearch v t → IsSearch (record v { more = v.more ++ clause ∷ []; kept = v.kept ++ k ∷ [] }) t
+      still over asked before = record {
         over = law v.axioms v.more clause t before.over;
         attached = λ r is. before.attached r ((known_still r).0 is);
         known = λ r has. (known_still r).1 (before.known r has);
@@ -402,6 +426,8 @@ module _ (law : ClausesMayBeAdded) (quiet : QuietIsKept) (v c : ClausesView) (bl
           more = All-push (λ (cl : List Lit). IsOverOwn v.own cl) v.more clause before.over_own.more over;
         };
         own = before.own;
+        lone = lone_added v clause k h.kept_each asked before.lone;
+        decided = before.decided;
       }
 
   pub added_problem : number_of k ≡ None → KeepsProblem c (record v { more = v.more ++ clause ∷ []; kept = v.kept ++ k ∷ [] })
@@ -409,6 +435,7 @@ module _ (law : ClausesMayBeAdded) (quiet : QuietIsKept) (v c : ClausesView) (bl
     axioms = ap (λ (w : ClausesView). w.axioms) same;
     used = ap (λ (w : ClausesView). w.used) same;
     own = ap (λ (w : ClausesView). w.own) same;
+    banned = ap (λ (w : ClausesView). w.banned) same;
     blocks = with_other v c blocks h same clause k is;
   }
 
@@ -425,6 +452,11 @@ IsSearch-same c new t same h = record {
     more = rw (same.own, same.more) h.over_own.more;
   };
   own = rw same.own h.own;
+  lone = record {
+    used = rw (same.axioms, same.used, same.banned) h.lone.used;
+    blocks = λ block has. rw same.banned (h.lone.blocks block (subst (λ (bs : List (List Lit)). Contains bs block) same.blocks has));
+  };
+  decided = rw same.banned h.decided;
 }
 
 -- a block that gets a line is known as before
@@ -454,6 +486,7 @@ keeps_same v c same = record {
   axioms = ap (λ (w : ClausesView). w.axioms) same;
   used = ap (λ (w : ClausesView). w.used) same;
   own = ap (λ (w : ClausesView). w.own) same;
+  banned = ap (λ (w : ClausesView). w.banned) same;
   more = ap (λ (w : ClausesView). w.more) same;
   blocks = ap (λ (w : ClausesView). blocks_of w) same;
   reached = ap (λ (w : ClausesView). w.known) same;
@@ -465,6 +498,7 @@ axiom_keeps v c same place line = record {
   axioms = ap (λ (w : ClausesView). w.axioms) same;
   used = ap (λ (w : ClausesView). w.used) same;
   own = ap (λ (w : ClausesView). w.own) same;
+  banned = ap (λ (w : ClausesView). w.banned) same;
   more = ap (λ (w : ClausesView). w.more) same;
   blocks = ap (λ (w : ClausesView). blocks_of w) same;
   reached = ap (λ (w : ClausesView). w.known) same;
@@ -477,6 +511,7 @@ block_keeps v c place number id blocks h within is same = record {
   axioms = ap (λ (w : ClausesView). w.axioms) same;
   used = ap (λ (w : ClausesView). w.used) same;
   own = ap (λ (w : ClausesView). w.own) same;
+  banned = ap (λ (w : ClausesView). w.banned) same;
   more = ap (λ (w : ClausesView). w.more) same;
   blocks = blocks_kept v.more v.kept place number (Some id) is ∙ ap (λ (w : ClausesView). blocks_of w) same;
   reached = ap (λ (w : ClausesView). w.known) same;
@@ -529,6 +564,8 @@ module _ (quiet : QuietIsKept) (v c : ClausesView) (blocks : ℕ) (h : AreClause
         quiet = s.quiet;
         over_own = record { in_range = s.over_own.in_range; used = s.over_own.used; more = s.over_own.more };
         own = s.own;
+        lone = record { used = s.lone.used; blocks = s.lone.blocks };
+        decided = s.decided;
       }
 
   pub next_attached : (t u : TrailView) → IsStanding k → IsSearch c t → WasSettled t.entries (get_or c.more c.known []) → IsAttached (More v.known) t u
@@ -554,6 +591,8 @@ module _ (quiet : QuietIsKept) (v c : ClausesView) (blocks : ℕ) (h : AreClause
           more = s.over_own.more;
         };
         own = rw is.entries s.own;
+        lone = record { used = s.lone.used; blocks = s.lone.blocks };
+        decided = rw is.entries s.decided;
       }
 
 -- its variables are in range
@@ -622,8 +661,8 @@ module _ (v : ClausesView) (blocks : ℕ) (h : AreClauses v blocks) (clause : Li
       within_known v clause block none (block_is_known v all block (number, slice_get_within (blocks_of v) number block there, get_or_from_slice_get (blocks_of v) number block block there)) inside)
 
   -- the log with the line is one for the clauses with the clause
-  pub learned_logged : HasNoForced (used_clauses v.axioms v.used) clause → id.0 ≡ length log → IsLogOf (record v { more = v.more ++ clause ∷ []; kept = v.kept ++ Learned id ∷ [] }) (log ++ StepLine clause lines true ∷ [])
-  learned_logged unforced at = record {
+  pub learned_logged : HasNoForced (used_clauses v.axioms v.used) clause → HasNoBanned v.banned clause → id.0 ≡ length log → IsLogOf (record v { more = v.more ++ clause ∷ []; kept = v.kept ++ Learned id ∷ [] }) (log ++ StepLine clause lines true ∷ [])
+  learned_logged unforced free at = record {
     derivation = IsDerivation-line v.axioms log (StepLine clause lines true) logged.derivation good earlier;
     blocks = λ i number other here. ⊎_elim
         (λ was. rw grown (slice_get-more (blocks_of v) [] number other (logged.blocks i number other was)))
@@ -644,6 +683,7 @@ module _ (v : ClausesView) (blocks : ℕ) (h : AreClauses v blocks) (clause : Li
     learned = λ i other here. ⊎_elim (λ was. kept_still (logged.learned i other was)) (λ last. subst (IsKeptAs (record v { more = v.more ++ clause ∷ []; kept = v.kept ++ Learned id ∷ [] })) last.1 kept_last) (learned_cases log clause lines i other here);
     new = learned_new;
     avoids = avoid_learned (used_clauses v.axioms v.used) log clause lines logged.avoids unforced;
+    free = free_learned v.banned log clause lines logged.free free;
   }
     where
       grown : blocks_among (v.more ++ clause ∷ []) (v.kept ++ Learned id ∷ []) ≡ blocks_of v ++ []

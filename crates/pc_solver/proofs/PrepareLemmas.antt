@@ -98,7 +98,7 @@ none_same t u same none = rw same.entries none
 -- ---- one clause more is known
 
 pub next_problem : (a c d : ClausesView) → KeepsProblem a c → d ≡ record c { known = c.known + 1 } → KeepsProblem a d
-next_problem a c d h is = rw is (record { axioms = h.axioms; used = h.used; own = h.own; blocks = h.blocks })
+next_problem a c d h is = rw is (record { axioms = h.axioms; used = h.used; own = h.own; banned = h.banned; blocks = h.blocks })
 
 pub next_logs : (a c d : ClausesView) → KeepsLogs a c → d ≡ record c { known = c.known + 1 } → KeepsLogs a d
 next_logs a c d h is log logged = rw is (logs_known c (c.known + 1) log (h log logged))

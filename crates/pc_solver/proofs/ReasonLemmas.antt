@@ -1,9 +1,9 @@
 -- A clause that may be the reason of a literal: it was settled at each decision, and its other literals were false before.
-use Rattle.std.proofs.Common.{◌≡◌, ◌≢◌, ℕ, ◌+◌, ◌<◌, ◌≤◌, Bool, true, false, not, List, [], length, get_or, take, refl, sym, ap, ◌∙◌, subst, arith, ⊎_elim, inl, inr, Some, None, Option, IsNone, IfSome, is_some, AllPairs, Contains}
-use Rattle.std.proofs.lemmas.Bool.{cases_lt, false≢true}
+use Rattle.std.proofs.Common.{◌≡◌, ◌≢◌, ℕ, ◌+◌, ◌<◌, ◌≤◌, Bool, true, false, not, List, [], length, get_or, set, slice_get, take, refl, sym, ap, ◌∙◌, subst, arith, ⊎_elim, inl, inr, Some, None, Option, IsNone, IfSome, is_some, AllPairs, Contains}
+use Rattle.std.proofs.lemmas.Bool.{cases_eq, cases_lt, false≢true}
 use Rattle.std.proofs.Math.Bool.{beq}
-use Rattle.std.proofs.lemmas.Option.{slice_get_within, get_or_from_slice_get}
-use Rattle.std.proofs.lemmas.List.{get_or-take, length-take, length-set}
+use Rattle.std.proofs.lemmas.Option.{slice_get_within, slice_get-get_or, get_or_from_slice_get}
+use Rattle.std.proofs.lemmas.List.{get_or-take, get_or-set_same, get_or-set_other, length-take, length-set}
 use Rattle.pc_lits.specs.declared.literal.Lit.{Lit}
 use Rattle.pc_lits.specs.declared.literal.Var.{Var}
 use Rattle.pc_lits.specs.Literals.{negated}
@@ -107,6 +107,20 @@ reason_last entries clause l different has h spot is = subst (λ (x : Lit). IsLa
 
 -- ---- the trail after that
 
+-- a decision was one before
+decision_was : (es : List TrailEntry) (place : ℕ) (e : TrailEntry) (reason : ClauseRef) → slice_get es place ≡ Some e → (k : ℕ) (x : TrailEntry) → slice_get (set es place (given e reason)) k ≡ Some x → IsNone x.reason → slice_get es k ≡ Some x
+decision_was es place e reason at k x is none =
+    let below : k < length (set es place (given e reason)) = slice_get_within (set es place (given e reason)) k x is in
+    let read : get_or (set es place (given e reason)) k x ≡ x = get_or_from_slice_get (set es place (given e reason)) k x x is in
+    ⊎_elim
+    (λ same. absurd (no_decision reason (subst (λ (y : TrailEntry). IsNone y.reason)
+    (sym (sym (get_or-set_same es place (given e reason) x (slice_get_within es place e at)) ∙ subst (λ n. get_or (set es place (given e reason)) n x ≡ x) same read)) none)))
+    (λ other. slice_get-get_or es k x (omega (arith, below, length-set es place (given e reason))) ∙ ap Some (sym (get_or-set_other es place k (given e reason) x other) ∙ read))
+    (cases_eq k place)
+  where
+    no_decision : (r : ClauseRef) → IsNone (Some r) → ⊥
+    no_decision r none = cc
+
 pub search_justified : QuietIsKept → (c : ClausesView) (variable : Var) (reason : ClauseRef) (t u : TrailView) → IsJustified variable reason t u → IsOver c.axioms c.more u → IsSearch c t → IsSearch c u
 search_justified law c variable reason t u h over s = record {
   over = over;
@@ -115,6 +129,8 @@ search_justified law c variable reason t u h over s = record {
   quiet = law.by_justifying c.axioms c.more variable reason t u h s.quiet;
   over_own = rw h.is s.over_own;
   own = rw h.is (λ k d below. subst (λ (x : Lit). Contains c.own x.variable) (sym (literal_same t.entries h.place h.entry reason h.at k d)) (s.own k d (omega (arith, below, length-set t.entries h.place (given h.entry reason)))));
+  lone = s.lone;
+  decided = rw h.is (λ place e at starts. s.decided place e (decision_was t.entries h.place h.entry reason h.at place e at starts) starts);
 }
 
 pub justified_size : (variable : Var) (reason : ClauseRef) (t u : TrailView) → IsJustified variable reason t u → length u.entries ≡ length t.entries

@@ -1,20 +1,17 @@
 -- Before and after a search.
-use Rattle.std.proofs.Common.{suc, ◌≡◌, ℕ, ◌+◌, ◌*◌, ◌<◌, ◌≤◌, Bool, true, false, not, List, [], ◌∷◌, ◌++◌, length, get_or, take, count_by, replicate, refl, sym, ap, ◌∙◌, subst, arith, AllPairs, ⊎_elim, Option, Some, None, IsNone, is_none, slice_get, Contains, cond, eqb, zero, All}
-use Rattle.std.proofs.lemmas.Bool.{false≢true, cases_Bool, and_parts, eqb-true}
+use Rattle.std.proofs.Common.{suc, ◌≡◌, ℕ, ◌+◌, ◌*◌, ◌<◌, ◌≤◌, Bool, true, List, [], ◌∷◌, ◌++◌, length, get_or, take, count_by, replicate, refl, sym, ap, ◌∙◌, subst, arith, ⊎_elim, Option, Some, None, IsNone, is_none, slice_get, Contains, cond, zero, All, Result, Ok, Err, IfOk}
 use Rattle.std.proofs.lemmas.List.{take_more}
 use Rattle.std.proofs.lemmas.Option.{get_or_from_slice_get, slice_get_within}
 use Rattle.pc_lits.specs.declared.literal.Var.{Var}
 use Rattle.pc_lits.specs.declared.literal.Lit.{Lit}
 use Rattle.pc_lits.specs.declared.tally.Tally.{Tally}
-use Rattle.pc_lits.proofs.Sound.{true_literal}
-use Rattle.pc_lemmas.proofs.Elements.{contains_mapped}
 use Rattle.pc_log.specs.declared.log.StepId.{StepId}
 use Rattle.pc_log.specs.Lines.{LogLine, AxiomLine, BlockLine, StepLine}
 use Rattle.pc_log.specs.Laws.{DerivationsAreSound}
 use Rattle.pc_propagate.specs.declared.trail.TrailEntry.{TrailEntry}
 use Rattle.pc_propagate.specs.declared.clauses.ClauseRef.{ClauseRef}
 use Rattle.pc_propagate.specs.declared.clauses.ClauseRef.TheVariants.{Axiom, More}
-use Rattle.pc_propagate.specs.Entries.{literals, HasValue, AreEntries, Differ, starts_level}
+use Rattle.pc_propagate.specs.Entries.{literals, AreEntries, starts_level}
 use Rattle.pc_propagate.specs.Levels.{level_at}
 use Rattle.pc_propagate.specs.Over.{IsOver, AreInRange}
 use Rattle.pc_propagate.specs.TrailView.{TrailView}
@@ -23,15 +20,16 @@ use Rattle.pc_solver.specs.declared.outcome.Outcome.{Outcome}
 use Rattle.pc_solver.specs.declared.outcome.Outcome.TheVariants.{Sat, Unsat, Spent, Memory}
 use Rattle.pc_solver.specs.Clauses.{ClausesView, IsKnown, IsOverOwn, KeepsProblem}
 use Rattle.pc_solver.specs.InLog.{IsLogOf}
-use Rattle.pc_solver.specs.inside.Search.{SearchView, IsSearch, IsUnderWay, KnowsAll, KeepsLogs, AssumesFirst, Advances}
-use Rattle.pc_solver.specs.Answers.{truth_in}
+use Rattle.pc_solver.specs.Banned.{AreAskable, AreLone, trues_of}
+use Rattle.pc_solver.specs.inside.Search.{SearchView, IsSearch, AreAllLone, IsAside, IsUnderWay, KnowsAll, KeepsLogs, AssumesFirst, Advances}
 use Rattle.pc_solver.specs.inside.Ends.{EndSays, extra, unmarked}
-use Rattle.pc_solver.specs.Solver.{AnswerSays, Spends, seen_as, IsProblem, SuspendedView, suspended_as}
+use Rattle.pc_solver.specs.Solver.{AnswerSays, Spends, seen_as, IsProblem, SolverView, SuspendedView, suspended_as}
 use Rattle.pc_solver.proofs.LogLemmas.{LogGrows-none}
 use Rattle.pc_solver.proofs.SearchLemmas.{fits_own}
 use Rattle.std.proofs.lemmas.List.Elements.{All-contains, Contains-append_left, Contains-push, Contains-push_cases}
-use Rattle.pc_solver.proofs.ClauseLemmas.{own_in_range}
-use Rattle.pc_solver.proofs.EndLemmas.{found_meets, none_meets, true_lit, is_of}
+use Rattle.pc_solver.proofs.ClauseLemmas.{own_in_range, block_given_at}
+use Rattle.pc_solver.proofs.EndLemmas.{found_meets, none_meets}
+use Rattle.pc_solver.proofs.BannedLemmas.{no_trues}
 
 -- ---- back at level 0 there is no decision
 
@@ -51,12 +49,13 @@ decided_level entries k e at none =
 
 -- ---- the trail is ready
 
-pub prepared : (s n : SearchView) (assumed : List Lit) (log : List LogLine) → KeepsProblem s.clauses n.clauses → KeepsLogs s.clauses n.clauses → KnowsAll n.clauses → AssumesFirst assumed n.trail.entries → IsOverOwn s.clauses.own assumed → IsLogOf s.clauses log
-    → IsUnderWay n assumed log
-prepared s n assumed log problem logs all first over logged = record {
+pub prepared : (s n : SearchView) (assumed : List Lit) (log : List LogLine) → KeepsProblem s.clauses n.clauses → KeepsLogs s.clauses n.clauses → KnowsAll n.clauses → AssumesFirst assumed n.trail.entries → IsOverOwn s.clauses.own assumed → AreAskable s.clauses.banned assumed
+    → IsLogOf s.clauses log → IsUnderWay n assumed log
+prepared s n assumed log problem logs all first over askable logged = record {
   all = all;
   logged = logs log logged;
   over_own = subst (λ (own : List Var). IsOverOwn own assumed) (sym problem.own) over;
+  askable = subst (λ (banned : List (Option Bool)). AreAskable banned assumed) (sym problem.banned) askable;
   first = first;
 }
 
@@ -108,31 +107,12 @@ spent_nothing own first before log calls placed learned limit = record {
 -- ---- what the answer says
 
 pub answered : DerivationsAreSound → (s n : SearchView) (p q : Tally) (log grown : List LogLine) (assumed : List Lit) (k m : ℕ) (o : Outcome) → Advances s n p q log grown k m → IsSearch n.clauses n.trail → AreEntries n.trail.variables n.trail.entries
-    → EndSays n assumed grown q o → AnswerSays (seen_as n.trail.variables n.clauses (literals n.trail.entries)) assumed grown q o
+    → EndSays n assumed grown q o → AnswerSays (seen_as n.trail.variables n.clauses (trues_of n.clauses.own n.clauses.banned (literals n.trail.entries))) assumed grown q o
 answered law s n p q log grown assumed k m Sat h is are says = found_meets n.clauses n.trail.variables n.trail.entries assumed is.over_own are.different says.0 says.1
 answered law s n p q log grown assumed k m (Unsat id) h is are says =
     (says.1.0, rw says.1.1 says.2, none_meets law n.clauses grown id says.0 assumed h.logged says.1 says.2, says.3)
 answered law s n p q log grown assumed k m Spent h is are says = says
 answered law s n p q log grown assumed k m Memory h is are says = tt
-
--- ---- values
-
-pub value_some : (entries : List TrailEntry) (v : Var) (b : Bool) → AllPairs Differ entries → Contains (literals entries) (record { variable = v; sign = b }) → b ≡ truth_in (literals entries) v
-value_some entries v true different has = sym (true_lit entries (record { variable = v; sign = true }) different has)
-value_some entries v false different has = turned (truth_in (literals entries) v) (true_lit entries (record { variable = v; sign = false }) different has)
-  where
-    turned : (b : Bool) → not b ≡ true → false ≡ b
-    turned true h = absurd (false≢true h)
-    turned false h = refl
-
-pub value_none : (entries : List TrailEntry) (v : Var) → ¬ HasValue entries v → false ≡ truth_in (literals entries) v
-value_none entries v none = ⊎_elim (λ yes. absurd (found yes)) (λ no_value. sym no_value) (cases_Bool (truth_in (literals entries) v))
-  where
-    found : truth_in (literals entries) v ≡ true → ⊥
-    found is =
-        let l = true_literal (is_of (record { variable = v; sign = true })) (literals entries) is in
-        let e = contains_mapped (λ (x : TrailEntry). x.literal) entries l.0 l.1 in
-        none (e.0, e.1, ap (λ (m : Lit). m.variable.0) e.2 ∙ eqb-true l.0.variable.0 v.0 (and_parts l.0.sign (eqb l.0.variable.0 v.0) l.2).1)
 
 -- ---- a new solver
 
@@ -157,10 +137,22 @@ empty_log c none no_more = record {
     no_block_line = λ i j number block clause before at. absurd (never_at i (BlockLine number block) at);
   };
   avoids = λ i clause at. absurd (never_at i (StepLine clause at.0 true) at.1);
+  free = λ i clause at. absurd (never_at i (StepLine clause at.0 true) at.1);
 }
   where
     never_at : (i : ℕ) (line : LogLine) → slice_get {X = LogLine} [] i ≡ Some line → ⊥
     never_at i line at = omega (arith, slice_get_within {A = LogLine} [] i line at)
+
+-- of the clauses of a new solver
+pub new_lone : (c : ClausesView) (banned : List (Option Bool)) (axioms : List (List Lit)) (used : List ℕ) → c.banned ≡ banned → c.axioms ≡ axioms → c.used ≡ used → c.more ≡ [] → AreLone banned axioms used → AreAllLone c
+new_lone c banned axioms used one two three none lone = record {
+  used = rw (one, two, three) lone;
+  blocks = λ block has. let b = block_given_at c.more c.kept block has in absurd (omega (arith, b.1, ap length none));
+}
+
+pub trues_none : {E : Type 0} (own : List Var) (r : Result SolverView E) → IfOk r (λ s. s.trues ≡ trues_of own [] []) → IfOk r (λ s. s.trues ≡ [])
+trues_none own (Ok s) h = h ∙ no_trues own
+trues_none own (Err e) h = tt
 
 pub no_lines : (count n : ℕ) (id : StepId) → get_or (replicate count None) n None ≡ Some id → ⊥
 no_lines count n id h = never (sym (get_or-replicate_same count n) ∙ h)
@@ -175,8 +167,9 @@ no_lines count n id h = never (sym (get_or-replicate_same count n) ∙ h)
 
 pub new_search : (axioms : List (List Lit)) (used : List ℕ) (own : List Var) (variables : ℕ) (c : ClausesView) (t : TrailView) → c.axioms ≡ axioms → c.used ≡ used → c.own ≡ own → c.known ≡ 0 → All (IsOverOwn own) c.more → t.variables ≡ variables → t.entries ≡ []
     → IsOver axioms c.more t → ((n : ℕ) → Contains used n → Contains t.attached (Axiom n)) → ((r : ClauseRef) → Contains t.attached r → (n : ℕ) × Contains used n × (r ≡ Axiom n))
-    → All (λ n. n < length axioms) used → All (λ (v : Var). v.0 < variables) own → All (λ n. IsOverOwn own (get_or axioms n [])) used → IsSearch c t
-new_search axioms used own variables c t one two three four more size none over all only in_axioms in_range over_own = record {
+    → All (λ n. n < length axioms) used → All (λ (v : Var). v.0 < variables) own → All (λ n. IsOverOwn own (get_or axioms n [])) used
+    → AreAllLone c → IsSearch c t
+new_search axioms used own variables c t one two three four more size none over all only in_axioms in_range over_own lone = record {
   over = rw one over;
   attached = known;
   known = λ r has. let n = only r has in subst (IsKnown c) (sym n.2) (axiom_in n.0 n.1);
@@ -187,6 +180,8 @@ new_search axioms used own variables c t one two three four more size none over 
     more = rw three more;
   };
   own = λ k d below. absurd (omega (arith, below, ap length none));
+  lone = lone;
+  decided = λ place e at. absurd (omega (arith, slice_get_within t.entries place e at, ap length none));
 }
   where
     axiom_in : (n : ℕ) → Contains used n → IsKnown c (Axiom n)
@@ -201,19 +196,23 @@ new_search axioms used own variables c t one two three four more size none over 
 
 -- ---- a solver that goes on with another trail
 
-problem_moved : (p : SuspendedView) (v c : ClausesView) (axioms : List (List Lit)) (used : List ℕ) (own : List Var) (variables : ℕ) → suspended_as v ≡ p → c ≡ record v { known = 0 } → axioms ≡ c.axioms → used ≡ c.used → own ≡ c.own
-    → IsProblem variables p.problem → IsProblem variables (record { axioms = axioms; used = used; own = own })
+pub is_aside : (c : ClausesView) (t : TrailView) → IsSearch c t → IsAside c
+is_aside c t h = record { over_own = h.over_own.more; lone = h.lone }
+
+pub problem_moved : (p : SuspendedView) (v c : ClausesView) (axioms : List (List Lit)) (used : List ℕ) (own : List Var) (variables : ℕ) → suspended_as v ≡ p → c ≡ record v { known = 0 } → axioms ≡ c.axioms → used ≡ c.used → own ≡ c.own
+    → IsProblem variables p.problem → IsProblem variables (record { axioms = axioms; used = used; own = own; banned = v.banned })
 problem_moved p v c axioms used own variables same is one two three h =
     let here : IsProblem variables (suspended_as v).problem = subst (λ (s : SuspendedView). IsProblem variables s.problem) (sym same) h in
     rw (one ∙ ap (λ (w : ClausesView). w.axioms) is, two ∙ ap (λ (w : ClausesView). w.used) is, three ∙ ap (λ (w : ClausesView). w.own) is) here
 
 pub resumed_search : (p : SuspendedView) (v c : ClausesView) (t : TrailView) (axioms : List (List Lit)) (used : List ℕ) (own : List Var) (variables : ℕ) → suspended_as v ≡ p → c ≡ record v { known = 0 } → axioms ≡ c.axioms → used ≡ c.used → own ≡ c.own
-    → IsProblem variables p.problem → All (IsOverOwn v.own) v.more → t.variables ≡ variables → t.entries ≡ [] → ((more : List (List Lit)) → IsOver axioms more t) → ((n : ℕ) → Contains used n → Contains t.attached (Axiom n))
+    → IsProblem variables p.problem → IsAside v → t.variables ≡ variables → t.entries ≡ [] → ((more : List (List Lit)) → IsOver axioms more t) → ((n : ℕ) → Contains used n → Contains t.attached (Axiom n))
     → ((r : ClauseRef) → Contains t.attached r → (n : ℕ) × Contains used n × (r ≡ Axiom n)) → IsSearch c t
-resumed_search p v c t axioms used own variables same is one two three h more size none over all only =
+resumed_search p v c t axioms used own variables same is one two three h aside size none over all only =
     let here = problem_moved p v c axioms used own variables same is one two three h in
-    let still : All (IsOverOwn own) c.more = rw (three ∙ ap (λ (w : ClausesView). w.own) is, ap (λ (w : ClausesView). w.more) is) more in
+    let still : All (IsOverOwn own) c.more = rw (three ∙ ap (λ (w : ClausesView). w.own) is, ap (λ (w : ClausesView). w.more) is) aside.over_own in
     new_search axioms used own variables c t (sym one) (sym two) (sym three) (ap (λ (w : ClausesView). w.known) is) still size none (over c.more) all only here.used_in here.own_in here.over_own
+    (subst AreAllLone (sym is) (record { used = aside.lone.used; blocks = aside.lone.blocks }))
 
 -- ---- the used axioms are attached
 

@@ -1,3 +1,4 @@
+pub mod Banning
 pub mod Search
 pub mod Ends
 pub mod Reasons

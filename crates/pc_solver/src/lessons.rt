@@ -1,9 +1,10 @@
 //! Decisions that teach merged clauses: the literals of one are decided false, one after another, until that leads to a conflict.
 
 ghost use Rattle.std.specs.Prelude.{◌≡◌, ◌<◌, All, Contains, IfSome};
-ghost use Rattle.pc_propagate.specs.Entries.{HasValue};
+ghost use Rattle.pc_solver.specs.inside.Banning.{IsOpen};
 
 use crate::Preferences;
+use crate::banned::Banned;
 use crate::clauses::Clauses;
 use crate::search::Search;
 use pc_lits::{Lit, Var};
@@ -28,16 +29,21 @@ fn merge(alloc: Global, clauses: &Clauses<'_>, preferences: &mut Preferences, co
 }
 
 /// The negation of a literal of the merged clause that is taught next. Those that have a true literal wait.
-pub(crate) fn lesson(trail: &Trail, own: &[Var], preferences: &mut Preferences) -> Option<Lit>
+pub(crate) fn lesson(
+    trail: &Trail,
+    own: &[Var],
+    banned: &Banned<'_>,
+    preferences: &mut Preferences,
+) -> Option<Lit>
     requires { All (λ v. v.0 < trail.now.variables) own.now }
     ensures { IfSome result (λ l. Contains own.now l.variable ×
-        (¬ HasValue trail.now.entries l.variable)) }
+        IsOpen banned.now trail.now.entries l.variable) }
 {
     for _ in 0..preferences.merges().waiting() {
         let number = preferences.merges().next();
         if let Some(lit) = look(trail, own, preferences, number) {
             if let Some(place) = preferences.place_of(own, lit.variable) {
-                if place < own.len() && trail.value(own[place]).is_none() {
+                if place < own.len() && banned.leaves(trail, own[place]) {
                     preferences.begin_lesson();
                     return Some(Lit {
                         variable: own[place],

@@ -95,7 +95,12 @@ impl<'g> Search<'g> {
         ensures variables { self.new.trail.variables ≡ self.old.trail.variables }
     {
         quiet_is_kept();
-        note_answer(&self.trail, self.clauses.own(), &mut self.preferences);
+        note_answer(
+            &self.trail,
+            self.clauses.own(),
+            self.clauses.banned(),
+            &mut self.preferences,
+        );
         if self.clauses.known() == self.clauses.more().len() {
             keep_levels(
                 &mut self.trail,

@@ -1,6 +1,6 @@
 //! The solver.
 
-ghost use Rattle.std.specs.Prelude.{◌≡◌, ◌<◌, ◌^◌, ℕ, List, [], ◌∷◌, ◌++◌, All, Contains, IfOk, OnOk, OnErr, length};
+ghost use Rattle.std.specs.Prelude.{◌≡◌, ◌≢◌, ◌<◌, ◌^◌, ℕ, List, [], ◌∷◌, ◌++◌, All, Contains, IfOk, OnOk, OnErr, length, slice_index_or};
 ghost use Rattle.pc_lits.specs.declared.literal.Lit.{Lit};
 ghost use Rattle.pc_log.specs.Lines.{LogLine};
 ghost use Rattle.pc_propagate.specs.declared.clauses.ClauseRef.{ClauseRef};
@@ -9,6 +9,10 @@ ghost use Rattle.pc_propagate.specs.Attached.{IsBlank};
 ghost use Rattle.pc_propagate.specs.Over.{IsOver};
 ghost use Rattle.pc_solver.specs.Answers.{truth_in};
 ghost use Rattle.pc_solver.specs.New.{ContainNone};
+ghost use Rattle.pc_solver.specs.Banned.{AreAskable, AreLone, trues_of};
+ghost use Rattle.pc_solver.specs.declared.outcome.Outcome.TheVariants.{Memory};
+ghost use Rattle.pc_solver.specs.inside.Banning.{values_in};
+ghost use Rattle.pc_solver.specs.Clauses.{IsOverOwn};
 ghost use Rattle.pc_solver.specs.Solver.{SolverView, IsProblem, AreOwn, HasLog, SuspendedHasLog, AnswerSays, Spends};
 
 use crate::Preferences;
@@ -16,7 +20,7 @@ use crate::clauses::Clauses;
 use crate::decisions::{expect_again, note_answer};
 use crate::outcome::Outcome;
 use crate::search::Search;
-use pc_lits::{ClauseStore, Lit, Tally, Var};
+use pc_lits::{ClauseStore, Lit, Tally, Values, Var};
 use pc_log::Log;
 use pc_log::laws::derivations_are_sound;
 use pc_propagate::{ClauseRef, Trail};
@@ -31,11 +35,12 @@ pub struct Solver<'g> {
 
 impl<'g> Model for Solver<'g> {
     ghost use Rattle.pc_propagate.specs.Entries.{literals};
+    ghost use Rattle.pc_solver.specs.Banned.{trues_of};
     ghost use Rattle.pc_solver.specs.Solver.{SolverView, seen_as};
 
     ghost Value = { SolverView };
 
-    ghost view = { λ s. seen_as s.search.trail.variables s.search.clauses (literals s.search.trail.entries) };
+    ghost view = { λ s. seen_as s.search.trail.variables s.search.clauses (trues_of s.search.clauses.own s.search.clauses.banned (literals s.search.trail.entries)) };
 }
 
 impl<'g> Solver<'g> {
@@ -52,11 +57,13 @@ impl<'g> Solver<'g> {
           axioms = axioms.now;
           used = used.now;
           own = own.now;
+          banned = [];
         }) }
         ensures problem { IfOk result (λ s. s.problem ≡ record {
           axioms = axioms.now;
           used = used.now;
           own = own.now;
+          banned = [];
         }) }
         ensures variables { IfOk result (λ s. s.variables ≡ variables) }
         ensures blocks { IfOk result (λ s. s.blocks ≡ []) }
@@ -80,20 +87,81 @@ impl<'g> Solver<'g> {
           axioms = axioms.now;
           used = used.now;
           own = own.now;
+          banned = [];
         }) }
         ensures problem { IfOk result (λ s. s.problem ≡ record {
           axioms = axioms.now;
           used = used.now;
           own = own.now;
+          banned = [];
         }) }
         ensures variables { IfOk result (λ s. s.variables ≡ trail.variables) }
         ensures blocks { IfOk result (λ s. s.blocks ≡ []) }
         ensures trues { IfOk result (λ s. s.trues ≡ []) }
         ensures log { IfOk result (λ s. HasLog s []) }
     {
-        let clauses = Clauses::new(alloc, axioms, used, own)?;
+        Solver::start(alloc, axioms, used, own, trail, None)
+    }
+
+    /// The same where no learned clause is to have a literal that `banned` makes true. Of a used clause's literals at most one may
+    /// have a banned negation. A variable with a banned literal isn't decided, and where it has no value that literal is true.
+    pub fn polar(
+        alloc: Global,
+        axioms: &'g ClauseStore,
+        used: &'g [u32],
+        own: &'g [Var],
+        trail: Trail,
+        banned: &'g Values,
+    ) -> Result<Solver<'g>, AllocError>
+        requires { IsProblem trail.variables (record {
+          axioms = axioms.now;
+          used = used.now;
+          own = own.now;
+          banned = banned.now;
+        }) }
+        ensures problem { IfOk result (λ s. s.problem ≡ record {
+          axioms = axioms.now;
+          used = used.now;
+          own = own.now;
+          banned = banned.now;
+        }) }
+        ensures variables { IfOk result (λ s. s.variables ≡ trail.variables) }
+        ensures blocks { IfOk result (λ s. s.blocks ≡ []) }
+        ensures trues { IfOk result (λ s. s.trues ≡ trues_of own.now banned.now []) }
+        ensures log { IfOk result (λ s. HasLog s []) }
+    {
+        Solver::start(alloc, axioms, used, own, trail, Some(banned))
+    }
+
+    // A new solver, perhaps with banned literals.
+    fn start(
+        alloc: Global,
+        axioms: &'g ClauseStore,
+        used: &'g [u32],
+        own: &'g [Var],
+        trail: Trail,
+        values: Option<&'g Values>,
+    ) -> Result<Solver<'g>, AllocError>
+        requires { IsProblem trail.variables (record {
+          axioms = axioms.now;
+          used = used.now;
+          own = own.now;
+          banned = values_in values;
+        }) }
+        ensures problem { IfOk result (λ s. s.problem ≡ record {
+          axioms = axioms.now;
+          used = used.now;
+          own = own.now;
+          banned = values_in values.entry;
+        }) }
+        ensures variables { IfOk result (λ s. s.variables ≡ trail.variables) }
+        ensures blocks { IfOk result (λ s. s.blocks ≡ []) }
+        ensures trues { IfOk result (λ s. s.trues ≡ trues_of own.now (values_in values.entry) []) }
+        ensures log { IfOk result (λ s. HasLog s []) }
+    {
+        let clauses = Clauses::new(alloc, axioms, used, own, values)?;
         let mut preferences = Preferences::new(alloc, own)?;
-        expect_again(&trail, own, &mut preferences);
+        expect_again(&trail, own, clauses.banned(), &mut preferences);
         let mut trail = trail;
         trail.clear();
         attach_used(axioms, used, own, &mut trail)?;
@@ -131,16 +199,21 @@ impl<'g> Solver<'g> {
         self.search.preferences.turn_to(name);
     }
 
-    /// Adds a clause of the solver's own. Without memory the solver stays as it is.
+    /// Adds a clause of the solver's own. Without memory the solver stays as it is; also where one of the literals has a banned
+    /// negation, for which there is no room in a block.
     pub fn add_block(&mut self, block: &[Lit]) -> Result<(), AllocError>
         requires { AreOwn self.old.problem.own block.now }
         ensures ok { OnOk result (self.new.blocks ≡ self.old.blocks ++ block.now ∷ []) }
         ensures err { OnErr result (self.new ≡ self.old) }
+        ensures askable { OnOk result (AreAskable self.old.problem.banned block.now) }
         ensures problem { self.new.problem ≡ self.old.problem }
         ensures variables { self.new.variables ≡ self.old.variables }
         ensures trues { self.new.trues ≡ self.old.trues }
         ensures log { (log : List LogLine) → HasLog self.old log → HasLog self.new log }
     {
+        if !self.search.allows(block) {
+            return Err(AllocError);
+        }
         self.search.add_block(block)
     }
 
@@ -149,13 +222,15 @@ impl<'g> Solver<'g> {
     /// before, and no block was added since, what was placed for these stays. The log gets the lines that a learned clause
     /// rests on, the learned clauses, which are marked, and at an `Unsat` one step more, whose clause lies within the
     /// negated assumptions. No clause is learned that contains a used axiom, a block or a clause learned before, nor one with
-    /// a literal that unit propagation by the used axioms makes true before any decision.
+    /// a literal that unit propagation by the used axioms makes true before any decision, nor one with a banned literal. An
+    /// assumption whose negation is banned can't be made: the answer is `Memory`.
     pub fn solve(&mut self, assumed: &[Lit], log: &mut Log, tally: &mut Tally) -> Outcome
         requires assumed { AreOwn self.old.problem.own assumed.now }
         requires log { HasLog self.old log.old }
         requires few_learned { tally.old.learned < 2 ^ 126 }
         requires few_calls { tally.old.calls < 2 ^ 126 }
         ensures answer { AnswerSays self.new assumed.now log.new tally.new result }
+        ensures askable { result ≢ Memory → AreAskable self.old.problem.banned assumed.now }
         ensures log { HasLog self.new log.new }
         ensures no_block { ContainNone self.old.blocks (length log.old) log.new }
         ensures problem { self.new.problem ≡ self.old.problem }
@@ -167,6 +242,9 @@ impl<'g> Solver<'g> {
         tally.calls += 1;
         // A clause is learned for at most each literal that is placed, so the count of learned clauses has room.
         prove!(tally.limit <= u64::MAX);
+        if !self.search.allows(assumed) {
+            return Outcome::Memory;
+        }
         if let Err(_) = self.search.prepare(assumed) {
             return Outcome::Memory;
         }
@@ -184,6 +262,7 @@ impl<'g> Solver<'g> {
     }
 
     /// Takes the solver's trail away, for another part, until the solver is resumed. What it has learned stays.
+    #[tactic(auto, using(crate::proofs::SolverLemmas::is_aside))]
     pub fn suspend(self) -> (Suspended<'g>, Trail)
         ensures problem { result.0.problem ≡ self.entry.problem }
         ensures blocks { result.0.blocks ≡ self.entry.blocks }
@@ -197,7 +276,7 @@ impl<'g> Solver<'g> {
             trail,
             mut preferences,
         } = search;
-        note_answer(&trail, clauses.own(), &mut preferences);
+        note_answer(&trail, clauses.own(), clauses.banned(), &mut preferences);
         let suspended = Suspended {
             alloc,
             clauses,
@@ -231,15 +310,14 @@ pub struct Suspended<'g> {
 }
 
 impl<'g> Model for Suspended<'g> {
-    ghost use Rattle.std.specs.Prelude.{All};
-    ghost use Rattle.pc_solver.specs.Clauses.{IsOverOwn};
     ghost use Rattle.pc_solver.specs.Solver.{SuspendedView, suspended_as};
+    ghost use Rattle.pc_solver.specs.inside.Search.{IsAside};
 
     ghost Value = { SuspendedView };
 
     ghost view = { λ s. suspended_as s.clauses };
 
-    ghost invariant = { λ s. All (λ clause. IsOverOwn s.clauses.own clause) s.clauses.more };
+    ghost invariant = { λ s. IsAside s.clauses };
 }
 
 impl<'g> Suspended<'g> {
@@ -250,7 +328,8 @@ impl<'g> Suspended<'g> {
         ensures problem { IfOk result (λ s. s.problem ≡ self.entry.problem) }
         ensures variables { IfOk result (λ s. s.variables ≡ trail.variables) }
         ensures blocks { IfOk result (λ s. s.blocks ≡ self.entry.blocks) }
-        ensures trues { IfOk result (λ s. s.trues ≡ []) }
+        ensures trues { IfOk result (λ s. s.trues ≡ trues_of self.entry.problem.own
+            self.entry.problem.banned []) }
         ensures log { (log : List LogLine) → SuspendedHasLog self.entry log →
             IfOk result (λ s. HasLog s log) }
     {
@@ -290,11 +369,9 @@ fn attach_used(
     own: &[Var],
     trail: &mut Trail,
 ) -> Result<(), AllocError>
-    requires problem { IsProblem trail.old.variables (record {
-      axioms = axioms.now;
-      used = used.now;
-      own = own.now;
-    }) }
+    requires used_in { All (λ n. n < length axioms.now) used.now }
+    requires own_in { All (λ v. v.0 < trail.old.variables) own.now }
+    requires over_own { All (λ n. IsOverOwn own.now (slice_index_or axioms.now n [])) used.now }
     requires blank { IsBlank trail.old }
     requires over { (more : List (List Lit)) → IsOver axioms.now more trail.old }
     ensures variables { trail.new.variables ≡ trail.old.variables }

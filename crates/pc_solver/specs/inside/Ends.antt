@@ -1,5 +1,5 @@
 -- What parts of a search come to.
-use Rattle.std.specs.Prelude.{◌≡◌, ℕ, ◌<◌, ◌⊎◌, Option, Some, None, IsNone, List, Contains}
+use Rattle.std.specs.Prelude.{◌≡◌, ℕ, ◌<◌, ◌⊎◌, Bool, Option, Some, None, IsNone, List, Contains}
 use Rattle.pc_lits.specs.declared.literal.Var.{Var}
 use Rattle.pc_lits.specs.declared.literal.Lit.{Lit}
 use Rattle.pc_lits.specs.declared.tally.Tally.{Tally}
@@ -12,6 +12,7 @@ use Rattle.pc_propagate.specs.declared.clauses.ClauseRef.{ClauseRef}
 use Rattle.pc_propagate.specs.declared.clauses.ClauseRef.TheVariants.{More}
 use Rattle.pc_propagate.specs.Quiet.{IsQuiet}
 use Rattle.pc_lits.specs.Literals.{negated}
+use Rattle.pc_lits.specs.Values.{MakesTrue}
 use Rattle.pc_lits.specs.Steps.{IsLastOpen}
 use Rattle.pc_solver.specs.declared.learning.Learnt.{Learnt}
 use Rattle.pc_solver.specs.declared.learning.Learnt.TheVariants.{Asserting, Restarted}
@@ -23,12 +24,14 @@ use Rattle.pc_solver.specs.declared.decisions.Next.TheVariants.{Place, Failed, D
 use Rattle.pc_solver.specs.declared.outcome.Outcome.{Outcome}
 use Rattle.pc_solver.specs.declared.outcome.Outcome.TheVariants.{Sat, Unsat, Spent, Memory}
 use Rattle.pc_solver.specs.Clauses.{ClausesView, IsGiven}
+use Rattle.pc_solver.specs.Banned.{trues_of}
+use Rattle.pc_solver.specs.inside.Banning.{AreSet}
 use Rattle.pc_solver.specs.InLog.{StandsInLog, IsLastStep}
 use Rattle.pc_solver.specs.inside.Search.{SearchView, AreTrue, Advances, IsUnderWay}
 
--- each used axiom and each block has a literal that is true by the entries
+-- each used axiom and each block has a literal that is true by the entries, or a banned one of a variable without a value
 abbrev pub AreMet : ClausesView → List TrailEntry → Type 0
-AreMet c entries = (r : ClauseRef) → IsGiven c r → (m : Lit) × Contains (clause_at c.axioms c.more r) m × Contains (literals entries) m
+AreMet c entries = (r : ClauseRef) → IsGiven c r → (m : Lit) × Contains (clause_at c.axioms c.more r) m × Contains (trues_of c.own c.banned (literals entries)) m
 
 -- what a search that ends says of its clauses, entries and log
 abbrev pub EndSays : SearchView → List Lit → List LogLine → Tally → Outcome → Type 0
@@ -68,10 +71,11 @@ pub record Turns (old new : SearchView) (assumed : List Lit) (before after : Tal
   pub says : TurnSays new assumed grown before after ended
 
 -- what is to be decided next
-abbrev pub DecisionSays : List Var → List TrailEntry → List Lit → Next → Type 0
-DecisionSays own entries assumed (Place l) = Contains own l.variable × (¬ HasValue entries l.variable) × (Contains assumed l ⊎ AreTrue entries assumed)
-DecisionSays own entries assumed (Failed l) = Contains assumed l × Contains (falses entries) l
-DecisionSays own entries assumed Done = AreTrue entries assumed × ((v : Var) → Contains own v → HasValue entries v)
+abbrev pub DecisionSays : List Var → List (Option Bool) → List TrailEntry → List Lit → Next → Type 0
+DecisionSays own banned entries assumed (Place l) =
+    Contains own l.variable × (¬ HasValue entries l.variable) × (Contains assumed l ⊎ AreTrue entries assumed) × (¬ MakesTrue banned (negated l))
+DecisionSays own banned entries assumed (Failed l) = Contains assumed l × Contains (falses entries) l
+DecisionSays own banned entries assumed Done = AreTrue entries assumed × AreSet own banned entries
 
 -- what is to be done next of the assumptions
 abbrev pub NextSays : List TrailEntry → List Lit → Next → Type 0

@@ -19,7 +19,7 @@ pub invariant_of-self : goal.invariant_of-self
 invariant_of-self c =
     let says = subst (λ (s : SearchView). LearntSays s (Asserting c.args.lit c.args.number)) (sym c.self.view_is) c.requires in
     search_placed c.quiet_is_kept.ensures c.self.inside.clauses (record { literal = c.args.lit; reason = Some (More c.args.number) }) c.self.inside.trail c.imply.new.self c.args.tally.now c.imply.new.tally c.imply.result c.self.invariant c.imply.ensures.placed
-    (c.imply.ensures.over _ _ c.self.invariant.over says.0 says.1) says.3 (λ none. absurd (no_decision (More c.args.number) none))
+    (c.imply.ensures.over _ _ c.self.invariant.over says.0 says.1) says.3 (λ none. absurd (no_decision (More c.args.number) none)) (λ none. absurd (no_decision (More c.args.number) none))
 
 pub returns-clause-placed : goal.returns-clause-placed
 returns-clause-placed c = subst (λ (s : SearchView). PlacesEntry (record { literal = c.args.lit; reason = Some (More c.args.number) }) s.trail c.imply.new.self c.args.tally.now c.imply.new.tally c.imply.result) c.self.view_is c.imply.ensures.placed

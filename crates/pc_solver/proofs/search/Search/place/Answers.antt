@@ -1,6 +1,8 @@
 use Rattle.std.proofs.Common.{None, ◌<◌, Contains, sym, subst}
 use Rattle.std.proofs.lemmas.List.Elements.{All-contains}
 use Rattle.pc_lits.specs.declared.literal.Var.{Var}
+use Rattle.pc_lits.specs.Literals.{negated}
+use Rattle.pc_lits.specs.Values.{MakesTrue}
 use Rattle.pc_propagate.specs.Counts.{PlacesEntry}
 use Rattle.pc_propagate.specs.Quiet.{IsQuiet}
 use Rattle.pc_solver.specs.inside.Search.{SearchView}
@@ -15,6 +17,7 @@ pub invariant_of-self : goal.invariant_of-self
 invariant_of-self c =
     search_placed c.quiet_is_kept.ensures c.self.inside.clauses (record { literal = c.args.lit; reason = None }) c.self.inside.trail c.place.new.self c.args.tally.now c.place.new.tally c.place.result c.self.invariant c.place.ensures.placed (c.place.ensures.over _ _ c.self.invariant.over)
     (subst (λ (s : SearchView). Contains s.clauses.own c.args.lit.variable) (sym c.self.view_is) c.requires.own) (λ none. subst (λ (s : SearchView). IsQuiet s.clauses.axioms s.clauses.more s.trail) (sym c.self.view_is) c.requires.quiet)
+    (λ none. subst (λ (s : SearchView). ¬ MakesTrue s.clauses.banned (negated c.args.lit)) (sym c.self.view_is) c.requires.askable)
 
 pub returns-clause-placed : goal.returns-clause-placed
 returns-clause-placed c = subst (λ (s : SearchView). PlacesEntry (record { literal = c.args.lit; reason = None }) s.trail c.place.new.self c.args.tally.now c.place.new.tally c.place.result) c.self.view_is c.place.ensures.placed
