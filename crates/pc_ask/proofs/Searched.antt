@@ -75,7 +75,7 @@ module _ (parts : PartsAreSearched) (book : Sheet) (formed : IsWellFormed book) 
   abbrev sizes : List ℕ
   sizes = cell_sizes book.universe
 
-  pub searched : AreSearchedBy book (sheet_of book o.part) cells o.axioms own
+  pub searched : AreSearchedBy book (sheet_of book o.part) cells o.axioms own []
   searched =
       let found = parts_are_found book formed in
       parts book formed (parts_of book) (parts_are_a_division book (parts_of book) formed found) o.part o.is.there
@@ -97,7 +97,7 @@ module _ (parts : PartsAreSearched) (book : Sheet) (formed : IsWellFormed book) 
       used_in : All (λ n. n < length (clauses book)) used
       used_in = all_from (λ n. n < length (clauses book)) used (λ n c. ((used_are n).0 c).0)
 
-      pub part_problem : IsProblem (variable_count book) (problem_of book used own)
+      pub part_problem : IsProblem (variable_count book) (problem_of book used own [])
       part_problem = record {
         few = few;
         used_in = used_in;
@@ -139,7 +139,7 @@ module _ (parts : PartsAreSearched) (book : Sheet) (formed : IsWellFormed book) 
         }
 
         -- where no truth values meet what is assumed, the entries can't stand together
-        pub part_falls : AxiomsAreForTheirSheet → ((v : Var → Bool) → ¬ Meets v (clauses_used (problem_of book used own)) [] assumed) → ¬ IsConsistent book set
+        pub part_falls : AxiomsAreForTheirSheet → ((v : Var → Bool) → ¬ Meets v (clauses_used (problem_of book used own [])) [] assumed) → ¬ IsConsistent book set
         part_falls whole none (a, shows) =
             let m = (whole book formed).meets a shows.assigns shows.fits in
             let values : HasValues (cell_sizes book.universe) (map number_of cells) m.0 a = (λ c there.
@@ -155,7 +155,7 @@ module _ (parts : PartsAreSearched) (book : Sheet) (formed : IsWellFormed book) 
             })
 
         -- where some do, an assignment that fits the part has the entries
-        pub part_shown : (v : Var → Bool) → Meets v (clauses_used (problem_of book used own)) [] assumed → (a : List ValueId) × IsAssignment book.universe a × Fits (sheet_of book o.part) a × HasAll a set
+        pub part_shown : (v : Var → Bool) → Meets v (clauses_used (problem_of book used own [])) [] assumed → (a : List ValueId) × IsAssignment book.universe a × Fits (sheet_of book o.part) a × HasAll a set
         part_shown v m =
             let met = met_are_used (clauses book) used v m.axioms_true in
             let f = searched.searched.are_for.fits v (λ k c clause at. met k (axiom_used k c) clause at) in (
@@ -168,7 +168,7 @@ module _ (parts : PartsAreSearched) (book : Sheet) (formed : IsWellFormed book) 
             )
 
         pub part_stands : (sheet : Sheet) (f : Statement) → book ≡ asked sheet f → (fitting : List ValueId) → IsFitting sheet fitting
-            → (v : Var → Bool) → Meets v (clauses_used (problem_of book used own)) [] assumed → IsConsistent book set
+            → (v : Var → Bool) → Meets v (clauses_used (problem_of book used own [])) [] assumed → IsConsistent book set
         part_stands sheet f is fitting fit v m =
             let s = part_shown v m in
             laid_here book is formed o.is s.0 s.1 s.2 s.3 part_at
@@ -182,7 +182,7 @@ module _ (parts : PartsAreSearched) (book : Sheet) (formed : IsWellFormed book) 
 
       -- ---- logs
 
-      module _ (log : List LogLine) (h : IsSolverLog (problem_of book used own) [] log) where
+      module _ (log : List LogLine) (h : IsSolverLog (problem_of book used own []) [] log) where
         own_there : (v : Var) → Contains own v → Contains (all_variables book) v
         own_there v c = contains_map variable_of (range_with_len 0 (variable_count book)) v.0 (is_number (variable_count book) v.0 (All-contains (λ (w : Var). w.0 < variable_count book) own v own_below c))
 
@@ -230,23 +230,23 @@ module _ (parts : PartsAreSearched) (book : Sheet) (formed : IsWellFormed book) 
 
   module _ (used : List ℕ) (used_are : AreAxiomsOver (clauses book) own used) (store : List (List Lit)) (store_is : store ≡ g.clauses) where
     abbrev by_store : List (List Lit) → Problem
-    by_store a = record { axioms = a; used = used; own = own }
+    by_store a = record { axioms = a; used = used; own = own; banned = [] }
 
     clauses_are : store ≡ clauses book
     clauses_are = store_is ∙ ap (λ (x : Grounded). x.clauses) ground_is
 
-    pub new_problem : (n : ℕ) → n ≡ g.variables → IsProblem n (record { axioms = store; used = used; own = own })
+    pub new_problem : (n : ℕ) → n ≡ g.variables → IsProblem n (record { axioms = store; used = used; own = own; banned = [] })
     new_problem n many =
         subst (λ (m : ℕ). IsProblem m (by_store store)) (sym (many ∙ ap (λ (x : Grounded). x.variables) ground_is))
         (subst (λ a. IsProblem (variable_count book) (by_store a)) (sym clauses_are) (part_problem parts book formed cells own o few_here used used_are))
 
-    pub new_asked : (s : SolverView) → s.problem ≡ record { axioms = store; used = used; own = own } → s.blocks ≡ [] → HasLog s [] → IsAsked book own s []
+    pub new_asked : (s : SolverView) → s.problem ≡ record { axioms = store; used = used; own = own; banned = [] } → s.blocks ≡ [] → HasLog s [] → IsAsked book own s []
     new_asked s problem none has = record { cells = cells; over = o; used = used; used_are = used_are; problem = problem ∙ ap by_store clauses_are; blocks_are = none; has = has }
 
 -- ---- what a solver is asked
 
 module _ (parts : PartsAreSearched) (book : Sheet) (g : Grounded) (t : IsTask book g) (own : List Var) (s : SolverView) (log : List LogLine) (a : IsAsked book own s log) where
-  lawful_here : IsSolverLog (problem_of book a.used own) [] log
+  lawful_here : IsSolverLog (problem_of book a.used own []) [] log
   lawful_here = subst (λ p. IsSolverLog p [] log) a.problem (subst (λ bs. IsSolverLog s.problem bs log) a.blocks_are a.has.lawful)
 
   module _ (set : List Entry) (askable : All (IsAskable book) set) (given : List Lit) (given_is : given ≡ map (entry_literal (cell_sizes book.universe)) set) where
@@ -255,15 +255,15 @@ module _ (parts : PartsAreSearched) (book : Sheet) (g : Grounded) (t : IsTask bo
         subst (λ p. AreOwn p.own given) (sym a.problem) (subst (AreOwn own) (sym given_is) (part_assumed parts book t.formed a.cells own a.over t.few a.used a.used_are set askable))
 
     module _ (s' : SolverView) (problem : s'.problem ≡ s.problem) (blocks : s'.blocks ≡ s.blocks) where
-      met_here : (v : Var → Bool) → Meets v (clauses_used s'.problem) s'.blocks given → Meets v (clauses_used (problem_of book a.used own)) [] (map (entry_literal (cell_sizes book.universe)) set)
+      met_here : (v : Var → Bool) → Meets v (clauses_used s'.problem) s'.blocks given → Meets v (clauses_used (problem_of book a.used own [])) [] (map (entry_literal (cell_sizes book.universe)) set)
       met_here v m =
-          subst (Meets v (clauses_used (problem_of book a.used own)) []) given_is
-          (subst (λ bs. Meets v (clauses_used (problem_of book a.used own)) bs given) (blocks ∙ a.blocks_are) (subst (λ p. Meets v (clauses_used p) s'.blocks given) (problem ∙ a.problem) m))
+          subst (Meets v (clauses_used (problem_of book a.used own [])) []) given_is
+          (subst (λ bs. Meets v (clauses_used (problem_of book a.used own [])) bs given) (blocks ∙ a.blocks_are) (subst (λ p. Meets v (clauses_used p) s'.blocks given) (problem ∙ a.problem) m))
 
-      met_back : (v : Var → Bool) → Meets v (clauses_used (problem_of book a.used own)) [] (map (entry_literal (cell_sizes book.universe)) set) → Meets v (clauses_used s'.problem) s'.blocks given
+      met_back : (v : Var → Bool) → Meets v (clauses_used (problem_of book a.used own [])) [] (map (entry_literal (cell_sizes book.universe)) set) → Meets v (clauses_used s'.problem) s'.blocks given
       met_back v m =
           subst (λ p. Meets v (clauses_used p) s'.blocks given) (sym (problem ∙ a.problem))
-          (subst (λ bs. Meets v (clauses_used (problem_of book a.used own)) bs given) (sym (blocks ∙ a.blocks_are)) (subst (Meets v (clauses_used (problem_of book a.used own)) []) (sym given_is) m))
+          (subst (λ bs. Meets v (clauses_used (problem_of book a.used own [])) bs given) (sym (blocks ∙ a.blocks_are)) (subst (Meets v (clauses_used (problem_of book a.used own [])) []) (sym given_is) m))
 
       pub given_stands : Meets (truth_in s'.trues) (clauses_used s'.problem) s'.blocks given → IsConsistent book set
       given_stands m = part_stands parts book t.formed a.cells own a.over t.few a.used a.used_are set askable t.sheet t.f t.is t.fitting t.fit (truth_in s'.trues) (met_here (truth_in s'.trues) m)

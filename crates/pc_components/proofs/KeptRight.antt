@@ -1,5 +1,5 @@
 -- The rows turned round are the cells, the axioms and the variables of the parts.
-use Rattle.std.proofs.Common.{◌≡◌, ℕ, zero, suc, ◌+◌, ◌<◌, ◌≤◌, ◌^◌, ◌⊎◌, ◌↔◌, inl, inr, List, [], ◌∷◌, map, length, All, AllPairs, Contains, Some, slice_get, refl, ap, sym, ◌∙◌, subst, arith}
+use Rattle.std.proofs.Common.{◌≡◌, ℕ, zero, suc, ◌+◌, ◌<◌, ◌≤◌, ◌^◌, ◌⊎◌, ◌↔◌, inl, inr, Bool, List, [], ◌∷◌, map, length, All, AllPairs, Contains, Option, Some, slice_get, refl, ap, sym, ◌∙◌, subst, arith}
 use Rattle.std.specs.List.{filter, range_with_len, AllZip}
 use Rattle.std.proofs.lemmas.List.{length-map}
 use Rattle.std.proofs.lemmas.List.Elements.{All-contains}
@@ -331,8 +331,8 @@ module _ (sheet : Sheet) (formed : IsWellFormed sheet) where
         (λ i used at. let e : i ≡ 0 + i = omega arith in subst (λ k. AreVariablesOf (clauses sheet) used (places_from 0 rows k)) e (variables_right sheet axs bound i used bound_is at)))
 
     module _ (kept_cells : List (List CellId)) (kept_axioms : List (List ℕ)) (kept_variables : List (List Var)) (kc : map (map number_of) kept_cells ≡ cells) (ka : kept_axioms ≡ axs) (kv : map (map variable_number) kept_variables ≡ vars) where
-      pub all_right : AreComponentsOf sheet (record { cells = kept_cells; axioms = kept_axioms; variables = kept_variables; numbers = cells_by })
-      all_right = record {
+      pub all_right : (banned : List (Option Bool)) → banned ≡ [] → AreComponentsOf sheet (record { cells = kept_cells; axioms = kept_axioms; variables = kept_variables; numbers = cells_by; banned = banned })
+      all_right banned none = record {
         cells = kc ∙ cells_kept;
         axioms = subst (AllZip (AreAxiomsOf sheet) (parts_of sheet)) (sym ka) axioms_kept;
         variables =
@@ -340,6 +340,7 @@ module _ (sheet : Sheet) (formed : IsWellFormed sheet) where
             (subst (λ xs. AllZip (AreVariablesOf (clauses sheet)) xs (map (map variable_number) kept_variables)) (sym ka) (subst (AllZip (AreVariablesOf (clauses sheet)) axs) (sym kv) variables_kept));
         many_numbers = many_cells sheet count cells_by pieces_by has;
         numbers = in_its_part cells_by has.cells;
+        banned = none;
       }
 
       cells_many : length kept_cells ≡ count

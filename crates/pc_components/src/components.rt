@@ -17,7 +17,7 @@ use crate::turned::turn;
 use crate::variables::variables_of_parts;
 use pc_books::{Book, few_cells, well_formed};
 use pc_ground::Ground;
-use pc_lits::{Rows, Var};
+use pc_lits::{Rows, Values, Var};
 use pc_sheet::CellId;
 use std::alloc::{AllocError, Global};
 use std::marker::Model;
@@ -31,6 +31,8 @@ pub struct Part<'a> {
     pub axioms: &'a [u32],
     /// The variables that its axioms name, in order.
     pub variables: &'a [Var],
+    /// No clause that is learned has a literal that these values make true.
+    pub banned: &'a Values,
 }
 
 /// The parts of a book in order: by their first cell, and last the part without cells, where there is one.
@@ -40,6 +42,7 @@ pub struct Components {
     axioms: Rows<u32>,
     variables: Rows<Var>,
     numbers: Vec<usize>,
+    banned: Values,
 }
 
 impl Model for Components {
@@ -48,7 +51,7 @@ impl Model for Components {
 
     ghost Value = { Kept };
 
-    ghost view = { λ c. record { cells = c.cells; axioms = c.axioms; variables = c.variables; numbers = c.numbers.items } };
+    ghost view = { λ c. record { cells = c.cells; axioms = c.axioms; variables = c.variables; numbers = c.numbers.items; banned = c.banned } };
 
     ghost invariant = { λ c. AreAsMany c.cells c.axioms × AreAsMany c.cells c.variables };
 }
@@ -67,11 +70,13 @@ impl Components {
         ensures cells { slice_get self.now.cells i ≡ Some result.cells.now }
         ensures axioms { slice_get self.now.axioms i ≡ Some result.axioms.now }
         ensures variables { slice_get self.now.variables i ≡ Some result.variables.now }
+        ensures banned { result.banned.now ≡ self.now.banned }
     {
         Part {
             cells: self.cells.get(i),
             axioms: self.axioms.get(i),
             variables: self.variables.get(i),
+            banned: &self.banned,
         }
     }
 
@@ -91,14 +96,15 @@ impl Components {
         first_cells(alloc, &self.cells, &self.numbers)
     }
 
-    /// The same parts, each with these axioms in the place of its own, and with the variables that they name. An error is want
-    /// of memory.
+    /// The same parts, each with these axioms in the place of its own, and with the variables that they name. What the values make
+    /// true is banned. An error is want of memory.
     pub fn with_axioms(
         &self,
         alloc: Global,
         book: &Book,
         ground: &Ground,
         axioms: &Rows<usize>,
+        banned: Values,
     ) -> Result<Components, AllocError>
         requires ground { ground.now ≡ grounded book.now }
         requires many { length axioms.now ≡ length self.now.cells }
@@ -106,6 +112,7 @@ impl Components {
         ensures cells { IfOk result (λ c. c.cells ≡ self.now.cells) }
         ensures numbers { IfOk result (λ c. c.numbers ≡ self.now.numbers) }
         ensures axioms { IfOk result (λ c. c.axioms ≡ axioms.now) }
+        ensures banned { IfOk result (λ c. c.banned ≡ banned) }
         ensures variables { IfOk result
             (λ c.
             AllZip (λ used own. AreVariablesOf (clauses book.now) used (map variable_number own))
@@ -124,6 +131,7 @@ impl Components {
             axioms: rows_of_axioms(alloc, axioms)?,
             variables: rows_of_variables(alloc, &variables)?,
             numbers: numbers_copied(alloc, &self.numbers)?,
+            banned,
         })
     }
 }
@@ -153,10 +161,12 @@ pub fn find_components(
     )?;
     let cells = turn(alloc, &rows_of_each(alloc, &numbers.cells)?, numbers.parts)?;
     let PartNumbers { cells: numbers, .. } = numbers;
+    let banned = Values::new(alloc, 0)?;
     Ok(Components {
         cells: rows_of_cells(alloc, &cells)?,
         axioms: rows_of_axioms(alloc, &axioms)?,
         variables: rows_of_variables(alloc, &variables)?,
         numbers,
+        banned,
     })
 }

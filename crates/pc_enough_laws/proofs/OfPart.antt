@@ -1,5 +1,5 @@
 -- What is spent on a part is less than enough.
-use Rattle.std.proofs.Common.{◌≡◌, ℕ, suc, ◌+◌, ◌*◌, ◌-◌, ◌^◌, ◌<◌, ◌≤◌, List, map, length, get_or, sum_by, All, Option, arith}
+use Rattle.std.proofs.Common.{◌≡◌, ℕ, suc, ◌+◌, ◌*◌, ◌-◌, ◌^◌, ◌<◌, ◌≤◌, List, map, length, get_or, sum_by, All, Option, arith, []}
 use Rattle.std.proofs.Math.Nat.{pow-suc, one-le-pow}
 use Rattle.std.proofs.lemmas.Nat.{mul-le}
 use Rattle.std.proofs.lemmas.List.Sums.{sum_by-le}
@@ -37,7 +37,7 @@ module _ (sheet : Sheet) (formed : IsWellFormed sheet) (part : Part) (used : Lis
       let each : All (λ log. marked log ≤ three - 1) s.logs.items = λ k d l.
       let log = get_or s.logs.items k d in
       let good = spent.logs k d l in
-      let less : marked log < three = logs_learn_few (problem_of sheet used own) given.0 given.1 given.2 good.blocks log good.lawful in
+      let less : marked log < three = logs_learn_few (problem_of sheet used own []) given.0 given.1 given.2 good.blocks log good.lawful in
       omega (arith, less) in
       let total : sum_by marked s.logs.items ≤ length s.logs.items * (three - 1) = sum_by-le marked (three - 1) s.logs.items each in
       let most : length s.logs.items * (three - 1) ≤ 3 * (three - 1) = mul-le (length s.logs.items) (three - 1) 3 (three - 1) spent.few_logs (omega arith) in

@@ -107,7 +107,7 @@ whole_learns_few sheet logs tally spent =
     let each : All (λ log. marked log ≤ 3 ^ v) logs = λ k d l.
     let log = get_or logs k d in
     let good : IsWholeLog sheet log = spent.lawful k d l in
-    subst (λ n. marked log ≤ 3 ^ n) (many sheet) (learn_most (all_variables sheet) (clauses_used (problem_of sheet (all_axioms sheet) (all_variables sheet))) log good.lawful.over_own good.lawful.new) in
+    subst (λ n. marked log ≤ 3 ^ n) (many sheet) (learn_most (all_variables sheet) (clauses_used (problem_of sheet (all_axioms sheet) (all_variables sheet) [])) log good.lawful.over_own good.lawful.new) in
     omega (arith, three_logs logs (3 ^ v) each spent.few_logs, next_power v, spent.learned)
 
 learns_less : (sheet : Sheet) → IsWellFormed sheet → 1 ≤ variable_count sheet → (logs : List (List LogLine)) (tally : Tally) → IsWholeSpending sheet logs tally → tally.learned < 3 ^ (variable_count sheet + 1)
@@ -118,7 +118,7 @@ learns_less sheet formed some logs tally spent =
     let each : All (λ log. marked log ≤ 3 ^ v - 1) logs = λ k d l.
     let log = get_or logs k d in
     let good : IsWholeLog sheet log = spent.lawful k d l in
-    let less : marked log < 3 ^ v = subst (λ n. marked log < 3 ^ n) (many sheet) (logs_learn_few (problem_of sheet (all_axioms sheet) (all_variables sheet)) given.0 given.1 given.2 good.blocks log good.lawful) in
+    let less : marked log < 3 ^ v = subst (λ n. marked log < 3 ^ n) (many sheet) (logs_learn_few (problem_of sheet (all_axioms sheet) (all_variables sheet) []) given.0 given.1 given.2 good.blocks log good.lawful) in
     omega (arith, less) in
     omega (arith, one, three_logs logs (3 ^ v - 1) each spent.few_logs, next_power v, spent.learned)
 

@@ -21,7 +21,7 @@ use Rattle.pc_kept.proofs.FromStored.{node_number}
 use Rattle.pc_kept.proofs.Meant.{IsBefore, not_itself, Tells, axiom_tells}
 use Rattle.pc_kept.proofs.Ranks.{rank_of}
 
-none_some : {X : Type 0} {x : X} → None ≡ Some x → ⊥
+pub none_some : {X : Type 0} {x : X} → None ≡ Some x → ⊥
 none_some e = absurd (cc)
 
 -- what an axiom means is a node

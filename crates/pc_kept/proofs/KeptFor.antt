@@ -56,7 +56,7 @@ one_of_two l m n has = elim (contains_cases l (m ∷ []) n has) [
 ]
 
 module _ (sheet : Sheet) (formed : IsWellFormed sheet) (all : List Part) (division : IsDivision sheet all) (part : Part) (there : Contains all part) (used kept : List ℕ) (banned : List (Option Bool))
-    (of : AreAxiomsOf sheet part used) (are : AreKeptByPolarity sheet used kept banned) (v : Var → Bool) (met : MeetsUsed (clauses sheet) kept v) where
+    (of : AreAxiomsOf sheet part used) (are : AreKeptByPolarity sheet banned used kept) (v : Var → Bool) (met : MeetsUsed (clauses sheet) kept v) where
   abbrev cells : List ValueId
   cells = own sheet formed all division part there used kept banned of are v met
 

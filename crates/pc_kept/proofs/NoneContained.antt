@@ -89,5 +89,5 @@ kept_are_by_polarity sheet used kept banned none are = record {
   among = are.among;
   each = λ k g k_used at. elim (are.each k g k_used at) [ inl stays ↦ inl stays | inr out ↦ inr (inl out) ];
   order = are.order;
-  only = λ l is. absurd (none (lit_of sheet l) is);
+  only = λ l there is. absurd (none (lit_of sheet l) is);
 }

@@ -65,7 +65,7 @@ same_truth false true h g = h.1 (g.0 refl)
 same_truth false false h g = refl
 
 module _ (sheet : Sheet) (formed : IsWellFormed sheet) (all : List Part) (division : IsDivision sheet all) (part : Part) (there : Contains all part) (used kept : List ℕ) (banned : List (Option Bool))
-    (of : AreAxiomsOf sheet part used) (are : AreKeptByPolarity sheet used kept banned) (v : Var → Bool) (met : MeetsUsed (clauses sheet) kept v) where
+    (of : AreAxiomsOf sheet part used) (are : AreKeptByPolarity sheet banned used kept) (v : Var → Bool) (met : MeetsUsed (clauses sheet) kept v) where
   -- ---- kept axioms
 
   abbrev pairs : ℕ

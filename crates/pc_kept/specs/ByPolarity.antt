@@ -6,6 +6,7 @@ use Rattle.pc_sheet.specs.Sheet.{Sheet}
 use Rattle.pc_sheet.specs.WellFormed.{IsWellFormed}
 use Rattle.pc_accept.specs.Literals.{Symbol, node, Literal, opposite}
 use Rattle.pc_accept.specs.Axioms.{Axiom, axiom_some, axiom_one, axiom_rule, axiom_node, axiom_atom}
+use Rattle.pc_ground.specs.Variables.{variables}
 use Rattle.pc_ground.specs.Ground.{GroundAxiom, axioms, lit_of, clauses}
 use Rattle.pc_parts.specs.Parts.{Part, IsDivision}
 use Rattle.pc_parts.specs.PartSheets.{sheet_of}
@@ -37,25 +38,25 @@ IsBannedOut sheet kept banned g = (l : Literal) × IsOwnLiteral g l × MakesTrue
 
 -- The kept numbers are some of the used ones, in order; each other used one is of an axiom that is left out anyway, or whose own
 -- literal is banned. Banned is no literal of a pair, and none whose opposite a kept axiom names.
-pub record AreKeptByPolarity (sheet : Sheet) (used kept : List ℕ) (banned : List (Option Bool)) : Type 0 where
+pub record AreKeptByPolarity (sheet : Sheet) (banned : List (Option Bool)) (used kept : List ℕ) : Type 0 where
   pub among : (k : ℕ) → Contains kept k → Contains used k
   pub each : (k : ℕ) (g : GroundAxiom) → Contains used k → slice_get (axioms sheet) k ≡ Some g → Contains kept k ⊎ (IsLeftOut sheet kept g ⊎ IsBannedOut sheet kept banned g)
   pub order : AllPairs (λ j k. j < k) kept
-  pub only : (l : Literal) → MakesTrue banned (lit_of sheet l) → IsNode l.what × (¬ IsNamedBy sheet kept (opposite l))
+  pub only : (l : Literal) → Contains (variables sheet) l.what → MakesTrue banned (lit_of sheet l) → IsNode l.what × (¬ IsNamedBy sheet kept (opposite l))
 
 -- where nothing is banned, these are the kept ones
 abbrev pub KeptByPolarityAreKept : Type 0
-KeptByPolarityAreKept = (sheet : Sheet) (used kept : List ℕ) (banned : List (Option Bool)) → ((l : Lit) → ¬ MakesTrue banned l) → AreKeptByPolarity sheet used kept banned → AreKept sheet used kept
+KeptByPolarityAreKept = (sheet : Sheet) (used kept : List ℕ) (banned : List (Option Bool)) → ((l : Lit) → ¬ MakesTrue banned l) → AreKeptByPolarity sheet banned used kept → AreKept sheet used kept
 
 -- and the kept ones are these
 abbrev pub KeptAreByPolarity : Type 0
-KeptAreByPolarity = (sheet : Sheet) (used kept : List ℕ) (banned : List (Option Bool)) → ((l : Lit) → ¬ MakesTrue banned l) → AreKept sheet used kept → AreKeptByPolarity sheet used kept banned
+KeptAreByPolarity = (sheet : Sheet) (used kept : List ℕ) (banned : List (Option Bool)) → ((l : Lit) → ¬ MakesTrue banned l) → AreKept sheet used kept → AreKeptByPolarity sheet banned used kept
 
 -- A clause over the variables of the kept axioms that contains none of them, no literal that they force, and none that is banned,
 -- contains none of the used axioms.
 abbrev pub NoneIsContainedByPolarity : Type 0
 NoneIsContainedByPolarity =
-    (sheet : Sheet) → IsWellFormed sheet → (used kept own : List ℕ) (banned : List (Option Bool)) → AreKeptByPolarity sheet used kept banned → AreVariablesOf (clauses sheet) kept own
+    (sheet : Sheet) → IsWellFormed sheet → (used kept own : List ℕ) (banned : List (Option Bool)) → AreKeptByPolarity sheet banned used kept → AreVariablesOf (clauses sheet) kept own
     → (clause : List Lit) → ((l : Lit) → Contains clause l → Contains own l.variable.0)
     → ((l : Lit) → Contains clause l → ¬ IsForced (IsAmong (clauses sheet) kept) l)
     → ((l : Lit) → Contains clause l → ¬ MakesTrue banned l)
@@ -66,5 +67,5 @@ NoneIsContainedByPolarity =
 abbrev pub KeptByPolarityAreForTheirParts : Type 0
 KeptByPolarityAreForTheirParts =
     (sheet : Sheet) → IsWellFormed sheet → (all : List Part) → IsDivision sheet all → (part : Part) → Contains all part
-    → (used kept : List ℕ) (banned : List (Option Bool)) → AreAxiomsOf sheet part used → AreKeptByPolarity sheet used kept banned
+    → (used kept : List ℕ) (banned : List (Option Bool)) → AreAxiomsOf sheet part used → AreKeptByPolarity sheet banned used kept
     → AreFor (sheet_of sheet part) part.cells (clauses sheet) kept

@@ -1,5 +1,5 @@
 -- What kept axioms are worth.
-use Rattle.std.specs.Prelude.{◌≡◌, ℕ, ◌<◌, List, sum, map, Some, slice_get, AllPairs, Contains}
+use Rattle.std.specs.Prelude.{◌≡◌, ℕ, ◌<◌, Bool, List, sum, map, Option, Some, slice_get, AllPairs, Contains}
 use Rattle.pc_lits.specs.declared.literal.Lit.{Lit}
 use Rattle.pc_lits.specs.Clauses.{IsSubclause}
 use Rattle.pc_sheet.specs.Sheet.{Sheet}
@@ -17,6 +17,7 @@ use Rattle.pc_problem.specs.Laws.{AreSearchedBy}
 use Rattle.pc_lits.specs.declared.literal.Var.{Var}
 use Rattle.pc_solver.specs.Forced.{IsForced}
 use Rattle.pc_kept.specs.Kept.{IsAmong, AreKept}
+use Rattle.pc_kept.specs.ByPolarity.{AreKeptByPolarity}
 use Rattle.pc_kept.specs.Stored.{AreKeptStored}
 
 -- kept axioms of a part stand for the part's sheet on its cells, as all of them do
@@ -42,8 +43,9 @@ KeptByWhatIsStored =
     (sheet : Sheet) (used kept : List ℕ) → AllPairs (λ j k. j < k) used
     → AreKeptStored (sum (cell_sizes sheet.universe)) (clauses sheet) (names_of sheet).axioms used kept → AreKept sheet used kept
 
--- A part is searched on its cells by its kept axioms, over the variables that these name.
+-- A part is searched on its cells by its kept axioms, over the variables that these name; of each axiom's literals at most one has a banned
+-- negation.
 abbrev pub KeptPartsAreSearched : Type 0
 KeptPartsAreSearched = (sheet : Sheet) → IsWellFormed sheet → (all : List Part) → IsDivision sheet all → (part : Part) → Contains all part → ((c : ℕ) → Contains part.cells c → c < cell_count sheet.universe)
-    → (cells : List CellId) (used kept : List ℕ) (own : List Var) → map number_of cells ≡ part.cells → AreAxiomsOf sheet part used → AreKept sheet used kept → AreVariablesOf (clauses sheet) kept (map variable_number own)
-    → AreSearchedBy sheet (sheet_of sheet part) cells kept own
+    → (cells : List CellId) (used kept : List ℕ) (own : List Var) (banned : List (Option Bool)) → map number_of cells ≡ part.cells → AreAxiomsOf sheet part used → AreKeptByPolarity sheet banned used kept
+    → AreVariablesOf (clauses sheet) kept (map variable_number own) → AreSearchedBy sheet (sheet_of sheet part) cells kept own banned

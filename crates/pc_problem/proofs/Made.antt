@@ -1,5 +1,5 @@
 -- Books and their parts are searched.
-use Rattle.std.proofs.Common.{◌≡◌, ℕ, ◌+◌, ◌<◌, ◌^◌, List, [], map, length, get_or, slice_index_or, Some, slice_get, All, Contains, arith, ap, refl, sym, ◌∙◌, subst, zero-add}
+use Rattle.std.proofs.Common.{◌≡◌, ℕ, ◌+◌, ◌<◌, ◌^◌, Bool, List, [], map, length, get_or, slice_index_or, Option, Some, slice_get, All, Contains, arith, ap, refl, sym, ◌∙◌, subst, zero-add}
 use Rattle.std.specs.List.{range_with_len}
 use Rattle.std.proofs.lemmas.List.{get_or-map, length-map}
 use Rattle.std.proofs.lemmas.List.FromFn.{get_or-range_with_len, length-range_with_len}
@@ -27,8 +27,10 @@ use Rattle.pc_components.specs.View.{number_of, variable_number}
 use Rattle.pc_components.proofs.OwnAlone.{has_symbol}
 use Rattle.pc_components.proofs.PartFor.{pair_in, part_axioms_are_for_their_parts, axioms_are_for_their_sheet}
 use Rattle.pc_components.proofs.Symbols.{cell_there}
+use Rattle.pc_solver.specs.Banned.{AreLone}
 use Rattle.pc_solver.specs.Clauses.{IsOverOwn}
 use Rattle.pc_solver.specs.Solver.{IsProblem}
+use Rattle.pc_solver.proofs.BannedLemmas.{lone_anyway}
 use Rattle.pc_problem.specs.Laws.{problem_of, WholeIsSearched, PartsAreSearched}
 use Rattle.pc_problem.proofs.Entries.{on_distinct, on_cells, on_values, all_stay}
 
@@ -71,9 +73,9 @@ module _ (sheet : Sheet) where
       let below = number_below m.0.what (symbols_are_variables sheet g.0 g.1 m.0 m.1) in
       omega (arith, same, below)
 
-  module _ (used : List ℕ) (own : List Var) (used_in : All (λ n. n < length (clauses sheet)) used) (own_below : (v : Var) → Contains own v → v.0 < variable_count sheet)
-      (closed : (k : ℕ) → Contains used k → (clause : List Lit) → slice_get (clauses sheet) k ≡ Some clause → (l : Lit) → Contains clause l → Contains own l.variable) where
-    pub problem_made : length (clauses sheet) < 2 ^ 32 → IsProblem (variable_count sheet) (problem_of sheet used own)
+  module _ (used : List ℕ) (own : List Var) (banned : List (Option Bool)) (used_in : All (λ n. n < length (clauses sheet)) used) (own_below : (v : Var) → Contains own v → v.0 < variable_count sheet)
+      (closed : (k : ℕ) → Contains used k → (clause : List Lit) → slice_get (clauses sheet) k ≡ Some clause → (l : Lit) → Contains clause l → Contains own l.variable) (lone : AreLone banned (clauses sheet) used) where
+    pub problem_made : length (clauses sheet) < 2 ^ 32 → IsProblem (variable_count sheet) (problem_of sheet used own banned)
     problem_made few = record {
       few = few;
       used_in = used_in;
@@ -81,6 +83,7 @@ module _ (sheet : Sheet) where
       over_own = all_from (λ n. IsOverOwn own (slice_index_or (clauses sheet) n [])) used
           (λ n c. all_from (λ (l : Lit). Contains own l.variable) (slice_index_or (clauses sheet) n [])
           (λ l has. closed n c (slice_index_or (clauses sheet) n []) (slice_get-get_or (clauses sheet) n [] (All-contains (λ m. m < length (clauses sheet)) used n used_in c)) l has));
+      lone = lone;
     }
 
 pub at_slice : (xs : List (List Lit)) (k : ℕ) (x : List Lit) → slice_get xs k ≡ Some x → Contains xs x
@@ -104,8 +107,8 @@ whole_is_searched sheet formed cells used own cells_are used_are own_are = recor
         is_own (number sheet (pair_at c.0 x.0)) (number_below sheet (pair_at c.0 x.0) (pair_in sheet c.0 n.0 x.0 n.1 n.2));
     are_for = subst (λ us. AreFor sheet (map number_of cells) (clauses sheet) us) (sym used_are) (subst (λ ns. AreFor sheet ns (clauses sheet) (range_with_len 0 (length (clauses sheet)))) (sym cells_are) (axioms_are_for_their_sheet sheet formed));
   };
-  problem = problem_made sheet used own used_in (λ v c. number_is (variable_count sheet) v.0 (subst (λ ns. Contains ns v.0) own_are (contains_map variable_number own v c)))
-      (λ k c clause at l has. is_own l.variable.0 (literal_below sheet clause l (at_slice (clauses sheet) k clause at) has));
+  problem = problem_made sheet used own [] used_in (λ v c. number_is (variable_count sheet) v.0 (subst (λ ns. Contains ns v.0) own_are (contains_map variable_number own v c)))
+      (λ k c clause at l has. is_own l.variable.0 (literal_below sheet clause l (at_slice (clauses sheet) k clause at) has)) (lone_anyway (clauses sheet) used);
 }
   where
     entry_in : (e : Entry) → Contains sheet.entries e → e.cell.0 < length (cell_sizes sheet.universe)
@@ -139,7 +142,7 @@ parts_are_searched sheet formed all division part there low cells used own cells
         of_number own (number sheet (pair_at c.0 x.0)) has;
     are_for = subst (λ ns. AreFor (sheet_of sheet part) ns (clauses sheet) used) (sym cells_are) (part_axioms_are_for_their_parts sheet formed all division part there used of);
   };
-  problem = problem_made sheet used own used_in own_below (λ k c clause at l has. of_number own l.variable.0 ((vars.exact l.variable.0).1 (k, c, clause, at, l, has, refl)));
+  problem = problem_made sheet used own [] used_in own_below (λ k c clause at l has. of_number own l.variable.0 ((vars.exact l.variable.0).1 (k, c, clause, at, l, has, refl))) (lone_anyway (clauses sheet) used);
 }
   where
     in_part : (c : CellId) → Contains cells c → Contains part.cells c.0

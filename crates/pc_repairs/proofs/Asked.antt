@@ -39,7 +39,7 @@ target_had a t holds is = subst (λ b. MatchBool b (slice_get a t.cell.0 ≡ Som
 pub had_target : (a : List ValueId) (t : Target) → t.holds ≡ true → HasTarget a t → slice_get a t.cell.0 ≡ Some t.value
 had_target a t holds has = subst (λ b. MatchBool b (slice_get a t.cell.0 ≡ Some t.value) (slice_get a t.cell.0 ≢ Some t.value)) holds has
 
-module _ (sheet : Sheet) (cells : List CellId) (h : AreSearchedBy sheet sheet cells (all_axioms sheet) (all_variables sheet)) (set : List Entry) (t : Target) (holds : t.holds ≡ true)
+module _ (sheet : Sheet) (cells : List CellId) (h : AreSearchedBy sheet sheet cells (all_axioms sheet) (all_variables sheet) []) (set : List Entry) (t : Target) (holds : t.holds ≡ true)
     (on : (e : Entry) → Contains set e → Contains cells e.cell × IsValueOfCell (cell_sizes sheet.universe) e.cell e.value) (there : Contains cells t.cell) (value : IsValueOfCell (cell_sizes sheet.universe) t.cell t.value) where
   abbrev sizes : List ℕ
   sizes = cell_sizes sheet.universe

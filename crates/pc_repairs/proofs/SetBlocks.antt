@@ -39,7 +39,7 @@ lacks set e = not (is_in set e)
 pub outside : (set : List Entry) (e : Entry) → lacks set e ≡ true → ¬ Contains set e
 outside set e is_out inside = false≢true (sym (ap not (contains_in set e inside)) ∙ is_out)
 
-module _ (sheet : Sheet) (cells : List CellId) (h : AreSearchedBy sheet sheet cells (all_axioms sheet) (all_variables sheet)) where
+module _ (sheet : Sheet) (cells : List CellId) (h : AreSearchedBy sheet sheet cells (all_axioms sheet) (all_variables sheet) []) where
   abbrev sizes : List ℕ
   sizes = cell_sizes sheet.universe
 
@@ -98,7 +98,7 @@ of_sets sheet worlds exact b c =
     (w.0.entries, (exact.sets.exact w.0.entries).0 (contains_map set_of worlds w.0 w.1), subst (IsBlockOf (cell_sizes sheet.universe) sheet.entries w.0.entries) w.2 (block_is sheet w.0.entries))
 
 -- no solver of the whole sheet beside these blocks finds any
-pub no_sat : ConsistentIsInMaximal → (sheet : Sheet) (cells : List CellId) → AreSearchedBy sheet sheet cells (all_axioms sheet) (all_variables sheet) → IsWellFormed sheet → (worlds : List WorldView) → AreExact sheet worlds
+pub no_sat : ConsistentIsInMaximal → (sheet : Sheet) (cells : List CellId) → AreSearchedBy sheet sheet cells (all_axioms sheet) (all_variables sheet) [] → IsWellFormed sheet → (worlds : List WorldView) → AreExact sheet worlds
     → (s : SolverView) → s.problem ≡ whole_problem sheet → s.blocks ≡ blocks_for sheet worlds → Meets (truth_in s.trues) (clauses_used s.problem) s.blocks [] → ⊥
 no_sat largest sheet cells h formed worlds exact s problem blocks m =
     no_model sheet cells h largest formed worlds exact (truth_in s.trues)
@@ -124,6 +124,6 @@ block_made sheet sizes es set lits formed sizes_is entries_are among is =
     is ∙ ap (λ xs. map (entry_literal sizes) (outside_by xs set)) entries_are ∙ ap (map (entry_literal sizes)) (outside_is sheet.entries set formed.entries.distinct among)
     ∙ ap (λ ns. map (entry_literal ns) (those_outside sheet.entries set)) sizes_is
 
-pub own_made : (sheet : Sheet) (cells : List CellId) → AreSearchedBy sheet sheet cells (all_axioms sheet) (all_variables sheet) → (s : SolverView) (block : List Lit) (set : List Entry) → s.problem ≡ whole_problem sheet → block ≡ block_for sheet set
+pub own_made : (sheet : Sheet) (cells : List CellId) → AreSearchedBy sheet sheet cells (all_axioms sheet) (all_variables sheet) [] → (s : SolverView) (block : List Lit) (set : List Entry) → s.problem ≡ whole_problem sheet → block ≡ block_for sheet set
     → AreOwn s.problem.own block
 own_made sheet cells h s block set problem is = subst (λ p. AreOwn p.own block) (sym problem) (subst (AreOwn (all_variables sheet)) (sym is) (own_block sheet cells h set))

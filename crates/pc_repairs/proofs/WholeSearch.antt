@@ -46,16 +46,16 @@ own_many sheet = length-map-range_with_len variable_of 0 (variable_count sheet)
 
 module _ (sheet : Sheet) (g : Grounded) (axioms : List ℕ) (variables : List Var) (cells : List CellId) (t : IsTask sheet g axioms variables cells) where
   abbrev given : Problem
-  given = record { axioms = g.clauses; used = axioms; own = variables }
+  given = record { axioms = g.clauses; used = axioms; own = variables; banned = [] }
 
-  pub searched_whole : WholeIsSearched → AreSearchedBy sheet sheet cells (all_axioms sheet) (all_variables sheet)
+  pub searched_whole : WholeIsSearched → AreSearchedBy sheet sheet cells (all_axioms sheet) (all_variables sheet) []
   searched_whole whole = whole sheet t.formed cells (all_axioms sheet) (all_variables sheet) t.all.cells_are refl (numbers_back (range_with_len 0 (variable_count sheet)))
 
   pub given_is : given ≡ whole_problem sheet
   given_is =
-      let by_ground : Grounded → Problem = λ x. record { axioms = x.clauses; used = axioms; own = variables } in
-      let by_axioms : List ℕ → Problem = λ us. record { axioms = (grounded sheet).clauses; used = us; own = variables } in
-      let by_variables : List Var → Problem = λ vs. record { axioms = (grounded sheet).clauses; used = all_axioms sheet; own = vs } in
+      let by_ground : Grounded → Problem = λ x. record { axioms = x.clauses; used = axioms; own = variables; banned = [] } in
+      let by_axioms : List ℕ → Problem = λ us. record { axioms = (grounded sheet).clauses; used = us; own = variables; banned = [] } in
+      let by_variables : List Var → Problem = λ vs. record { axioms = (grounded sheet).clauses; used = all_axioms sheet; own = vs; banned = [] } in
       ap by_ground t.ground_is ∙ ap by_axioms t.all.axioms_are ∙ ap by_variables t.all.variables_are
 
   pub sizes_are : g.sizes ≡ cell_sizes sheet.universe
@@ -66,14 +66,14 @@ module _ (sheet : Sheet) (g : Grounded) (axioms : List ℕ) (variables : List Va
       let many : g.variables ≡ variable_count sheet = ap (λ (x : Grounded). x.variables) t.ground_is in
       subst (λ (n : ℕ). IsProblem n given) (sym many) (subst (IsProblem (variable_count sheet)) (sym given_is) ((searched_whole whole).problem t.few))
 
-  pub asked_problem : WholeIsSearched → (store : List (List Lit)) → store ≡ g.clauses → (n : ℕ) → n ≡ g.variables → IsProblem n (record { axioms = store; used = axioms; own = variables })
+  pub asked_problem : WholeIsSearched → (store : List (List Lit)) → store ≡ g.clauses → (n : ℕ) → n ≡ g.variables → IsProblem n (record { axioms = store; used = axioms; own = variables; banned = [] })
   asked_problem whole store is n many =
-      let by_store : List (List Lit) → Problem = λ a. record { axioms = a; used = axioms; own = variables } in
+      let by_store : List (List Lit) → Problem = λ a. record { axioms = a; used = axioms; own = variables; banned = [] } in
       subst (λ (m : ℕ). IsProblem m (by_store store)) (sym many) (subst (λ a. IsProblem g.variables (by_store a)) (sym is) (is_problem whole))
 
-  pub asked_new : (store : List (List Lit)) → store ≡ g.clauses → (s : SolverView) → s.problem ≡ record { axioms = store; used = axioms; own = variables } → s.blocks ≡ [] → HasLog s [] → IsAsked sheet [] s []
+  pub asked_new : (store : List (List Lit)) → store ≡ g.clauses → (s : SolverView) → s.problem ≡ record { axioms = store; used = axioms; own = variables; banned = [] } → s.blocks ≡ [] → HasLog s [] → IsAsked sheet [] s []
   asked_new store is s problem none has =
-      let by_store : List (List Lit) → Problem = λ a. record { axioms = a; used = axioms; own = variables } in
+      let by_store : List (List Lit) → Problem = λ a. record { axioms = a; used = axioms; own = variables; banned = [] } in
       record { problem = problem ∙ (ap by_store is ∙ given_is); blocks_are = none; has = has }
 
 -- ---- logs

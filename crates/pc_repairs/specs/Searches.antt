@@ -15,7 +15,7 @@ use Rattle.pc_theory.specs.WholeSpendings.{all_axioms, all_variables, IsWholeSpe
 
 -- all of the sheet's axioms, over the variables of all of its pairs and nodes
 abbrev pub whole_problem : Sheet → Problem
-whole_problem sheet = problem_of sheet (all_axioms sheet) (all_variables sheet)
+whole_problem sheet = problem_of sheet (all_axioms sheet) (all_variables sheet) []
 
 -- the line stands, and has no literal
 pub record IsRefutedAt (sheet : Sheet) (log : List LogLine) (last : StepId) : Type 0 where

@@ -20,7 +20,7 @@ use Rattle.pc_parts.specs.Components.{parts_of}
 use Rattle.pc_parts.specs.Laws.{DivisionsDivide}
 use Rattle.pc_components.specs.View.{Kept, number_of, AreComponentsOf}
 use Rattle.pc_kept.specs.Components.{AreKeptOf}
-use Rattle.pc_kept.specs.Laws.{NoneOfTheUsedIsContained}
+use Rattle.pc_kept.specs.ByPolarity.{NoneIsContainedByPolarity}
 use Rattle.pc_justify_laws.specs.Laws.{NamesAreOfTheirSheet}
 use Rattle.pc_reason.specs.Targets.{IsTargetIn}
 use Rattle.pc_log.specs.Spans.{lines_of_span}
@@ -59,7 +59,7 @@ base_fits divide sheet g kept spent base parts solvers ready are many = record {
 
 -- ---- the spending
 
-pub spending_of : NoneOfTheUsedIsContained → (sheet : Sheet) (g : Grounded) (kept : Kept) (spent : ℕ) (parts : List PartSpending) (s : Spending) → IsReady sheet g kept → ArePlaces sheet kept spent parts → s.parts.items ≡ parts → s.tally.placed ≡ spent
+pub spending_of : NoneIsContainedByPolarity → (sheet : Sheet) (g : Grounded) (kept : Kept) (spent : ℕ) (parts : List PartSpending) (s : Spending) → IsReady sheet g kept → ArePlaces sheet kept spent parts → s.parts.items ≡ parts → s.tally.placed ≡ spent
     → s.tally.learned ≡ sum_by learned_of parts → s.tally.calls ≡ sum_by calls_of parts → IsSpendingOf sheet None s
 spending_of none sheet g kept spent parts s ready are is placed learned calls =
     let each_there : All (IsSpentOn sheet None ready.whole) parts = λ i d below. spent_whole none sheet ready.formed ready.whole kept ready.whole_are ready.chosen None (get_or parts i d) (are.each i d below) in
@@ -89,7 +89,7 @@ within_all : (sheet : Sheet) (kept : Kept) (spent : ℕ) (parts : List PartSpend
 within_all sheet kept spent parts s are placed learned calls = omega (arith, within_each parts (λ i d below. (are.each i d below).spent.spare), are.sum, placed, learned, calls)
 
 -- where all that may be was placed
-pub lawful_spent : NoneOfTheUsedIsContained → (sheet : Sheet) (g : Grounded) (kept : Kept) (budget spent : ℕ) (parts : List PartSpending) (s : Spending) → IsReady sheet g kept → (spent ≡ budget) × ArePlaces sheet kept spent parts → s.parts.items ≡ parts
+pub lawful_spent : NoneIsContainedByPolarity → (sheet : Sheet) (g : Grounded) (kept : Kept) (budget spent : ℕ) (parts : List PartSpending) (s : Spending) → IsReady sheet g kept → (spent ≡ budget) × ArePlaces sheet kept spent parts → s.parts.items ≡ parts
     → s.tally.placed ≡ spent → s.tally.limit ≡ budget → s.tally.learned ≡ sum_by learned_of parts → s.tally.calls ≡ sum_by calls_of parts → IsLawful sheet None budget s
 lawful_spent none sheet g kept budget spent parts s ready says is placed limited learned calls = record {
   of_sheet = spending_of none sheet g kept spent parts s ready says.1 is placed learned calls;
@@ -120,7 +120,7 @@ module _ (sheet : Sheet) (g : Grounded) (kept : Kept) (ready : IsReady sheet g k
       let make : ℕ → CellId = λ n. record { 0 = n } in
       searched.answered t is i cells.0 within cells.1 (subst (Contains cells.0) (ap make on.2) on.1)
 
-  pub found_in : NoneOfTheUsedIsContained → (budget : ℕ) (base : List ValueId) (s : Spending) → IsFitting sheet base → s.parts.items ≡ parts → s.tally.placed ≡ spent → s.tally.learned ≡ sum_by learned_of parts → s.tally.calls ≡ sum_by calls_of parts
+  pub found_in : NoneIsContainedByPolarity → (budget : ℕ) (base : List ValueId) (s : Spending) → IsFitting sheet base → s.parts.items ≡ parts → s.tally.placed ≡ spent → s.tally.learned ≡ sum_by learned_of parts → s.tally.calls ≡ sum_by calls_of parts
       → s.tally.limit ≡ budget → IsFoundIn sheet kept budget base worlds changes s
   found_in none budget base s is_base is placed learned calls limit = record {
     base_is = is_base;

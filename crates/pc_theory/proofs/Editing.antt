@@ -19,7 +19,8 @@ use Rattle.pc_world_list.specs.Worlds.{WorldView}
 use Rattle.pc_solver.specs.Solver.{Problem, IsProblem, IsSolverLog}
 use Rattle.pc_solver.specs.Spending.{marked, SpendsOver}
 use Rattle.pc_problem.specs.Laws.{problem_of}
-use Rattle.pc_kept.specs.Laws.{KeptPartsAreSearched, NoneOfTheUsedIsContained}
+use Rattle.pc_kept.specs.ByPolarity.{NoneIsContainedByPolarity}
+use Rattle.pc_kept.specs.Laws.{KeptPartsAreSearched}
 use Rattle.pc_search.specs.Parts.{IsPartOf, AreWorldsOf, AreAskedOf, AreSearchedOf}
 use Rattle.pc_reason.specs.Fitting.{IsFitting}
 use Rattle.pc_search.specs.Spending.{IsSearchLog, AreFewWithTargets}
@@ -73,10 +74,10 @@ module _ (searched : KeptPartsAreSearched) (sheet : Sheet) (theory : TheoryView)
   consistent = consistent_by sheet theory.base (base_here sheet theory.base known.base)
 
   abbrev pub problem : Problem
-  problem = record { axioms = theory.ground.clauses; used = used; own = own }
+  problem = record { axioms = theory.ground.clauses; used = used; own = own; banned = theory.searched.banned }
 
-  is_problem : problem ≡ problem_of sheet used own
-  is_problem = let make : Grounded → Problem = λ g. record { axioms = g.clauses; used = used; own = own } in ap make ready.ground_is
+  is_problem : problem ≡ problem_of sheet used own theory.searched.banned
+  is_problem = let make : Grounded → Problem = λ g. record { axioms = g.clauses; used = used; own = own; banned = theory.searched.banned } in ap make ready.ground_is
 
   pub ground_is : theory.ground ≡ grounded sheet
   ground_is = ready.ground_is
@@ -85,7 +86,7 @@ module _ (searched : KeptPartsAreSearched) (sheet : Sheet) (theory : TheoryView)
   base_is = base_here sheet theory.base known.base
 
   pub problem_right : IsProblem theory.ground.variables problem
-  problem_right = problem_here sheet theory.ground used own ready.ground_is ((searched_at searched sheet theory.ground theory.searched ready i found.0 cells used own found.1).problem ready.few)
+  problem_right = problem_here sheet theory.ground used own theory.searched.banned ready.ground_is ((searched_at searched sheet theory.ground theory.searched ready i found.0 cells used own found.1).problem ready.few)
 
   part_right : (entries : List Entry) → entries ≡ entries_on (map number_of cells) sheet.entries → IsPartOf sheet found.0 cells entries problem
   part_right entries are = subst (IsPartOf sheet found.0 cells entries) (sym is_problem) (is_part searched sheet theory.ground theory.searched ready i found.0 cells used own found.1 entries are consistent)
@@ -125,8 +126,8 @@ module _ (searched : KeptPartsAreSearched) (sheet : Sheet) (theory : TheoryView)
     }
 
     -- what was spent on a blank place
-    module _ (none : NoneOfTheUsedIsContained) (before place : PartSpending) (blank : IsBlankOn i before) (number : place.part ≡ before.part) where
-      alone_if : IsSearchedSpending sheet found.0 used own place → IsSpentAlone sheet theory.components i place
+    module _ (none : NoneIsContainedByPolarity) (before place : PartSpending) (blank : IsBlankOn i before) (number : place.part ≡ before.part) where
+      alone_if : IsSearchedSpending sheet found.0 used own theory.searched.banned place → IsSpentAlone sheet theory.components i place
       alone_if spent touched p numbered is_touched =
           let on : IsSearchedOn sheet touched theory.searched place =
           record {
@@ -137,7 +138,7 @@ module _ (searched : KeptPartsAreSearched) (sheet : Sheet) (theory : TheoryView)
             used_are = ap (slice_get theory.searched.axioms) (number ∙ blank.number) ∙ at_used;
             own_are = ap (slice_get theory.searched.variables) (number ∙ blank.number) ∙ at_own;
             is_touched = is_touched;
-            spent = subst (λ q. IsSearchedSpending sheet q used own place) (same_part p numbered) spent;
+            spent = subst (λ q. IsSearchedSpending sheet q used own theory.searched.banned place) (same_part p numbered) spent;
           } in
           (spent_whole none sheet formed theory.components theory.searched known.components known.searched touched place on, spent.spare)
 
@@ -148,7 +149,7 @@ module _ (searched : KeptPartsAreSearched) (sheet : Sheet) (theory : TheoryView)
       no_marks = ap (sum_by marked) blank.no_logs ∙ sym blank.none_learned
 
       pub alone_after : (most : ℕ) → AreFewWithTargets (sheet_of sheet found.0) (length ts) most → SpendsOver (length own) before.tally place.tally (marked_in before.logs.items) (marked_in place.logs.items) most
-          → (length place.logs.items ≤ 3) × All (IsSearchedLog sheet found.0 used own) place.logs.items → IsSpentAlone sheet theory.components i place
+          → (length place.logs.items ≤ 3) × All (IsSearchedLog sheet found.0 used own theory.searched.banned) place.logs.items → IsSpentAlone sheet theory.components i place
       alone_after most few spends logs =
           alone_if (spent_more sheet theory.searched i found.0 cells used own found.1 consistent before.tally before.logs.items place most (length ts) few few_cells spends
           (omega (arith, blank.none_learned)) nothing_placed no_marks (omega (arith, blank.no_calls)) logs.0 logs.1)
@@ -160,7 +161,7 @@ module _ (searched : KeptPartsAreSearched) (sheet : Sheet) (theory : TheoryView)
       alone_of_part entries are logs spends =
           let here = part_right entries are in
           let added = subst (λ q. AddsLogs 3 (IsSearchLog (sheet_of sheet found.0) q) before.logs.items place.logs.items) is_problem (logs found.0 here) in
-          alone_after spends.0 (spends.1 found.0 here) spends.2 (logs_added sheet used own found.0 3 before.logs.items place.logs.items consistent (omega arith) blank.no_logs added)
+          alone_after spends.0 (spends.1 found.0 here) spends.2 (logs_added sheet used own theory.searched.banned found.0 3 before.logs.items place.logs.items consistent (omega arith) blank.no_logs added)
 
       pub alone_of_reasons : (entries : List Entry) (worlds : List WorldView) → entries ≡ entries_on (map number_of cells) sheet.entries → ((p : Part) → IsPartNumbered (rules_alone sheet) i p → AreWorldsOf sheet p worlds)
           → AddsLogs 1 (IsSolverLog problem []) before.logs.items place.logs.items
@@ -170,13 +171,13 @@ module _ (searched : KeptPartsAreSearched) (sheet : Sheet) (theory : TheoryView)
           let sheet_p = sheet_of sheet found.0 in
           let exact = (worlds_are found.0 found.1.numbered).exact in
           let lawful = subst (λ q. AddsLogs 1 (IsSolverLog q []) before.logs.items place.logs.items) is_problem logs in
-          let added : AddsLogs 1 (IsSearchLog sheet_p (problem_of sheet used own)) before.logs.items place.logs.items =
-          record { added = lawful.added; is = lawful.is; few = lawful.few; each = λ k d below. without_blocks sheet_p (problem_of sheet used own) (get_or lawful.added k d) (lawful.each k d below) } in
+          let added : AddsLogs 1 (IsSearchLog sheet_p (problem_of sheet used own theory.searched.banned)) before.logs.items place.logs.items =
+          record { added = lawful.added; is = lawful.is; few = lawful.few; each = λ k d below. without_blocks sheet_p (problem_of sheet used own theory.searched.banned) (get_or lawful.added k d) (lawful.each k d below) } in
           let many : length sheet_p.entries ≡ length entries = ap length here.searched.entries_are in
           let few : AreFewWithTargets sheet_p (length ts) (length ts * (length worlds * (length entries + 2))) =
           λ sets listed. subst (λ n. length ts * (length worlds * (n + 2)) ≤ length sets * (length ts + 1) * (length sheet_p.entries + 2) + 1) many
           (omega (arith, few_with sheet_p worlds (length ts) 0 (length worlds) exact refl (λ others all. omega arith) sets listed)) in
-          alone_after (length ts * (length worlds * (length entries + 2))) few spends (logs_added sheet used own found.0 1 before.logs.items place.logs.items consistent (omega arith) blank.no_logs added)
+          alone_after (length ts * (length worlds * (length entries + 2))) few spends (logs_added sheet used own theory.searched.banned found.0 1 before.logs.items place.logs.items consistent (omega arith) blank.no_logs added)
 
       -- the same, where room was made for the logs
       pub alone_reserved : (mid : List (List LogLine)) → mid ≡ before.logs.items → (entries : List Entry) → entries ≡ entries_on (map number_of cells) sheet.entries

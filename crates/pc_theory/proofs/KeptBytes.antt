@@ -1,5 +1,5 @@
 -- What is kept of searches that take some of the parts' axioms is no more than where they take all.
-use Rattle.std.proofs.Common.{◌≡◌, ℕ, zero, suc, ◌+◌, ◌*◌, ◌<◌, ◌≤◌, List, [], ◌∷◌, ◌++◌, map, length, sum_by, get_or, set, take, Some, slice_get, refl, ap, sym, ◌∙◌, subst, arith}
+use Rattle.std.proofs.Common.{◌≡◌, ℕ, zero, suc, ◌+◌, ◌*◌, ◌<◌, ◌≤◌, Bool, List, [], ◌∷◌, ◌++◌, map, length, sum_by, get_or, set, take, Option, Some, slice_get, refl, ap, sym, ◌∙◌, subst, arith}
 use Rattle.std.specs.List.{AllZip}
 use Rattle.std.proofs.lemmas.List.{take_all, take_more_set}
 use Rattle.std.proofs.lemmas.List.Sums.{sum_by-cons}
@@ -13,7 +13,7 @@ use Rattle.pc_parts.specs.Parts.{Part}
 use Rattle.pc_parts.specs.Components.{parts_of}
 use Rattle.pc_components.specs.PartAxioms.{AreAxiomsOf, AreVariablesOf}
 use Rattle.pc_components.specs.View.{Kept, variable_number, AreComponentsOf}
-use Rattle.pc_kept.specs.Kept.{AreKept}
+use Rattle.pc_kept.specs.ByPolarity.{AreKeptByPolarity}
 use Rattle.pc_kept.specs.Components.{AreKeptOf}
 use Rattle.pc_kept.proofs.MarkedLemmas.{no_more_ordered}
 use Rattle.pc_search.specs.Found.{search_bytes, work_between}
@@ -40,35 +40,35 @@ both_up a b x y up more = omega (arith, up, more)
 search_less : (a b v w n : ℕ) → a ≤ b → v ≤ w → search_bytes a v n ≤ search_bytes b w n
 search_less a b v w n axioms variables = both_up a b ((24 + 8 * v) * n) ((24 + 8 * w) * n) axioms (times_up (24 + 8 * v) (24 + 8 * w) n (omega (arith, variables)))
 
-axioms_less : (sheet : Sheet) (ps : List Part) (whole kept : List (List ℕ)) → AllZip (AreAxiomsOf sheet) ps whole → AllZip (AreKept sheet) whole kept → (i : ℕ) → length (get_or kept i []) ≤ length (get_or whole i [])
-axioms_less sheet ps [] [] are chosen i = omega arith
-axioms_less sheet ps [] (k ∷ kept) are chosen i = absurd chosen
-axioms_less sheet ps (u ∷ whole) [] are chosen i = absurd chosen
-axioms_less sheet [] (u ∷ whole) (k ∷ kept) are chosen i = absurd are
-axioms_less sheet (p ∷ ps) (u ∷ whole) (k ∷ kept) are chosen zero = no_more_ordered k u chosen.0.order are.0.order chosen.0.among
-axioms_less sheet (p ∷ ps) (u ∷ whole) (k ∷ kept) are chosen (suc i) = axioms_less sheet ps whole kept are.1 chosen.1 i
+axioms_less : (sheet : Sheet) (banned : List (Option Bool)) (ps : List Part) (whole kept : List (List ℕ)) → AllZip (AreAxiomsOf sheet) ps whole → AllZip (AreKeptByPolarity sheet banned) whole kept → (i : ℕ) → length (get_or kept i []) ≤ length (get_or whole i [])
+axioms_less sheet banned ps [] [] are chosen i = omega arith
+axioms_less sheet banned ps [] (k ∷ kept) are chosen i = absurd chosen
+axioms_less sheet banned ps (u ∷ whole) [] are chosen i = absurd chosen
+axioms_less sheet banned [] (u ∷ whole) (k ∷ kept) are chosen i = absurd are
+axioms_less sheet banned (p ∷ ps) (u ∷ whole) (k ∷ kept) are chosen zero = no_more_ordered k u chosen.0.order are.0.order chosen.0.among
+axioms_less sheet banned (p ∷ ps) (u ∷ whole) (k ∷ kept) are chosen (suc i) = axioms_less sheet banned ps whole kept are.1 chosen.1 i
 
 abbrev AreNamedBy : Sheet → List ℕ → List Var → Type 0
 AreNamedBy sheet used own = AreVariablesOf (clauses sheet) used (map variable_number own)
 
-variables_less : (sheet : Sheet) (whole kept : List (List ℕ)) (own taken : List (List Var)) → AllZip (AreKept sheet) whole kept → AllZip (AreNamedBy sheet) whole own → AllZip (AreNamedBy sheet) kept taken
+variables_less : (sheet : Sheet) (banned : List (Option Bool)) (whole kept : List (List ℕ)) (own taken : List (List Var)) → AllZip (AreKeptByPolarity sheet banned) whole kept → AllZip (AreNamedBy sheet) whole own → AllZip (AreNamedBy sheet) kept taken
     → (i : ℕ) → length (get_or taken i []) ≤ length (get_or own i [])
-variables_less sheet [] [] [] [] chosen are of i = omega arith
-variables_less sheet [] [] [] (t ∷ taken) chosen are of i = absurd of
-variables_less sheet [] [] (o ∷ own) taken chosen are of i = absurd are
-variables_less sheet [] (k ∷ kept) own taken chosen are of i = absurd chosen
-variables_less sheet (u ∷ whole) [] own taken chosen are of i = absurd chosen
-variables_less sheet (u ∷ whole) (k ∷ kept) [] taken chosen are of i = absurd are
-variables_less sheet (u ∷ whole) (k ∷ kept) (o ∷ own) [] chosen are of i = absurd of
-variables_less sheet (u ∷ whole) (k ∷ kept) (o ∷ own) (t ∷ taken) chosen are of zero = no_more (clauses sheet) u k chosen.0.among o t are.0 of.0
-variables_less sheet (u ∷ whole) (k ∷ kept) (o ∷ own) (t ∷ taken) chosen are of (suc i) = variables_less sheet whole kept own taken chosen.1 are.1 of.1 i
+variables_less sheet banned [] [] [] [] chosen are of i = omega arith
+variables_less sheet banned [] [] [] (t ∷ taken) chosen are of i = absurd of
+variables_less sheet banned [] [] (o ∷ own) taken chosen are of i = absurd are
+variables_less sheet banned [] (k ∷ kept) own taken chosen are of i = absurd chosen
+variables_less sheet banned (u ∷ whole) [] own taken chosen are of i = absurd chosen
+variables_less sheet banned (u ∷ whole) (k ∷ kept) [] taken chosen are of i = absurd are
+variables_less sheet banned (u ∷ whole) (k ∷ kept) (o ∷ own) [] chosen are of i = absurd of
+variables_less sheet banned (u ∷ whole) (k ∷ kept) (o ∷ own) (t ∷ taken) chosen are of zero = no_more (clauses sheet) u k chosen.0.among o t are.0 of.0
+variables_less sheet banned (u ∷ whole) (k ∷ kept) (o ∷ own) (t ∷ taken) chosen are of (suc i) = variables_less sheet banned whole kept own taken chosen.1 are.1 of.1 i
 
 module _ (sheet : Sheet) (whole kept : Kept) (are : AreComponentsOf sheet whole) (chosen : AreKeptOf sheet whole kept) where
   pub part_less : (s : PartSpending) → part_bytes kept s ≤ part_bytes whole s
   part_less s =
       search_less (length (get_or kept.axioms s.part [])) (length (get_or whole.axioms s.part [])) (length (get_or kept.variables s.part [])) (length (get_or whole.variables s.part [])) (s.tally.learned + s.tally.calls)
-      (axioms_less sheet (parts_of sheet) whole.axioms kept.axioms are.axioms chosen.axioms s.part)
-      (variables_less sheet whole.axioms kept.axioms whole.variables kept.variables chosen.axioms are.variables chosen.variables s.part)
+      (axioms_less sheet kept.banned (parts_of sheet) whole.axioms kept.axioms are.axioms chosen.axioms s.part)
+      (variables_less sheet kept.banned whole.axioms kept.axioms whole.variables kept.variables chosen.axioms are.variables chosen.variables s.part)
 
   pub parts_less : (xs : List PartSpending) → sum_by (part_bytes kept) xs ≤ sum_by (part_bytes whole) xs
   parts_less [] = omega arith

@@ -1,5 +1,5 @@
 -- Clauses, names and parts are of the rules alone.
-use Rattle.std.proofs.Common.{◌≡◌, ℕ, inl, inr, List, [], ◌∷◌, map, refl, ap, sym, ◌∙◌, subst, get_or, slice_get}
+use Rattle.std.proofs.Common.{◌≡◌, ℕ, inl, inr, Bool, List, [], ◌∷◌, map, Contains, Option, refl, ap, sym, ◌∙◌, subst, get_or, slice_get}
 use Rattle.std.specs.List.{AllZip}
 use Rattle.pc_lemmas.proofs.Elements.{zip_weaker}
 use Rattle.pc_lits.specs.declared.literal.Lit.{Lit}
@@ -7,10 +7,10 @@ use Rattle.pc_sheet.specs.Sheet.{Sheet}
 use Rattle.pc_sheet.specs.Entailment.{cell_sizes}
 use Rattle.pc_sheet.specs.MaximalSets.{AreRulesConsistent}
 use Rattle.pc_sheet.specs.declared.ids.ValueId.{ValueId}
-use Rattle.pc_accept.specs.Literals.{Symbol, pair, node, Literal}
+use Rattle.pc_accept.specs.Literals.{Symbol, pair, node, Literal, opposite}
 use Rattle.pc_accept.specs.Axioms.{Axiom, axiom_some, axiom_one, axiom_rule, axiom_node, axiom_atom}
 use Rattle.pc_accept.specs.Writable.{IsSymbolOf, IsAxiomOf}
-use Rattle.pc_ground.specs.Variables.{number, variable_count}
+use Rattle.pc_ground.specs.Variables.{number, variables, variable_count}
 use Rattle.pc_ground.specs.Ground.{GroundAxiom, axioms, lit_of, clause_of_axiom, clauses}
 use Rattle.pc_ground.specs.GroundView.{Grounded}
 use Rattle.pc_ground.specs.Grounded.{grounded}
@@ -22,7 +22,9 @@ use Rattle.pc_parts.specs.Parts.{Part, IsDivision}
 use Rattle.pc_parts.specs.Components.{parts_of}
 use Rattle.pc_components.specs.PartAxioms.{AreAxiomsOf, AreVariablesOf, IsUsed}
 use Rattle.pc_components.specs.View.{Kept, variable_number, AreComponentsOf}
-use Rattle.pc_kept.specs.Kept.{IsAmong, AreMeanings, IsLeftOut, AreKept}
+use Rattle.pc_kept.specs.Kept.{IsAmong, AreMeanings, IsLeftOut}
+use Rattle.pc_kept.specs.ByPolarity.{IsNamedBy, AreKeptByPolarity}
+use Rattle.pc_lits.specs.Values.{MakesTrue}
 use Rattle.pc_kept.specs.Components.{AreKeptOf}
 use Rattle.pc_solver.specs.Forced.{IsForced}
 use Rattle.pc_reason.specs.Written.{AreOfSheet}
@@ -34,7 +36,8 @@ map_same f g same [] = refl
 map_same f g same (x ∷ xs) = rw (same x, map_same f g same xs) refl
 
 -- what is kept of one sheet is kept of another with the same axioms
-module _ (a b : Sheet) (same_axioms : axioms a ≡ axioms b) (same_clauses : clauses a ≡ clauses b) (same_number : (x : Symbol) → number a x ≡ number b x) where
+module _ (a b : Sheet) (same_axioms : axioms a ≡ axioms b) (same_clauses : clauses a ≡ clauses b) (same_number : (x : Symbol) → number a x ≡ number b x)
+    (same_variables : variables a ≡ variables b) where
   forced_moves : (numbers : List ℕ) (l : Literal) → IsForced (IsAmong (clauses a) numbers) (lit_of a l) → IsForced (IsAmong (clauses b) numbers) (lit_of b l)
   forced_moves numbers l h =
       let make : ℕ → Lit = λ n. record { variable = record { 0 = n }; sign = l.sign } in
@@ -56,11 +59,24 @@ module _ (a b : Sheet) (same_axioms : axioms a ≡ axioms b) (same_clauses : cla
     ],
   )
 
-  kept_moves : (used kept : List ℕ) → AreKept a used kept → AreKept b used kept
-  kept_moves used kept h = record {
+  lit_moves : (l : Literal) → lit_of a l ≡ lit_of b l
+  lit_moves l = let make : ℕ → Lit = λ n. record { variable = record { 0 = n }; sign = l.sign } in ap make (same_number l.what)
+
+  unnamed_moves : (kept : List ℕ) (l : Literal) → (¬ IsNamedBy a kept l) → ¬ IsNamedBy b kept l
+  unnamed_moves kept l none named = none (named.0, named.1, named.2, ap (λ gs. slice_get gs named.0) same_axioms ∙ named.3, named.4, named.5)
+
+  kept_moves : (banned : List (Option Bool)) (used kept : List ℕ) → AreKeptByPolarity a banned used kept → AreKeptByPolarity b banned used kept
+  kept_moves banned used kept h = record {
     among = h.among;
-    each = λ k g has at. elim (h.each k g has (ap (λ gs. slice_get gs k) same_axioms ∙ at)) [ inl stays ↦ inl stays | inr out ↦ inr (out_moves kept g out) ];
+    each = λ k g has at. elim (h.each k g has (ap (λ gs. slice_get gs k) same_axioms ∙ at)) [
+      | inl stays ↦ inl stays
+      | inr (inl out) ↦ inr (inl (out_moves kept g out))
+      | inr (inr (l, own, bans, none)) ↦ inr (inr (l, own, subst (MakesTrue banned) (lit_moves l) bans, unnamed_moves kept (opposite l) none))
+    ];
     order = h.order;
+    only = λ l there bans.
+        let x = h.only l (subst (λ xs. Contains xs l.what) (sym same_variables) there) (subst (MakesTrue banned) (sym (lit_moves l)) bans) in
+        (x.0, unnamed_moves kept (opposite l) x.1);
   }
 
 module _ (sheet : Sheet) where
@@ -107,19 +123,20 @@ module _ (sheet : Sheet) where
     variables = subst (λ cs. AllZip (λ used own. AreVariablesOf cs used (map variable_number own)) kept.axioms kept.variables) (sym clauses_alone) h.variables;
     many_numbers = h.many_numbers;
     numbers = h.numbers;
+    banned = h.banned;
   }
 
-  pub kept_here : (used kept : List ℕ) → AreKept alone used kept → AreKept sheet used kept
-  kept_here used kept h = kept_moves alone sheet refl clauses_alone number_alone used kept h
+  pub kept_here : (banned : List (Option Bool)) (used kept : List ℕ) → AreKeptByPolarity alone banned used kept → AreKeptByPolarity sheet banned used kept
+  kept_here banned used kept h = kept_moves alone sheet refl clauses_alone number_alone refl banned used kept h
 
-  kept_alone : (used kept : List ℕ) → AreKept sheet used kept → AreKept alone used kept
-  kept_alone used kept h = kept_moves sheet alone refl (sym clauses_alone) (λ x. sym (number_alone x)) used kept h
+  kept_alone : (banned : List (Option Bool)) (used kept : List ℕ) → AreKeptByPolarity sheet banned used kept → AreKeptByPolarity alone banned used kept
+  kept_alone banned used kept h = kept_moves sheet alone refl (sym clauses_alone) (λ x. sym (number_alone x)) refl banned used kept h
 
   pub chosen_alone : (whole kept : Kept) → AreKeptOf sheet whole kept → AreKeptOf alone whole kept
   chosen_alone whole kept h = record {
     cells = h.cells;
     numbers = h.numbers;
-    axioms = zip_weaker (AreKept sheet) (AreKept alone) kept_alone whole.axioms kept.axioms h.axioms;
+    axioms = zip_weaker (AreKeptByPolarity sheet kept.banned) (AreKeptByPolarity alone kept.banned) (kept_alone kept.banned) whole.axioms kept.axioms h.axioms;
     variables = subst (λ cs. AllZip (λ used own. AreVariablesOf cs used (map variable_number own)) kept.axioms kept.variables) (sym clauses_alone) h.variables;
   }
 

@@ -69,16 +69,16 @@ module _ (searched : KeptPartsAreSearched) (sheet : Sheet) (g : Grounded) (kept 
 
   module _ (before : PartSpending) (s : SuspendedView) (number : before.part ≡ i) (on : IsStarted sheet kept before s) where
     -- what was spent before
-    here : IsSearchedSpending sheet found.0 used own before
+    here : IsSearchedSpending sheet found.0 used own kept.banned before
     here =
         let us : on.spent.used ≡ used = same_some (sym on.spent.used_are ∙ (ap (slice_get kept.axioms) number ∙ at_used)) in
         let os : on.spent.own ≡ own = same_some (sym on.spent.own_are ∙ (ap (slice_get kept.variables) number ∙ at_own)) in
         let ps : on.spent.part ≡ found.0 = same_some (sym (subst (λ n. IsPartNumbered (rules_alone sheet) n on.spent.part) number on.spent.numbered) ∙ found.1.numbered) in
-        subst (λ p. IsSearchedSpending sheet p used own before) ps (subst (λ vs. IsSearchedSpending sheet on.spent.part used vs before) os (subst (λ ns. IsSearchedSpending sheet on.spent.part ns on.spent.own before) us on.spent.spent))
+        subst (λ p. IsSearchedSpending sheet p used own kept.banned before) ps (subst (λ vs. IsSearchedSpending sheet on.spent.part used vs kept.banned before) os (subst (λ ns. IsSearchedSpending sheet on.spent.part ns on.spent.own kept.banned before) us on.spent.spent))
 
     -- what was spent on the part after its search, whose logs are `mid`, and behind them the solver's
     pub one_moved : (spent more most : ℕ) (place : PartSpending) (rest mid : List (List LogLine)) (log grown : List LogLine) (blank : Tally) → before.logs.items ≡ rest ++ log ∷ [] → place.logs.items ≡ mid ++ grown ∷ [] → place.part ≡ before.part
-        → blank.placed ≡ before.tally.placed → blank.learned ≡ before.tally.learned → blank.calls ≡ before.tally.calls → AddsLogs 2 (IsSearchLog (sheet_of sheet found.0) (problem_of sheet used own)) [] mid → IsSolverLog (problem_of sheet used own) [] grown
+        → blank.placed ≡ before.tally.placed → blank.learned ≡ before.tally.learned → blank.calls ≡ before.tally.calls → AddsLogs 2 (IsSearchLog (sheet_of sheet found.0) (problem_of sheet used own kept.banned)) [] mid → IsSolverLog (problem_of sheet used own kept.banned) [] grown
         → AreFewWithTargets (sheet_of sheet found.0) (length ts) most → SpendsOver (length own) blank place.tally (marked log + marked_in []) (marked grown + marked_in mid) most → more + before.tally.placed ≡ spent + place.tally.placed → IsMoved sheet kept spent before more place
     one_moved spent more most place rest mid log grown blank is_before is_after same no_placed no_learned no_calls added lawful few spends sum =
         let one = popped before.logs.items rest log on.only.log on.only.only is_before in
@@ -87,7 +87,7 @@ module _ (searched : KeptPartsAreSearched) (sheet : Sheet) (g : Grounded) (kept 
         let all : SpendsOver (length own) blank place.tally (marked_in before.logs.items) (marked_in place.logs.items) most =
         subst (λ n. SpendsOver (length own) blank place.tally n (marked_in place.logs.items) most) before_marks (subst (λ n. SpendsOver (length own) blank place.tally (marked log + marked_in []) n most) after_marks spends)
         in
-        let logs = logs_behind sheet used own found.0 [] mid place.logs.items grown consistent refl added lawful is_after in
+        let logs = logs_behind sheet used own kept.banned found.0 [] mid place.logs.items grown consistent refl added lawful is_after in
         let work : blank.learned + blank.calls ≡ before.tally.learned + before.tally.calls = omega (arith, no_learned, no_calls) in
         let placed : blank.placed ≤ length own * (blank.learned + blank.calls) = subst (λ n. blank.placed ≤ length own * n) (sym work) (omega (arith, no_placed, here.placed)) in
         record {
@@ -102,7 +102,7 @@ module _ (searched : KeptPartsAreSearched) (sheet : Sheet) (g : Grounded) (kept 
 
   -- the problem as the search is asked it
   abbrev pub given : Problem
-  given = record { axioms = g.clauses; used = used; own = own }
+  given = record { axioms = g.clauses; used = used; own = own; banned = kept.banned }
 
   pub part_here : (p : Part) (entries : List Entry) → IsPartNumbered (rules_alone sheet) i p → entries ≡ entries_on (map number_of cells) sheet.entries → IsPartOf sheet p cells entries given
   part_here p entries numbered are = part_of searched sheet theory ready.formed known i cells used own at_cells at_used at_own p entries numbered are
@@ -122,10 +122,10 @@ module _ (searched : KeptPartsAreSearched) (sheet : Sheet) (g : Grounded) (kept 
         → blank.placed ≡ before.tally.placed → blank.learned ≡ before.tally.learned → blank.calls ≡ before.tally.calls → more + before.tally.placed ≡ spent + place.tally.placed → IsMoved sheet kept spent before more place
     moved_here before s number on spent more place rest room mid log grown blank entries are is_before is_room is_after same_part added lawful spends no_placed no_learned no_calls sum =
         let here = part_here found.0 entries found.1.numbered are in
-        let is_given : given ≡ problem_of sheet used own = let make : Grounded → Problem = λ x. record { axioms = x.clauses; used = used; own = own } in ap make ready.ground_is in
+        let is_given : given ≡ problem_of sheet used own kept.banned = let make : Grounded → Problem = λ x. record { axioms = x.clauses; used = used; own = own; banned = kept.banned } in ap make ready.ground_is in
         let none : room ≡ [] = is_room ∙ (popped before.logs.items rest log on.only.log on.only.only is_before).0 in
-        let logs : AddsLogs 2 (IsSearchLog (sheet_of sheet found.0) (problem_of sheet used own)) [] mid =
-        subst (λ ls. AddsLogs 2 (IsSearchLog (sheet_of sheet found.0) (problem_of sheet used own)) ls mid) none (subst (λ q. AddsLogs 2 (IsSearchLog (sheet_of sheet found.0) q) room mid) is_given (added found.0 here))
+        let logs : AddsLogs 2 (IsSearchLog (sheet_of sheet found.0) (problem_of sheet used own kept.banned)) [] mid =
+        subst (λ ls. AddsLogs 2 (IsSearchLog (sheet_of sheet found.0) (problem_of sheet used own kept.banned)) ls mid) none (subst (λ q. AddsLogs 2 (IsSearchLog (sheet_of sheet found.0) q) room mid) is_given (added found.0 here))
         in
         let few : AreFewWithTargets (sheet_of sheet found.0) (length ts) spends.0 = subst (λ xs. AreFewWithTargets (sheet_of sheet found.0) (length xs) spends.0) same (spends.1 found.0 here) in
         let paid : SpendsOver (length own) blank place.tally (marked log + marked_in []) (marked grown + marked_in mid) spends.0 =

@@ -61,14 +61,14 @@ more_calls s t n e up =
 sets_of : (sheet : Sheet) (part : Part) (sets : List (List Entry)) → AreRulesConsistent sheet → ListsExactly (List Entry) (IsSetOf sheet part) sets → ListsExactly (List Entry) (IsMaximalSet (sheet_of sheet part)) sets
 sets_of sheet part sets consistent listed = record { exact = λ s. (λ has. ((listed.exact s).0 has).1, λ is. (listed.exact s).1 (consistent, is)); different = listed.different }
 
-pub good_log : (sheet : Sheet) (part : Part) (used : List ℕ) (own : List Var) (log : List LogLine) → AreRulesConsistent sheet → IsSearchLog (sheet_of sheet part) (problem_of sheet used own) log → IsSearchedLog sheet part used own log
-good_log sheet part used own log consistent h = record { blocks = h.blocks; lawful = h.lawful; of_sets = λ b has. let r = h.of_sets b has in (r.0, (consistent, r.1), r.2) }
+pub good_log : (sheet : Sheet) (part : Part) (used : List ℕ) (own : List Var) (banned : List (Option Bool)) (log : List LogLine) → AreRulesConsistent sheet → IsSearchLog (sheet_of sheet part) (problem_of sheet used own banned) log → IsSearchedLog sheet part used own banned log
+good_log sheet part used own banned log consistent h = record { blocks = h.blocks; lawful = h.lawful; of_sets = λ b has. let r = h.of_sets b has in (r.0, (consistent, r.1), r.2) }
 
 module _ (sheet : Sheet) (kept : Kept) (number : ℕ) (part : Part) (cells : List CellId) (used : List ℕ) (own : List Var) (at : IsPartAt sheet kept number part cells used own) (consistent : AreRulesConsistent sheet)
     (before : Tally) (logs_before : List (List LogLine)) (place : PartSpending) (most targets : ℕ) (few : AreFewWithTargets (sheet_of sheet part) targets most) (many : targets ≤ length (targets_on (cell_sizes sheet.universe) cells))
     (spends : SpendsOver (length own) before place.tally (marked_in logs_before) (marked_in place.logs.items) most) (spare : before.learned ≤ before.placed + before.calls)
     (placed : before.placed ≤ length own * (before.learned + before.calls)) (learned : sum_by marked logs_before ≡ before.learned) (one : before.calls ≤ 1)
-    (few_logs : length place.logs.items ≤ 3) (good_logs : All (IsSearchedLog sheet part used own) place.logs.items) where
+    (few_logs : length place.logs.items ≤ 3) (good_logs : All (IsSearchedLog sheet part used own kept.banned) place.logs.items) where
   few_calls : AreFewCalls sheet part place.tally.calls
   few_calls sets listed =
       let bound = few sets (sets_of sheet part sets consistent listed) in
@@ -86,7 +86,7 @@ module _ (sheet : Sheet) (kept : Kept) (number : ℕ) (part : Part) (cells : Lis
       let same : (before.learned + spends.rose) + (before.calls + spends.called) ≡ place.tally.learned + place.tally.calls = omega (arith, spends.learned, spends.calls) in
       subst (λ n. place.tally.placed ≤ length own * n) same h
 
-  pub spent_more : IsSearchedSpending sheet part used own place
+  pub spent_more : IsSearchedSpending sheet part used own kept.banned place
   spent_more = record {
     placed = all_placed;
     spare = omega (arith, spare, spends.spare, spends.learned, spends.calls);
@@ -96,21 +96,21 @@ module _ (sheet : Sheet) (kept : Kept) (number : ℕ) (part : Part) (cells : Lis
     logs = good_logs;
   }
 
-pub logs_added : (sheet : Sheet) (used : List ℕ) (own : List Var) (part : Part) (most : ℕ) (old logs : List (List LogLine)) → AreRulesConsistent sheet → most ≤ 3 → old ≡ [] → AddsLogs most (IsSearchLog (sheet_of sheet part) (problem_of sheet used own)) old logs
-    → (length logs ≤ 3) × All (IsSearchedLog sheet part used own) logs
-logs_added sheet used own part most old logs consistent small none h =
+pub logs_added : (sheet : Sheet) (used : List ℕ) (own : List Var) (banned : List (Option Bool)) (part : Part) (most : ℕ) (old logs : List (List LogLine)) → AreRulesConsistent sheet → most ≤ 3 → old ≡ [] → AddsLogs most (IsSearchLog (sheet_of sheet part) (problem_of sheet used own banned)) old logs
+    → (length logs ≤ 3) × All (IsSearchedLog sheet part used own banned) logs
+logs_added sheet used own banned part most old logs consistent small none h =
     let is : logs ≡ h.added = h.is ∙ ap (λ xs. xs ++ h.added) none in
-    subst (λ ls. (length ls ≤ 3) × All (IsSearchedLog sheet part used own) ls) (sym is) (omega (arith, h.few, small), λ i d below. good_log sheet part used own (get_or h.added i d) consistent (h.each i d below))
+    subst (λ ls. (length ls ≤ 3) × All (IsSearchedLog sheet part used own banned) ls) (sym is) (omega (arith, h.few, small), λ i d below. good_log sheet part used own banned (get_or h.added i d) consistent (h.each i d below))
 
 -- and the solver's log behind those of the listing
-pub logs_behind : (sheet : Sheet) (used : List ℕ) (own : List Var) (part : Part) (old mid logs : List (List LogLine)) (log : List LogLine) → AreRulesConsistent sheet → old ≡ [] → AddsLogs 2 (IsSearchLog (sheet_of sheet part) (problem_of sheet used own)) old mid
-    → IsSolverLog (problem_of sheet used own) [] log → logs ≡ mid ++ log ∷ [] → (length logs ≤ 3) × All (IsSearchedLog sheet part used own) logs
-logs_behind sheet used own part old mid logs log consistent none h lawful behind =
-    let two = logs_added sheet used own part 2 old mid consistent (omega arith) none h in
+pub logs_behind : (sheet : Sheet) (used : List ℕ) (own : List Var) (banned : List (Option Bool)) (part : Part) (old mid logs : List (List LogLine)) (log : List LogLine) → AreRulesConsistent sheet → old ≡ [] → AddsLogs 2 (IsSearchLog (sheet_of sheet part) (problem_of sheet used own banned)) old mid
+    → IsSolverLog (problem_of sheet used own banned) [] log → logs ≡ mid ++ log ∷ [] → (length logs ≤ 3) × All (IsSearchedLog sheet part used own banned) logs
+logs_behind sheet used own banned part old mid logs log consistent none h lawful behind =
+    let two = logs_added sheet used own banned part 2 old mid consistent (omega arith) none h in
     let is : mid ≡ h.added = h.is ∙ ap (λ xs. xs ++ h.added) none in
-    let last : IsSearchedLog sheet part used own log = record { blocks = []; lawful = lawful; of_sets = λ b has. absurd (contains_none b has) } in
-    subst (λ ls. (length ls ≤ 3) × All (IsSearchedLog sheet part used own) ls) (sym behind)
-    (omega (arith, length_push mid log, ap length is, h.few), All-append (IsSearchedLog sheet part used own) mid (log ∷ []) two.1 (All-cons (IsSearchedLog sheet part used own) log [] last (All-nil (IsSearchedLog sheet part used own))))
+    let last : IsSearchedLog sheet part used own banned log = record { blocks = []; lawful = lawful; of_sets = λ b has. absurd (contains_none b has) } in
+    subst (λ ls. (length ls ≤ 3) × All (IsSearchedLog sheet part used own banned) ls) (sym behind)
+    (omega (arith, length_push mid log, ap length is, h.few), All-append (IsSearchedLog sheet part used own banned) mid (log ∷ []) two.1 (All-cons (IsSearchedLog sheet part used own banned) log [] last (All-nil (IsSearchedLog sheet part used own banned))))
 
 -- ---- a part that was moved on
 

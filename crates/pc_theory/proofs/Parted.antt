@@ -89,7 +89,7 @@ module _ (sheet : Sheet) (kept : Kept) (are : AreSearchedParts (rules_alone shee
   as_many = omega (arith, ap length are.cells, length-map kept.cells (map number_of), length-map (parts_of (rules_alone sheet)) cells_of_part)
 
   pub as_many_axioms : length kept.axioms ≡ length kept.cells
-  as_many_axioms = omega (arith, as_many, zip_length (IsKeptOf (rules_alone sheet)) (parts_of (rules_alone sheet)) kept.axioms are.axioms)
+  as_many_axioms = omega (arith, as_many, zip_length (IsKeptOf (rules_alone sheet) kept.banned) (parts_of (rules_alone sheet)) kept.axioms are.axioms)
 
   pub as_many_variables : length kept.variables ≡ length kept.cells
   as_many_variables = omega (arith, as_many_axioms, zip_length (λ us os. AreVariablesOf (clauses (rules_alone sheet)) us (map variable_number os)) kept.axioms kept.variables are.variables)
@@ -125,7 +125,7 @@ module _ (sheet : Sheet) (kept : Kept) (are : AreSearchedParts (rules_alone shee
     part_at used own at_used at_own =
         let there = part_there in
         let part = there.0 in
-        let row : IsKeptOf (rules_alone sheet) part used = zip_at (IsKeptOf (rules_alone sheet)) (parts_of (rules_alone sheet)) kept.axioms i part used are.axioms there.1 at_used in
+        let row : IsKeptOf (rules_alone sheet) kept.banned part used = zip_at (IsKeptOf (rules_alone sheet) kept.banned) (parts_of (rules_alone sheet)) kept.axioms i part used are.axioms there.1 at_used in
         let has : Contains (parts_of (rules_alone sheet)) part = at_contained (parts_of (rules_alone sheet)) i part there.1 in (
           part,
           record {
@@ -136,7 +136,7 @@ module _ (sheet : Sheet) (kept : Kept) (are : AreSearchedParts (rules_alone shee
             there = has;
             within = cells_within (rules_alone sheet) part has;
             cells_are = sym there.2;
-            axioms_are = (row.0, axioms_here sheet part row.0 row.1, kept_here sheet row.0 used row.2);
+            axioms_are = (row.0, axioms_here sheet part row.0 row.1, kept_here sheet kept.banned row.0 used row.2);
             variables_are = variables_here sheet used (map variable_number own)
                 (zip_at (λ us os. AreVariablesOf (clauses (rules_alone sheet)) us (map variable_number os)) kept.axioms kept.variables i used own are.variables at_used at_own);
           },
@@ -157,12 +157,12 @@ module _ (sheet : Sheet) (kept : Kept) (are : AreSearchedParts (rules_alone shee
 
 module _ (searched : KeptPartsAreSearched) (sheet : Sheet) (ground : Grounded) (kept : Kept) (ready : IsReady sheet ground kept) (i : ℕ) (part : Part) (cells : List CellId) (used : List ℕ) (own : List Var)
     (at : IsPartAt sheet kept i part cells used own) where
-  pub searched_at : AreSearchedBy sheet (sheet_of sheet part) cells used own
-  searched_at = searched sheet ready.formed (parts_of sheet) ready.division part at.there at.within cells at.axioms_are.0 used own at.cells_are at.axioms_are.1 at.axioms_are.2 at.variables_are
+  pub searched_at : AreSearchedBy sheet (sheet_of sheet part) cells used own kept.banned
+  searched_at = searched sheet ready.formed (parts_of sheet) ready.division part at.there at.within cells at.axioms_are.0 used own kept.banned at.cells_are at.axioms_are.1 at.axioms_are.2 at.variables_are
 
-  pub is_part : (entries : List Entry) → entries ≡ entries_on (map number_of cells) sheet.entries → AreRulesConsistent sheet → IsPartOf sheet part cells entries (problem_of sheet used own)
+  pub is_part : (entries : List Entry) → entries ≡ entries_on (map number_of cells) sheet.entries → AreRulesConsistent sheet → IsPartOf sheet part cells entries (problem_of sheet used own kept.banned)
   is_part entries are consistent =
-      subst (λ es. IsPartOf sheet part cells es (problem_of sheet used own)) (sym are)
+      subst (λ es. IsPartOf sheet part cells es (problem_of sheet used own kept.banned)) (sym are)
       (record {
         parts = parts_of sheet;
         division = ready.division;

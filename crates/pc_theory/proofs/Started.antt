@@ -54,11 +54,11 @@ use Rattle.pc_theory.proofs.Parted.{as_many_axioms, as_many_variables, part_at, 
 
 -- ---- what is asked
 
-pub problem_here : (sheet : Sheet) (g : Grounded) (used : List ℕ) (own : List Var) → g ≡ grounded sheet → IsProblem (variable_count sheet) (problem_of sheet used own) → IsProblem g.variables (record { axioms = g.clauses; used = used; own = own })
-problem_here sheet g used own is h = subst (λ x. IsProblem x.variables (record { axioms = x.clauses; used = used; own = own })) (sym is) h
+pub problem_here : (sheet : Sheet) (g : Grounded) (used : List ℕ) (own : List Var) (banned : List (Option Bool)) → g ≡ grounded sheet → IsProblem (variable_count sheet) (problem_of sheet used own banned) → IsProblem g.variables (record { axioms = g.clauses; used = used; own = own; banned = banned })
+problem_here sheet g used own banned is h = subst (λ x. IsProblem x.variables (record { axioms = x.clauses; used = used; own = own; banned = banned })) (sym is) h
 
-pub problem_is : (sheet : Sheet) (g : Grounded) (used : List ℕ) (own : List Var) (p : Problem) → g ≡ grounded sheet → p ≡ record { axioms = g.clauses; used = used; own = own } → p ≡ problem_of sheet used own
-problem_is sheet g used own p is h = h ∙ (let make : Grounded → Problem = λ x. record { axioms = x.clauses; used = used; own = own } in ap make is)
+pub problem_is : (sheet : Sheet) (g : Grounded) (used : List ℕ) (own : List Var) (banned : List (Option Bool)) (p : Problem) → g ≡ grounded sheet → p ≡ record { axioms = g.clauses; used = used; own = own; banned = banned } → p ≡ problem_of sheet used own banned
+problem_is sheet g used own banned p is h = h ∙ (let make : Grounded → Problem = λ x. record { axioms = x.clauses; used = used; own = own; banned = banned } in ap make is)
 
 -- ---- the empty clause
 
@@ -75,16 +75,16 @@ no_block p log lawful i number clause at = none_at (lawful.blocks_are i number c
 lawful_here : (s : SolverView) (p : Problem) (log : List LogLine) → s.problem ≡ p → s.blocks ≡ [] → HasLog s log → IsSolverLog p [] log
 lawful_here s p log is none has = subst (λ q. IsSolverLog q [] log) is (subst (λ bs. IsSolverLog s.problem bs log) none has.lawful)
 
-pub empty_at : OwnLinesAreNamed → (sheet : Sheet) (used : List ℕ) (own : List Var) (s : SolverView) (log : List LogLine) (last : StepId) → IsProblem (variable_count sheet) (problem_of sheet used own)
-    → s.problem ≡ problem_of sheet used own → s.blocks ≡ [] → HasLog s log → last.0 < length log → IsOverNegated [] (clause_at_place s.problem.axioms log last.0) → IsEmptyAt sheet log last
-empty_at named sheet used own s log last problem is none has stands over =
-    let lawful = lawful_here s (problem_of sheet used own) log is none has in
+pub empty_at : OwnLinesAreNamed → (sheet : Sheet) (used : List ℕ) (own : List Var) (banned : List (Option Bool)) (s : SolverView) (log : List LogLine) (last : StepId) → IsProblem (variable_count sheet) (problem_of sheet used own banned)
+    → s.problem ≡ problem_of sheet used own banned → s.blocks ≡ [] → HasLog s log → last.0 < length log → IsOverNegated [] (clause_at_place s.problem.axioms log last.0) → IsEmptyAt sheet log last
+empty_at named sheet used own banned s log last problem is none has stands over =
+    let lawful = lawful_here s (problem_of sheet used own banned) log is none has in
     let axioms : Problem → List (List Lit) = λ p. p.axioms in
     record {
       derived = record {
         derivation = lawful.derivation;
         stands = stands;
-        named = named sheet own log last.0 lawful.derivation (no_block (problem_of sheet used own) log lawful) problem.own_in lawful.over_own;
+        named = named sheet own log last.0 lawful.derivation (no_block (problem_of sheet used own banned) log lawful) problem.own_in lawful.over_own;
       };
       empty = none_over (clause_at_place (clauses sheet) log last.0) (subst (λ a. IsOverNegated [] (clause_at_place a log last.0)) (ap axioms is) over);
     }
@@ -97,7 +97,7 @@ lone log = omega (arith, sum_by-cons marked log [])
 module _ (sheet : Sheet) (kept : Kept) (number : ℕ) (part : Part) (cells : List CellId) (used : List ℕ) (own : List Var) (at : IsPartAt sheet kept number part cells used own)
     (place : PartSpending) (is_number : place.part ≡ number) where
   -- this was spent on it
-  pub spent_there : IsSearchedSpending sheet part used own place → IsSearchedOn sheet None kept place
+  pub spent_there : IsSearchedSpending sheet part used own kept.banned place → IsSearchedOn sheet None kept place
   spent_there spent = record {
     part = part;
     used = used;
@@ -109,7 +109,7 @@ module _ (sheet : Sheet) (kept : Kept) (number : ℕ) (part : Part) (cells : Lis
     spent = spent;
   }
 
-  module _ (s : SolverView) (log : List LogLine) (blank : Tally) (problem : s.problem ≡ problem_of sheet used own) (none : s.blocks ≡ []) (has : HasLog s log) (logs : place.logs.items ≡ log ∷ [])
+  module _ (s : SolverView) (log : List LogLine) (blank : Tally) (problem : s.problem ≡ problem_of sheet used own kept.banned) (none : s.blocks ≡ []) (has : HasLog s log) (logs : place.logs.items ≡ log ∷ [])
       (spends : Spends (length own) blank place.tally [] log) (no_placed : blank.placed ≡ 0) (no_learned : blank.learned ≡ 0) (no_calls : blank.calls ≡ 0) where
     marks : marked log ≡ place.tally.learned
     marks = omega (arith, ap marked spends.grows.added, spends.grows.marked_lines, spends.learned, no_learned)
@@ -129,22 +129,22 @@ module _ (sheet : Sheet) (kept : Kept) (number : ℕ) (part : Part) (cells : Lis
           no_calls,
         )
 
-    good : IsSearchedLog sheet part used own log
-    good = record { blocks = []; lawful = lawful_here s (problem_of sheet used own) log problem none has; of_sets = λ b there. absurd (contains_none b there) }
+    good : IsSearchedLog sheet part used own kept.banned log
+    good = record { blocks = []; lawful = lawful_here s (problem_of sheet used own kept.banned) log problem none has; of_sets = λ b there. absurd (contains_none b there) }
 
     placed : place.tally.placed ≤ length own * (place.tally.learned + place.tally.calls)
     placed =
         let work : spends.rose + 1 ≡ place.tally.learned + place.tally.calls = omega (arith, spends.learned, spends.calls, no_learned, no_calls) in
         subst (λ n. place.tally.placed ≤ length own * n) work (omega (arith, spends.bounded, no_placed))
 
-    part_spending : IsSearchedSpending sheet part used own place
+    part_spending : IsSearchedSpending sheet part used own kept.banned place
     part_spending = record {
       placed = placed;
       spare = omega (arith, spends.spare, spends.learned, spends.calls, no_placed, no_learned, no_calls);
       few_calls = λ sets listed. omega (arith, spends.calls, no_calls);
       few_logs = omega (arith, ap length logs);
       learned = ap (sum_by marked) logs ∙ (lone log ∙ marks);
-      logs = subst (All (IsSearchedLog sheet part used own)) (sym logs) (All-cons (IsSearchedLog sheet part used own) log [] good (All-nil (IsSearchedLog sheet part used own)));
+      logs = subst (All (IsSearchedLog sheet part used own kept.banned)) (sym logs) (All-cons (IsSearchedLog sheet part used own kept.banned) log [] good (All-nil (IsSearchedLog sheet part used own kept.banned)));
     }
 
     pub started : IsStarted sheet kept place (set_aside s)
@@ -159,8 +159,8 @@ module _ (sheet : Sheet) (kept : Kept) (number : ℕ) (part : Part) (cells : Lis
 
 -- ---- the values of the cells
 
-pub met_used : (axioms : List (List Lit)) (used : List ℕ) (own : List Var) (v : Var → Bool) → MeetsEach v (clauses_used (record { axioms = axioms; used = used; own = own })) → MeetsUsed axioms used v
-met_used axioms used own v meets k has clause at =
+pub met_used : (axioms : List (List Lit)) (used : List ℕ) (own : List Var) (banned : List (Option Bool)) (v : Var → Bool) → MeetsEach v (clauses_used (record { axioms = axioms; used = used; own = own; banned = banned })) → MeetsUsed axioms used v
+met_used axioms used own banned v meets k has clause at =
     subst (IsTrueUnder v) (get_or_from_slice_get axioms k clause [] at) (meets (get_or axioms k []) (contains_map (λ n. get_or axioms n []) used k has))
 
 module _ (searched : KeptPartsAreSearched) (sheet : Sheet) (g : Grounded) (kept : Kept) (ready : IsReady sheet g kept) where
@@ -179,10 +179,10 @@ module _ (searched : KeptPartsAreSearched) (sheet : Sheet) (g : Grounded) (kept 
   ]
 
   module _ (number : ℕ) (part : Part) (cells : List CellId) (used : List ℕ) (own : List Var) (at : IsPartAt sheet kept number part cells used own) where
-    by_part : AreSearchedBy sheet (sheet_of sheet part) cells used own
+    by_part : AreSearchedBy sheet (sheet_of sheet part) cells used own kept.banned
     by_part = searched_at searched sheet g kept ready number part cells used own at
 
-    pub has_pairs : (s : SolverView) → s.problem ≡ problem_of sheet used own → HasPairs g.sizes cells s
+    pub has_pairs : (s : SolverView) → s.problem ≡ problem_of sheet used own kept.banned → HasPairs g.sizes cells s
     has_pairs s problem =
         let sizes : Grounded → List ℕ = λ x. x.sizes in
         let own_of : Problem → List Var = λ p. p.own in
@@ -193,12 +193,12 @@ module _ (searched : KeptPartsAreSearched) (sheet : Sheet) (g : Grounded) (kept 
         })
 
     -- the values that were read fit the part
-    pub read_fits : (s : SolverView) (base : List ValueId) → s.problem ≡ problem_of sheet used own → MeetsEach (truth_in s.trues) (clauses_used s.problem) → IsAssignment sheet.universe base
+    pub read_fits : (s : SolverView) (base : List ValueId) → s.problem ≡ problem_of sheet used own kept.banned → MeetsEach (truth_in s.trues) (clauses_used s.problem) → IsAssignment sheet.universe base
         → ((a : List ValueId) → IsAssignment sheet.universe a → HasValues (cell_sizes sheet.universe) (map number_of cells) (truth_in s.trues) a → AgreeAt (Contains (map number_of cells)) a base)
         → Fits (sheet_of sheet part) base
     read_fits s base problem meets assigns reads =
         let are_for = by_part.searched.are_for in
-        let met = met_used (clauses sheet) used own (truth_in s.trues) (subst (λ p. MeetsEach (truth_in s.trues) (clauses_used p)) problem meets) in
+        let met = met_used (clauses sheet) used own kept.banned (truth_in s.trues) (subst (λ p. MeetsEach (truth_in s.trues) (clauses_used p)) problem meets) in
         let a = are_for.fits (truth_in s.trues) met in
         are_for.by_cells a.0 base a.1 assigns (reads a.0 a.1 a.3) a.2
 
@@ -212,27 +212,27 @@ module _ (searched : KeptPartsAreSearched) (sheet : Sheet) (g : Grounded) (kept 
 module _ (searched : KeptPartsAreSearched) (sheet : Sheet) (g : Grounded) (kept : Kept) (ready : IsReady sheet g kept) (i : ℕ) (cells : List CellId) (used : List ℕ) (own : List Var)
     (at_cells : slice_get kept.cells i ≡ Some cells) (at_used : slice_get kept.axioms i ≡ Some used) (at_own : slice_get kept.variables i ≡ Some own) where
   abbrev given : Problem
-  given = record { axioms = g.clauses; used = used; own = own }
+  given = record { axioms = g.clauses; used = used; own = own; banned = kept.banned }
 
   pub at_part : (part : Part) × IsPartAt sheet kept i part cells used own
   at_part = part_at sheet kept ready.components i cells at_cells used own at_used at_own
 
-  of_sheet : IsProblem (variable_count sheet) (problem_of sheet used own)
+  of_sheet : IsProblem (variable_count sheet) (problem_of sheet used own kept.banned)
   of_sheet = (searched_at searched sheet g kept ready i at_part.0 cells used own at_part.1).problem ready.few
 
   pub first_problem : IsProblem g.variables given
-  first_problem = problem_here sheet g used own ready.ground_is of_sheet
+  first_problem = problem_here sheet g used own kept.banned ready.ground_is of_sheet
 
   -- as the solver is given it
-  pub first_asked : (variables : ℕ) (axioms : List (List Lit)) → variables ≡ g.variables → axioms ≡ g.clauses → IsProblem variables (record { axioms = axioms; used = used; own = own })
+  pub first_asked : (variables : ℕ) (axioms : List (List Lit)) → variables ≡ g.variables → axioms ≡ g.clauses → IsProblem variables (record { axioms = axioms; used = used; own = own; banned = kept.banned })
   first_asked variables axioms same_variables same_axioms =
-      subst (λ n. IsProblem n (record { axioms = axioms; used = used; own = own })) (sym same_variables) (subst (λ a. IsProblem g.variables (record { axioms = a; used = used; own = own })) (sym same_axioms) first_problem)
+      subst (λ n. IsProblem n (record { axioms = axioms; used = used; own = own; banned = kept.banned })) (sym same_variables) (subst (λ a. IsProblem g.variables (record { axioms = a; used = used; own = own; banned = kept.banned })) (sym same_axioms) first_problem)
 
-  pub first_given : (axioms : List (List Lit)) (p : Problem) → axioms ≡ g.clauses → p ≡ record { axioms = axioms; used = used; own = own } → p ≡ given
-  first_given axioms p same_axioms is = is ∙ (let make : List (List Lit) → Problem = λ a. record { axioms = a; used = used; own = own } in ap make same_axioms)
+  pub first_given : (axioms : List (List Lit)) (p : Problem) → axioms ≡ g.clauses → p ≡ record { axioms = axioms; used = used; own = own; banned = kept.banned } → p ≡ given
+  first_given axioms p same_axioms is = is ∙ (let make : List (List Lit) → Problem = λ a. record { axioms = a; used = used; own = own; banned = kept.banned } in ap make same_axioms)
 
   pub first_empty : OwnLinesAreNamed → (s : SolverView) (log : List LogLine) (last : StepId) → s.problem ≡ given → s.blocks ≡ [] → HasLog s log → last.0 < length log → IsOverNegated [] (clause_at_place s.problem.axioms log last.0) → IsEmptyAt sheet log last
-  first_empty named s log last is none has stands over = empty_at named sheet used own s log last of_sheet (problem_is sheet g used own s.problem ready.ground_is is) none has stands over
+  first_empty named s log last is none has stands over = empty_at named sheet used own kept.banned s log last of_sheet (problem_is sheet g used own kept.banned s.problem ready.ground_is is) none has stands over
 
   pub first_called : (cs s before : SolverView) (place : PartSpending) (log_before log : List LogLine) (blank tally : Tally) (end is : End) (limit : ℕ) → cs ≡ s → place.part ≡ i → place.tally ≡ tally → place.logs.items ≡ log ∷ [] → end ≡ is
       → before.problem ≡ given → s.problem ≡ before.problem → before.blocks ≡ [] → s.blocks ≡ before.blocks → HasLog s log → log_before ≡ [] → Spends (length before.problem.own) blank tally log_before log → blank.placed ≡ 0 → blank.learned ≡ 0 → blank.calls ≡ 0
@@ -248,15 +248,15 @@ module _ (searched : KeptPartsAreSearched) (sheet : Sheet) (g : Grounded) (kept 
       (record {
         numbered = number;
         limit_is = limits;
-        started = started sheet kept i at_part.0 cells used own at_part.1 place number s log blank (problem_is sheet g used own s.problem ready.ground_is here) (kept_blocks ∙ none) has logs paid no_placed no_learned no_calls;
+        started = started sheet kept i at_part.0 cells used own at_part.1 place number s log blank (problem_is sheet g used own kept.banned s.problem ready.ground_is here) (kept_blocks ∙ none) has logs paid no_placed no_learned no_calls;
         says = subst (λ t. EndSays s t is) (sym is_tally) says;
       }))
 
-  pub problem_there : (s : SuspendedView) (place : PartSpending) → place.part ≡ i → IsStarted sheet kept place s → s.problem ≡ problem_of sheet used own
+  pub problem_there : (s : SuspendedView) (place : PartSpending) → place.part ≡ i → IsStarted sheet kept place s → s.problem ≡ problem_of sheet used own kept.banned
   problem_there s place number on =
       let us : on.spent.used ≡ used = same_some (sym on.spent.used_are ∙ (ap (slice_get kept.axioms) number ∙ at_used)) in
       let os : on.spent.own ≡ own = same_some (sym on.spent.own_are ∙ (ap (slice_get kept.variables) number ∙ at_own)) in
-      on.problem ∙ (ap (λ xs. problem_of sheet xs on.spent.own) us ∙ ap (problem_of sheet used) os)
+      on.problem ∙ (ap (λ xs. problem_of sheet xs on.spent.own kept.banned) us ∙ ap (λ ys. problem_of sheet used ys kept.banned) os)
 
   pub first_pairs : (s : SolverView) (place : PartSpending) → place.part ≡ i → IsStarted sheet kept place (set_aside s) → HasPairs g.sizes cells s
   first_pairs s place number on = has_pairs searched sheet g kept ready i at_part.0 cells used own at_part.1 s (problem_there (set_aside s) place number on)

@@ -1,5 +1,5 @@
 -- What a search spends, part by part.
-use Rattle.std.specs.Prelude.{◌≡◌, ◌≢◌, ℕ, ◌+◌, ◌*◌, ◌≤◌, List, length, sum_by, All, AllPairs, Contains, Option, None, Some, slice_get}
+use Rattle.std.specs.Prelude.{◌≡◌, ◌≢◌, ℕ, ◌+◌, ◌*◌, ◌≤◌, List, [], length, sum_by, All, AllPairs, Contains, Option, None, Some, slice_get}
 use Rattle.pc_lits.specs.declared.literal.Var.{Var}
 use Rattle.pc_lits.specs.declared.tally.Tally.{Tally}
 use Rattle.pc_log.specs.Lines.{LogLine}
@@ -33,7 +33,7 @@ AreFewCalls sheet part calls =
 
 -- A lawful log of the part's axioms and variables, each of whose blocks is the clause of the part's entries that aren't in some maximal set.
 abbrev pub IsGoodLog : Sheet → Part → List ℕ → List Var → List LogLine → Type 0
-IsGoodLog sheet part used own log = IsListingLog (cell_sizes sheet.universe) (sheet_of sheet part).entries (IsSetOf sheet part) (problem_of sheet used own) log
+IsGoodLog sheet part used own log = IsListingLog (cell_sizes sheet.universe) (sheet_of sheet part).entries (IsSetOf sheet part) (problem_of sheet used own []) log
 
 -- on a part with these axioms and variables
 pub record IsPartSpending (sheet : Sheet) (part : Part) (used : List ℕ) (own : List Var) (s : PartSpending) : Type 0 where

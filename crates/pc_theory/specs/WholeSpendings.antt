@@ -1,5 +1,5 @@
 -- What searches of a whole sheet spend.
-use Rattle.std.specs.Prelude.{◌≡◌, ℕ, ◌+◌, ◌*◌, ◌≤◌, List, length, map, sum_by, All}
+use Rattle.std.specs.Prelude.{◌≡◌, ℕ, ◌+◌, ◌*◌, ◌≤◌, List, [], length, map, sum_by, All}
 use Rattle.std.specs.List.{range_with_len}
 use Rattle.pc_lits.specs.declared.literal.Var.{Var}
 use Rattle.pc_lits.specs.declared.tally.Tally.{Tally}
@@ -26,7 +26,7 @@ all_variables sheet = map variable_of (range_with_len 0 (variable_count sheet))
 
 -- A lawful log of the sheet's axioms and variables, each of whose blocks is the clause of the entries that aren't in some maximal set.
 abbrev pub IsWholeLog : Sheet → List LogLine → Type 0
-IsWholeLog sheet log = IsListingLog (cell_sizes sheet.universe) sheet.entries (IsMaximalSet sheet) (problem_of sheet (all_axioms sheet) (all_variables sheet)) log
+IsWholeLog sheet log = IsListingLog (cell_sizes sheet.universe) sheet.entries (IsMaximalSet sheet) (problem_of sheet (all_axioms sheet) (all_variables sheet) []) log
 
 -- so much was spent on the whole sheet, with these logs
 pub record IsWholeSpending (sheet : Sheet) (logs : List (List LogLine)) (tally : Tally) : Type 0 where

@@ -29,7 +29,7 @@ use pc_components::{Components, find_components};
 use pc_ground::{Ground, GroundFault, ground_book};
 use pc_justify_laws::names_are_of_their_sheet;
 use pc_kept::kept_components;
-use pc_kept::laws::none_of_the_used_is_contained;
+use pc_kept::laws::none_is_contained_by_polarity;
 use pc_log::{Log, Span};
 use pc_parts::{divisions_divide, parts_are_a_division, parts_are_found};
 use pc_solver::SpareTrails;
@@ -176,7 +176,7 @@ fn search_task(task: BookTask<'_>, patch: &mut Patch) -> Result<Searched, PartFa
         spent_bytes task.entry.components.now s.spending) }
     ensures fault { IfErr result (IsPartCause task.entry.book.now task.entry.budget) }
 {
-    none_of_the_used_is_contained();
+    none_is_contained_by_polarity();
     let mut spent = 0;
     let mut parts = Vec::new(task.alloc);
     match list_parts(task, &mut spent, &mut parts, patch) {

@@ -15,7 +15,7 @@ use crate::spending::PartSpending;
 use crate::theory::Theory;
 use pc_books::{Book, few_cells, well_formed};
 use pc_cache::Patch;
-use pc_kept::laws::{kept_parts_are_searched, none_of_the_used_is_contained};
+use pc_kept::laws::{kept_parts_are_searched, none_is_contained_by_polarity};
 use pc_search::PartTask;
 use pc_sheet::Target;
 use pc_solver::{SpareTrails, Stop};
@@ -57,7 +57,7 @@ impl PartTargets<'_> {
         ensures stop { IfErr result (StopSays place.new.tally) }
     {
         kept_parts_are_searched();
-        none_of_the_used_is_contained();
+        none_is_contained_by_polarity();
         let book = self.book;
         let theory = self.theory;
         well_formed(book);
@@ -103,7 +103,7 @@ impl PartTargets<'_> {
         ensures stop { IfErr result (StopSays place.new.tally) }
     {
         kept_parts_are_searched();
-        none_of_the_used_is_contained();
+        none_is_contained_by_polarity();
         let book = self.book;
         let theory = self.theory;
         well_formed(book);

@@ -76,12 +76,13 @@ fn new_solver<'g>(
     kept_parts_are_searched();
     let part = task.components.part(number);
     let trail = trails.take()?;
-    let mut solver = Solver::on(
+    let mut solver = Solver::polar(
         task.alloc,
         task.ground.store(),
         part.axioms,
         part.variables,
         trail,
+        part.banned,
     )?;
     solver.prefer_first(count_pairs(task.book, part.cells));
     Ok(solver)

@@ -212,28 +212,28 @@ first_log sheet s log h l =
 step_not_good : (s : Spending) → IsOfLog s with_hint_missing → ¬ IsLawful equal_cells None 5 s
 step_not_good s h l =
     let (part, is, used, own, are, log) = first_log equal_cells s with_hint_missing h l in
-    hint_missing (problem_of equal_cells used own) log.blocks refl log.lawful
+    hint_missing (problem_of equal_cells used own []) log.blocks refl log.lawful
 
 tautology_learned : (s : Spending) → IsOfLog s with_tautology → ¬ IsLawful equal_cells None 5 s
 tautology_learned s h l =
     let (part, is, used, own, are, log) = first_log equal_cells s with_tautology h l in
-    learned_tautology (clauses_used (problem_of equal_cells used own)) log.lawful.new
+    learned_tautology (clauses_used (problem_of equal_cells used own [])) log.lawful.new
 
 clause_twice : (s : Spending) → IsOfLog s with_clause_twice → ¬ IsLawful equal_cells None 5 s
 clause_twice s h l =
     let (part, is, used, own, are, log) = first_log equal_cells s with_clause_twice h l in
-    learned_twice (clauses_used (problem_of equal_cells used own)) log.lawful.new
+    learned_twice (clauses_used (problem_of equal_cells used own [])) log.lawful.new
 
 axiom_learned : (s : Spending) → IsOfLog s with_axiom_learned → ¬ IsLawful equal_cells None 5 s
 axiom_learned s h l =
     let (part, is, used, own, are, log) = first_log equal_cells s with_axiom_learned h l in
     let there : Contains used 4 = (are.exact 4).1 (root_axiom 0, refl, subst (λ (p : Part). OfSomePiece p (λ q. q.path.rule ≡ 0)) (sym is) (one_piece (λ q. q.path.rule ≡ 0) refl)) in
-    learned_axiom (clauses_used (problem_of equal_cells used own)) (contains_map (λ n. get_or (clauses equal_cells) n []) used 4 there) log.lawful.new
+    learned_axiom (clauses_used (problem_of equal_cells used own [])) (contains_map (λ n. get_or (clauses equal_cells) n []) used 4 there) log.lawful.new
 
 block_of_no_set : (s : Spending) → IsOfLog s with_large_block → ¬ IsLawful equal_cells None 5 s
 block_of_no_set s h l =
     let (part, is, used, own, are, log) = first_log equal_cells s with_large_block h l in
-    of_no_set (IsSetOf equal_cells whole) (problem_of equal_cells used own) (λ set. (sets.exact set).1) (subst (λ (p : Part). IsGoodLog equal_cells p used own with_large_block) is log)
+    of_no_set (IsSetOf equal_cells whole) (problem_of equal_cells used own []) (λ set. (sets.exact set).1) (subst (λ (p : Part). IsGoodLog equal_cells p used own with_large_block) is log)
 
 abbrev name_or : Option GroundAxiom → Axiom
 name_or None = axiom_rule 0

@@ -30,7 +30,7 @@ abbrev pub all_variables : List Var
 all_variables = map (λ n. record { 0 = n }) (range_with_len 0 5)
 
 abbrev pub equal_problem : Problem
-equal_problem = record { axioms = equal_clauses; used = all_axioms; own = all_variables }
+equal_problem = record { axioms = equal_clauses; used = all_axioms; own = all_variables; banned = [] }
 
 -- ---- logs
 

@@ -74,6 +74,6 @@ pub record IsAsked (book : Sheet) (own : List Var) (s : SolverView) (log : List 
   pub over : IsAskedOver book cells own
   pub used : List ℕ
   pub used_are : AreAxiomsOver (clauses book) own used
-  pub problem : s.problem ≡ problem_of book used own
+  pub problem : s.problem ≡ problem_of book used own []
   pub blocks_are : s.blocks ≡ []
   pub has : HasLog s log

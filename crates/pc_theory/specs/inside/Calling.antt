@@ -46,7 +46,7 @@ pub record IsFresh (g : Grounded) (kept : Kept) (number : ℕ) (s : SolverView) 
   pub cells_at : slice_get kept.cells number ≡ Some cells
   pub used_at : slice_get kept.axioms number ≡ Some used
   pub own_at : slice_get kept.variables number ≡ Some own
-  pub problem : s.problem ≡ record { axioms = g.clauses; used = used; own = own }
+  pub problem : s.problem ≡ record { axioms = g.clauses; used = used; own = own; banned = kept.banned }
   pub no_block : s.blocks ≡ []
   pub no_line : HasLog s []
 

@@ -38,7 +38,7 @@ pub record HasOnlyLog (s : SuspendedView) (tally : Tally) (logs : List (List Log
 -- The solver, which is without its trail, is one of the place's part, has made one call, and its log is the place's only one.
 pub record IsStarted (sheet : Sheet) (kept : Kept) (place : PartSpending) (s : SuspendedView) : Type 0 where
   pub spent : IsSearchedOn sheet None kept place
-  pub problem : s.problem ≡ problem_of sheet spent.used spent.own
+  pub problem : s.problem ≡ problem_of sheet spent.used spent.own kept.banned
   pub no_blocks : s.blocks ≡ []
   pub only : HasOnlyLog s place.tally place.logs.items
   pub one_call : place.tally.calls ≤ 1

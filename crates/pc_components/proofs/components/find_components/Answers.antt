@@ -35,7 +35,7 @@ returns c =
     c.in_ok-axioms.ensures
     (c.in_ok-variables.ensures ∙ ap (λ cs. turned c.in_ok-numbers.numbers.parts (turned c.variables.result (map (variables_in cs) c.in_ok-axioms.axioms))) (c.store.ensures ∙ ap (λ (g : Grounded). g.clauses) c.requires))
     (c.in_ok-cells.ensures ∙ ap (turned c.in_ok-numbers.numbers.parts) (c.in_ok-rows_of_each.ensures ∙ ap (map alone) c.deref.ensures.value))
-    c.in_ok-rows_of_cells.field-0 c.in_ok-rows_of_axioms.field-0 c.in_ok-rows_of_variables.field-0 c.in_ok-rows_of_cells.ensures c.in_ok-rows_of_axioms.ensures c.in_ok-rows_of_variables.ensures
+    c.in_ok-rows_of_cells.field-0 c.in_ok-rows_of_axioms.field-0 c.in_ok-rows_of_variables.field-0 c.in_ok-rows_of_cells.ensures c.in_ok-rows_of_axioms.ensures c.in_ok-rows_of_variables.ensures c.in_ok-banned.banned c.in_ok-banned.ensures
 
 pub rows_of_cells-requires : goal.rows_of_cells-requires
 rows_of_cells-requires c =

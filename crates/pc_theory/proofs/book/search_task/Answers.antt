@@ -14,7 +14,7 @@ returns-in_ok-spending-in-Ok-clause-found c =
     let listed = c.in-Ok in
     let total = c.in_ok-spending-in-Ok in
     let parts : total.spending.parts.items ≡ done.parts.items = cc (total.ensures.parts) in
-    found_in t.book.now t.ground.now t.components.now c.requires.ready listed.listed.worlds.items done.patch.rows done.spent done.parts.items listed.ensures.searched c.none_of_the_used_is_contained.ensures t.budget listed.listed.base total.spending listed.ensures.base parts total.ensures.placed
+    found_in t.book.now t.ground.now t.components.now c.requires.ready listed.listed.worlds.items done.patch.rows done.spent done.parts.items listed.ensures.searched c.none_is_contained_by_polarity.ensures t.budget listed.listed.base total.spending listed.ensures.base parts total.ensures.placed
     total.ensures.learned total.ensures.calls total.ensures.limit
 
 pub returns-in_ok-total-in-Err-Spent-clause-fault : goal.returns-in_ok-total-in-Err-Spent-clause-fault
@@ -24,7 +24,7 @@ returns-in_ok-total-in-Err-Spent-clause-fault c =
     let total = c.in_ok-total-in-Err-Spent in
     let parts : total.field-0.parts.items ≡ done.parts.items = cc (total.ensures.parts) in
     let says = subst (λ (h : Halt). HaltSays t.book.now t.components.now t.budget done.spent done.parts.items h) c.in-Err-Spent.field-0-is c.in-Err-Spent.ensures.halt in
-    lawful_spent c.none_of_the_used_is_contained.ensures t.book.now t.ground.now t.components.now t.budget done.spent done.parts.items total.field-0 c.requires.ready says parts total.ensures.placed total.ensures.limit total.ensures.learned total.ensures.calls
+    lawful_spent c.none_is_contained_by_polarity.ensures t.book.now t.ground.now t.components.now t.budget done.spent done.parts.items total.field-0 c.requires.ready says parts total.ensures.placed total.ensures.limit total.ensures.learned total.ensures.calls
 
 pub returns-in_ok-spending-in-Ok-clause-bytes : goal.returns-in_ok-spending-in-Ok-clause-bytes
 returns-in_ok-spending-in-Ok-clause-bytes c =

@@ -50,7 +50,7 @@ returns-clause-spends c =
     let known = subst (λ (v : TheoryView). IsTheory (rules_alone a.self.book.now) v) (sym c.theory.view_is) c.requires.theory in
     let asked = subst (λ (v : TheoryView). AreAsked (cell_sizes a.self.book.now.universe) v.components a.self.part a.self.targets.now) (sym c.theory.view_is) c.requires.asked in
     subst (λ (v : TheoryView). IsSpentAlone a.self.book.now v.components a.self.part place) c.theory.view_is
-    (alone_reserved c.kept_parts_are_searched.ensures a.self.book.now _ c.well_formed-2.ensures known a.self.part _ _ _ c.part-own.ensures.cells c.part-own.ensures.axioms c.part-own.ensures.variables a.self.targets.now asked c.none_of_the_used_is_contained.ensures a.place.now place c.requires.blank refl _ c.in_ok-reserve.ensures.items _ (c.deref.ensures.value ∙ c.in_ok-entries.ensures.on) c.search.ensures.logs c.search.ensures.spends)
+    (alone_reserved c.kept_parts_are_searched.ensures a.self.book.now _ c.well_formed-2.ensures known a.self.part _ _ _ c.part-own.ensures.cells c.part-own.ensures.axioms c.part-own.ensures.variables a.self.targets.now asked c.none_is_contained_by_polarity.ensures a.place.now place c.requires.blank refl _ c.in_ok-reserve.ensures.items _ (c.deref.ensures.value ∙ c.in_ok-entries.ensures.on) c.search.ensures.logs c.search.ensures.spends)
 
 pub returns-in_err-reserve-clause-spends : goal.returns-in_err-reserve-clause-spends
 returns-in_err-reserve-clause-spends c =
@@ -59,7 +59,7 @@ returns-in_err-reserve-clause-spends c =
     let known = subst (λ (v : TheoryView). IsTheory (rules_alone a.self.book.now) v) (sym c.theory.view_is) c.requires.theory in
     let asked = subst (λ (v : TheoryView). AreAsked (cell_sizes a.self.book.now.universe) v.components a.self.part a.self.targets.now) (sym c.theory.view_is) c.requires.asked in
     subst (λ (v : TheoryView). IsSpentAlone a.self.book.now v.components a.self.part place) c.theory.view_is
-    (alone_blank c.kept_parts_are_searched.ensures a.self.book.now _ c.well_formed-2.ensures known a.self.part _ _ _ c.part-own.ensures.cells c.part-own.ensures.axioms c.part-own.ensures.variables a.self.targets.now asked c.none_of_the_used_is_contained.ensures a.place.now place c.requires.blank refl refl c.in_err-reserve.ensures.items)
+    (alone_blank c.kept_parts_are_searched.ensures a.self.book.now _ c.well_formed-2.ensures known a.self.part _ _ _ c.part-own.ensures.cells c.part-own.ensures.axioms c.part-own.ensures.variables a.self.targets.now asked c.none_is_contained_by_polarity.ensures a.place.now place c.requires.blank refl refl c.in_err-reserve.ensures.items)
 
 pub returns-clause-limit : goal.returns-clause-limit
 returns-clause-limit c = c.search.ensures.spends.2.limit
@@ -71,7 +71,7 @@ returns-in_err-entries-clause-spends c =
     let known = subst (λ (v : TheoryView). IsTheory (rules_alone a.self.book.now) v) (sym c.theory.view_is) c.requires.theory in
     let asked = subst (λ (v : TheoryView). AreAsked (cell_sizes a.self.book.now.universe) v.components a.self.part a.self.targets.now) (sym c.theory.view_is) c.requires.asked in
     subst (λ (v : TheoryView). IsSpentAlone a.self.book.now v.components a.self.part place) c.theory.view_is
-    (alone_blank c.kept_parts_are_searched.ensures a.self.book.now _ c.well_formed-2.ensures known a.self.part _ _ _ c.part-own.ensures.cells c.part-own.ensures.axioms c.part-own.ensures.variables a.self.targets.now asked c.none_of_the_used_is_contained.ensures a.place.now place c.requires.blank refl refl refl)
+    (alone_blank c.kept_parts_are_searched.ensures a.self.book.now _ c.well_formed-2.ensures known a.self.part _ _ _ c.part-own.ensures.cells c.part-own.ensures.axioms c.part-own.ensures.variables a.self.targets.now asked c.none_is_contained_by_polarity.ensures a.place.now place c.requires.blank refl refl refl)
 
 pub returns-clause-found : goal.returns-clause-found
 returns-clause-found c =
