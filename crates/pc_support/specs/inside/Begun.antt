@@ -14,7 +14,7 @@ use Rattle.pc_support.specs.inside.Sets.{AreModelsOf}
 pub record IsBegun (sizes : List ℕ) (entries : List Entry) (worlds : List WorldView) (target : Target) (seen : SeenView) (i : Inquiry) : Type 0 where
   pub literals : i.question.literals.items ≡ map (entry_literal sizes) entries
   pub goal : i.question.goal ≡ target_literal sizes target
-  pub watched : i.question.watched.items ≡ seen.watched
+  pub watched : i.question.watched.now ≡ seen.watched
   pub no_cores : i.known.cores.items ≡ []
   pub no_rows : i.known.rows ≡ []
   pub before : List (List Bool)

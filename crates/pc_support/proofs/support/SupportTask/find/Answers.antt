@@ -25,10 +25,10 @@ narrow-requires-clause-askable c =
     let entries = c.args.self.entries.now in
     let basis = basis_of c.args.solver.now in
     record {
-      own = own_here asked.0 asked.1 sizes entries basis c.args.self.worlds.now c.args.target asked.2 i.question.literals.items i.question.goal i.question.watched.items (λ x h. c.requires.seen.own x (subst (λ (ws : List Var). Contains ws x) begun.watched h)) begun.literals begun.goal;
+      own = own_here asked.0 asked.1 sizes entries basis c.args.self.worlds.now c.args.target asked.2 i.question.literals.items i.question.goal i.question.watched.now (λ x h. c.requires.seen.own x (subst (λ (ws : List Var). Contains ws x) begun.watched h)) begun.literals begun.goal;
       no_blocks = c.requires.blocks;
       logged = c.requires.log;
-      right = known_here asked.0 asked.1 sizes entries basis c.args.self.worlds.now c.args.target asked.2 i.question.literals.items i.question.goal c.args.log.now i.known.cores.items i.known.models i.question.watched.items i.known.rows begun.literals begun.goal begun.no_cores begun.no_rows
+      right = known_here asked.0 asked.1 sizes entries basis c.args.self.worlds.now c.args.target asked.2 i.question.literals.items i.question.goal c.args.log.now i.known.cores.items i.known.models i.question.watched.now i.known.rows begun.literals begun.goal begun.no_cores begun.no_rows
           (all_counter asked.0 asked.1 sizes entries basis c.args.self.worlds.now c.args.target asked.2 i.question.literals.items i.question.goal begun.before i.known.models begun.literals begun.goal begun.of_worlds (begun.adds (clauses_used c.args.solver.now.problem) c.requires.seen.rows));
     }
 
