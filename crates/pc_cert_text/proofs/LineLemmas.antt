@@ -24,9 +24,8 @@ use Rattle.pc_reason.specs.Derivation.{IsLineNamedBeside, line_named, literal_na
 use Rattle.pc_writer.proofs.CellLemmas.{entered_cell}
 use Rattle.pc_cert_text.specs.CertificateText.{behind_blank, derivation_line_text, derivation_lines_text, number_text}
 use Rattle.pc_writer.specs.SheetText.{ended}
-use Rattle.pc_cert_text.specs.declared.hint.Numbering.{Numbering}
-use Rattle.pc_cert_text.specs.declared.hint.Numbering.TheVariants.{From}
-use Rattle.pc_cert_text.specs.inside.Steps.{number_in, AreNamedAndOfSheet, CanBeWritten, HasNumber, IsLiteralOf}
+use Rattle.pc_cert_text.specs.declared.lines.Lines.{Lines}
+use Rattle.pc_cert_text.specs.inside.Steps.{lines_in, number_in, AreNamedAndOfSheet, CanBeWritten, HasNumber, IsLineAt, IsLiteralOf}
 
 pub all_at : {A : Type 0} (P : A → Type 0) (xs : List A) (i : ℕ) (x : A) → All P xs → slice_get xs i ≡ Some x → P x
 all_at P xs i x all at = subst P (get_or_from_slice_get xs i x x at) (all i x (slice_get_within xs i x at))
@@ -86,7 +85,7 @@ numbered_at n [] i l at = absurd (cc)
 numbered_at n (m ∷ ls) zero l at = ap (λ x. Some (n, x)) (let same : m ≡ l = cc in same) ∙ ap (λ k. Some (k, l)) (let same : n ≡ 0 + n = omega arith in same)
 numbered_at n (m ∷ ls) (suc i) l at = numbered_at (n + 1) ls i l at ∙ ap (λ k. Some (k, l)) (let same : i + (n + 1) ≡ suc i + n = omega arith in same)
 
--- ---- lines of a span
+-- ---- lines that can be written
 
 module _ (sheet : Sheet) (names : NameLists) where
   literals_of : (clause : List Lit) → All (λ l. l.variable.0 < length names.variables) clause → All (λ l. IsSymbolOf sheet l.what) (map (literal_named names) clause) → All (IsLiteralOf sheet names) clause
@@ -97,42 +96,47 @@ module _ (sheet : Sheet) (names : NameLists) where
       (literals_of ls (All-tail (λ (m : Lit). m.variable.0 < length names.variables) l ls named) (All-tail (λ m. IsSymbolOf sheet m.what) (literal_named names l) (map (literal_named names) ls) written))
 
   -- a named line of a sheet can be written, where its hints have numbers
-  pub written_line : (numbering : Numbering) (sets place : ℕ) (line : LogLine) → sets < 10 ^ 18 → IsLineNamedBeside sets names (moved (number_in numbering) line)
-      → IsLineBeside sheet sets place (line_named names (moved (number_in numbering) line))
-      → ((h : StepId) → Contains (hints_of line) h → HasNumber numbering h.0) → CanBeWritten sheet names numbering line
-  written_line numbering sets place (AxiomLine a) few named written hints = (named, written)
-  written_line numbering sets place (BlockLine number clause) few named written hints = omega (arith, named, few)
-  written_line numbering sets place (StepLine clause hs learned) few named written hints = (literals_of clause named written.0, λ k d below. hints _ (Contains-get_or hs k d below))
+  pub written_line : (lines : Lines) (sets place : ℕ) (line : LogLine) → sets < 10 ^ 18 → IsLineNamedBeside sets names (moved (number_in lines) line)
+      → IsLineBeside sheet sets place (line_named names (moved (number_in lines) line))
+      → ((h : StepId) → Contains (hints_of line) h → HasNumber lines h.0) → CanBeWritten sheet names lines line
+  written_line lines sets place (AxiomLine a) few named written hints = (named, written)
+  written_line lines sets place (BlockLine number clause) few named written hints = omega (arith, named, few)
+  written_line lines sets place (StepLine clause hs learned) few named written hints = (literals_of clause named written.0, λ k d below. hints _ (Contains-get_or hs k d below))
 
   pub written_at : (sets place : ℕ) (ls : List Line) → AreLinesBeside sheet sets place ls → (i : ℕ) (l : Line) → slice_get ls i ≡ Some l → (k : ℕ) × IsLineBeside sheet sets k l
   written_at sets place [] are i l at = absurd (cc)
   written_at sets place (m ∷ ls) are zero l at = (place, subst (IsLineBeside sheet sets place) (let same : m ≡ l = cc in same) are.0)
   written_at sets place (m ∷ ls) are (suc i) l at = written_at sets (place + 1) ls are.1 i l at
 
-  module _ (log : List LogLine) (span : Span) (lies : IsSpanOf log span) where
-    abbrev here : LogLine → LogLine
-    here line = moved (λ h. h - span.first.0) line
+  -- the named line of a number
+  pub named_at : (lines : Lines) (k : ℕ) (line : LogLine) → IsLineAt lines k line → slice_get (map (line_named names) (lines_in lines)) k ≡ Some (line_named names (moved (number_in lines) line))
+  named_at lines k line is = slice_get-map (line_named names) (lines_in lines) k ∙ ap (option_map (line_named names)) is.stands
 
-    pub line_at : (k : ℕ) (line : LogLine) → span.first.0 + k ≤ span.last.0 → slice_get log (span.first.0 + k) ≡ Some line → slice_get (lines_of_span log span) k ≡ Some (here line)
-    line_at k line within at =
-        slice_get-map here (slice_range log span.first.0 (span.last.0 + 1)) k
-        ∙ ap (option_map here) (get_within log span.first.0 (span.last.0 + 1) k line (omega (arith, lies.lies)) (omega (arith, within)) at)
+  pub can_be_written : (lines : Lines) → AreNamedAndOfSheet sheet names (lines_in lines) → (k : ℕ) (line : LogLine) → IsLineAt lines k line → CanBeWritten sheet names lines line
+  can_be_written lines are k line is =
+      let here = moved (number_in lines) line in
+      let own = written_at are.sets 0 (map (line_named names) (lines_in lines)) are.written k (line_named names here) (named_at lines k line is) in
+      written_line lines are.sets own.0 line are.few (all_at (IsLineNamedBeside are.sets names) (lines_in lines) k here are.named is.stands) own.1 is.hints
 
-    pub named_line_at : (k : ℕ) (line : LogLine) → span.first.0 + k ≤ span.last.0 → slice_get log (span.first.0 + k) ≡ Some line → slice_get (map (line_named names) (lines_of_span log span)) k ≡ Some (line_named names (here line))
-    named_line_at k line within at = slice_get-map (line_named names) (lines_of_span log span) k ∙ ap (option_map (line_named names)) (line_at k line within at)
+-- ---- lines of a span
 
-    pub can_be_written : AreNamedAndOfSheet sheet names (lines_of_span log span)
-        → (k : ℕ) (line : LogLine) → span.first.0 + k ≤ span.last.0 → span.last.0 + 1 < 2 ^ 64 → slice_get log (span.first.0 + k) ≡ Some line → CanBeWritten sheet names (From span.first.0) line
-    can_be_written are k line within few at =
-        let own = written_at are.sets 0 (map (line_named names) (lines_of_span log span)) are.written k (line_named names (here line)) (named_line_at k line within at) in
-        written_line (From span.first.0) are.sets own.0 line are.few
-        (all_at (IsLineNamedBeside are.sets names) (lines_of_span log span) k (here line) are.named (line_at k line within at)) own.1
-        (λ h there.
-        let inside = lies.closed (span.first.0 + k) h.0 (omega arith) within (hints_of line, slice_get-map hints_of log (span.first.0 + k) ∙ ap (option_map hints_of) at, there) in
-        let high = inside.1 in
-        (inside.0, omega (arith, high, few)))
+module _ (log : List LogLine) (span : Span) (lies : IsSpanOf log span) where
+  abbrev here : LogLine → LogLine
+  here line = moved (λ h. h - span.first.0) line
 
-    pub count_of_lines : length (map (line_named names) (lines_of_span log span)) ≡ span.last.0 + 1 - span.first.0
-    count_of_lines =
-        length-map (lines_of_span log span) (line_named names) ∙ length-map (slice_range log span.first.0 (span.last.0 + 1)) here
-        ∙ length_range log span.first.0 (span.last.0 + 1) (omega (arith, lies.rises)) (omega (arith, lies.lies))
+  pub count_of_lines : length (lines_of_span log span) ≡ span.last.0 - span.first.0 + 1
+  count_of_lines =
+      let count = length-map (slice_range log span.first.0 (span.last.0 + 1)) here ∙ length_range log span.first.0 (span.last.0 + 1) (omega (arith, lies.rises)) (omega (arith, lies.lies)) in
+      omega (arith, count, lies.rises)
+
+  pub within : (k : ℕ) → k < length (lines_of_span log span) → span.first.0 + k ≤ span.last.0
+  within k low = omega (arith, count_of_lines, low, lies.rises)
+
+  pub line_at : (k : ℕ) (line : LogLine) → k < length (lines_of_span log span) → slice_get log (span.first.0 + k) ≡ Some line → slice_get (lines_of_span log span) k ≡ Some (here line)
+  line_at k line low at =
+      slice_get-map here (slice_range log span.first.0 (span.last.0 + 1)) k
+      ∙ ap (option_map here) (get_within log span.first.0 (span.last.0 + 1) k line (omega (arith, lies.lies)) (omega (arith, within k low)) at)
+
+  pub hints_behind : (k : ℕ) (line : LogLine) → k < length (lines_of_span log span) → slice_get log (span.first.0 + k) ≡ Some line → (h : StepId) → Contains (hints_of line) h → span.first.0 ≤ h.0
+  hints_behind k line low at h there =
+      (lies.closed (span.first.0 + k) h.0 (omega arith) (within k low) (hints_of line, slice_get-map hints_of log (span.first.0 + k) ∙ ap (option_map hints_of) at, there)).0

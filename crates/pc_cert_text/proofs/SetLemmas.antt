@@ -1,5 +1,5 @@
 -- Worlds as the sets of a certificate.
-use Rattle.std.proofs.Common.{◌≡◌, ℕ, ◌<◌, ◌^◌, List, [], ◌++◌, codes, map, length, get_or, Some, slice_get, All, sym, ap, ◌∙◌, subst}
+use Rattle.std.proofs.Common.{◌≡◌, ℕ, ◌<◌, ◌^◌, List, [], map, length, get_or, Option, Some, Result, slice_get, All, refl, sym, ap, ◌∙◌, subst}
 use Rattle.std.specs.Prelude.{option_map}
 use Rattle.std.proofs.lemmas.List.{get_or-map, length-map}
 use Rattle.std.proofs.lemmas.Option.{slice_get-map, slice_get-get_or}
@@ -8,15 +8,17 @@ use Rattle.pc_sheet.specs.declared.ids.ValueId.{ValueId}
 use Rattle.pc_sheet.specs.declared.ids.Entry.{Entry}
 use Rattle.pc_accept.specs.Sets.{GivenSet}
 use Rattle.pc_accept.specs.Writable.{AreLinesBeside, IsSetOf}
-use Rattle.pc_world_list.specs.SetCertificates.{AreCertified, given_of, SetParts}
+use Rattle.pc_accept.specs.Accepts.{Certificate}
+use Rattle.pc_world_list.specs.RuleCertificates.{certificate_against_rule, GoesAgainst, IsAgainstRule}
+use Rattle.pc_world_list.specs.SetCertificates.{AreCertified, certificate_of_sets, claim_on_sets, given_of, IsOnSets, SetParts}
 use Rattle.pc_log.specs.Lines.{LogLine}
 use Rattle.pc_log.specs.Spans.{lines_of_span}
 use Rattle.pc_log.specs.declared.trimming.Span.{Span}
 use Rattle.pc_axiom_names.specs.Listed.{NameLists}
 use Rattle.pc_reason.specs.Derivation.{entries_from, line_named}
 use Rattle.pc_world_list.specs.Worlds.{WorldView, set_of, set_at}
-use Rattle.pc_writer.specs.SheetText.{ended}
-use Rattle.pc_cert_text.specs.CertificateText.{derivation_lines_text}
+use Rattle.pc_writer.specs.Writes.{Writes}
+use Rattle.pc_cert_text.specs.CertificateText.{certificate_text}
 use Rattle.pc_cert_text.specs.inside.Steps.{AreNamedAndOfSheet}
 use Rattle.pc_cert_text.proofs.LineLemmas.{all_at}
 
@@ -40,18 +42,8 @@ set_can_be_written sheet worlds i entries values are at = all_at (IsSetOf sheet)
 
 -- ---- the lines
 
-abbrev pub ending_text : Sheet → NameLists → List LogLine → Span → List ℕ
-ending_text sheet names lines span = derivation_lines_text sheet 1 (map (line_named names) (lines_of_span lines span)) ++ ended (codes "end")
-
-module _ (sheet : Sheet) (names others : NameLists) (lines more : List LogLine) (span other : Span) (names_are : names ≡ others) (lines_are : lines ≡ more) (span_is : span ≡ other) where
-  pub same_ending : ending_text sheet names lines span ≡ ending_text sheet others more other
-  same_ending =
-      ap (λ n. ending_text sheet n lines span) names_are ∙ ap (λ (ls : List LogLine). ending_text sheet others ls span) lines_are ∙ ap (λ (s : Span). ending_text sheet others more s) span_is
-
-  pub same_lines : AreNamedAndOfSheet sheet others (lines_of_span more other) → AreNamedAndOfSheet sheet names (lines_of_span lines span)
-  same_lines are =
-      subst (λ (n : NameLists). AreNamedAndOfSheet sheet n (lines_of_span lines span)) (sym names_are)
-      (subst (λ (ls : List LogLine). AreNamedAndOfSheet sheet others (lines_of_span ls span)) (sym lines_are) (subst (λ (s : Span). AreNamedAndOfSheet sheet others (lines_of_span more s)) (sym span_is) are))
+pub same_lines : (lines more : List LogLine) (span other : Span) → lines ≡ more → span ≡ other → lines_of_span lines span ≡ lines_of_span more other
+same_lines lines more span other lines_are span_is = ap (λ (ls : List LogLine). lines_of_span ls span) lines_are ∙ ap (lines_of_span more) span_is
 
 pub certified_lines : (sheet : Sheet) (names : NameLists) (p : SetParts) → AreCertified sheet names p → AreNamedAndOfSheet sheet names (lines_of_span p.lines p.span)
 certified_lines sheet names p is = record {
@@ -60,3 +52,15 @@ certified_lines sheet names p is = record {
   named = is.named;
   written = subst (λ n. AreLinesBeside sheet n 0 (map (line_named names) (lines_of_span p.lines p.span))) (length-map p.worlds given_of) is.written.lines;
 }
+
+-- the text of the certificate of sets is that of one on them
+pub on_sets : {S T E : Type 0} {given : S → Option (List ℕ)} {faults : S → ℕ} {before after : S} {outcome : Result T E} (sheet : Sheet) (names : NameLists) (p : SetParts) → AreCertified sheet names p
+    → Writes given faults before after outcome (certificate_text sheet (certificate_of_sets names (claim_on_sets p.claim) p.worlds (lines_of_span p.lines p.span)))
+    → (c : Certificate) × IsOnSets sheet (claim_on_sets p.claim) c × (c.sets ≡ map given_of p.worlds) × Writes given faults before after outcome (certificate_text sheet c)
+on_sets sheet names p are wrote = (certificate_of_sets names (claim_on_sets p.claim) p.worlds (lines_of_span p.lines p.span), record { claims = refl; accepted = are.accepted; written = are.written }, refl, wrote)
+
+-- the text of the certificate against a rule is that of one against it
+pub on_rule : {S T E : Type 0} {given : S → Option (List ℕ)} {faults : S → ℕ} {before after : S} {outcome : Result T E} (sheet : Sheet) (names : NameLists) (rule : ℕ) (support : List Entry) (shown : List ValueId) (lines : List LogLine) (span : Span)
+    → GoesAgainst sheet names rule support shown lines span → Writes given faults before after outcome (certificate_text sheet (certificate_against_rule names rule support shown (lines_of_span lines span)))
+    → (c : Certificate) × IsAgainstRule sheet rule support c × Writes given faults before after outcome (certificate_text sheet c)
+on_rule sheet names rule support shown lines span goes wrote = (certificate_against_rule names rule support shown (lines_of_span lines span), record { claims = refl; uses = refl; accepted = goes.accepted; written = goes.written }, wrote)

@@ -9,17 +9,17 @@ use Rattle.pc_sheet.specs.Sheet.{Sheet}
 use Rattle.pc_lits.specs.declared.literal.Lit.{Lit}
 use Rattle.pc_log.specs.Lines.{StepLine}
 use Rattle.pc_axiom_names.specs.Listed.{NameLists}
-use Rattle.pc_cert_text.specs.declared.hint.Numbering.{Numbering}
+use Rattle.pc_cert_text.specs.declared.lines.Lines.{Lines}
 use Rattle.pc_cert_text.specs.inside.Steps.{hint_text, logged_text, number_in, step_text}
 use Rattle.pc_cert_text.proofs.TextLemmas.{flat_mapped}
 
-hints_agree : (numbering : Numbering) (hints : List StepId)
-    → flat_map (hint_text numbering) hints ≡ flat_map (λ (h : ℕ). behind_blank (number_text (h + 1))) (map number_of (map {B = StepId} (λ (h : StepId). record { 0 = number_in numbering h.0 }) hints))
-hints_agree numbering [] = refl
-hints_agree numbering (h ∷ hs) = ap (λ rest. hint_text numbering h ++ rest) (hints_agree numbering hs)
+hints_agree : (lines : Lines) (hints : List StepId)
+    → flat_map (hint_text lines) hints ≡ flat_map (λ (h : ℕ). behind_blank (number_text (h + 1))) (map number_of (map {B = StepId} (λ (h : StepId). record { 0 = number_in lines h.0 }) hints))
+hints_agree lines [] = refl
+hints_agree lines (h ∷ hs) = ap (λ rest. hint_text lines h ++ rest) (hints_agree lines hs)
 
 -- the text of a kept step is that of its line in a certificate
-pub step_texts_agree : (sheet : Sheet) (names : NameLists) (numbering : Numbering) (clause : List Lit) (hints : List StepId) (learned : Bool) → step_text sheet names numbering clause hints ≡ logged_text sheet names numbering (StepLine clause hints learned)
-step_texts_agree sheet names numbering clause hints learned =
-    ap (λ text. codes "step" ++ (text ++ (codes " :" ++ flat_map (hint_text numbering) hints))) (flat_mapped (λ (l : Literal). behind_blank (literal_text sheet l)) (literal_named names) clause)
-    ∙ ap (λ text. codes "step" ++ (flat_map (λ (l : Literal). behind_blank (literal_text sheet l)) (map (literal_named names) clause) ++ (codes " :" ++ text))) (hints_agree numbering hints)
+pub step_texts_agree : (sheet : Sheet) (names : NameLists) (lines : Lines) (clause : List Lit) (hints : List StepId) (learned : Bool) → step_text sheet names lines clause hints ≡ logged_text sheet names lines (StepLine clause hints learned)
+step_texts_agree sheet names lines clause hints learned =
+    ap (λ text. codes "step" ++ (text ++ (codes " :" ++ flat_map (hint_text lines) hints))) (flat_mapped (λ (l : Literal). behind_blank (literal_text sheet l)) (literal_named names) clause)
+    ∙ ap (λ text. codes "step" ++ (flat_map (λ (l : Literal). behind_blank (literal_text sheet l)) (map (literal_named names) clause) ++ (codes " :" ++ text))) (hints_agree lines hints)

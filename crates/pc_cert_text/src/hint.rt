@@ -6,52 +6,44 @@ ghost use Rattle.pc_log.specs.Sparse.{index_of};
 ghost use Rattle.pc_writer.specs.Writes.{Writes};
 ghost use Rattle.pc_cert_text.specs.inside.Steps.{hint_text, number_in, HasNumber};
 
+use crate::lines::Lines;
 use crate::number::write_number;
 use pc_log::{Places, StepId};
 use pc_port::{Failed, Sink};
 use pc_writer::write_text;
 
-/// How the lines of a derivation are numbered, by their places.
-#[derive(Clone, Copy)]
-pub(crate) enum Numbering<'a> {
-    /// One after another from this place on.
-    From(usize),
-    /// As they stand at these places.
-    Among(&'a Places),
-}
-
 /// Writes the number of each line that a hint names.
 pub(crate) fn write_hints<O: Sink>(
     hints: &[StepId],
-    numbering: Numbering<'_>,
+    lines: Lines<'_>,
     out: &mut O,
 ) -> Result<(), Failed>
-    requires { All (λ h. HasNumber numbering h.0) hints.now }
+    requires { All (λ h. HasNumber lines h.0) hints.now }
     ensures { Writes O.given O.faults out.old out.new result
-        (flat_map (hint_text numbering.entry) hints.now) }
+        (flat_map (hint_text lines.entry) hints.now) }
 {
     for hint in hints {
-        write_hint(*hint, numbering, out)?;
+        write_hint(*hint, lines, out)?;
     }
     Ok(())
 }
 
-fn write_hint<O: Sink>(hint: StepId, numbering: Numbering<'_>, out: &mut O) -> Result<(), Failed>
-    requires { HasNumber numbering hint.0 }
-    ensures { Writes O.given O.faults out.old out.new result (hint_text numbering.entry hint) }
+fn write_hint<O: Sink>(hint: StepId, lines: Lines<'_>, out: &mut O) -> Result<(), Failed>
+    requires { HasNumber lines hint.0 }
+    ensures { Writes O.given O.faults out.old out.new result (hint_text lines.entry hint) }
 {
     write_text(b" ", out)?;
-    write_number(number_of(hint, numbering), out)
+    write_number(number_of(hint, lines), out)
 }
 
 // The number of the line at a place, counted from 1.
-fn number_of(place: StepId, numbering: Numbering<'_>) -> u64
-    requires { HasNumber numbering place.0 }
-    ensures { result ≡ number_in numbering.entry place.0 + 1 }
+fn number_of(place: StepId, lines: Lines<'_>) -> u64
+    requires { HasNumber lines place.0 }
+    ensures { result ≡ number_in lines.entry place.0 + 1 }
 {
-    match numbering {
-        Numbering::From(first) => (place.0 as usize - first + 1) as u64,
-        Numbering::Among(places) => number_among(place, places),
+    match lines {
+        Lines::Logged(_, span) => u64::from(place.0 - span.first.0) + 1,
+        Lines::Shared(derivation) => number_among(place, derivation.places),
     }
 }
 

@@ -13,6 +13,7 @@ mod entries;
 mod hint;
 mod law;
 mod line;
+mod lines;
 mod literal;
 mod number;
 mod path;

@@ -5,81 +5,41 @@ ghost use Rattle.pc_accept.specs.Accepts.{blocked};
 ghost use Rattle.pc_lits.specs.declared.literal.Lit.{Lit};
 ghost use Rattle.pc_log.specs.declared.log.StepId.{StepId};
 ghost use Rattle.pc_log.specs.Shown.{shown_line};
-ghost use Rattle.pc_log.specs.Spans.{IsSpanOf, lines_of_span};
-ghost use Rattle.pc_log.specs.Sparse.{IsPicked};
 ghost use Rattle.pc_reason.specs.Derivation.{line_named};
-ghost use Rattle.pc_reason.specs.Reasons.{lines_of_derivation};
 ghost use Rattle.pc_writer.specs.Writes.{Writes};
 ghost use Rattle.pc_cert_text.specs.CertificateText.{behind_blank, derivation_line_text, derivation_lines_text, number_text};
 ghost use Rattle.pc_writer.specs.SheetText.{ended};
-ghost use Rattle.pc_cert_text.specs.inside.Steps.{AreNamedAndOfSheet, CanBeWritten, HasNumber, IsLiteralOf, logged_text, spaced_literal_text, step_text};
+ghost use Rattle.pc_cert_text.specs.inside.Steps.{AreKept, AreNamedAndOfSheet, CanBeWritten, HasNumber, IsLiteralOf, lines_in, logged_text, spaced_literal_text, step_text};
 
 use crate::axiom::write_axiom;
-use crate::hint::{Numbering, write_hints};
+use crate::hint::write_hints;
+use crate::lines::Lines;
 use crate::literal::write_literal;
 use crate::number::write_number;
 use pc_axiom_names::Names;
 use pc_books::Book;
 use pc_lits::Lit;
-use pc_log::{Derivation, Line, StepId};
+use pc_log::{Line, StepId};
 use pc_port::{Failed, Sink};
-use pc_reason::Proof;
 use pc_writer::write_text;
 
-/// Writes the lines of a proof, numbered from 1, their hints counted from the first of them.
-pub(crate) fn write_lines<O: Sink>(book: &Book, proof: Proof<'_>, out: &mut O) -> Result<(), Failed>
-    requires span { IsSpanOf proof.log.now proof.span }
-    requires lines { AreNamedAndOfSheet book.now proof.names.now
-        (lines_of_span proof.log.now proof.span) }
-    ensures { Writes O.given O.faults out.old out.new result
-        (derivation_lines_text book.now 1
-        (map (line_named proof.entry.names.now)
-        (lines_of_span proof.entry.log.now proof.entry.span))) }
-{
-    let first = proof.span.first.0 as usize;
-    let last = proof.span.last.0 as usize;
-    prove!(last < proof.log.len());
-    for index in 0..last - first + 1 {
-        let line = proof.log.line(StepId((first + index) as u32));
-        write_ended_line(
-            book,
-            proof.names,
-            line,
-            Numbering::From(first),
-            index as u64 + 1,
-            out,
-        )?;
-    }
-    Ok(())
-}
-
-/// Writes the lines of a derivation that shares them, numbered from 1, their hints as these numbers.
-pub(crate) fn write_derivation<O: Sink>(
+/// Writes the lines of a derivation, numbered from 1, their hints as these numbers.
+pub(crate) fn write_lines<O: Sink>(
     book: &Book,
     names: &Names,
-    derivation: Derivation<'_>,
+    lines: Lines<'_>,
     out: &mut O,
 ) -> Result<(), Failed>
-    requires picked { IsPicked derivation.lines.now derivation.places.now }
-    requires lines { AreNamedAndOfSheet book.now names.now (lines_of_derivation derivation) }
+    requires kept { AreKept lines }
+    requires lines { AreNamedAndOfSheet book.now names.now (lines_in lines) }
     ensures { Writes O.given O.faults out.old out.new result
-        (derivation_lines_text book.now 1
-        (map (line_named names.now) (lines_of_derivation derivation.entry))) }
+        (derivation_lines_text book.now 1 (map (line_named names.now) (lines_in lines.entry))) }
 {
-    let places = derivation.places;
-    let mut place = 0;
-    for index in 0..places.len() {
-        place = places.next(index, place);
-        let line = derivation.line(place);
-        write_ended_line(
-            book,
-            names,
-            line,
-            Numbering::Among(places),
-            index as u64 + 1,
-            out,
-        )?;
-        place += 1;
+    let mut from = 0;
+    for index in 0..lines.len() {
+        let (line, next) = lines.next(index, from);
+        write_ended_line(book, names, line, lines, index as u64 + 1, out)?;
+        from = next;
     }
     Ok(())
 }
@@ -89,16 +49,16 @@ fn write_ended_line<O: Sink>(
     book: &Book,
     names: &Names,
     line: Line<'_>,
-    numbering: Numbering<'_>,
+    lines: Lines<'_>,
     number: u64,
     out: &mut O,
 ) -> Result<(), Failed>
-    requires { CanBeWritten book.now names.now numbering (shown_line line) }
+    requires { CanBeWritten book.now names.now lines (shown_line line) }
     ensures { Writes O.given O.faults out.old out.new result
         (ended (number_text number ++
-        behind_blank (logged_text book.now names.now numbering.entry (shown_line line.entry)))) }
+        behind_blank (logged_text book.now names.now lines.entry (shown_line line.entry)))) }
 {
-    write_numbered_line(book, names, line, numbering, number, out)?;
+    write_numbered_line(book, names, line, lines, number, out)?;
     write_text(b"\n", out)
 }
 
@@ -106,17 +66,17 @@ fn write_numbered_line<O: Sink>(
     book: &Book,
     names: &Names,
     line: Line<'_>,
-    numbering: Numbering<'_>,
+    lines: Lines<'_>,
     number: u64,
     out: &mut O,
 ) -> Result<(), Failed>
-    requires { CanBeWritten book.now names.now numbering (shown_line line) }
+    requires { CanBeWritten book.now names.now lines (shown_line line) }
     ensures { Writes O.given O.faults out.old out.new result (number_text number ++
-        behind_blank (logged_text book.now names.now numbering.entry (shown_line line.entry))) }
+        behind_blank (logged_text book.now names.now lines.entry (shown_line line.entry))) }
 {
     write_number(number, out)?;
     write_text(b" ", out)?;
-    write_line(book, names, line, numbering, out)
+    write_line(book, names, line, lines, out)
 }
 
 // Writes a line with the numbers of its hints.
@@ -124,18 +84,18 @@ fn write_line<O: Sink>(
     book: &Book,
     names: &Names,
     line: Line<'_>,
-    numbering: Numbering<'_>,
+    lines: Lines<'_>,
     out: &mut O,
 ) -> Result<(), Failed>
-    requires { CanBeWritten book.now names.now numbering (shown_line line) }
+    requires { CanBeWritten book.now names.now lines (shown_line line) }
     ensures { Writes O.given O.faults out.old out.new result
-        (logged_text book.now names.now numbering.entry (shown_line line.entry)) }
+        (logged_text book.now names.now lines.entry (shown_line line.entry)) }
 {
     match line {
         Line::Axiom(number) => write_axiom(book, names.axiom(number), out),
         Line::Block { number, .. } => write_block(book, number, out),
         Line::Step { clause, hints, .. } => {
-            write_step_line(book, names, clause, hints, numbering, out)
+            write_step_line(book, names, clause, hints, lines, out)
         }
     }
 }
@@ -155,18 +115,18 @@ fn write_step_line<O: Sink>(
     names: &Names,
     clause: &[Lit],
     hints: &[StepId],
-    numbering: Numbering<'_>,
+    lines: Lines<'_>,
     out: &mut O,
 ) -> Result<(), Failed>
     requires clause { All (IsLiteralOf book.now names.now) clause.now }
-    requires hints { All (λ h. HasNumber numbering h.0) hints.now }
+    requires hints { All (λ h. HasNumber lines h.0) hints.now }
     ensures { Writes O.given O.faults out.old out.new result
-        (step_text book.now names.now numbering.entry clause.now hints.now) }
+        (step_text book.now names.now lines.entry clause.now hints.now) }
 {
     write_text(b"step", out)?;
     write_literals(book, names, clause, out)?;
     write_text(b" :", out)?;
-    write_hints(hints, numbering, out)
+    write_hints(hints, lines, out)
 }
 
 fn write_literals<O: Sink>(
