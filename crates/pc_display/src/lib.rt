@@ -13,6 +13,7 @@ mod lines;
 mod objects;
 mod supports;
 mod table;
+mod text;
 mod texts;
 
 pub use display::show;
@@ -23,3 +24,4 @@ pub use law::{
 pub use objects::json;
 pub use supports::Supports;
 pub use table::grid;
+pub use text::Text;

@@ -1,58 +1,16 @@
 // The texts of a sheet, kept in memory.
-ghost use Rattle.std.specs.Prelude.{◌≡◌, ◌<◌, IfOk, Some, [], length, string_bytes};
-ghost use Rattle.std.specs.Str.{IsUtf8};
+ghost use Rattle.std.specs.Prelude.{◌≡◌, ◌<◌, IfOk, length, string_bytes};
 ghost use Rattle.pc_sheet.specs.Entailment.{cell_sizes};
 ghost use Rattle.pc_sheet.specs.Sizes.{size_of};
 ghost use Rattle.pc_sheet.specs.WellFormed.{IsEntryOf, IsWellFormed};
 ghost use Rattle.pc_writer.specs.Spelling.{cell_text, entry_text, value_text};
 
+use crate::text::Text;
 use pc_books::Book;
-use pc_port::{Failed, Sink};
+use pc_port::Failed;
 use pc_sheet::{CellId, Entry, SortId, ValueId};
 use pc_writer::{write_cell, write_entry, write_value};
 use std::alloc::{AllocError, Global};
-
-// Keeps what is written, and fails only for want of memory.
-#[derive(Drop)]
-struct KeptText {
-    bytes: Vec<u8>,
-    faults: u64,
-}
-
-impl KeptText {
-    fn new(alloc: Global) -> KeptText
-        ensures { result.bytes.items ≡ [] }
-    {
-        KeptText {
-            bytes: Vec::new(alloc),
-            faults: 0,
-        }
-    }
-
-    fn into_text(self) -> String
-        requires { IsUtf8 self.bytes.items }
-        ensures { string_bytes result ≡ self.bytes.items }
-    {
-        match String::from_utf8(self.bytes) {
-            Ok(text) => text,
-            Err(_) => unreachable!(),
-        }
-    }
-}
-
-impl Sink for KeptText {
-    ghost given = { λ s. Some s.bytes.items };
-
-    ghost faults = { λ s. s.faults };
-
-    fn write(&mut self, piece: &[u8]) -> Result<(), Failed> {
-        if self.bytes.extend_from_slice(piece).is_err() {
-            self.faults = self.faults.saturating_add(1);
-            return Err(Failed);
-        }
-        Ok(())
-    }
-}
 
 /// A cell's text.
 pub(crate) fn cell_text(alloc: Global, book: &Book, cell: CellId) -> Result<String, AllocError>
@@ -60,7 +18,7 @@ pub(crate) fn cell_text(alloc: Global, book: &Book, cell: CellId) -> Result<Stri
     requires cell { cell.0 < length (cell_sizes book.now.universe) }
     ensures { IfOk result (λ text. string_bytes text ≡ cell_text book.now.universe cell) }
 {
-    let mut kept = KeptText::new(alloc);
+    let mut kept = Text::new(alloc);
     match write_cell(book, cell, &mut kept) {
         Ok(()) => Ok(kept.into_text()),
         Err(Failed) => Err(AllocError),
@@ -78,7 +36,7 @@ pub(crate) fn value_text(
     requires value { value.0 < size_of book.now.universe sort }
     ensures { IfOk result (λ text. string_bytes text ≡ value_text book.now.universe sort value) }
 {
-    let mut kept = KeptText::new(alloc);
+    let mut kept = Text::new(alloc);
     match write_value(book, sort, value, &mut kept) {
         Ok(()) => Ok(kept.into_text()),
         Err(Failed) => Err(AllocError),
@@ -91,7 +49,7 @@ pub(crate) fn entry_text(alloc: Global, book: &Book, entry: Entry) -> Result<Str
     requires entry { IsEntryOf book.now.universe entry }
     ensures { IfOk result (λ text. string_bytes text ≡ entry_text book.now.universe entry) }
 {
-    let mut kept = KeptText::new(alloc);
+    let mut kept = Text::new(alloc);
     match write_entry(book, entry, &mut kept) {
         Ok(()) => Ok(kept.into_text()),
         Err(Failed) => Err(AllocError),
