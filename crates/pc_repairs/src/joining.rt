@@ -105,7 +105,7 @@ fn lay_part(
 
 // An assignment for each way to choose one set of each part, the first part's slowest: the parts' cells take their values from
 // those of the sets, and the others from the assignment that fits.
-pub fn join_parts(
+fn join_parts(
     alloc: Global,
     fitting: &Assignment,
     parts: &[PartSets<'_>],
@@ -124,7 +124,7 @@ pub fn join_parts(
     Ok(all)
 }
 
-// Whether the assignment has the entry.
+/// Whether the assignment has the entry.
 pub fn is_had(values: &Assignment, entry: Entry) -> bool
     ensures { result ≡ is_had values.now entry }
 {
@@ -134,7 +134,7 @@ pub fn is_had(values: &Assignment, entry: Entry) -> bool
     }
 }
 
-// The entries that the assignment has, oldest first.
+/// The entries that the assignment has, oldest first.
 pub fn had_by(
     alloc: Global,
     entries: &[Entry],
