@@ -170,9 +170,6 @@ lines_count : (lines : List LogLine) → 16 * length lines ≤ bytes_of lines
 lines_count [] = omega arith
 lines_count (line ∷ lines) = omega (arith, sum_by-cons line_bytes line lines, line_counts line, lines_count lines)
 
-pub lines_in_row : (blocks : List (List (Option LogLine))) (r : Row) (count : ℕ) → count ≡ length r.places → 16 * count ≡ 16 * row_lines (kept_or_none blocks (Some r))
-lines_in_row blocks r count is = omega (arith, is, picked_length (line_in (block_at blocks r.block)) r.places)
-
 row_few : (row : Option Justification) → 16 * row_lines row ≤ row_bytes row
 row_few None = omega arith
 row_few (Some j) = lines_count j.lines
@@ -184,10 +181,8 @@ rows_few (r ∷ rs) = omega (arith, row_few r.row, rows_few rs)
 pub alive_few : (c : Cached) → bytes_alive c ≤ bytes_of_rows c.rows
 alive_few c = omega (arith, rows_few c.rows)
 
-pub alive_is : (blocks : List (List (Option LogLine))) (lent slots : List Slot) (live sum : ℕ) (c : Cached) → lent ≡ slots → sum ≡ 16 * lines_of_rows (rows_in blocks lent) → rows_in blocks slots ≡ c.rows → live ≡ c.live
-    → min live sum ≡ bytes_alive c
-alive_is blocks lent slots live sum c same is rows alive =
-    ap (λ (n : ℕ). min n sum) alive ∙ ap (min c.live) (is ∙ ap (λ (ss : List Slot). 16 * lines_of_rows (rows_in blocks ss)) same ∙ ap (λ (rs : List TargetRow). 16 * lines_of_rows rs) rows)
+pub alive_is : (blocks : List (List (Option LogLine))) (slots : List Slot) (live sum : ℕ) (c : Cached) → sum ≡ 16 * lines_of_rows (rows_in blocks slots) → rows_in blocks slots ≡ c.rows → live ≡ c.live → min live sum ≡ bytes_alive c
+alive_is blocks slots live sum c is rows alive = ap (λ (n : ℕ). min n sum) alive ∙ ap (min c.live) (is ∙ ap (λ (rs : List TargetRow). 16 * lines_of_rows rs) rows)
 
 -- a block counts for no more than all of them
 one_of : (blocks : List (List (Option LogLine))) (b : ℕ) → bytes_there (block_at blocks b) ≤ bytes_of_blocks blocks
@@ -213,18 +208,6 @@ rows_count blocks (s ∷ ss) t are =
 pub applied_bytes : (blocks from into : List (List (Option LogLine))) (slots : List Slot) (patch : List TargetRow) (bytes : ℕ) → bytes_of_blocks into ≡ bytes_of_blocks blocks + bytes_of_blocks from → bytes_of_blocks from ≤ bytes_of_rows (rows_in from slots) → rows_in from slots ≡ patch
     → bytes_of_blocks blocks ≡ bytes → bytes_of_blocks into ≤ bytes + bytes_of_rows patch
 applied_bytes blocks from into slots patch bytes sum alone rows were = omega (arith, sum, alone, ap bytes_of_rows rows, were)
-
-lines_of_rows-push : (blocks : List (List (Option LogLine))) (slots : List Slot) (s : Slot) → lines_of_rows (rows_in blocks (slots ++ s ∷ [])) ≡ lines_of_rows (rows_in blocks slots) + row_lines (kept_or_none blocks s.row)
-lines_of_rows-push blocks [] s = omega arith
-lines_of_rows-push blocks (x ∷ xs) s = omega (arith, lines_of_rows-push blocks xs s)
-
-pub lines_more : (blocks : List (List (Option LogLine))) (slots : List Slot) (k : ℕ) (d : Slot) (total more : ℕ) → k < length slots → total ≡ 16 * lines_of_rows (rows_in blocks (take k slots))
-    → more ≡ 16 * row_lines (kept_or_none blocks (get_or slots k d).row) → total + more ≡ 16 * lines_of_rows (rows_in blocks (take (k + 1) slots))
-lines_more blocks slots k d total more low was is =
-    omega (arith, was, is, ap (λ (xs : List Slot). lines_of_rows (rows_in blocks xs)) (take_more slots k d low), lines_of_rows-push blocks (take k slots) (get_or slots k d))
-
-pub lines_all : (blocks : List (List (Option LogLine))) (slots : List Slot) (k total : ℕ) → length slots ≤ k → total ≡ 16 * lines_of_rows (rows_in blocks (take k slots)) → total ≡ 16 * lines_of_rows (rows_in blocks slots)
-lines_all blocks slots k total all was = subst (λ (xs : List Slot). total ≡ 16 * lines_of_rows (rows_in blocks xs)) (take_all k slots all) was
 
 -- ---- bytes of blocks, one after another
 

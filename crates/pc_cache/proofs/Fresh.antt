@@ -15,6 +15,7 @@ use Rattle.pc_cache.specs.inside.Kept.{rows_in, AreRowsIn, IsRowIn, HasSlot, kep
 use Rattle.pc_cache.specs.inside.Places.{place_of, ArePlaced, AreSmall}
 use Rattle.pc_cache.specs.inside.Slots.{empty_slot, cell_slots, slots_of, starts_of}
 use Rattle.pc_cache.specs.inside.Cached.{IsKept}
+use Rattle.pc_cache.specs.inside.Counted.{places_of, IsCounted}
 use Rattle.pc_cache.specs.declared.row.Slot.{Slot}
 use Rattle.pc_cache.proofs.SlotLemmas.{slot_stands, has_target, to_target, some_place, targets_are}
 
@@ -205,6 +206,16 @@ fresh_is_kept blocks sizes starts slots cells starts_are slots_are few =
       rows = rw slots_are (bare_rows blocks (slots_of 0 ns) (all_bare 0 ns)).0;
       few = few;
     }
+
+bare_counted : (slots : List Slot) → AreBare slots → IsCounted slots 0
+unfolding AreBare
+bare_counted [] bare = record { exact = refl; short = tt }
+bare_counted (s ∷ ss) bare =
+    let rest = bare_counted ss bare.1 in
+    record { exact = omega (arith, ap places_of bare.0, rest.exact); short = (omega (arith, ap places_of bare.0), rest.short) }
+
+pub fresh_is_counted : (sizes : List ℕ) (slots : List Slot) (cells : ℕ) → slots ≡ slots_of 0 (take cells sizes) → IsCounted slots 0
+fresh_is_counted sizes slots cells are = subst (λ (ss : List Slot). IsCounted ss 0) (sym are) (bare_counted (slots_of 0 (take cells sizes)) (all_bare 0 (take cells sizes)))
 
 pub fresh_rows : (blocks : List (List (Option LogLine))) (u : Universe) (starts : List ℕ) (slots : List Slot) (cells : ℕ) → IsKept blocks starts slots → slots ≡ slots_of 0 (take cells (cell_sizes u)) → length (cell_sizes u) ≤ cells
     → ((t : Target) → HasRowOf (rows_in blocks slots) t ↔ IsTargetIn u t) × AreDistinct (rows_in blocks slots) × AreEmpty (rows_in blocks slots)

@@ -1,5 +1,5 @@
 -- Slots by their places, and as rows.
-use Rattle.std.proofs.Common.{◌≡◌, ℕ, zero, suc, ◌+◌, ◌<◌, Bool, true, false, List, [], ◌∷◌, ◌++◌, Option, Some, None, length, slice_get, refl, sym, ap, ◌∙◌, subst, arith, cond, inl, inr, IsSomeAnd, ⊎_elim, get_or, take, map, filter}
+use Rattle.std.proofs.Common.{◌≡◌, ℕ, zero, suc, ◌+◌, ◌^◌, ◌<◌, ◌≤◌, Bool, true, false, List, [], ◌∷◌, ◌++◌, Option, Some, None, length, slice_get, refl, sym, ap, ◌∙◌, subst, arith, cond, inl, inr, IsSomeAnd, ⊎_elim, get_or, take, map, filter}
 use Rattle.pc_sheet.specs.declared.ids.Entry.{Entry}
 use Rattle.std.specs.Prelude.{slice_set, ◌||◌}
 use Rattle.std.specs.List.{list_any}
@@ -267,6 +267,9 @@ length_targets (s ∷ ss) = ap suc (length_targets ss)
 
 length-withs : (slots cs : List Slot) → length (with_slots slots cs) ≡ length slots
 length-withs slots cs = sym (length_targets (with_slots slots cs)) ∙ ap length (targets-withs slots cs) ∙ length_targets slots
+
+pub few_with : (slots : List Slot) (c : Slot) → length slots ≤ 2 ^ 21 → length (with_slot slots c) ≤ 2 ^ 21
+few_with slots c few = omega (arith, few, length_targets (with_slot slots c), ap length (targets-with slots c), length_targets slots)
 
 pub kept_after : (old new : List (List (Option LogLine))) (starts : List ℕ) (slots cs after : List Slot) → IsKept old starts slots → KeepsBlocks old new → AreRowsIn new cs → after ≡ with_slots slots cs → IsKept new starts after
 kept_after old new starts slots cs after kept keeps are put = record {

@@ -1,4 +1,5 @@
 pub mod Kept
+pub mod Counted
 pub mod Patched
 pub mod Places
 pub mod Slots

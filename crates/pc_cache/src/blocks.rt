@@ -3,12 +3,11 @@
 //! Each block has lines of one log, at their places in it. That rows are of the same log is tested line by line, since nobody
 //! says so; where they aren't, another block is begun.
 
-ghost use Rattle.std.specs.Prelude.{◌≡◌, ◌≢◌, ◌<◌, ◌≤◌, ◌^◌, ◌+◌, ◌*◌, ◌⊎◌, ℕ, [], List, Option, None, All, Contains, IfOk, IfSome, IsTrue, OnErr, OnOk, length, map};
-ghost use Rattle.pc_log.specs.Lines.{LogLine};
+ghost use Rattle.std.specs.Prelude.{◌≡◌, ◌≢◌, ◌<◌, ◌≤◌, ◌+◌, ◌⊎◌, ℕ, [], None, All, Contains, IfOk, IfSome, IsTrue, OnErr, OnOk, length, map};
 ghost use Rattle.pc_log.specs.Sizes.{bytes_of};
 ghost use Rattle.pc_log.specs.Sparse.{line_at, line_in, AddsOnly, IsThere, Keeps, LinesStand, MayStand};
-ghost use Rattle.pc_cache.specs.Rows.{bytes_of_rows, lines_of_rows, row_lines};
-ghost use Rattle.pc_cache.specs.inside.Kept.{block_at, bytes_of_blocks, kept_or_none, rows_in, AreRowsIn, IsRowIn, KeepsBlocks};
+ghost use Rattle.pc_cache.specs.Rows.{bytes_of_rows};
+ghost use Rattle.pc_cache.specs.inside.Kept.{block_at, bytes_of_blocks, rows_in, AreRowsIn, IsRowIn, KeepsBlocks};
 ghost use Rattle.pc_cache.specs.inside.Patched.{last_in, settled_in, ShareBlock};
 ghost use Rattle.pc_cache.specs.inside.Rested.{IsRowKept};
 ghost use Rattle.pc_cache.specs.inside.Spare.{spare_in};
@@ -142,31 +141,6 @@ pub(crate) fn blocks_bytes(blocks: &[SparseLog]) -> u128
         total += u128::from(block.bytes());
     }
     total
-}
-
-/// 16 for each line of each row.
-pub(crate) fn rows_bytes(slots: &[Slot]) -> u128
-    requires few { length slots.now ≤ 2 ^ 21 }
-    ensures { (blocks : List (List (Option LogLine))) →
-        result ≡ 16 * lines_of_rows (rows_in blocks slots.now) }
-{
-    let mut total = 0;
-    for slot in slots {
-        total += line_bytes(&slot.row);
-    }
-    total
-}
-
-// 16 for each line.
-fn line_bytes(row: &Option<Row>) -> u128
-    ensures exact { (blocks : List (List (Option LogLine))) →
-        result ≡ 16 * row_lines (kept_or_none blocks row.now) }
-    ensures few { result < 2 ^ 69 }
-{
-    match row {
-        None => 0,
-        Some(row) => 16 * row.places.len() as u128,
-    }
 }
 
 /// The lines of the blocks on which rows rest, each at its place in a block of the same number.

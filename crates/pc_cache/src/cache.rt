@@ -15,7 +15,7 @@ ghost use Rattle.pc_cache.specs.Lent.{IsLentFor};
 ghost use Rattle.pc_cache.specs.Patches.{patch_bytes};
 ghost use Rattle.pc_cache.specs.inside.Kept.{kept_or_none, IsRowIn};
 
-use crate::blocks::{blocks_bytes, rested, rows_bytes};
+use crate::blocks::{blocks_bytes, rested};
 use crate::listing::{add_slots, all_targets, is_used, targets_resting_on, targets_without_row};
 use crate::moving::{free_places, take_blocks};
 use crate::patch::Patch;
@@ -38,6 +38,8 @@ pub struct Cache {
     bytes: u128,
     // The same after the last compaction, or after the first lines were put.
     live: u128,
+    // How many lines the rows have, were none shared.
+    lines: u128,
     // Places of blocks that had no line after the last compaction, where others may be put.
     free: Vec<usize>,
     // Where the slots of each cell begin.
@@ -53,12 +55,13 @@ impl Model for Cache {
 
     ghost use Rattle.std.specs.Prelude.{◌≡◌};
     ghost use Rattle.pc_cache.specs.inside.Cached.{cached_in, IsKept};
+    ghost use Rattle.pc_cache.specs.inside.Counted.{IsCounted};
     ghost use Rattle.pc_cache.specs.inside.Kept.{bytes_of_blocks};
 
     ghost view = { λ c. cached_in c.blocks.items c.slots.items c.live };
 
     ghost invariant = { λ c. (c.bytes ≡ bytes_of_blocks c.blocks.items) ×
-        IsKept c.blocks.items c.starts.items c.slots.items };
+        IsKept c.blocks.items c.starts.items c.slots.items × IsCounted c.slots.items c.lines };
 }
 
 impl Cache {
@@ -84,6 +87,7 @@ impl Cache {
             blocks: Vec::new(alloc),
             bytes: 0,
             live: 0,
+            lines: 0,
             free: Vec::new(alloc),
             starts,
             slots,
@@ -152,7 +156,7 @@ impl Cache {
         take_blocks(patch.blocks, &mut changes, &mut self.free, &mut self.blocks)?;
         self.bytes = bytes;
         self.live = live;
-        put_slots(&self.starts, &mut self.slots, changes);
+        put_slots(&self.starts, &mut self.slots, &mut self.lines, changes);
         Ok(())
     }
 
@@ -189,7 +193,7 @@ impl Cache {
         ensures exact { result ≡ bytes_alive self.now }
         ensures most { result ≤ bytes_of_rows self.now.rows }
     {
-        self.live.min(rows_bytes(&self.slots))
+        self.live.min(16 * self.lines)
     }
 }
 

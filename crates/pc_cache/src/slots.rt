@@ -1,10 +1,11 @@
 //! Slots by their targets: finding one, and putting others in their places.
-ghost use Rattle.std.specs.Prelude.{◌≡◌, ◌<◌, MatchOption, Some};
+ghost use Rattle.std.specs.Prelude.{◌≡◌, ◌<◌, ◌≤◌, ◌^◌, MatchOption, Some, length};
 ghost use Rattle.pc_cache.specs.Rows.{is_same_target};
+ghost use Rattle.pc_cache.specs.inside.Counted.{places_of, IsCounted};
 ghost use Rattle.pc_cache.specs.inside.Kept.{HasSlot, HasSlots, with_slot, with_slots};
 ghost use Rattle.pc_cache.specs.inside.Places.{place_of, ArePlaced, AreSmall, IsSlotOf};
 
-use crate::row::Slot;
+use crate::row::{Row, Slot};
 use pc_sheet::Target;
 
 pub(crate) fn is_same(one: Target, other: Target) -> bool
@@ -45,26 +46,46 @@ pub(crate) fn find(starts: &[usize], slots: &[Slot], target: Target) -> Option<u
     }
 }
 
-/// Puts a slot in place of the one of its target.
-pub(crate) fn put_slot(starts: &[usize], slots: &mut [Slot], change: Slot)
+// How many lines the row has, if there is one.
+fn lines_of(row: &Option<Row>) -> u128
+    ensures exact { result ≡ places_of row.now }
+    ensures few { result < 2 ^ 64 }
+{
+    match row {
+        None => 0,
+        Some(row) => row.places.len() as u128,
+    }
+}
+
+/// Puts a slot in place of the one of its target, where all rows have so many lines.
+pub(crate) fn put_slot(starts: &[usize], slots: &mut [Slot], lines: &mut u128, change: Slot)
     requires small { AreSmall starts.now }
     requires placed { ArePlaced starts.now 0 slots.old }
     requires has { HasSlot slots.old change.target }
-    ensures { slots.new ≡ with_slot slots.old change }
+    requires few { length slots.old ≤ 2 ^ 21 }
+    requires counted { IsCounted slots.old lines.old }
+    ensures put { slots.new ≡ with_slot slots.old change }
+    ensures counted { IsCounted slots.new lines.new }
 {
     if let Some(place) = find(starts, slots, change.target) {
+        let before = lines_of(&slots[place].row);
+        let after = lines_of(&change.row);
+        *lines = *lines - before + after;
         slots[place] = change;
     }
 }
 
 /// Puts slots in place of those of their targets, one after another.
-pub(crate) fn put_slots(starts: &[usize], slots: &mut [Slot], changes: Vec<Slot>)
+pub(crate) fn put_slots(starts: &[usize], slots: &mut [Slot], lines: &mut u128, changes: Vec<Slot>)
     requires small { AreSmall starts.now }
     requires placed { ArePlaced starts.now 0 slots.old }
     requires have { HasSlots slots.old changes.items }
-    ensures { slots.new ≡ with_slots slots.old changes.items }
+    requires few { length slots.old ≤ 2 ^ 21 }
+    requires counted { IsCounted slots.old lines.old }
+    ensures put { slots.new ≡ with_slots slots.old changes.items }
+    ensures counted { IsCounted slots.new lines.new }
 {
     for change in changes {
-        put_slot(starts, slots, change);
+        put_slot(starts, slots, lines, change);
     }
 }

@@ -16,21 +16,27 @@ put_slots-requires-clause-have c =
     (have_slots_by c.self.inside.blocks.items c.take_blocks.new.into.items c.self.inside.slots.items c.take_blocks.new.slots c.args.self.now.rows c.args.patch.rows (ap (λ (r : Cached). r.rows) c.self.view_is)
     (c.in_ok-take_blocks.ensures.taken.same ∙ ap (rows_in c.patch.inside.blocks.items) c.deref_mut.ensures.value ∙ (ap (λ (p : PatchView). p.rows) c.patch.view_is)) c.requires)
 
+pub put_slots-requires-clause-few : goal.put_slots-requires-clause-few
+put_slots-requires-clause-few c = rw c.deref_mut-2.ensures.value c.self.invariant.1.few
+
+pub put_slots-requires-clause-counted : goal.put_slots-requires-clause-counted
+put_slots-requires-clause-counted c = rw c.deref_mut-2.ensures.value c.self.invariant.2
+
 pub invariant_of-self-2 : goal.invariant_of-self-2
 invariant_of-self-2 c =
     let changes = with_items_is c.patch.inside.slots c.take_blocks.new.slots (c.take_blocks.auto.slots ∙ ap length c.deref_mut.ensures.value ∙ sym c.patch.inside.slots.ok.0) in
     let put : c.put_slots.new.slots ≡ with_slots c.self.inside.slots.items c.take_blocks.new.slots =
-    c.put_slots.ensures ∙ ap (with_slots c.deref_mut-2.result.now) changes ∙ ap (λ (ss : List Slot). with_slots ss c.take_blocks.new.slots) c.deref_mut-2.ensures.value in
+    c.put_slots.ensures.put ∙ ap (with_slots c.deref_mut-2.result.now) changes ∙ ap (λ (ss : List Slot). with_slots ss c.take_blocks.new.slots) c.deref_mut-2.ensures.value in
     let same = with_items_is c.self.inside.slots c.put_slots.new.slots (c.put_slots.auto.slots ∙ ap length c.deref_mut-2.ensures.value ∙ sym c.self.inside.slots.ok.0) in
     let keeps = c.in_ok-take_blocks.ensures.taken.keeps in
-    (omega (arith, c.in_ok-bytes.ensures, c.blocks_bytes.ensures, ap bytes_of_blocks c.deref.ensures.value, c.self.invariant.0, c.in_ok-take_blocks.ensures.taken.bytes), rw same (kept_after c.self.inside.blocks.items c.take_blocks.new.into.items c.self.inside.starts.items c.self.inside.slots.items c.take_blocks.new.slots c.put_slots.new.slots c.self.invariant.1 keeps c.in_ok-take_blocks.ensures.taken.are put))
+    (omega (arith, c.in_ok-bytes.ensures, c.blocks_bytes.ensures, ap bytes_of_blocks c.deref.ensures.value, c.self.invariant.0, c.in_ok-take_blocks.ensures.taken.bytes), rw same (kept_after c.self.inside.blocks.items c.take_blocks.new.into.items c.self.inside.starts.items c.self.inside.slots.items c.take_blocks.new.slots c.put_slots.new.slots c.self.invariant.1 keeps c.in_ok-take_blocks.ensures.taken.are put), rw same c.put_slots.ensures.counted)
 
 pub returns : goal.returns
 returns c =
     let now : c.in_ok-bytes.bytes ≡ bytes_of_blocks c.take_blocks.new.into.items = omega (arith, c.in_ok-bytes.ensures, c.blocks_bytes.ensures, ap bytes_of_blocks c.deref.ensures.value, c.self.invariant.0, c.in_ok-take_blocks.ensures.taken.bytes) in
     let changes = with_items_is c.patch.inside.slots c.take_blocks.new.slots (c.take_blocks.auto.slots ∙ ap length c.deref_mut.ensures.value ∙ sym c.patch.inside.slots.ok.0) in
     let put : c.put_slots.new.slots ≡ with_slots c.self.inside.slots.items c.take_blocks.new.slots =
-    c.put_slots.ensures ∙ ap (with_slots c.deref_mut-2.result.now) changes ∙ ap (λ (ss : List Slot). with_slots ss c.take_blocks.new.slots) c.deref_mut-2.ensures.value in
+    c.put_slots.ensures.put ∙ ap (with_slots c.deref_mut-2.result.now) changes ∙ ap (λ (ss : List Slot). with_slots ss c.take_blocks.new.slots) c.deref_mut-2.ensures.value in
     let same = with_items_is c.self.inside.slots c.put_slots.new.slots (c.put_slots.auto.slots ∙ ap length c.deref_mut-2.ensures.value ∙ sym c.self.inside.slots.ok.0) in
     let keeps = c.in_ok-take_blocks.ensures.taken.keeps in
     rw same (record {

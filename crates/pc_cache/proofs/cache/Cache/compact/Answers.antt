@@ -14,6 +14,7 @@ pub invariant_of-self : goal.invariant_of-self
 invariant_of-self c = (
   c.blocks_bytes-self-inside.ensures ∙ ap bytes_of_blocks c.deref-4.ensures.value,
   rested_kept c.self.inside.blocks.items c.in_ok-kept.kept.items c.self.inside.starts.items c.self.inside.slots.items c.deref-2.result.now c.self.invariant.1 c.deref-2.ensures.value c.in_ok-kept.ensures.are,
+  c.self.invariant.2,
 )
 
 pub returns-clause-live : goal.returns-clause-live

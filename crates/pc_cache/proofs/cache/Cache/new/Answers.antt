@@ -1,7 +1,7 @@
 use Rattle.std.proofs.Common.{◌≤◌, ◌^◌, length, arith, ap, refl, sym, ◌∙◌}
 use Rattle.pc_sheet.specs.Entailment.{cell_sizes}
 use Rattle.pc_cache.specs.inside.Kept.{bytes_of_blocks}
-use Rattle.pc_cache.proofs.Fresh.{cell_more, fresh_is_kept, fresh_rows, fresh_targets}
+use Rattle.pc_cache.proofs.Fresh.{cell_more, fresh_is_counted, fresh_is_kept, fresh_rows, fresh_targets}
 use Rattle.pc_cache.proofs.cache.Cache.new.Goals as goal
 
 pub loop-cell-preserved : goal.loop-cell-preserved
@@ -15,6 +15,7 @@ invariant_of-result c = (
   sym (ap bytes_of_blocks c.new.ensures.items),
   fresh_is_kept c.new.result.items (cell_sizes c.args.book.now.universe) c.loop-cell.starts.items c.loop-cell.slots.items c.loop-cell.cell c.loop-cell.invariant.starts c.loop-cell.invariant.slots
       (omega (arith, c.loop-cell.invariant.few, c.loop-cell.auto.cell-end, c.cells-cell-end.ensures.few)),
+  fresh_is_counted (cell_sizes c.args.book.now.universe) c.loop-cell.slots.items c.loop-cell.cell c.loop-cell.invariant.slots,
 )
 
 pub returns : goal.returns
