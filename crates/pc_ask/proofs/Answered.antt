@@ -1,17 +1,19 @@
 -- What is found over an asked sheet is its answer.
-use Rattle.std.proofs.Common.{◌≡◌, ◌↔◌, ℕ, ◌≤◌, ◌+◌, ◌*◌, ◌<◌, ◌^◌, List, [], filter, length, Option, None, Some, All, Contains, arith, ap, sym, ◌∙◌, subst}
+use Rattle.std.proofs.Common.{◌≡◌, ◌↔◌, ℕ, ◌≤◌, ◌+◌, ◌*◌, ◌<◌, ◌^◌, List, [], filter, length, Option, None, Some, slice_get, All, Contains, arith, ap, sym, ◌∙◌, subst}
 use Rattle.std.specs.List.{AllZip}
 use Rattle.std.proofs.Math.Nat.{mul-le-mul_right}
 use Rattle.std.proofs.lemmas.List.Elements.{All-contains, All-filter}
 use Rattle.pc_laws.specs.Laws.{DifferentSublistsAreOrdered}
 use Rattle.pc_lemmas.proofs.Elements.{all_from, kept_is}
+use Rattle.pc_lemmas.proofs.Options.{same_some}
 use Rattle.pc_lits.specs.declared.literal.Var.{Var}
 use Rattle.pc_lits.specs.declared.tally.Tally.{Tally}
 use Rattle.pc_log.specs.Lines.{LogLine}
+use Rattle.pc_log.specs.declared.log.StepId.{StepId}
 use Rattle.pc_accept.specs.Sets.{those_in}
 use Rattle.pc_sheet.specs.Limits.{most_cells, most_entries}
 use Rattle.pc_sheet.specs.Sheet.{Sheet, Statement}
-use Rattle.pc_sheet.specs.MaximalSets.{IsContained}
+use Rattle.pc_sheet.specs.Entailment.{Shows}
 use Rattle.pc_sheet.specs.WellFormed.{IsEntryOf, IsWellFormed}
 use Rattle.pc_sheet.specs.declared.ids.ValueId.{ValueId}
 use Rattle.pc_sheet.specs.declared.ids.Entry.{Entry}
@@ -25,7 +27,7 @@ use Rattle.pc_reason.specs.Fitting.{IsFitting}
 use Rattle.pc_accept.specs.Asked.{IsLeastForStatement, asked}
 use Rattle.pc_problem.specs.Laws.{PartsAreSearched}
 use Rattle.pc_solver.specs.Solver.{SolverView}
-use Rattle.pc_solver.specs.Spending.{SpendsIn}
+use Rattle.pc_solver.specs.Spending.{GoesOnFor, SpendsIn}
 use Rattle.pc_theory.proofs.Lists.{few_filtered}
 use Rattle.pc_repairs.specs.inside.Joining.{IsPartSets, IsSized, joined_by}
 use Rattle.pc_repairs.specs.declared.part_sets.PartSets.{PartSets}
@@ -35,14 +37,15 @@ use Rattle.pc_repairs.proofs.WholeSearch.{no_sets, nothing_done}
 use Rattle.pc_ask.specs.Asking.{AreReadSizes, IsAskedPart, IsDeniedAt, Reads}
 use Rattle.pc_ask.specs.declared.finding.Found.{Found}
 use Rattle.pc_ask.specs.declared.narrowing.Choosing.{Choosing}
+use Rattle.pc_ask.specs.declared.narrowing.Narrowed.{Narrowed}
 use Rattle.pc_ask.specs.inside.Answered.{IsSearchOf, SearchSays}
-use Rattle.pc_ask.specs.inside.Choices.{ways_of, IsChoosing, tried_of}
+use Rattle.pc_ask.specs.inside.Choices.{ways_of, IsChoosing, IsNarrowedTo, tried_of}
 use Rattle.pc_ask.specs.inside.Finding.{FindSays}
 use Rattle.pc_ask.specs.inside.Narrowing.{LacksWitness, IsNarrowed}
 use Rattle.pc_ask.specs.inside.Parts.{IsAskable, IsAsked, IsTask}
 use Rattle.pc_ask.specs.inside.Reading.{AreCandidates, AreLastReads, is_on_some, is_read}
-use Rattle.pc_ask.proofs.Least.{none_implied, is_least}
-use Rattle.pc_ask.proofs.Searched.{no_part, searched_part, searched_whole, within_more}
+use Rattle.pc_ask.proofs.Least.{none_implied, is_least, support_denied, support_shown}
+use Rattle.pc_ask.proofs.Searched.{no_part, own_spends, searched_part, searched_whole, still_asked, within_more}
 use Rattle.pc_ask.proofs.Tied.{on_asked}
 use Rattle.pc_ask.proofs.Reading.{all_cover, all_fit, last_reads, many_choices, many_entries, reading}
 
@@ -55,9 +58,6 @@ read_sized sheet formed fitting fit reads qs zip sets are =
 -- ---- what is asked about
 
 module _ (sheet book : Sheet) (formed : IsWellFormed book) (entries : List Entry) (fitting : List ValueId) (chosen : List PartSets) (k : AreCandidates sheet book entries fitting chosen) where
-  entry_there : (e : Entry) → Contains entries e → Contains book.entries e
-  entry_there e c = (kept_is (is_on_some (filter (is_read k.reads) k.qs)) book.entries e (subst (λ es. Contains es e) k.entries_are c)).0
-
   -- each is an entry of the part that has what is asked
   entry_askable : IsWellFormed sheet → (f : Statement) → book ≡ asked sheet f → (e : Entry) → Contains entries e → IsAskable book e
   entry_askable own f is e c =
@@ -79,9 +79,6 @@ module _ (sheet book : Sheet) (formed : IsWellFormed book) (entries : List Entry
             (all_from (IsAskable book) c.entries.now (λ e at. entry_askable own f is e (subst (λ es. Contains es e) entries_at at)));
         few = omega (arith, few, ap length entries_at, ap length k.entries_are, few_filtered (is_on_some (filter (is_read k.reads) k.qs)) book.entries);
       }
-
-  pub entries_entered : (es : List Entry) → es ≡ entries → IsContained es book.entries
-  entries_entered es entries_at e at = entry_there e (subst (λ xs. Contains xs e) entries_at at)
 
 -- ---- what is found
 
@@ -111,32 +108,39 @@ module _ (sheet : Sheet) (formed : IsWellFormed sheet) (f : Statement) (book : S
     none_found : LacksWitness c.task.book.now c.entries.now (ways_of c) (length c.entries.now) [] → LacksWitness book on all (length on) []
     none_found h = subst (λ es. LacksWitness book es all (length es) []) on_are (subst (λ l. LacksWitness book c.entries.now l (length c.entries.now) []) all_are (subst (λ s. LacksWitness s c.entries.now (ways_of c) (length c.entries.now) []) book_at h))
 
-    narrowed_found : (set : List Entry) → IsNarrowed c.task.book.now c.entries.now (ways_of c) 0 set → IsNarrowed book on all 0 set
-    narrowed_found set h = subst (λ es. IsNarrowed book es all 0 set) on_are (subst (λ l. IsNarrowed book c.entries.now l 0 set) all_are (subst (λ s. IsNarrowed s c.entries.now (ways_of c) 0 set) book_at h))
+    narrowed_found : (log : List LogLine) (n : Narrowed) → IsNarrowedTo c 0 log n → IsNarrowed book on all 0 n.kept.items log n.witness
+    narrowed_found log n h =
+        subst (λ es. IsNarrowed book es all 0 n.kept.items log n.witness) on_are
+        (subst (λ l. IsNarrowed book c.entries.now l 0 n.kept.items log n.witness) all_are (subst (λ s. IsNarrowed s c.entries.now (ways_of c) 0 n.kept.items log n.witness) book_at h))
 
     pub found_says : DifferentSublistsAreOrdered → (log : List LogLine) (o : Option Found) → FindSays c log o → SearchSays sheet f log o
     found_says ordered log None h =
         none_implied sheet f book book_is formed.entries.distinct (is_on_some sets) all (all_fit sheet formed fitting k.fit f k.reads reads_are k.qs k.zip) (all_cover sheet formed fitting k.fit f k.reads reads_are k.qs k.zip)
         (reading sheet formed fitting k.fit f k.reads reads_are k.qs k.zip truth_is_by_reads) (none_found h)
-    found_says ordered log (Some found) (set, narrowed, explained) =
-        let n = narrowed_found set narrowed in
-        let support_is : found.support.items ≡ those_in sheet.entries set = explained.support_is ∙ ap (λ (s : Sheet). those_in s.entries set) (book_at ∙ book_is) in
+    found_says ordered log (Some found) (n, narrowed, found_of) =
+        let h = narrowed_found log n narrowed in
+        let shown_is : h.witness.shown ≡ found.shown = same_some (sym h.witness.at ∙ (ap (λ (l : List (List ValueId)). slice_get l n.witness.way) (sym all_are) ∙ found_of.shown_is)) in
+        let support_is : those_in sheet.entries n.kept.items ≡ found.support.items = ap (λ (s : Sheet). those_in s.entries n.kept.items) (sym (book_at ∙ book_is)) ∙ sym found_of.support_is in
+        let fits = all_fit sheet formed fitting k.fit f k.reads reads_are k.qs k.zip in
+        let covers = all_cover sheet formed fitting k.fit f k.reads reads_are k.qs k.zip in
+        let reads = reading sheet formed fitting k.fit f k.reads reads_are k.qs k.zip truth_is_by_reads in
         record {
-          least = subst (λ s. IsLeastForStatement sheet s f) (sym support_is)
-              (is_least sheet f book book_is formed.entries.distinct (is_on_some sets) all (all_fit sheet formed fitting k.fit f k.reads reads_are k.qs k.zip) (all_cover sheet formed fitting k.fit f k.reads reads_are k.qs k.zip)
-              (reading sheet formed fitting k.fit f k.reads reads_are k.qs k.zip truth_is_by_reads) set n ordered);
-          shown = let known = all_fit sheet formed fitting k.fit f k.reads reads_are k.qs k.zip found.shown (subst (λ l. Contains l found.shown) all_are explained.shown) in record { assigns = known.0; fits = known.1; has = explained.has };
-          denied = subst (λ s. IsDeniedAt s found.support.items log found.last) (book_at ∙ book_is) explained.denied;
+          least = subst (λ s. IsLeastForStatement sheet s f) support_is (is_least sheet f book book_is formed.entries.distinct (is_on_some sets) all fits covers reads n.kept.items log n.witness h ordered);
+          shown = subst (Shows sheet found.support.items) shown_is
+              (subst (λ s. Shows sheet s h.witness.shown) support_is (support_shown sheet f book book_is formed.entries.distinct (is_on_some sets) all fits covers reads n.kept.items log n.witness h));
+          denied = subst (λ (s : Sheet). IsDeniedAt s found.support.items log found.last) book_is
+              (subst (λ (l : StepId). IsDeniedAt book found.support.items log l) (sym found_of.last_is)
+              (subst (λ s. IsDeniedAt book s log n.witness.line) support_is (support_denied sheet f book book_is formed.entries.distinct (is_on_some sets) all fits covers reads n.kept.items log n.witness h)));
         }
 
     -- so many calls are few enough
-    calls_within : (n many : ℕ) → AreReadSizes sheet f n many → tried_of c * (length c.entries.now + 1) + 1 ≤ many * (n + 2) + 1
+    calls_within : (n many : ℕ) → AreReadSizes sheet f n many → tried_of c * (length c.entries.now + 1) ≤ many * (n + 2) + 1
     calls_within n many h =
         let es : length c.entries.now ≡ n = ap length on_are ∙ sym (many_entries sheet formed fitting k.fit f k.reads reads_are k.qs k.zip n many h) in
         let ms : length (ways_of c) ≡ many = ap length all_are ∙ sym (many_choices sheet formed fitting k.fit f k.reads reads_are k.qs k.zip n many h) in
         by (tried_of c) many (length c.entries.now) n (subst (λ m. tried_of c ≤ m) ms (omega arith)) es
       where
-        by : (tried m e n : ℕ) → tried ≤ m → e ≡ n → tried * (e + 1) + 1 ≤ m * (n + 2) + 1
+        by : (tried m e n : ℕ) → tried ≤ m → e ≡ n → tried * (e + 1) ≤ m * (n + 2) + 1
         by tried m e n few is =
             let first : tried * (e + 1) ≤ m * (e + 1) = mul-le-mul_right (e + 1) few in
             let same : m * (e + 1) ≡ m * (n + 1) = ap (λ x. m * (x + 1)) is in
@@ -155,18 +159,20 @@ nothing_asked sheet book t log none = record {
 -- by what is asked of the candidates
 pub all_asked : PartsAreSearched → (sheet : Sheet) → IsWellFormed sheet → (book : Sheet) → IsWellFormed book → (entries : List Entry) (fitting : List ValueId) (chosen : List PartSets) → AreCandidates sheet book entries fitting chosen
     → (c : Choosing) → IsTask c.task.book.now c.task.ground.now → c.task.book.now ≡ book → c.entries.now ≡ entries → ways_of c ≡ joined_by fitting chosen
-    → (before after : Tally) (s : SolverView) (log grown : List LogLine) → log ≡ [] → IsAsked c.task.book.now c.task.variables.now s grown
-    → SpendsIn (length c.task.variables.now) (tried_of c * (length c.entries.now + 1) + 1) before after log grown → IsSearchOf sheet book before after grown
-all_asked parts sheet formed book book_formed entries fitting chosen k c task book_at entries_at all_at before after s log grown none is_asked spends =
+    → (s new : SolverView) (before after : Tally) (log grown : List LogLine) → log ≡ [] → IsAsked c.task.book.now c.task.variables.now s []
+    → GoesOnFor (tried_of c * (length c.entries.now + 1)) s new before after log grown → IsSearchOf sheet book before after grown
+all_asked parts sheet formed book book_formed entries fitting chosen k c task book_at entries_at all_at s new before after log grown none is_asked goes =
     let own : List Var = c.task.variables.now in
-    let calls : ℕ = tried_of c * (length c.entries.now + 1) + 1 in
+    let calls : ℕ = tried_of c * (length c.entries.now + 1) in
     let task_here : IsTask book c.task.ground.now = subst (λ (b : Sheet). IsTask b c.task.ground.now) book_at task in
-    let asked_here : IsAsked book own s grown = subst (λ (b : Sheet). IsAsked b own s grown) book_at is_asked in
-    let spends_here : SpendsIn (length own) calls before after [] grown = subst (λ l. SpendsIn (length own) calls before after l grown) none spends in
+    let asked_here : IsAsked book own s [] = subst (λ (b : Sheet). IsAsked b own s []) book_at is_asked in
+    let goes_here : GoesOnFor calls s new before after [] grown = subst (λ l. GoesOnFor calls s new before after l grown) none goes in
+    let asked_new : IsAsked book own new grown = still_asked book own s [] asked_here calls new before after grown goes_here in
+    let spends : SpendsIn (length own) calls before after [] grown = own_spends book own s [] asked_here calls new before after grown goes_here in
     record {
-      whole = (calls, searched_whole parts book c.task.ground.now task_here own s grown asked_here calls before after spends_here);
-      part = (calls, searched_part parts book c.task.ground.now task_here own s grown asked_here calls before after spends_here);
+      whole = (calls, searched_whole parts book c.task.ground.now task_here own new grown asked_new calls before after spends);
+      part = (calls, searched_part parts book c.task.ground.now task_here own new grown asked_new calls before after spends);
       within = λ f n many is sizes.
-          searched_whole parts book c.task.ground.now task_here own s grown asked_here (many * (n + 2) + 1) before after
-          (within_more own calls (many * (n + 2) + 1) before after [] grown (calls_within sheet formed f book is book_formed entries fitting chosen k c book_at entries_at all_at n many sizes) spends_here);
+          searched_whole parts book c.task.ground.now task_here own new grown asked_new (many * (n + 2) + 1) before after
+          (within_more own calls (many * (n + 2) + 1) before after [] grown (calls_within sheet formed f book is book_formed entries fitting chosen k c book_at entries_at all_at n many sizes) spends);
     }

@@ -1,6 +1,7 @@
 -- What is kept in the end is the least support.
 use Rattle.std.proofs.Common.{◌≡◌, ◌≢◌, ℕ, ◌+◌, ◌&&◌, ◌==◌, inl, inr, Bool, true, List, [], ◌∷◌, ◌++◌, filter, length, take, take_all, drop, Some, slice_get, Contains, arith, eqb-true, eq-eqb, ap, refl, sym, ◌∙◌, subst}
 use Rattle.std.proofs.lemmas.Bool.{cases_eq, cases_lt, and_parts}
+use Rattle.std.proofs.lemmas.List.{append-nil}
 use Rattle.std.proofs.lemmas.List.Elements.{All-nil, All-cons, All-append, All-contains, Contains-append_left, Contains-append_right}
 use Rattle.std.proofs.lemmas.List.Kept.{AllPairs-filter}
 use Rattle.pc_lemmas.proofs.Elements.{contains_first, all_from, all_left, kept, kept_is}
@@ -9,6 +10,7 @@ use Rattle.pc_laws.proofs.Contained.{all_contained, filter_sub, sub_contained}
 use Rattle.pc_laws.proofs.Decide.{decide}
 use Rattle.pc_laws.specs.Laws.{DifferentSublistsAreOrdered}
 use Rattle.pc_accept.specs.Sets.{is_entry, is_in, those_in}
+use Rattle.pc_log.specs.Lines.{LogLine}
 use Rattle.pc_sheet.specs.Sheet.{Sheet, Statement, NamedStatement}
 use Rattle.pc_sheet.specs.Truth.{Holds}
 use Rattle.pc_sheet.specs.Entailment.{Fits, HasEntry, HasAll, IsAssignment, IsConsistent, IsLess, IsSublist, Shows}
@@ -18,10 +20,13 @@ use Rattle.pc_sheet.specs.declared.ids.ValueId.{ValueId}
 use Rattle.pc_sheet.specs.declared.ids.Entry.{Entry}
 use Rattle.pc_accept.specs.Asked.{EntailsStatement, SupportsStatement, IsStatementImplied, IsLeastForStatement, denial, asked}
 use Rattle.pc_repairs.specs.inside.Joining.{had_by, is_had}
+use Rattle.pc_ask.specs.Asking.{IsDeniedAt}
+use Rattle.pc_ask.specs.declared.narrowing.Witness.{Witness}
 use Rattle.pc_ask.specs.inside.Narrowing.{left_of, LacksWitness, IsNarrowed}
 use Rattle.pc_ask.proofs.Lists.{there_any, any_there}
-use Rattle.pc_ask.proofs.Places.{place_of, at_take, take_there, at_drop, drop_there, not_both, behind}
+use Rattle.pc_ask.proofs.Places.{there_at, place_of, at_take, take_there, at_drop, drop_there, not_both, behind}
 use Rattle.pc_ask.proofs.Narrowed.{is_had_of, fewer_stand}
+use Rattle.pc_ask.proofs.Witnesses.{denied_more}
 
 -- ---- entries by their numbers
 
@@ -101,7 +106,7 @@ module _ (sheet : Sheet) (f : Statement) (book : Sheet) (book_is : book ≡ aske
               (reading t supports.among supports.consistent supports.entails)),
         )
 
-    module _ (set : List Entry) (h : IsNarrowed book on all 0 set) where
+    module _ (set : List Entry) (log : List LogLine) (w : Witness) (h : IsNarrowed book on all 0 set log w) where
       abbrev support : List Entry
       support = those_in sheet.entries set
 
@@ -114,20 +119,22 @@ module _ (sheet : Sheet) (f : Statement) (book : Sheet) (book_is : book ≡ aske
       support_chosen : IsContained support set
       support_chosen e c = in_is set e (kept_is (is_in set) sheet.entries e c).1
 
-      pub support_denied : ¬ IsConsistent book support
-      support_denied stands = h.witness.2.1 (fewer_stand book (left_of on 0 set h.witness.0) support set_supports stands)
+      support_falls : ¬ IsConsistent book support
+      support_falls stands = h.witness.is.1 (fewer_stand book (left_of on 0 set h.witness.shown) support set_supports stands)
 
-      pub support_had : HasAll h.witness.0 support
-      support_had = all_contained (HasEntry h.witness.0) support set support_chosen h.witness.2.0
+      pub support_denied : IsDeniedAt book support log w.line
+      support_denied = denied_more book (left_of on 0 set h.witness.shown) support log log w.line [] (sym (append-nil log)) set_supports h.witness.denied
 
-      pub shows_support : (a : List ValueId) → Contains all a → HasAll a support → Shows sheet support a
-      shows_support a there has = let known = fit a there in record { assigns = known.0; fits = known.1; has = has }
+      pub support_shown : Shows sheet support h.witness.shown
+      support_shown =
+          let known = fit h.witness.shown (there_at all w.way h.witness.shown h.witness.at) in
+          record { assigns = known.0; fits = known.1; has = all_contained (HasEntry h.witness.shown) support set support_chosen h.witness.is.0 }
 
       supports_it : SupportsStatement sheet support f
       supports_it = record {
         among = filter_sub (is_in set) sheet.entries;
-        consistent = (h.witness.0, shows_support h.witness.0 h.witness.1 support_had);
-        entails = denied_entails support support_denied;
+        consistent = (h.witness.shown, support_shown);
+        entails = denied_entails support support_falls;
       }
 
       on_distinct : AreDifferent on

@@ -1,6 +1,5 @@
 pub mod Answered
 pub mod Chosen
-pub mod Kept
 pub mod Least
 pub mod Lists
 pub mod Narrowed

@@ -41,8 +41,9 @@ use Rattle.pc_solver.specs.Clauses.{IsOverOwn, used_clauses}
 use Rattle.pc_solver.specs.InLog.{clause_on}
 use Rattle.pc_solver.specs.New.{IsLearnedAt}
 use Rattle.pc_solver.specs.Solver.{AreOwn, HasLog, IsLawfulLog, IsProblem, IsSolverLog, Problem, SolverView, Spends, clauses_used}
-use Rattle.pc_solver.specs.Spending.{SpendsIn}
+use Rattle.pc_solver.specs.Spending.{Basis, GoesOnFor, SpendsIn}
 use Rattle.pc_solver.proofs.SpendingLemmas.{spends_none, spends_on, spends_one}
+use Rattle.pc_support.proofs.AskingLemmas.{same_basis}
 use Rattle.pc_theory.specs.WholeSpendings.{all_axioms, all_variables, variable_of}
 use Rattle.pc_repairs.specs.Searches.{IsWholeSearch, whole_problem}
 use Rattle.pc_repairs.proofs.Asked.{is_number}
@@ -278,17 +279,30 @@ module _ (parts : PartsAreSearched) (book : Sheet) (g : Grounded) (t : IsTask bo
         },
       )
 
-  pub asked_on : (s' : SolverView) (grown : List LogLine) → s'.problem ≡ s.problem → s'.blocks ≡ s.blocks → HasLog s' grown → IsAsked book own s' grown
-  asked_on s' grown problem blocks has = record { cells = a.cells; over = a.over; used = a.used; used_are = a.used_are; problem = problem ∙ a.problem; blocks_are = blocks ∙ a.blocks_are; has = has }
-
-  pub one_spent : (before after : Tally) (grown : List LogLine) → Spends (length s.problem.own) before after log grown → SpendsIn (length own) 1 before after log grown
-  one_spent before after grown spends =
-      let many : length s.problem.own ≡ length own = ap (λ (p : Problem). length p.own) a.problem in
-      subst (λ (n : ℕ). SpendsIn n 1 before after log grown) many (spends_one (length s.problem.own) before after log grown spends)
-
 -- ---- what is spent
 
-pub none_spent : (own : List Var) (most : ℕ) (t : Tally) (log : List LogLine) → SpendsIn (length own) most t t log log
+-- by one call
+pub called : (s new : SolverView) (before after : Tally) (log grown : List LogLine) → new.variables ≡ s.variables → new.problem ≡ s.problem → new.blocks ≡ s.blocks → HasLog new grown
+    → Spends (length s.problem.own) before after log grown → GoesOnFor 1 s new before after log grown
+called s new before after log grown variables problem blocks has spends = record { same = same_basis s new variables problem blocks; logged = has; spends = spends_one (length s.problem.own) before after log grown spends }
+
+-- by several: it still is such a solver
+module _ (book : Sheet) (own : List Var) (s : SolverView) (log : List LogLine) (a : IsAsked book own s log) (most : ℕ) (new : SolverView) (before after : Tally) (grown : List LogLine) (goes : GoesOnFor most s new before after log grown) where
+  pub still_asked : IsAsked book own new grown
+  still_asked = record {
+    cells = a.cells;
+    over = a.over;
+    used = a.used;
+    used_are = a.used_are;
+    problem = ap (λ (b : Basis). b.problem) goes.same ∙ a.problem;
+    blocks_are = ap (λ (b : Basis). b.blocks) goes.same ∙ a.blocks_are;
+    has = goes.logged;
+  }
+
+  pub own_spends : SpendsIn (length own) most before after log grown
+  own_spends = subst (λ (n : ℕ). SpendsIn n most before after log grown) (ap (λ (p : Problem). length p.own) a.problem) goes.spends
+
+none_spent : (own : List Var) (most : ℕ) (t : Tally) (log : List LogLine) → SpendsIn (length own) most t t log log
 none_spent own most t log = spends_on (length own) 0 0 most t t t log log log (omega arith) (spends_none (length own) t log) (spends_none (length own) t log)
 
 -- a spending within so many calls is within more

@@ -7,6 +7,7 @@ ghost use Rattle.pc_accept.specs.Asked.{asked};
 ghost use Rattle.pc_components.specs.View.{AreComponentsOf};
 ghost use Rattle.pc_ground.specs.Grounded.{grounded};
 ghost use Rattle.pc_log.specs.Lines.{LogLine};
+ghost use Rattle.pc_problem.specs.Room.{HasRoom};
 ghost use Rattle.pc_repairs.specs.Searches.{IsWholeSearch};
 ghost use Rattle.pc_solver.specs.Spending.{StopSays};
 ghost use Rattle.pc_ask.specs.Asking.{AreReadSizes, AskSays, AskStops, IsPartSearch};
@@ -53,8 +54,7 @@ fn search_book<'a, 'b, C: Choices>(
     requires chosen { AreCandidates (C.sheet view.now) question.book.now
         chosen.now.entries.items chosen.now.fitting.now chosen.now.parts.items }
     requires new_log { log.old ≡ [] }
-    requires few_learned { tally.old.learned < 2 ^ 120 }
-    requires few_calls { tally.old.calls < 2 ^ 120 }
+    requires counts { HasRoom 120 tally.old }
     ensures says { (f : Statement) → question.entry.book.now ≡ asked (C.sheet view.now) f →
         IfOk result (SearchSays (C.sheet view.now) f log.new) }
     ensures stop { IfErr result (StopSays tally.new) }
@@ -132,19 +132,11 @@ fn ask_grounded<C: Choices>(
     requires components { AreComponentsOf (C.sheet view.now) question.components.now }
     requires asked { (f : Statement) × (question.book.now ≡ asked (C.sheet view.now) f) }
     requires new_log { log.old ≡ [] }
-    requires few_learned { tally.old.learned < 2 ^ 120 }
-    requires few_calls { tally.old.calls < 2 ^ 120 }
+    requires counts { HasRoom 120 tally.old }
     ensures says { (f : Statement) → question.entry.book.now ≡ asked (C.sheet view.now) f →
         IfOk result (AskSays (C.sheet view.now) f log.new) }
     ensures stop { IfErr result (AskStops question.entry.book.now tally.new) }
-    ensures search { (f : Statement) (entries sets : ℕ) →
-        question.entry.book.now ≡ asked (C.sheet view.now) f →
-        AreReadSizes (C.sheet view.now) f entries sets →
-        IsWholeSearch question.entry.book.now [] (sets * (entries + 2) + 1) tally.old tally.new
-        log.new }
-    ensures whole { (most : ℕ) × IsWholeSearch question.entry.book.now [] most tally.old tally.new
-        log.new }
-    ensures part { (most : ℕ) × IsPartSearch question.entry.book.now most tally.old tally.new
+    ensures search { IsSearchOf (C.sheet view.now) question.entry.book.now tally.old tally.new
         log.new }
 {
     let chosen = find_candidates(alloc, view, question.book, ground)?;

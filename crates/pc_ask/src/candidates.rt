@@ -47,12 +47,9 @@ fn has_mark(marks: &[bool], cell: usize) -> bool
 fn are_marked(marks: &[bool], cells: &[CellId]) -> bool
     ensures { result ≡ are_marked marks.now cells.now }
 {
-    for cell in cells {
-        if has_mark(marks, usize::from(cell.0)) {
-            return true;
-        }
-    }
-    false
+    cells
+        .iter()
+        .any(|cell| has_mark(marks, usize::from(cell.0)))
 }
 
 // The parts with a cell that has a mark.
@@ -63,13 +60,10 @@ fn marked_parts<'a>(
 ) -> Result<Vec<PartSets<'a>>, AllocError>
     ensures { IfOk result (λ parts. parts.items ≡ filter (is_marked marks.now) all.now) }
 {
-    let mut parts = Vec::new(alloc);
-    for part in all {
-        if are_marked(marks, part.cells) {
-            parts.push(*part)?;
-        }
-    }
-    Ok(parts)
+    all.iter()
+        .copied()
+        .filter(|part| are_marked(marks, part.cells))
+        .collect(alloc)
 }
 
 // The parts with a cell that is read. A cell is read as often as leaves have it, so the reads are gone over once.
@@ -87,23 +81,13 @@ fn read_parts<'a>(
 fn is_cell_of(cell: CellId, part: PartSets<'_>) -> bool
     ensures { result ≡ is_cell_of cell part.entry }
 {
-    for other in part.cells {
-        if other.0 == cell.0 {
-            return true;
-        }
-    }
-    false
+    part.cells.iter().any(|other| other.0 == cell.0)
 }
 
 fn is_on_some(parts: &[PartSets<'_>], entry: Entry) -> bool
     ensures { result ≡ is_on_some parts.now entry }
 {
-    for part in parts {
-        if is_cell_of(entry.cell, *part) {
-            return true;
-        }
-    }
-    false
+    parts.iter().any(|part| is_cell_of(entry.cell, *part))
 }
 
 // The entries on cells of these parts, oldest first.
@@ -114,24 +98,17 @@ fn entries_on(
 ) -> Result<Vec<Entry>, AllocError>
     ensures { IfOk result (λ on. on.items ≡ filter (is_on_some parts.now) entries.now) }
 {
-    let mut on = Vec::new(alloc);
-    for entry in entries {
-        if is_on_some(parts, *entry) {
-            on.push(*entry)?;
-        }
-    }
-    Ok(on)
+    entries
+        .iter()
+        .copied()
+        .filter(|entry| is_on_some(parts, *entry))
+        .collect(alloc)
 }
 
 fn is_in(set: &[Entry], entry: Entry) -> bool
     ensures { result ≡ is_in set.now entry }
 {
-    for other in set {
-        if entry.cell.0 == other.cell.0 && entry.value.0 == other.value.0 {
-            return true;
-        }
-    }
-    false
+    set.iter().any(|other| entry.cell.0 == other.cell.0 && entry.value.0 == other.value.0)
 }
 
 /// Those of the entries that are in the set, oldest first.
@@ -142,13 +119,11 @@ pub(crate) fn those_in(
 ) -> Result<Vec<Entry>, AllocError>
     ensures { IfOk result (λ some. some.items ≡ those_in entries.now set.now) }
 {
-    let mut some = Vec::new(alloc);
-    for entry in entries {
-        if is_in(set, *entry) {
-            some.push(*entry)?;
-        }
-    }
-    Ok(some)
+    entries
+        .iter()
+        .copied()
+        .filter(|entry| is_in(set, *entry))
+        .collect(alloc)
 }
 
 /// The entries that are asked about, oldest first, an assignment that fits, and the parts of which one set each is chosen.

@@ -1,9 +1,10 @@
 //! Narrowing entries down to the least that can't stand together in a book, from the newest entry to the oldest.
-ghost use Rattle.std.specs.Prelude.{◌≡◌, ◌↔◌, ◌<◌, ◌≤◌, ◌+◌, ◌*◌, ◌^◌, [], IfErr, IfNone, IfOk, IfSome, IsTrue, OnOk, length};
+ghost use Rattle.std.specs.Prelude.{◌≡◌, ◌↔◌, ◌<◌, ◌≤◌, ◌+◌, ◌*◌, IfErr, IfNone, IfOk, IfSome, IsTrue, OnOk, length};
 ghost use Rattle.pc_sheet.specs.Entailment.{HasAll};
-ghost use Rattle.pc_solver.specs.Spending.{SpendsIn, StopSays};
+ghost use Rattle.pc_problem.specs.Room.{HasRoom};
+ghost use Rattle.pc_solver.specs.Spending.{GoesOnFor, StopSays};
 ghost use Rattle.pc_ask.specs.inside.Narrowing.{left_of};
-ghost use Rattle.pc_ask.specs.inside.Choices.{AreAmong, AreNarrowed, HasNone, IsChoosing, OneSays, SomeSays, tried_of};
+ghost use Rattle.pc_ask.specs.inside.Choices.{AreAmong, HasNone, IsChoosing, IsNarrowedTo, OneSays, SomeSays, tried_of};
 ghost use Rattle.pc_ask.specs.inside.Parts.{IsAsked};
 ghost use Rattle.pc_ask.specs.inside.Ways.{most_tried};
 ghost use Rattle.pc_solver.specs.declared.stop.Stop.TheVariants.{Memory};
@@ -11,10 +12,10 @@ ghost use Rattle.pc_solver.specs.declared.stop.Stop.TheVariants.{Memory};
 use crate::part::AskTask;
 use crate::refuting::refute_set;
 use crate::ways::{MOST_TRIED, count_ways, way_at};
-use pc_books::Assignment;
+use pc_books::{Assignment, has_entry};
 use pc_lits::Tally;
-use pc_log::Log;
-use pc_repairs::{PartSets, had_by, is_had};
+use pc_log::{Log, StepId};
+use pc_repairs::{PartSets, had_by};
 use pc_sheet::Entry;
 use pc_solver::{Solver, Stop};
 use std::alloc::AllocError;
@@ -29,16 +30,26 @@ pub(crate) struct Choosing<'a, 'b> {
     pub(crate) parts: &'a [PartSets<'b>],
 }
 
-/// Whether the assignment has each of the entries.
-pub(crate) fn has_all(values: &Assignment, kept: &[Entry]) -> bool
+/// A way, by its number, whose assignment has what is kept, and the line that derives that what is left of it can't stand
+/// together.
+#[derive(Clone, Copy)]
+pub(crate) struct Witness {
+    pub(crate) way: usize,
+    pub(crate) line: StepId,
+}
+
+/// What is kept of the entries, newest first, and a witness with it.
+#[derive(Drop)]
+pub(crate) struct Narrowed {
+    pub(crate) kept: Vec<Entry>,
+    pub(crate) witness: Witness,
+}
+
+// Whether the assignment has each of the entries.
+fn has_all(values: &Assignment, kept: &[Entry]) -> bool
     ensures { IsTrue result ↔ HasAll values.now kept.now }
 {
-    for entry in kept {
-        if !is_had(values, *entry) {
-            return false;
-        }
-    }
-    true
+    kept.iter().all(|entry| has_entry(values.values(), *entry))
 }
 
 // Those of the first entries that the assignment has, and those that are kept.
@@ -59,8 +70,9 @@ fn left_of(
     Ok(left)
 }
 
-// Whether the assignment has what is kept, and what is left of it, with the first so many entries, can't stand together.
-fn is_witness(
+// The line that derives that what is left of the assignment, with the first so many entries, can't stand together. `None` where
+// it can, or where the assignment lacks something that is kept.
+fn refute_way(
     choosing: Choosing<'_, '_>,
     count: usize,
     values: &Assignment,
@@ -68,26 +80,21 @@ fn is_witness(
     solver: &mut Solver<'_>,
     log: &mut Log,
     tally: &mut Tally,
-) -> Result<bool, Stop>
+) -> Result<Option<StepId>, Stop>
     requires choosing { IsChoosing choosing }
     requires count { count ≤ length choosing.entries.now }
     requires kept { AreAmong choosing kept.now }
     requires asked { IsAsked choosing.task.book.now choosing.task.variables.now solver.old log.old }
-    requires few_learned { tally.old.learned < 2 ^ 126 }
-    requires few_calls { tally.old.calls < 2 ^ 126 }
-    ensures asked { IsAsked choosing.entry.task.book.now choosing.entry.task.variables.now
-        solver.new log.new }
-    ensures spends { SpendsIn (length choosing.entry.task.variables.now) 1 tally.old tally.new
-        log.old log.new }
-    ensures says { IfOk result (OneSays choosing.entry count kept.now values.now) }
+    requires counts { HasRoom 126 tally.old }
+    ensures goes_on { GoesOnFor 1 solver.old solver.new tally.old tally.new log.old log.new }
+    ensures says { IfOk result (OneSays choosing.entry count kept.now values.now log.new) }
     ensures stop { IfErr result (StopSays tally.new) }
 {
     if !has_all(values, kept) {
-        return Ok(false);
+        return Ok(None);
     }
     let left = left_of(choosing, count, values, kept)?;
-    let refuted = refute_set(choosing.task, &left, solver, log, tally)?;
-    Ok(refuted.is_some())
+    refute_set(choosing.task, &left, solver, log, tally)
 }
 
 // There are no more ways than those of that count. Numbers never come to an end; if they did, that would be want of room for
@@ -102,130 +109,122 @@ fn all_tried(ways: usize) -> Result<(), Stop>
     Err(Stop::Memory)
 }
 
-// Whether the assignment of some way is such a witness.
-fn has_witness(
+// The first way that is such a witness.
+fn find_witness(
     choosing: Choosing<'_, '_>,
     count: usize,
     kept: &[Entry],
     solver: &mut Solver<'_>,
     log: &mut Log,
     tally: &mut Tally,
-) -> Result<bool, Stop>
+) -> Result<Option<Witness>, Stop>
     requires choosing { IsChoosing choosing }
     requires count { count ≤ length choosing.entries.now }
     requires kept { AreAmong choosing kept.now }
     requires asked { IsAsked choosing.task.book.now choosing.task.variables.now solver.old log.old }
-    requires few_learned { tally.old.learned < 2 ^ 125 }
-    requires few_calls { tally.old.calls < 2 ^ 125 }
-    ensures asked { IsAsked choosing.entry.task.book.now choosing.entry.task.variables.now
-        solver.new log.new }
-    ensures spends { SpendsIn (length choosing.entry.task.variables.now) (tried_of choosing.entry)
-        tally.old tally.new log.old log.new }
-    ensures says { IfOk result (SomeSays choosing.entry count kept.now) }
+    requires counts { HasRoom 125 tally.old }
+    ensures goes_on { GoesOnFor (tried_of choosing.entry) solver.old solver.new tally.old tally.new
+        log.old log.new }
+    ensures says { IfOk result (SomeSays choosing.entry count kept.now log.new) }
     ensures stop { IfErr result (StopSays tally.new) }
 {
     tally.recall_limit();
     let ways = count_ways(choosing.parts);
-    for number in 0..ways {
-        let way = way_at(
-            choosing.task.alloc,
-            choosing.fitting,
-            choosing.parts,
-            number,
-        )?;
-        if is_witness(choosing, count, &way, kept, solver, log, tally)? {
-            return Ok(true);
+    for way in 0..ways {
+        let values = way_at(choosing.task.alloc, choosing.fitting, choosing.parts, way)?;
+        match refute_way(choosing, count, &values, kept, solver, log, tally)? {
+            Some(line) => return Ok(Some(Witness { way, line })),
+            None => {}
         }
     }
     all_tried(ways)?;
-    Ok(false)
+    Ok(None)
 }
 
-// Decides the entry at the place: it is kept where there is no witness without it.
+// Decides the entry at the place: it is kept where there is no witness without it. A witness that there was stays one: it has
+// the entry, since it would be one without it.
 fn decide(
     choosing: Choosing<'_, '_>,
     place: usize,
-    kept: &mut Vec<Entry>,
+    narrowed: &mut Narrowed,
     solver: &mut Solver<'_>,
     log: &mut Log,
     tally: &mut Tally,
 ) -> Result<(), Stop>
     requires choosing { IsChoosing choosing }
     requires place { place < length choosing.entries.now }
-    requires narrowed { AreNarrowed choosing (place + 1) kept.old.items }
+    requires narrowed { IsNarrowedTo choosing (place + 1) log.old narrowed.old }
     requires asked { IsAsked choosing.task.book.now choosing.task.variables.now solver.old log.old }
-    requires few_learned { tally.old.learned < 2 ^ 125 }
-    requires few_calls { tally.old.calls < 2 ^ 125 }
-    ensures asked { IsAsked choosing.entry.task.book.now choosing.entry.task.variables.now
-        solver.new log.new }
-    ensures spends { SpendsIn (length choosing.entry.task.variables.now) (tried_of choosing.entry)
-        tally.old tally.new log.old log.new }
-    ensures narrowed { OnOk result (AreNarrowed choosing.entry place kept.new.items) }
+    requires counts { HasRoom 125 tally.old }
+    ensures goes_on { GoesOnFor (tried_of choosing.entry) solver.old solver.new tally.old tally.new
+        log.old log.new }
+    ensures narrowed { OnOk result (IsNarrowedTo choosing.entry place log.new narrowed.new) }
     ensures stop { IfErr result (StopSays tally.new) }
 {
-    if has_witness(choosing, place, kept, solver, log, tally)? {
-        return Ok(());
+    match find_witness(choosing, place, &narrowed.kept, solver, log, tally)? {
+        Some(witness) => {
+            narrowed.witness = witness;
+            Ok(())
+        }
+        None => {
+            let entries = choosing.entries;
+            narrowed.kept.push(entries[place])?;
+            Ok(())
+        }
     }
-    let entries = choosing.entries;
-    kept.push(entries[place])?;
-    Ok(())
 }
 
 // Decides each of the entries, from the newest to the oldest.
 fn decide_all(
     choosing: Choosing<'_, '_>,
-    kept: &mut Vec<Entry>,
+    narrowed: &mut Narrowed,
     solver: &mut Solver<'_>,
     log: &mut Log,
     tally: &mut Tally,
 ) -> Result<(), Stop>
     requires choosing { IsChoosing choosing }
-    requires narrowed { AreNarrowed choosing (length choosing.entries.now) kept.old.items }
+    requires narrowed { IsNarrowedTo choosing (length choosing.entries.now) log.old narrowed.old }
     requires asked { IsAsked choosing.task.book.now choosing.task.variables.now solver.old log.old }
-    requires few_learned { tally.old.learned < 2 ^ 124 }
-    requires few_calls { tally.old.calls < 2 ^ 124 }
-    ensures asked { IsAsked choosing.entry.task.book.now choosing.entry.task.variables.now
-        solver.new log.new }
-    ensures spends { SpendsIn (length choosing.entry.task.variables.now) (tried_of choosing.entry *
-        length choosing.entry.entries.now) tally.old tally.new log.old log.new }
-    ensures narrowed { OnOk result (AreNarrowed choosing.entry 0 kept.new.items) }
+    requires counts { HasRoom 124 tally.old }
+    ensures goes_on { GoesOnFor (tried_of choosing.entry * length choosing.entry.entries.now)
+        solver.old solver.new tally.old tally.new log.old log.new }
+    ensures narrowed { OnOk result (IsNarrowedTo choosing.entry 0 log.new narrowed.new) }
     ensures stop { IfErr result (StopSays tally.new) }
 {
     tally.recall_limit();
     let count = choosing.entries.len();
     for place in (0..count).rev() {
-        decide(choosing, place, kept, solver, log, tally)?;
+        decide(choosing, place, narrowed, solver, log, tally)?;
     }
     Ok(())
 }
 
-/// What is kept of the entries in the end, newest first: with it alone some assignment is a witness. `None` where none is
-/// with all of the entries that it has.
+/// What is kept of the entries in the end, and a witness with it alone. `None` where no way is one with all of the entries that
+/// it has.
 pub(crate) fn narrow(
     choosing: Choosing<'_, '_>,
     solver: &mut Solver<'_>,
     log: &mut Log,
     tally: &mut Tally,
-) -> Result<Option<Vec<Entry>>, Stop>
+) -> Result<Option<Narrowed>, Stop>
     requires choosing { IsChoosing choosing }
     requires asked { IsAsked choosing.task.book.now choosing.task.variables.now solver.old log.old }
-    requires few_learned { tally.old.learned < 2 ^ 123 }
-    requires few_calls { tally.old.calls < 2 ^ 123 }
-    ensures asked { IsAsked choosing.entry.task.book.now choosing.entry.task.variables.now
-        solver.new log.new }
-    ensures spends { SpendsIn (length choosing.entry.task.variables.now) (tried_of choosing.entry *
-        (length choosing.entry.entries.now + 1)) tally.old tally.new log.old log.new }
+    requires counts { HasRoom 123 tally.old }
+    ensures goes_on { GoesOnFor (tried_of choosing.entry * (length choosing.entry.entries.now + 1))
+        solver.old solver.new tally.old tally.new log.old log.new }
     ensures none { IfOk result (λ found. IfNone found (HasNone choosing.entry)) }
-    ensures some { IfOk result (λ found.
-        IfSome found (λ kept. AreNarrowed choosing.entry 0 kept.items)) }
+    ensures some { IfOk result (λ found. IfSome found (IsNarrowedTo choosing.entry 0 log.new)) }
     ensures stop { IfErr result (StopSays tally.new) }
 {
     tally.recall_limit();
     let count = choosing.entries.len();
-    let mut kept = Vec::new(choosing.task.alloc);
-    if !has_witness(choosing, count, &kept, solver, log, tally)? {
-        return Ok(None);
+    let kept = Vec::new(choosing.task.alloc);
+    match find_witness(choosing, count, &kept, solver, log, tally)? {
+        None => Ok(None),
+        Some(witness) => {
+            let mut narrowed = Narrowed { kept, witness };
+            decide_all(choosing, &mut narrowed, solver, log, tally)?;
+            Ok(Some(narrowed))
+        }
     }
-    decide_all(choosing, &mut kept, solver, log, tally)?;
-    Ok(Some(kept))
 }

@@ -1,8 +1,9 @@
 //! Whether entries can stand together in a book.
-ghost use Rattle.std.specs.Prelude.{◌≡◌, ◌<◌, ◌^◌, All, IfErr, IfOk, length, map};
+ghost use Rattle.std.specs.Prelude.{◌≡◌, All, IfErr, IfOk, map};
 ghost use Rattle.pc_components.specs.Pairs.{entry_literal};
+ghost use Rattle.pc_problem.specs.Room.{HasRoom};
 ghost use Rattle.pc_sheet.specs.Entailment.{cell_sizes};
-ghost use Rattle.pc_solver.specs.Spending.{SpendsIn, StopSays};
+ghost use Rattle.pc_solver.specs.Spending.{GoesOnFor, StopSays};
 ghost use Rattle.pc_ask.specs.inside.Narrowing.{RefuteSays};
 ghost use Rattle.pc_ask.specs.inside.Parts.{IsAskable, IsAsked, IsTask};
 
@@ -41,11 +42,8 @@ pub(crate) fn refute_set(
     requires task { IsTask task.book.now task.ground.now }
     requires set { All (IsAskable task.book.now) set.now }
     requires asked { IsAsked task.book.now task.variables.now solver.old log.old }
-    requires few_learned { tally.old.learned < 2 ^ 126 }
-    requires few_calls { tally.old.calls < 2 ^ 126 }
-    ensures asked { IsAsked task.entry.book.now task.entry.variables.now solver.new log.new }
-    ensures spends { SpendsIn (length task.entry.variables.now) 1 tally.old tally.new log.old
-        log.new }
+    requires counts { HasRoom 126 tally.old }
+    ensures goes_on { GoesOnFor 1 solver.old solver.new tally.old tally.new log.old log.new }
     ensures says { IfOk result (RefuteSays task.entry.book.now set.now log.new) }
     ensures stop { IfErr result (StopSays tally.new) }
 {

@@ -1,8 +1,13 @@
 -- What is narrowed down.
-use Rattle.std.specs.Prelude.{ℕ, ◌<◌, ◌^◌, Bool, true, false, List, [], All, Contains, length, min}
+use Rattle.std.specs.Prelude.{ℕ, ◌<◌, ◌^◌, List, [], Option, None, Some, All, Contains, length, min}
+use Rattle.pc_log.specs.Lines.{LogLine}
+use Rattle.pc_log.specs.declared.log.StepId.{StepId}
 use Rattle.pc_sheet.specs.declared.ids.Entry.{Entry}
+use Rattle.pc_ask.specs.Asking.{IsDeniedAt}
 use Rattle.pc_ask.specs.declared.narrowing.Choosing.{Choosing}
-use Rattle.pc_ask.specs.inside.Narrowing.{IsWitness, LacksWitness, IsNarrowed, WitnessSays}
+use Rattle.pc_ask.specs.declared.narrowing.Narrowed.{Narrowed}
+use Rattle.pc_ask.specs.declared.narrowing.Witness.{Witness}
+use Rattle.pc_ask.specs.inside.Narrowing.{left_of, IsWitness, LacksWitness, IsNarrowed, WitnessSays}
 use Rattle.pc_ask.specs.inside.Parts.{IsAskable, IsTask}
 use Rattle.pc_ask.specs.inside.Ways.{most_tried}
 use Rattle.pc_repairs.specs.inside.Joining.{IsSized, joined_by}
@@ -26,15 +31,17 @@ pub record IsChoosing (c : Choosing) : Type 0 where
 abbrev pub AreAmong : Choosing → List Entry → Type 0
 AreAmong c kept = All (Contains c.entries.now) kept
 
-abbrev pub OneSays : Choosing → ℕ → List Entry → List ValueId → Bool → Type 0
-OneSays c k kept a true = IsWitness c.task.book.now c.entries.now (ways_of c) k kept a
-OneSays c k kept a false = ¬ IsWitness c.task.book.now c.entries.now (ways_of c) k kept a
+-- of one assignment: whether it is a witness, and the line that derives it
+abbrev pub OneSays : Choosing → ℕ → List Entry → List ValueId → List LogLine → Option StepId → Type 0
+OneSays c k kept a log None = ¬ IsWitness c.task.book.now c.entries.now (ways_of c) k kept a
+OneSays c k kept a log (Some line) =
+    IsWitness c.task.book.now c.entries.now (ways_of c) k kept a × IsDeniedAt c.task.book.now (left_of c.entries.now k kept a) log line
 
-abbrev pub SomeSays : Choosing → ℕ → List Entry → Bool → Type 0
-SomeSays c k kept b = WitnessSays c.task.book.now c.entries.now (ways_of c) k kept b
+abbrev pub SomeSays : Choosing → ℕ → List Entry → List LogLine → Option Witness → Type 0
+SomeSays c k kept log o = WitnessSays c.task.book.now c.entries.now (ways_of c) k kept log o
 
-abbrev pub AreNarrowed : Choosing → ℕ → List Entry → Type 0
-AreNarrowed c k kept = IsNarrowed c.task.book.now c.entries.now (ways_of c) k kept
+abbrev pub IsNarrowedTo : Choosing → ℕ → List LogLine → Narrowed → Type 0
+IsNarrowedTo c k log n = IsNarrowed c.task.book.now c.entries.now (ways_of c) k n.kept.items log n.witness
 
 -- nothing is a witness with all of the entries that it has
 abbrev pub HasNone : Choosing → Type 0

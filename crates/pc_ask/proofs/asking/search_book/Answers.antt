@@ -8,7 +8,7 @@ use Rattle.pc_repairs.specs.inside.Joining.{joined_by}
 use Rattle.pc_ask.specs.inside.Choices.{IsChoosing}
 use Rattle.pc_ask.specs.inside.Parts.{AreAxiomsOver, IsAsked}
 use Rattle.pc_ask.specs.declared.narrowing.Choosing.{Choosing}
-use Rattle.pc_ask.proofs.Answered.{all_asked, choosing_is, entries_entered, found_says, nothing_asked}
+use Rattle.pc_ask.proofs.Answered.{all_asked, choosing_is, found_says, nothing_asked}
 use Rattle.pc_ask.proofs.asking.search_book.Goals as goal
 
 pub returns-in_err-part-clause-search : goal.returns-in_err-part-clause-search
@@ -43,10 +43,6 @@ find-requires-clause-asked g c =
     subst (λ (log : List LogLine). IsAsked c.args.question.book.now c.deref-2.result.now c.in_ok-solver.solver log) (sym c.requires.new_log)
     (subst (λ own. IsAsked c.args.question.book.now own c.in_ok-solver.solver []) (sym c.deref-2.ensures.value) c.in_ok-solver.ensures)
 
-pub find-requires-clause-entered : goal.find-requires-clause-entered
-find-requires-clause-entered g c =
-    entries_entered (g.C.Choices.sheet c.args.view.now) c.args.question.book.now c.well_formed-3.ensures c.args.chosen.now.entries.items c.args.chosen.now.fitting.now c.args.chosen.now.parts.items c.requires.chosen c.deref-3.result.now c.deref-3.ensures.value
-
 pub returns-in_err-found-clause-search : goal.returns-in_err-found-clause-search
 returns-in_err-found-clause-search g c =
     let choosing : Choosing = record { task = record { alloc = c.args.alloc; book = c.args.question.book; ground = c.args.ground; variables = c.deref-2.result }; entries = c.deref-3.result; fitting = c.args.chosen.now.fitting; parts = c.deref-4.result } in
@@ -55,7 +51,8 @@ returns-in_err-found-clause-search g c =
     choosing_is (g.C.Choices.sheet c.args.view.now) c.args.question.book.now c.well_formed-3.ensures c.args.chosen.now.entries.items c.args.chosen.now.fitting.now c.args.chosen.now.parts.items c.requires.chosen formed c.requires.asked.0 c.requires.asked.1
     choosing refl c.requires.ground (subst (λ (x : Grounded). length x.clauses < 2 ^ 32) c.requires.ground c.few_axioms.ensures) c.deref-3.ensures.value refl c.deref-4.ensures.value c.few_entries.ensures in
     all_asked c.parts_are_searched.ensures (g.C.Choices.sheet c.args.view.now) formed c.args.question.book.now c.well_formed-3.ensures c.args.chosen.now.entries.items c.args.chosen.now.fitting.now c.args.chosen.now.parts.items c.requires.chosen
-    choosing is_choosing.task refl c.deref-3.ensures.value (ap (joined_by c.args.chosen.now.fitting.now) c.deref-4.ensures.value) c.args.tally.now c.find.new.tally c.find.new.solver c.args.log.now c.find.new.log c.requires.new_log c.find.ensures.asked c.find.ensures.spends
+    choosing is_choosing.task refl c.deref-3.ensures.value (ap (joined_by c.args.chosen.now.fitting.now) c.deref-4.ensures.value) c.in_ok-solver.solver c.find.new.solver c.args.tally.now c.find.new.tally c.args.log.now c.find.new.log c.requires.new_log
+    (subst (λ own. IsAsked c.args.question.book.now own c.in_ok-solver.solver []) (sym c.deref-2.ensures.value) c.in_ok-solver.ensures) c.find.ensures.goes_on
 
 pub returns-clause-search : goal.returns-clause-search
 returns-clause-search g c =
@@ -65,7 +62,8 @@ returns-clause-search g c =
     choosing_is (g.C.Choices.sheet c.args.view.now) c.args.question.book.now c.well_formed-3.ensures c.args.chosen.now.entries.items c.args.chosen.now.fitting.now c.args.chosen.now.parts.items c.requires.chosen formed c.requires.asked.0 c.requires.asked.1
     choosing refl c.requires.ground (subst (λ (x : Grounded). length x.clauses < 2 ^ 32) c.requires.ground c.few_axioms.ensures) c.deref-3.ensures.value refl c.deref-4.ensures.value c.few_entries.ensures in
     all_asked c.parts_are_searched.ensures (g.C.Choices.sheet c.args.view.now) formed c.args.question.book.now c.well_formed-3.ensures c.args.chosen.now.entries.items c.args.chosen.now.fitting.now c.args.chosen.now.parts.items c.requires.chosen
-    choosing is_choosing.task refl c.deref-3.ensures.value (ap (joined_by c.args.chosen.now.fitting.now) c.deref-4.ensures.value) c.args.tally.now c.find.new.tally c.find.new.solver c.args.log.now c.find.new.log c.requires.new_log c.find.ensures.asked c.find.ensures.spends
+    choosing is_choosing.task refl c.deref-3.ensures.value (ap (joined_by c.args.chosen.now.fitting.now) c.deref-4.ensures.value) c.in_ok-solver.solver c.find.new.solver c.args.tally.now c.find.new.tally c.args.log.now c.find.new.log c.requires.new_log
+    (subst (λ own. IsAsked c.args.question.book.now own c.in_ok-solver.solver []) (sym c.deref-2.ensures.value) c.in_ok-solver.ensures) c.find.ensures.goes_on
 
 pub returns-clause-says : goal.returns-clause-says
 returns-clause-says g c f is =

@@ -1,18 +1,18 @@
 use Rattle.std.proofs.Common.{◌∙◌, All, refl, subst, sym}
 use Rattle.std.proofs.lemmas.Bool.{false≢true}
+use Rattle.pc_solver.proofs.SpendingLemmas.{goes_none}
 use Rattle.pc_ask.specs.inside.Parts.{IsAskable}
-use Rattle.pc_ask.proofs.Searched.{none_spent}
 use Rattle.pc_ask.proofs.Witnesses.{left_all, one_told}
-use Rattle.pc_ask.proofs.narrowing.is_witness.Goals as goal
+use Rattle.pc_ask.proofs.narrowing.refute_way.Goals as goal
 
-pub returns-then-not-has_all-clause-spends : goal.returns-then-not-has_all-clause-spends
-returns-then-not-has_all-clause-spends c = none_spent c.args.choosing.task.variables.now 1 c.args.tally.now c.args.log.now
+pub returns-then-not-has_all-clause-goes_on : goal.returns-then-not-has_all-clause-goes_on
+returns-then-not-has_all-clause-goes_on c = goes_none 1 c.args.solver.now c.args.tally.now c.args.log.now c.requires.asked.has
 
 pub returns-then-not-has_all-clause-says : goal.returns-then-not-has_all-clause-says
 returns-then-not-has_all-clause-says c w = false≢true (c.if-not-has_all.ensures.1 w.0)
 
-pub returns-in_err-left-clause-spends : goal.returns-in_err-left-clause-spends
-returns-in_err-left-clause-spends c = none_spent c.args.choosing.task.variables.now 1 c.args.tally.now c.args.log.now
+pub returns-in_err-left-clause-goes_on : goal.returns-in_err-left-clause-goes_on
+returns-in_err-left-clause-goes_on c = goes_none 1 c.args.solver.now c.args.tally.now c.args.log.now c.requires.asked.has
 
 pub refute_set-requires-clause-set : goal.refute_set-requires-clause-set
 refute_set-requires-clause-set c =
@@ -21,4 +21,4 @@ refute_set-requires-clause-set c =
 
 pub returns-clause-says : goal.returns-clause-says
 returns-clause-says c =
-    one_told c.args.choosing c.args.count c.args.kept.now c.args.values.now _ c.refute_set.new.log (c.deref.ensures.value ∙ c.in_ok-left.ensures) (c.if-not-has_all.ensures.0 refl) _ c.in_ok-refuted.ensures.says _ c.is_some.ensures
+    one_told c.args.choosing c.args.count c.args.kept.now c.args.values.now _ c.refute_set.new.log (c.deref.ensures.value ∙ c.in_ok-left.ensures) (c.if-not-has_all.ensures.0 refl) c.refute_set.result c.refute_set.ensures.says
