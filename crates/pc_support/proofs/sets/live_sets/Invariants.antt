@@ -1,8 +1,8 @@
-use Rattle.std.proofs.Common.{List}
+use Rattle.std.proofs.Common.{ℕ, List}
 use Rattle.pc_sheet.specs.declared.ids.Entry.{Entry}
 use Rattle.pc_support.specs.Placed.{ArePlaced}
 use Rattle.pc_support.specs.inside.Sets.{AreLive}
 use Rattle.pc_support.proofs.sets.live_sets.Given as goal
 
 abbrev pub invariant-loop-world : goal.invariant-loop-world
-invariant-loop-world l = (entries : List Entry) → ArePlaced entries l.worlds l.placed → AreLive entries l.worlds l.target l.world l.live
+invariant-loop-world l = (sizes : List ℕ) (entries : List Entry) → ArePlaced sizes entries l.worlds l.placed → AreLive entries l.worlds l.target l.world l.live

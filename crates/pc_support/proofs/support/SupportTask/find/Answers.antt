@@ -25,17 +25,17 @@ narrow-requires-clause-askable c =
     let entries = c.args.self.entries.now in
     let basis = basis_of c.args.solver.now in
     record {
-      own = own_here asked.0 asked.1 sizes entries basis c.args.self.worlds.now c.args.target asked.2 i.question.literals.items i.question.goal i.question.watched.now (λ x h. c.requires.seen.own x (subst (λ (ws : List Var). Contains ws x) begun.watched h)) begun.literals begun.goal;
+      own = own_here asked.0 asked.1 sizes entries basis c.args.self.worlds.now c.args.target asked.2 i.question.literals.now i.question.goal i.question.watched.now (λ x h. c.requires.seen.own x (subst (λ (ws : List Var). Contains ws x) begun.watched h)) begun.literals begun.goal;
       no_blocks = c.requires.blocks;
       logged = c.requires.log;
-      right = known_here asked.0 asked.1 sizes entries basis c.args.self.worlds.now c.args.target asked.2 i.question.literals.items i.question.goal c.args.log.now i.known.cores.items i.known.models i.question.watched.now i.known.rows begun.literals begun.goal begun.no_cores begun.no_rows
-          (all_counter asked.0 asked.1 sizes entries basis c.args.self.worlds.now c.args.target asked.2 i.question.literals.items i.question.goal begun.before i.known.models begun.literals begun.goal begun.of_worlds (begun.adds (clauses_used c.args.solver.now.problem) c.requires.seen.rows));
+      right = known_here asked.0 asked.1 sizes entries basis c.args.self.worlds.now c.args.target asked.2 i.question.literals.now i.question.goal c.args.log.now i.known.cores.items i.known.models i.question.watched.now i.known.rows begun.literals begun.goal begun.no_cores begun.no_rows
+          (all_counter asked.0 asked.1 sizes entries basis c.args.self.worlds.now c.args.target asked.2 i.question.literals.now i.question.goal begun.before i.known.models begun.literals begun.goal begun.of_worlds (begun.adds (clauses_used c.args.solver.now.problem) c.requires.seen.rows));
     }
 
 pub index-requires : goal.index-requires
 index-requires c =
     let q = c.args.begun.now.narrowing.inquiry.question in
-    let n = at_some (IsNarrowed (basis_of c.args.solver.now) q.literals.items q.goal c.narrow.new.log c.args.begun.now.narrowing.sets c.narrow.new.self.left 0) c.in_ok-found.found c.in-Some.witness c.in-Some.is c.in_ok-found.ensures.some in
+    let n = at_some (IsNarrowed (basis_of c.args.solver.now) q.literals.now q.goal c.narrow.new.log c.args.begun.now.narrowing.sets c.narrow.new.self.left 0) c.in_ok-found.found c.in-Some.witness c.in-Some.is c.in_ok-found.ensures.some in
     let below = slice_get_within c.args.begun.now.narrowing.sets c.in-Some.witness.world n.witness.set n.witness.at in
     let many : length c.args.begun.now.narrowing.sets ≡ length c.args.begun.now.numbers.items = c.requires.live.many in
     omega (arith, below, many)
@@ -58,7 +58,7 @@ pub returns-in_ok-support-in-Some-clause-found : goal.returns-in_ok-support-in-S
 returns-in_ok-support-in-Some-clause-found c =
     let n = narrowed_here (basis_of c.args.solver.now) c.args.begun.now.narrowing.inquiry.question c.args.begun.now.narrowing.inquiry.question (map (entry_literal c.args.self.ground.now.sizes) c.args.self.entries.now) (target_literal c.args.self.ground.now.sizes c.args.target) c.narrow.new.log c.args.begun.now.narrowing.sets c.args.begun.now.narrowing.sets c.narrow.new.self.left c.in-Some.witness
     refl c.requires.begun.literals c.requires.begun.goal refl
-    (at_some (IsNarrowed (basis_of c.args.solver.now) c.args.begun.now.narrowing.inquiry.question.literals.items c.args.begun.now.narrowing.inquiry.question.goal c.narrow.new.log c.args.begun.now.narrowing.sets c.narrow.new.self.left 0) c.in_ok-found.found c.in-Some.witness c.in-Some.is c.in_ok-found.ensures.some) in
+    (at_some (IsNarrowed (basis_of c.args.solver.now) c.args.begun.now.narrowing.inquiry.question.literals.now c.args.begun.now.narrowing.inquiry.question.goal c.narrow.new.log c.args.begun.now.narrowing.sets c.narrow.new.self.left 0) c.in_ok-found.found c.in-Some.witness c.in-Some.is c.in_ok-found.ensures.some) in
     let items : c.in_ok-support-in-Some.support.items ≡ chosen c.narrow.new.self.left c.args.self.entries.now = c.in_ok-support-in-Some.ensures in
     record {
       least = λ sheet cells h. subst (λ (s : List Entry). IsLeastSupport sheet s c.args.target) (sym items) (least_support sheet cells c.args.self.ground.now.sizes c.args.self.entries.now (basis_of c.args.solver.now) c.args.self.worlds.now c.args.target h c.consistent_is_in_maximal.ensures c.different_sublists_are_ordered.ensures (record { sets = c.args.begun.now.narrowing.sets; numbers = c.args.begun.now.numbers }) c.requires.live c.narrow.new.log c.narrow.new.self.left c.in-Some.witness n);
