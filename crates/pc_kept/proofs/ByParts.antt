@@ -7,7 +7,7 @@ use Rattle.std.proofs.lemmas.List.Sums.{sum_by-cons}
 use Rattle.std.proofs.lemmas.List.Elements.{All-contains}
 use Rattle.std.proofs.lemmas.Option.{slice_get_within, get_or_from_slice_get}
 use Rattle.pc_lits.specs.declared.literal.Lit.{Lit}
-use Rattle.pc_lemmas.proofs.Elements.{all_from, contains_cases, contains_first}
+use Rattle.pc_lemmas.proofs.Elements.{all_from, contains_cases, contains_first, contains_later}
 use Rattle.pc_lemmas.proofs.Options.{same_some}
 use Rattle.pc_sheet.specs.Sheet.{Sheet}
 use Rattle.pc_sheet.specs.Entailment.{cell_sizes}
@@ -20,9 +20,9 @@ use Rattle.pc_components.specs.PartAxioms.{AreAxiomsOf}
 use Rattle.pc_components.specs.View.{Kept, number_of, cells_of_part, AreComponentsOf}
 use Rattle.pc_components.proofs.Placing.{item_first}
 use Rattle.pc_problem.proofs.Made.{literal_below}
-use Rattle.pc_kept.specs.Kept.{AreKept}
+use Rattle.pc_kept.specs.ByPolarity.{AreKeptByPolarity}
 use Rattle.pc_kept.specs.Laws.{KeptByWhatIsStored}
-use Rattle.pc_kept.specs.Stored.{AreKeptStored}
+use Rattle.pc_kept.specs.Stored.{AreKeptStored, AreUnnamedStored}
 use Rattle.pc_kept.specs.inside.Checks.{IsRoom}
 
 -- ---- sums
@@ -61,6 +61,13 @@ zip_turned R S T [] (y ∷ ys) zs f h g = absurd h
 zip_turned R S T (x ∷ xs) [] zs f h g = absurd h
 zip_turned R S T (x ∷ xs) (y ∷ ys) [] f h g = absurd g
 zip_turned R S T (x ∷ xs) (y ∷ ys) (z ∷ zs) f h g = (f x y z h.0 g.0, zip_turned R S T xs ys zs f h.1 g.1)
+
+-- where each of the second list has a property too
+zip_also : {X Y : Type 0} (R : X → Y → Type 0) (P : Y → Type 0) (xs : List X) (ys : List Y) → AllZip R xs ys → ((y : Y) → Contains ys y → P y) → AllZip (λ x y. R x y × P y) xs ys
+zip_also R P [] [] h f = tt
+zip_also R P [] (y ∷ ys) h f = absurd h
+zip_also R P (x ∷ xs) [] h f = absurd h
+zip_also R P (x ∷ xs) (y ∷ ys) h f = ((h.0, f y (contains_first y ys)), zip_also R P xs ys h.1 (λ z has. f z (contains_later y ys z has)))
 
 -- ---- one part more
 
@@ -107,27 +114,32 @@ module _ (sheet : Sheet) where
         omega (arith, below, length-map (axioms sheet) (clause_of_axiom sheet)))))
 
     -- what is kept of each is kept of the sheet
-    pub each_kept : KeptByWhatIsStored → (pairs : ℕ) (store : List (List Lit)) (names : NameLists) → pairs ≡ sum (cell_sizes sheet.universe) → store ≡ clauses sheet → names ≡ names_of sheet → (rows : List (List ℕ))
-        → AllZip (AreKeptStored pairs store names.axioms) whole.axioms rows → AllZip (AreKept sheet) whole.axioms rows
-    each_kept law pairs store names pairs_are store_is names_are rows h =
-        let by_pairs : AllZip (AreKeptStored (sum (cell_sizes sheet.universe)) store names.axioms) whole.axioms rows = subst (λ n. AllZip (AreKeptStored n store names.axioms) whole.axioms rows) pairs_are h in
-        let by_store : AllZip (AreKeptStored (sum (cell_sizes sheet.universe)) (clauses sheet) names.axioms) whole.axioms rows = subst (λ cs. AllZip (AreKeptStored (sum (cell_sizes sheet.universe)) cs names.axioms) whole.axioms rows) store_is by_pairs in
-        let stored : AllZip (AreKeptStored (sum (cell_sizes sheet.universe)) (clauses sheet) (names_of sheet).axioms) whole.axioms rows =
-        subst (λ (ns : NameLists). AllZip (AreKeptStored (sum (cell_sizes sheet.universe)) (clauses sheet) ns.axioms) whole.axioms rows) names_are by_store in
-        zip_turned (AreAxiomsOf sheet) (AreKeptStored (sum (cell_sizes sheet.universe)) (clauses sheet) (names_of sheet).axioms) (AreKept sheet) (parts_of sheet) whole.axioms rows (λ part used kept of is. law sheet used kept of.order is) are.axioms stored
+    pub each_kept : KeptByWhatIsStored → (pairs : ℕ) (store : List (List Lit)) (names : NameLists) → pairs ≡ sum (cell_sizes sheet.universe) → store ≡ clauses sheet → names ≡ names_of sheet
+        → (banned : List (Option Bool)) (rows : List (List ℕ)) → AllZip (AreKeptStored pairs store names banned) whole.axioms rows → ((kept : List ℕ) → Contains rows kept → AreUnnamedStored store names banned kept)
+        → AllZip (AreKeptByPolarity sheet banned) whole.axioms rows
+    each_kept law pairs store names pairs_are store_is names_are banned rows h only =
+        let Both : ℕ → List (List Lit) → NameLists → Type 0 = λ n cs ns. AllZip (AreKeptStored n cs ns banned) whole.axioms rows × ((kept : List ℕ) → Contains rows kept → AreUnnamedStored cs ns banned kept) in
+        let by_pairs : Both (sum (cell_sizes sheet.universe)) store names = subst (λ n. Both n store names) pairs_are (h, only) in
+        let by_store : Both (sum (cell_sizes sheet.universe)) (clauses sheet) names = subst (λ cs. Both (sum (cell_sizes sheet.universe)) cs names) store_is by_pairs in
+        let stored : Both (sum (cell_sizes sheet.universe)) (clauses sheet) (names_of sheet) = subst (λ (ns : NameLists). Both (sum (cell_sizes sheet.universe)) (clauses sheet) ns) names_are by_store in
+        let S : List ℕ → List ℕ → Type 0 = AreKeptStored (sum (cell_sizes sheet.universe)) (clauses sheet) (names_of sheet) banned in
+        let U : List ℕ → Type 0 = AreUnnamedStored (clauses sheet) (names_of sheet) banned in
+        zip_turned (AreAxiomsOf sheet) (λ used kept. S used kept × U kept) (AreKeptByPolarity sheet banned) (parts_of sheet) whole.axioms rows
+        (λ part used kept of is. law sheet banned used kept of.order is.0 is.1) are.axioms (zip_also S U whole.axioms rows stored.0 stored.1)
 
     -- and is few enough to be kept
-    pub rows_within : (rows : List (List ℕ)) → AllZip (AreKept sheet) whole.axioms rows → length (clauses sheet) < 2 ^ 32 → All (All (λ k. k < 2 ^ 32)) rows
-    rows_within rows h few =
+    pub rows_within : (banned : List (Option Bool)) (rows : List (List ℕ)) → AllZip (AreKeptByPolarity sheet banned) whole.axioms rows → length (clauses sheet) < 2 ^ 32 → All (All (λ k. k < 2 ^ 32)) rows
+    rows_within banned rows h few =
         all_from (All (λ k. k < 2 ^ 32)) rows
-        (zip_each (λ used kept. All (λ k. k < length (clauses sheet)) used × AreKept sheet used kept) (All (λ k. k < 2 ^ 32)) whole.axioms rows (zip_with whole.axioms rows within h)
+        (zip_each (λ used kept. All (λ k. k < length (clauses sheet)) used × AreKeptByPolarity sheet banned used kept) (All (λ k. k < 2 ^ 32)) whole.axioms rows (zip_with whole.axioms rows within h)
         (λ used kept both. all_from (λ k. k < 2 ^ 32) kept (λ k has. let below = All-contains (λ j. j < length (clauses sheet)) used k both.0 (both.1.among k has) in omega (arith, below, few))))
       where
-        zip_with : (xs ys : List (List ℕ)) → All (All (λ k. k < length (clauses sheet))) xs → AllZip (AreKept sheet) xs ys → AllZip (λ used kept. All (λ k. k < length (clauses sheet)) used × AreKept sheet used kept) xs ys
+        zip_with : (xs ys : List (List ℕ)) → All (All (λ k. k < length (clauses sheet))) xs → AllZip (AreKeptByPolarity sheet banned) xs ys
+            → AllZip (λ used kept. All (λ k. k < length (clauses sheet)) used × AreKeptByPolarity sheet banned used kept) xs ys
         zip_with [] [] all g = tt
         zip_with [] (y ∷ ys) all g = absurd g
         zip_with (x ∷ xs) [] all g = absurd g
         zip_with (x ∷ xs) (y ∷ ys) all g = ((All-contains (All (λ k. k < length (clauses sheet))) (x ∷ xs) x all (contains_first x xs), g.0), zip_with xs ys (λ i d below. all (suc i) d (omega (arith, below))) g.1)
 
-    pub rows_many : (rows : List (List ℕ)) → AllZip (AreKept sheet) whole.axioms rows → length rows ≡ length whole.cells
-    rows_many rows h = omega (arith, zip_many (AreKept sheet) whole.axioms rows h, as_many)
+    pub rows_many : (banned : List (Option Bool)) (rows : List (List ℕ)) → AllZip (AreKeptByPolarity sheet banned) whole.axioms rows → length rows ≡ length whole.cells
+    rows_many banned rows h = omega (arith, zip_many (AreKeptByPolarity sheet banned) whole.axioms rows h, as_many)

@@ -34,13 +34,11 @@ use Rattle.pc_components.proofs.Way.{piece_at, piece_rule, IsAbove, above_piece,
 use Rattle.pc_solver.specs.Forced.{IsForced}
 use Rattle.pc_kept.specs.Kept.{IsAmong, IsTrueFromStart, IsConstant}
 use Rattle.pc_kept.specs.ByPolarity.{meant_by, IsNamedBy, IsBannedOut, AreKeptByPolarity, KeptByPolarityAreForTheirParts}
-use Rattle.pc_kept.specs.Laws.{KeptAxiomsAreForTheirParts}
 use Rattle.pc_kept.proofs.BySymbol.{has_sign, value}
 use Rattle.pc_kept.proofs.CellValues.{kept_made, number_there, has_value}
 use Rattle.pc_kept.proofs.CountersSettled.{meant}
 use Rattle.pc_kept.proofs.Decided.{decided_is, decided, decided_at, meaning_true}
 use Rattle.pc_kept.proofs.ForcedTrue.{stands, always_true, forced_by}
-use Rattle.pc_kept.proofs.NoneContained.{kept_are_by_polarity}
 use Rattle.pc_kept.proofs.Settled.{no_longer}
 use Rattle.pc_kept.proofs.ByNumber.{clause_at, literal_at, at_literal, same_symbol, same_literal, IsOwn, is_own, own_there}
 use Rattle.pc_kept.proofs.RightNodes.{stays, kept_axiom, Named, KeptClause, kept_clause, mentioned_used, named_by, own, own_assigned, truth, Asked, asked_right}
@@ -309,7 +307,3 @@ kept_by_polarity_are_for_their_parts sheet formed all division part there used k
       meets = λ a assigned fits. let m = are_for.meets a assigned fits in (m.0, λ k h. m.1 k (are.among k h), m.2);
       by_cells = are_for.by_cells;
     }
-
-pub kept_axioms_are_for_their_parts : KeptAxiomsAreForTheirParts
-kept_axioms_are_for_their_parts sheet formed all division part there used kept own' of are vars =
-    kept_by_polarity_are_for_their_parts sheet formed all division part there used kept [] of (kept_are_by_polarity sheet used kept [] (λ l is. none_some is) are)

@@ -1,5 +1,5 @@
 -- A part is searched by its kept axioms.
-use Rattle.std.proofs.Common.{◌≡◌, ℕ, ◌<◌, inl, inr, Bool, List, [], Option, Some, map, length, slice_get, slice_index_or, All, Contains, arith, ap, refl, sym, ◌∙◌, subst}
+use Rattle.std.proofs.Common.{◌≡◌, ℕ, ◌<◌, inl, inr, Bool, List, [], Option, Some, length, slice_get, slice_index_or, All, Contains, arith, ap, refl, sym, ◌∙◌, subst}
 use Rattle.std.proofs.Math.Bool.{not-not}
 use Rattle.std.proofs.lemmas.List.{length-map}
 use Rattle.std.proofs.lemmas.Option.{slice_get_within, get_or_from_slice_get}
@@ -50,7 +50,7 @@ module _ (sheet : Sheet) (used kept : List ℕ) (banned : List (Option Bool)) (a
   kept_are_lone at n c l m l_in m_in l_bans m_bans =
       let g = at n c in
       let is : slice_index_or (clauses sheet) n [] ≡ clause_at sheet n =
-          get_or_from_slice_get (clauses sheet) n (clause_of_axiom sheet g.0) [] (slice_map (clause_of_axiom sheet) (axioms sheet) n g.0 g.1) ∙ sym (clause_is sheet n g.0 g.1) in
+      get_or_from_slice_get (clauses sheet) n (clause_of_axiom sheet g.0) [] (slice_map (clause_of_axiom sheet) (axioms sheet) n g.0 g.1) ∙ sym (clause_is sheet n g.0 g.1) in
       let l_there = subst (λ d. Contains d l) is l_in in
       let m_there = subst (λ d. Contains d m) is m_in in
       let l_own = own_of n c g.0 g.1 l l_there l_bans in

@@ -4,7 +4,7 @@ use Rattle.std.proofs.lemmas.List.{get_or_default}
 use Rattle.std.proofs.lemmas.List.Elements.{All-contains}
 use Rattle.pc_lits.specs.declared.literal.Lit.{Lit}
 use Rattle.pc_lemmas.proofs.Elements.{contains_first, contains_later, contains_cases, contains_none, all_from}
-use Rattle.pc_accept.specs.Axioms.{Axiom}
+use Rattle.pc_axiom_names.specs.Listed.{NameLists}
 use Rattle.pc_components.proofs.PartFor.{contains_slice}
 use Rattle.pc_components.proofs.Placing.{item_first}
 use Rattle.pc_kept.specs.Stored.{AreMeaningsStored, AreKeptStored}
@@ -75,25 +75,26 @@ no_more_ordered (x ∷ xs) (y ∷ ys) low high h =
     ]) in
     omega (arith, rest)
 
-pub fine_kept : (pairs : ℕ) (store : List (List Lit)) (names : List Axiom) (values constants named : List (Option Bool)) (used : List ℕ) (marks : List Bool) (kept : List ℕ) → kept ≡ marked used marks
-    → AreRight store kept values → AreNamed store kept named → ((meanings : List ℕ) × AreMeaningsStored names meanings × AreRight store meanings constants) → AreFine pairs store names values constants named used marks → AreKeptStored pairs store names used kept
+pub fine_kept : (pairs : ℕ) (store : List (List Lit)) (names : NameLists) (values constants named : List (Option Bool)) (used : List ℕ) (marks : List Bool) (kept : List ℕ) → kept ≡ marked used marks
+    → AreRight store kept values → AreNamed store kept named → ((meanings : List ℕ) × AreMeaningsStored names.axioms meanings × AreRight store meanings constants)
+    → AreFine pairs store names.axioms values constants named used marks → AreKeptStored pairs store names [] used kept
 fine_kept pairs store names values constants named used marks kept is (trues, forced, right) each_named (meanings, mean, (always, forced_too, right_too)) fine = record {
   among = λ k c. marked_in used marks k (subst (λ xs. Contains xs k) is c);
   each = λ k c. let j = contains_slice used k c in elim (fine j.0 k j.1) [
     | inl stays ↦ inl (subst (λ xs. Contains xs k) (sym is) (is_marked used marks j.0 k j.1 stays))
-    | inr may ↦ inr (record {
+    | inr may ↦ inr (inl (record {
       of_node = may.of_node;
       why = λ clause at. elim (may.why clause at) [
         | inl (l, has, holds) ↦ inl (l, has, (trues, forced, right l holds))
         | inr (inr (l, has, high, holds, out)) ↦ inr (inr (l, has, high, λ (n, n_in, c', c'_at, m, m_in, same). out (subst (IsNamed named) same (each_named n n_in c' c'_at m m_in)), (meanings, mean, (always, forced_too, right_too l holds))))
         | inr (inl none) ↦ inr (inl (λ l has high (n, n_in, c', c'_at, m, m_in, same). none l has high (subst (IsNamed named) same (each_named n n_in c' c'_at m m_in))))
       ];
-    })
+    }))
   ];
   order = λ order. subst (AllPairs (λ j k. j < k)) (sym is) (marked_order used marks order);
 }
 
-pub all_kept : (pairs : ℕ) (store : List (List Lit)) (names : List Axiom) (used kept : List ℕ) → kept ≡ used → AreKeptStored pairs store names used kept
+pub all_kept : (pairs : ℕ) (store : List (List Lit)) (names : NameLists) (used kept : List ℕ) → kept ≡ used → AreKeptStored pairs store names [] used kept
 all_kept pairs store names used kept is = record {
   among = λ k c. subst (λ xs. Contains xs k) is c;
   each = λ k c. inl (subst (λ xs. Contains xs k) (sym is) c);

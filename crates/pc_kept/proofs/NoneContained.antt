@@ -1,4 +1,4 @@
--- What contains no kept axiom and no literal that they force contains no axiom of the part.
+-- What contains no kept axiom, no literal that they force and no banned one contains no axiom of the part.
 use Rattle.std.proofs.Common.{◌≡◌, ℕ, inl, inr, List, [], ◌∷◌, map, Contains, sym, subst}
 use Rattle.std.proofs.lemmas.List.Elements.{All-contains, Contains-append_right}
 use Rattle.pc_sheet.specs.Sheet.{Sheet}
@@ -20,7 +20,6 @@ use Rattle.pc_components.proofs.Symbols.{rule_symbols}
 use Rattle.pc_kept.specs.ByPolarity.{KeptByPolarityAreKept, KeptAreByPolarity, NoneIsContainedByPolarity}
 use Rattle.pc_kept.specs.Kept.{IsAmong, IsNode, IsOfNode, IsLeftOut}
 use Rattle.pc_kept.proofs.BySymbol.{axiom_at}
-use Rattle.pc_kept.specs.Laws.{NoneOfTheUsedIsContained}
 
 -- it names a node
 names_node : (sheet : Sheet) → IsWellFormed sheet → (x : Axiom) → IsOfNode x → (clause : List Literal) → IsClauseOf sheet x clause → (l : Literal) × Contains clause l × IsNode l.what
@@ -52,16 +51,6 @@ module _ (sheet : Sheet) (formed : IsWellFormed sheet) (kept own : List ℕ) (va
 within_clause : (sheet : Sheet) (clause axiom_clause : List Lit) (g : GroundAxiom) → clause_of_axiom sheet g ≡ axiom_clause → IsSubclause axiom_clause clause → (l : Literal) → Contains g.clause l → Contains clause (lit_of sheet l)
 within_clause sheet clause axiom_clause g is inside l has = inside (lit_of sheet l) (subst (λ c. Contains c (lit_of sheet l)) is (contains_map (lit_of sheet) g.clause l has))
 
-pub none_of_the_used_is_contained : NoneOfTheUsedIsContained
-none_of_the_used_is_contained sheet formed used kept own are vars clause over avoids none k axiom_clause k_used at inside =
-    let found = axiom_at sheet k axiom_clause at in
-    elim (are.each k found.0 k_used found.1) [
-      | inl stays ↦ none k axiom_clause stays at inside
-      | inr out ↦
-          left_out sheet formed kept own vars clause over avoids found.0 (slice_contains (axioms sheet) k found.0 found.1) out (within_clause sheet clause axiom_clause found.0 found.2 inside)
-    ]
-
--- the same where some literals are banned
 pub none_is_contained_by_polarity : NoneIsContainedByPolarity
 none_is_contained_by_polarity sheet formed used kept own banned are vars clause over avoids free none k axiom_clause k_used at inside =
     let found = axiom_at sheet k axiom_clause at in

@@ -1,5 +1,5 @@
 //! The parts of a book with the axioms that a search takes.
-ghost use Rattle.std.specs.Prelude.{◌≡◌, ◌<◌, ◌≤◌, ◌^◌, All, IfOk, OnOk, length, sum};
+ghost use Rattle.std.specs.Prelude.{◌≡◌, ◌<◌, ◌≤◌, ◌^◌, [], All, IfOk, OnOk, length, sum};
 ghost use Rattle.std.specs.List.{AllZip};
 ghost use Rattle.pc_sheet.specs.Entailment.{cell_sizes};
 ghost use Rattle.pc_ground.specs.Grounded.{grounded};
@@ -56,8 +56,8 @@ fn kept_rows(
     requires many { length whole.now.axioms ≡ length whole.now.cells }
     requires within { All (All (λ k. k < length stored.store.now)) whole.now.axioms }
     ensures { IfOk result
-        (AllZip (AreKeptStored stored.entry.pairs stored.entry.store.now
-        stored.entry.names.now.axioms) whole.now.axioms) }
+        (AllZip (AreKeptStored stored.entry.pairs stored.entry.store.now stored.entry.names.now [])
+        whole.now.axioms) }
 {
     let mut rows = Rows::new(alloc);
     for i in 0..whole.len() {
@@ -95,6 +95,7 @@ pub fn kept_components(
         pairs: count_of_pairs(book),
     };
     let rows = kept_rows(alloc, stored, whole, &mut constants, &mut trial)?;
-    let kept = whole.with_axioms(alloc, book, ground, &rows)?;
+    let banned = Values::new(alloc, 0)?;
+    let kept = whole.with_axioms(alloc, book, ground, &rows, banned)?;
     Ok(kept)
 }

@@ -1,5 +1,5 @@
 //! Which axioms of a part a search takes.
-ghost use Rattle.std.specs.Prelude.{◌≡◌, ℕ, ◌<◌, ◌^◌, List, All, length, IfOk, IfSome, OnOk};
+ghost use Rattle.std.specs.Prelude.{◌≡◌, ℕ, ◌<◌, ◌^◌, List, [], All, length, IfOk, IfSome, OnOk};
 ghost use Rattle.pc_kept.specs.Stored.{AreKeptStored, AreMeaningsStored};
 ghost use Rattle.pc_kept.specs.inside.Checks.{IsRoom, AreRight, AreNamed};
 
@@ -80,7 +80,7 @@ fn try_marks(
     ensures kept { IfOk result
         (λ o.
         IfSome o (λ kept. AreKeptStored stored.entry.pairs stored.entry.store.now
-        stored.entry.names.now.axioms used.now kept.items)) }
+        stored.entry.names.now [] used.now kept.items)) }
     ensures values { length trial.new.values ≡ length trial.old.values }
     ensures named { length trial.new.named ≡ length trial.old.named }
     ensures marks { length marks.new.items ≡ length marks.old.items }
@@ -117,7 +117,7 @@ pub(crate) fn kept_axioms(
     requires names { length stored.names.now.axioms ≡ length stored.store.now }
     requires within { All (λ k. k < length stored.store.now) used.now }
     ensures kept { IfOk result (λ kept. AreKeptStored stored.entry.pairs stored.entry.store.now
-        stored.entry.names.now.axioms used.now kept.items) }
+        stored.entry.names.now [] used.now kept.items) }
     ensures values { length trial.new.values ≡ length trial.old.values }
     ensures constants { length constants.new ≡ length constants.old }
     ensures named { length trial.new.named ≡ length trial.old.named }

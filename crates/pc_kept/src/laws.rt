@@ -2,17 +2,7 @@
 ghost use Rattle.pc_kept.specs.ByPolarity.{KeptAreByPolarity, KeptByPolarityAreForTheirParts, KeptByPolarityAreKept, NoneIsContainedByPolarity};
 ghost use Rattle.pc_kept.specs.Polar.{NamedLiteralsAreRight};
 ghost use Rattle.pc_kept.specs.Settled.{CountersAreSettled, NodesAreSettled};
-ghost use Rattle.pc_kept.specs.Laws.{KeptAxiomsAreForTheirParts, KeptByWhatIsStored, KeptPartsAreSearched, NoneOfTheUsedIsContained};
-
-/// The kept axioms of a part stand for the part's sheet on its cells.
-pub fn kept_axioms_are_for_their_parts()
-    ensures { KeptAxiomsAreForTheirParts }
-{}
-
-/// What contains no kept axiom and no literal that they force, over their variables, contains no axiom of the part.
-pub fn none_of_the_used_is_contained()
-    ensures { NoneOfTheUsedIsContained }
-{}
+ghost use Rattle.pc_kept.specs.Laws.{KeptByWhatIsStored, KeptPartsAreSearched};
 
 /// What is kept by a sheet's clauses, names and number of pairs is kept of the sheet.
 pub fn kept_by_what_is_stored()

@@ -21,7 +21,7 @@ kept_axioms-requires-clause-within c =
 pub loop-i-preserved : goal.loop-i-preserved
 loop-i-preserved c =
     let l = c.loop-i in
-    let P : List ℕ → List ℕ → Type 0 = λ us row. AreKeptStored c.args.stored.pairs c.args.stored.store.now c.args.stored.names.now.axioms us row in
+    let P : List ℕ → List ℕ → Type 0 = λ us row. AreKeptStored c.args.stored.pairs c.args.stored.store.now c.args.stored.names.now [] us row in
     let kept = subst (P c.part.result.axioms.now) (sym c.deref-in-loop-i.ensures.value) (subst (λ us. P us c.in_ok-kept.kept.items) (c.deref.ensures.value ∙ c.in_ok-used.ensures) c.in_ok-kept.ensures.kept) in
     record {
       count = omega (arith, l.invariant.count, length_push l.rows c.deref-in-loop-i.result.now, ap length c.in_ok-push.ensures.ok);
@@ -35,5 +35,5 @@ pub returns : goal.returns
 returns c =
     let l = c.loop-i in
     let all : l.i ≡ length c.args.whole.now.cells = omega (arith, c.loop-i-test.false, l.auto.i-end, c.len-i-end.ensures) in
-    zip_of (AreKeptStored c.args.stored.pairs c.args.stored.store.now c.args.stored.names.now.axioms) [] c.args.whole.now.axioms l.rows (omega (arith, l.invariant.count, all, c.requires.many))
+    zip_of (AreKeptStored c.args.stored.pairs c.args.stored.store.now c.args.stored.names.now []) [] c.args.whole.now.axioms l.rows (omega (arith, l.invariant.count, all, c.requires.many))
     (λ j us below at. l.invariant.each j us (omega (arith, below, all, c.requires.many)) at)

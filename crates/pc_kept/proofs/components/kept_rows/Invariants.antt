@@ -5,7 +5,7 @@ use Rattle.pc_kept.proofs.components.kept_rows.Given as goal
 abbrev pub invariant-loop-i : goal.invariant-loop-i
 invariant-loop-i l = record {
   count : length l.rows ≡ l.i;
-  each : (j : ℕ) (used : List ℕ) → j < l.i → slice_get l.whole.axioms j ≡ Some used → AreKeptStored l.stored.pairs l.stored.store.now l.stored.names.now.axioms used (get_or l.rows j []);
+  each : (j : ℕ) (used : List ℕ) → j < l.i → slice_get l.whole.axioms j ≡ Some used → AreKeptStored l.stored.pairs l.stored.store.now l.stored.names.now [] used (get_or l.rows j []);
   values : length l.trial.values ≡ length l.fn.trial.values;
   constants : length l.constants ≡ length l.fn.constants;
   named : length l.trial.named ≡ length l.fn.trial.named;

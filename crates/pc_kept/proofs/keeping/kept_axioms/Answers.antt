@@ -10,4 +10,4 @@ pub try_marks-requires-clause-named : goal.try_marks-requires-clause-named
 try_marks-requires-clause-named c = room_same _ _ c.args.stored.store.now (sym c.trials.invariant.named) c.requires.named
 
 pub returns-clause-kept : goal.returns-clause-kept
-returns-clause-kept c = all_kept c.args.stored.pairs c.args.stored.store.now c.args.stored.names.now.axioms c.args.used.now c.in_ok-all.all.items c.in_ok-all.ensures
+returns-clause-kept c = all_kept c.args.stored.pairs c.args.stored.store.now c.args.stored.names.now c.args.used.now c.in_ok-all.all.items c.in_ok-all.ensures

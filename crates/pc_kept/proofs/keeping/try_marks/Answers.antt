@@ -9,7 +9,7 @@ look_at-requires-clause-within c = marked_within (length c.args.stored.store.now
 
 pub returns-then-are_fine-clause-kept : goal.returns-then-are_fine-clause-kept
 returns-then-are_fine-clause-kept c =
-    fine_kept c.args.stored.pairs c.args.stored.store.now c.args.stored.names.now.axioms _ _ _ c.args.used.now c.deref.result.now c.in_ok-kept.kept.items c.in_ok-kept.ensures
+    fine_kept c.args.stored.pairs c.args.stored.store.now c.args.stored.names.now _ _ _ c.args.used.now c.deref.result.now c.in_ok-kept.kept.items c.in_ok-kept.ensures
     (subst (λ ks. AreRight c.args.stored.store.now ks c.look_at.new.values) c.deref-2.ensures.value c.look_at.ensures.right)
     (subst (λ ks. AreNamed c.args.stored.store.now ks c.look_at.new.named) c.deref-2.ensures.value c.look_at.ensures.named)
     c.requires.right
