@@ -3,6 +3,7 @@ pub mod OfRules
 pub mod OfWhole
 pub mod KeptBytes
 pub mod Parted
+pub mod OwnParts
 pub mod OnCells
 pub mod Sizes
 pub mod ValuesRead
@@ -11,5 +12,6 @@ pub mod Changes
 pub mod PartMoved
 pub mod Books
 pub mod Editing
+pub mod PartTasks
 pub mod Refuted
 pub mod OneSearched

@@ -1,4 +1,5 @@
 pub mod Tasks
+pub mod PartTasks
 pub mod Spent
 pub mod Searching
 pub mod Calling

@@ -7,21 +7,22 @@ ghost use Rattle.pc_search.specs.Parts.{AreWorldsOf};
 ghost use Rattle.pc_sheet.specs.Entailment.{cell_sizes};
 ghost use Rattle.pc_solver.specs.Spending.{StopSays};
 ghost use Rattle.pc_theory.specs.Edits.{IsBlankOn, IsSpentAlone};
+ghost use Rattle.pc_theory.specs.inside.PartTasks.{AreEntriesOf, IsTaskOf};
 ghost use Rattle.pc_theory.specs.KeptBytes.{part_bytes};
 ghost use Rattle.pc_theory.specs.Targets.{AreAsked};
 ghost use Rattle.pc_theory.specs.Theories.{rules_alone, IsPartNumbered, IsTheory};
 
+use crate::entries::entries_of;
 use crate::spending::PartSpending;
 use crate::theory::Theory;
 use pc_books::{Book, few_cells, well_formed};
 use pc_cache::Patch;
 use pc_kept::laws::{kept_parts_are_searched, none_is_contained_by_polarity};
 use pc_search::PartTask;
-use pc_sheet::Target;
+use pc_sheet::{Entry, Target};
 use pc_solver::{SpareTrails, Stop};
 use pc_world_list::Worlds;
-use pc_worlds::entries_on;
-use std::alloc::Global;
+use std::alloc::{AllocError, Global};
 
 /// Targets on the cells of one part of a book whose rules are known.
 #[derive(Clone, Copy)]
@@ -35,7 +36,42 @@ pub struct PartTargets<'a> {
     pub targets: &'a [Target],
 }
 
-impl PartTargets<'_> {
+impl<'a> PartTargets<'a> {
+    // The entries on the part's cells, oldest first.
+    fn entries(self) -> Result<Vec<Entry>, AllocError>
+        requires { IsTheory (rules_alone self.book.now) self.theory.now }
+        ensures { IfOk result (λ es. AreEntriesOf self.entry.book.now
+            self.entry.theory.now.searched self.entry.part es.items) }
+    {
+        well_formed(self.book);
+        let theory = self.theory;
+        entries_of(self.alloc, self.book, &theory.searched, self.part)
+    }
+
+    // The task of the part, whose entries are given.
+    fn task(self, entries: &'a [Entry]) -> PartTask<'a>
+        requires theory { IsTheory (rules_alone self.book.now) self.theory.now }
+        requires asked { AreAsked (cell_sizes self.book.now.universe) self.theory.now.components
+            self.part self.targets.now }
+        requires entries { AreEntriesOf self.book.now self.theory.now.searched self.part
+            entries.now }
+        ensures { IsTaskOf self.entry result }
+    {
+        kept_parts_are_searched();
+        well_formed(self.book);
+        few_cells(self.book);
+        let theory = self.theory;
+        PartTask {
+            alloc: self.alloc,
+            book: self.book,
+            ground: &theory.ground,
+            part: theory.searched.part(self.part),
+            base: &theory.base,
+            entries,
+            targets: self.targets,
+        }
+    }
+
     /// Lists the worlds of the part, and finds for each of the targets its least support, or that there is none. What is spent
     /// goes to the place, which is blank.
     pub fn search_part(self, place: &mut PartSpending, patch: &mut Patch) -> Result<Worlds, Stop>
@@ -58,23 +94,11 @@ impl PartTargets<'_> {
     {
         kept_parts_are_searched();
         none_is_contained_by_polarity();
-        let book = self.book;
-        let theory = self.theory;
-        well_formed(book);
-        few_cells(book);
-        let own = theory.searched.part(self.part);
-        let entries = entries_on(self.alloc, book, own.cells)?;
+        well_formed(self.book);
+        let entries = self.entries()?;
         place.logs.reserve(2)?;
-        let mut trails = SpareTrails::new(self.alloc, theory.ground.variables());
-        let task = PartTask {
-            alloc: self.alloc,
-            book,
-            ground: &theory.ground,
-            part: own,
-            base: &theory.base,
-            entries: &entries,
-            targets: self.targets,
-        };
+        let task = self.task(&entries);
+        let mut trails = SpareTrails::new(self.alloc, task.ground.variables());
         task.search(&mut trails, &mut place.logs, &mut place.tally, patch)
     }
 
@@ -104,22 +128,10 @@ impl PartTargets<'_> {
     {
         kept_parts_are_searched();
         none_is_contained_by_polarity();
-        let book = self.book;
-        let theory = self.theory;
-        well_formed(book);
-        few_cells(book);
-        let own = theory.searched.part(self.part);
-        let entries = entries_on(self.alloc, book, own.cells)?;
-        let mut trails = SpareTrails::new(self.alloc, theory.ground.variables());
-        let task = PartTask {
-            alloc: self.alloc,
-            book,
-            ground: &theory.ground,
-            part: own,
-            base: &theory.base,
-            entries: &entries,
-            targets: self.targets,
-        };
+        well_formed(self.book);
+        let entries = self.entries()?;
+        let task = self.task(&entries);
+        let mut trails = SpareTrails::new(self.alloc, task.ground.variables());
         task.find_reasons(
             worlds,
             &mut trails,

@@ -7,6 +7,7 @@
 
 mod book;
 mod edits;
+mod entries;
 mod reading;
 mod searching;
 pub mod spending;

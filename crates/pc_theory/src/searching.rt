@@ -1,13 +1,11 @@
 //! The search of all parts of a book.
-ghost use Rattle.std.specs.Prelude.{◌≡◌, ◌+◌, ◌*◌, ◌<◌, ◌≤◌, [], ◌∷◌, ◌++◌, All, IfErr, IfOk, OnOk, length, map, sum_by, vec_capacity, vec_len};
+ghost use Rattle.std.specs.Prelude.{◌≡◌, ◌+◌, ◌<◌, ◌≤◌, [], ◌∷◌, ◌++◌, All, IfErr, IfOk, OnOk, length, sum_by, vec_capacity, vec_len};
 ghost use Rattle.pc_sheet.specs.Entailment.{cell_sizes};
-ghost use Rattle.pc_sheet.specs.Limits.{most_cells, most_entries};
 ghost use Rattle.pc_cache.specs.Patches.{patch_bytes};
-ghost use Rattle.pc_components.specs.View.{number_of};
-ghost use Rattle.pc_parts.specs.PartSheets.{entries_on};
 ghost use Rattle.pc_search.specs.Parts.{AreWorldsOf};
 ghost use Rattle.pc_reason.specs.Fitting.{IsFitting};
 ghost use Rattle.pc_parts.specs.Parts.{Part};
+ghost use Rattle.pc_theory.specs.inside.PartTasks.{AreEntriesOf};
 ghost use Rattle.pc_theory.specs.inside.Tasks.{IsReady};
 ghost use Rattle.pc_theory.specs.inside.Searching.{AreSearched, FindsIn, IsMoved, StopMoves, StopPlaces};
 ghost use Rattle.pc_theory.specs.inside.Starting.{AreStarted, IsStarted};
@@ -15,6 +13,7 @@ ghost use Rattle.pc_theory.specs.KeptBytes.{part_bytes};
 ghost use Rattle.pc_theory.specs.Targets.{targets_on};
 ghost use Rattle.pc_theory.specs.Theories.{rules_alone, IsPartNumbered};
 
+use crate::entries::entries_of;
 use crate::spending::PartSpending;
 use crate::targets::targets_on;
 use crate::task::{BookTask, Fitted};
@@ -26,7 +25,6 @@ use pc_search::PartTask;
 use pc_sheet::{CellId, Entry, Target};
 use pc_solver::{SpareTrails, Stop, Suspended};
 use pc_world_list::Worlds;
-use pc_worlds::entries_on;
 use std::alloc::AllocError;
 use std::collections::VecDeque;
 
@@ -37,17 +35,17 @@ struct Asked {
     targets: Vec<Target>,
 }
 
-// What stands on a part's cells, and what is asked of them.
-fn asked_on(task: BookTask<'_>, cells: &[CellId]) -> Result<Asked, AllocError>
-    requires { All (λ c. c.0 < length (cell_sizes task.book.now.universe)) cells.now }
-    ensures on { IfOk result (λ a. a.entries.items ≡ entries_on (map number_of cells.now)
-        task.entry.book.now.entries) }
-    ensures few { IfOk result (λ a. length a.entries.items ≤ most_entries * most_cells) }
+// What stands on the cells of the part of that number, and what is asked of them.
+fn asked_on(task: BookTask<'_>, number: usize, cells: &[CellId]) -> Result<Asked, AllocError>
+    requires ready { IsReady task.book.now task.ground.now task.components.now }
+    requires cells { All (λ c. c.0 < length (cell_sizes task.book.now.universe)) cells.now }
+    ensures entries { IfOk result (λ a. AreEntriesOf task.entry.book.now task.entry.components.now
+        number a.entries.items) }
     ensures targets { IfOk result (λ a. a.targets.items ≡
         targets_on (cell_sizes task.entry.book.now.universe) cells.now) }
 {
     Ok(Asked {
-        entries: entries_on(task.alloc, task.book, cells)?,
+        entries: entries_of(task.alloc, task.book, task.components, number)?,
         targets: targets_on(task.alloc, task.book, cells)?,
     })
 }
@@ -100,8 +98,9 @@ fn search_one(
     kept_parts_are_searched();
     let task = fitted.task;
     few_cells(task.book);
-    let part = task.components.part(place.part as usize);
-    let asked = asked_on(task, part.cells)?;
+    let number = place.part as usize;
+    let part = task.components.part(number);
+    let asked = asked_on(task, number, part.cells)?;
     let mut log = take_log(&mut place.logs)?;
     let before = place.tally.placed;
     place.tally.limit = before + (task.budget - *spent);

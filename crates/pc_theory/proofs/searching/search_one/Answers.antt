@@ -11,8 +11,8 @@ use Rattle.pc_theory.proofs.Parted.{cells_below}
 use Rattle.pc_theory.proofs.Started.{first_problem}
 use Rattle.pc_theory.proofs.searching.search_one.Goals as goal
 
-pub asked_on-requires : goal.asked_on-requires
-asked_on-requires c = cells_below c.args.fitted.task.book.now c.args.fitted.task.components.now c.requires.ready.components c.args.place.now.part _ c.part-part.ensures.cells
+pub asked_on-requires-clause-cells : goal.asked_on-requires-clause-cells
+asked_on-requires-clause-cells c = cells_below c.args.fitted.task.book.now c.args.fitted.task.components.now c.requires.ready.components c.args.place.now.part _ c.part-part.ensures.cells
 
 pub take_log-requires : goal.take_log-requires
 take_log-requires c = omega (arith, ap length c.requires.started.only.only)
@@ -22,7 +22,7 @@ search_started-outcome-requires-clause-listable c =
     let a = c.args in
     let t = a.fitted.task in
     let few : length (cell_sizes t.book.now.universe) ≤ 4096 = omega (arith, c.few_cells.ensures) in
-    let entries = c.deref.ensures.value ∙ c.in_ok-asked.ensures.on in
+    let entries = c.deref.ensures.value ∙ c.in_ok-asked.ensures.entries.on _ c.part-part.ensures.cells in
     let targets = c.deref-2.ensures.value ∙ c.in_ok-asked.ensures.targets in
     record {
       searchable = record {
@@ -30,7 +30,7 @@ search_started-outcome-requires-clause-listable c =
         problem = first_problem c.kept_parts_are_searched.ensures t.book.now t.ground.now t.components.now c.requires.ready a.place.now.part _ _ _ c.part-part.ensures.cells c.part-part.ensures.axioms c.part-part.ensures.variables;
         few_targets = few_asked c.kept_parts_are_searched.ensures t.book.now t.ground.now t.components.now c.requires.ready a.fitted.base.now c.requires.base a.place.now.part _ _ _ c.part-part.ensures.cells c.part-part.ensures.axioms c.part-part.ensures.variables
             c.deref-2.result.now targets few;
-        few_entries = omega (arith, ap length c.deref.ensures.value, c.in_ok-asked.ensures.few);
+        few_entries = omega (arith, ap length c.deref.ensures.value, c.in_ok-asked.ensures.entries.few);
       };
       base = c.requires.base;
       entries = entries;
@@ -43,7 +43,7 @@ returns-clause-worlds c p numbered =
     let a = c.args in
     c.search_started-outcome.ensures.worlds p
     (part_here c.kept_parts_are_searched.ensures a.fitted.task.book.now a.fitted.task.ground.now a.fitted.task.components.now c.requires.ready a.fitted.base.now c.requires.base a.place.now.part _ _ _ c.part-part.ensures.cells c.part-part.ensures.axioms c.part-part.ensures.variables p
-    c.deref.result.now numbered (c.deref.ensures.value ∙ c.in_ok-asked.ensures.on))
+    c.deref.result.now numbered (c.deref.ensures.value ∙ c.in_ok-asked.ensures.entries.on _ c.part-part.ensures.cells))
 
 pub returns-clause-place : goal.returns-clause-place
 returns-clause-place c =
@@ -55,7 +55,7 @@ returns-clause-place c =
     let moved : IsMoved a.fitted.task.book.now a.fitted.task.components.now a.spent.now a.place.now more place =
     moved_here c.kept_parts_are_searched.ensures a.fitted.task.book.now a.fitted.task.ground.now a.fitted.task.components.now c.requires.ready a.fitted.base.now c.requires.base a.place.now.part _ _ _ c.part-part.ensures.cells c.part-part.ensures.axioms c.part-part.ensures.variables
     c.deref-2.result.now (c.deref-2.ensures.value ∙ c.in_ok-asked.ensures.targets) a.place.now a.solver refl c.requires.started a.spent.now more place c.take_log.new.logs.items c.take_log.new.logs.items now.logs.items c.in_ok-log.log now.log _
-    c.deref.result.now (c.deref.ensures.value ∙ c.in_ok-asked.ensures.on) c.in_ok-log.ensures.taken refl c.in_ok-push.ensures.items refl says.logs says.log says.spends refl refl refl (omega (arith, says.spends.2.placed))
+    c.deref.result.now (c.deref.ensures.value ∙ c.in_ok-asked.ensures.entries.on _ c.part-part.ensures.cells) c.in_ok-log.ensures.taken refl c.in_ok-push.ensures.items refl says.logs says.log says.spends refl refl refl (omega (arith, says.spends.2.placed))
     in
     on_ok_weaker c.search_started-outcome.result (λ _. moved) says.found
 
@@ -70,7 +70,7 @@ returns-clause-stop c =
     let moved : IsMoved a.fitted.task.book.now a.fitted.task.components.now a.spent.now a.place.now more place =
     moved_here c.kept_parts_are_searched.ensures a.fitted.task.book.now a.fitted.task.ground.now a.fitted.task.components.now c.requires.ready a.fitted.base.now c.requires.base a.place.now.part _ _ _ c.part-part.ensures.cells c.part-part.ensures.axioms c.part-part.ensures.variables
     c.deref-2.result.now (c.deref-2.ensures.value ∙ c.in_ok-asked.ensures.targets) a.place.now a.solver refl c.requires.started a.spent.now more place c.take_log.new.logs.items c.take_log.new.logs.items now.logs.items c.in_ok-log.log now.log _
-    c.deref.result.now (c.deref.ensures.value ∙ c.in_ok-asked.ensures.on) c.in_ok-log.ensures.taken refl c.in_ok-push.ensures.items refl says.logs says.log says.spends refl refl refl sum
+    c.deref.result.now (c.deref.ensures.value ∙ c.in_ok-asked.ensures.entries.on _ c.part-part.ensures.cells) c.in_ok-log.ensures.taken refl c.in_ok-push.ensures.items refl says.logs says.log says.spends refl refl refl sum
     in
     IfErr-weaker c.search_started-outcome.result (StopSays now.tally) (StopMoves a.fitted.task.book.now a.fitted.task.components.now a.fitted.task.budget a.spent.now a.place.now more place)
     (λ stop h. stop_moves a.fitted.task.book.now a.fitted.task.components.now a.fitted.task.budget a.spent.now more a.place.now place stop h says.spends.2.limit c.requires.within sum moved) says.stop

@@ -1,65 +1,33 @@
-use Rattle.std.proofs.Common.{◌≡◌, ◌+◌, ◌≤◌, ℕ, OnOk, length, ap, refl, sym, ◌∙◌, subst, arith}
-use Rattle.std.proofs.lemmas.Result.{on_ok_weaker}
+use Rattle.std.proofs.Common.{IfOk, refl, sym, subst}
 use Rattle.pc_cache.specs.Patches.{patch_bytes}
-use Rattle.pc_sheet.specs.Entailment.{cell_sizes}
-use Rattle.pc_search.specs.Found.{Finds, work_between}
-use Rattle.pc_theory.specs.Edits.{IsSpentAlone}
-use Rattle.pc_theory.specs.KeptBytes.{part_bytes}
-use Rattle.pc_theory.specs.Targets.{AreAsked}
-use Rattle.pc_theory.specs.Theories.{rules_alone, TheoryView, IsTheory}
+use Rattle.pc_search.specs.Parts.{AreWorldsOf}
+use Rattle.pc_sheet.specs.Sheet.{Sheet}
+use Rattle.pc_theory.specs.inside.PartTasks.{AreEntriesOf}
 use Rattle.pc_theory.specs.declared.spending.PartSpending.{PartSpending}
-use Rattle.pc_theory.proofs.KeptBytes.{edit_bytes}
-use Rattle.pc_theory.proofs.Editing.{asked_within, ground_is, problem_right, base_is, few_targets, searched_of, part_of, alone_reserved, alone_blank}
+use Rattle.pc_theory.proofs.PartTasks.{finds_bytes, finds_targets, spent_none, spent_searching}
 use Rattle.pc_theory.proofs.edits.PartTargets.search_part.Goals as goal
 
-pub part-own-requires : goal.part-own-requires
-part-own-requires c =
-    let a = c.args in
-    let known = subst (λ (v : TheoryView). IsTheory (rules_alone a.self.book.now) v) (sym c.theory.view_is) c.requires.theory in
-    let asked = subst (λ (v : TheoryView). AreAsked (cell_sizes a.self.book.now.universe) v.components a.self.part a.self.targets.now) (sym c.theory.view_is) c.requires.asked in
-    asked_within a.self.book.now _ known a.self.part a.self.targets.now asked
+pub task-task-requires-clause-entries : goal.task-task-requires-clause-entries
+task-task-requires-clause-entries c = let t = c.args.self in subst (AreEntriesOf t.book.now t.theory.now.searched t.part) (sym c.deref.ensures.value) c.in_ok-entries.ensures
 
 pub search-requires-clause-listable : goal.search-requires-clause-listable
-search-requires-clause-listable c =
-    let a = c.args in
-    let known = subst (λ (v : TheoryView). IsTheory (rules_alone a.self.book.now) v) (sym c.theory.view_is) c.requires.theory in
-    let asked = subst (λ (v : TheoryView). AreAsked (cell_sizes a.self.book.now.universe) v.components a.self.part a.self.targets.now) (sym c.theory.view_is) c.requires.asked in
-    let entries = c.deref.ensures.value ∙ c.in_ok-entries.ensures.on in
-    record {
-      searchable = record {
-        ground = ground_is c.kept_parts_are_searched.ensures a.self.book.now _ c.well_formed-2.ensures known a.self.part _ _ _ c.part-own.ensures.cells c.part-own.ensures.axioms c.part-own.ensures.variables;
-        problem = problem_right c.kept_parts_are_searched.ensures a.self.book.now _ c.well_formed-2.ensures known a.self.part _ _ _ c.part-own.ensures.cells c.part-own.ensures.axioms c.part-own.ensures.variables;
-        few_targets = few_targets c.kept_parts_are_searched.ensures a.self.book.now _ c.well_formed-2.ensures known a.self.part _ _ _ c.part-own.ensures.cells c.part-own.ensures.axioms c.part-own.ensures.variables a.self.targets.now asked (omega (arith, c.few_cells.ensures));
-        few_entries = omega (arith, ap length c.deref.ensures.value, c.in_ok-entries.ensures.few);
-      };
-      base = base_is c.kept_parts_are_searched.ensures a.self.book.now _ c.well_formed-2.ensures known a.self.part _ _ _ c.part-own.ensures.cells c.part-own.ensures.axioms c.part-own.ensures.variables;
-      entries = entries;
-      searched = searched_of c.kept_parts_are_searched.ensures a.self.book.now _ c.well_formed-2.ensures known a.self.part _ _ _ c.part-own.ensures.cells c.part-own.ensures.axioms c.part-own.ensures.variables a.self.targets.now asked _ entries;
-    }
+search-requires-clause-listable c = c.task-task.ensures.listable
 
 pub returns-clause-worlds : goal.returns-clause-worlds
 returns-clause-worlds c p numbered =
-    let a = c.args in
-    let known = subst (λ (v : TheoryView). IsTheory (rules_alone a.self.book.now) v) (sym c.theory.view_is) c.requires.theory in
-    c.search.ensures.worlds p (part_of c.kept_parts_are_searched.ensures a.self.book.now _ c.well_formed-2.ensures known a.self.part _ _ _ c.part-own.ensures.cells c.part-own.ensures.axioms c.part-own.ensures.variables p _ numbered (c.deref.ensures.value ∙ c.in_ok-entries.ensures.on))
+    subst (λ (s : Sheet). IfOk c.search.result (AreWorldsOf s p)) c.task-task.ensures.book (c.search.ensures.worlds p (c.task-task.ensures.part p numbered))
 
 pub returns-clause-spends : goal.returns-clause-spends
 returns-clause-spends c =
     let a = c.args in
     let place : PartSpending = record { part = a.place.now.part; tally = c.search.new.tally; logs = c.search.new.logs } in
-    let known = subst (λ (v : TheoryView). IsTheory (rules_alone a.self.book.now) v) (sym c.theory.view_is) c.requires.theory in
-    let asked = subst (λ (v : TheoryView). AreAsked (cell_sizes a.self.book.now.universe) v.components a.self.part a.self.targets.now) (sym c.theory.view_is) c.requires.asked in
-    subst (λ (v : TheoryView). IsSpentAlone a.self.book.now v.components a.self.part place) c.theory.view_is
-    (alone_reserved c.kept_parts_are_searched.ensures a.self.book.now _ c.well_formed-2.ensures known a.self.part _ _ _ c.part-own.ensures.cells c.part-own.ensures.axioms c.part-own.ensures.variables a.self.targets.now asked c.none_is_contained_by_polarity.ensures a.place.now place c.requires.blank refl _ c.in_ok-reserve.ensures.items _ (c.deref.ensures.value ∙ c.in_ok-entries.ensures.on) c.search.ensures.logs c.search.ensures.spends)
+    spent_searching a.self c.task-task.result c.task-task.ensures a.place.now place c.requires.blank refl c.kept_parts_are_searched.ensures c.none_is_contained_by_polarity.ensures _ c.in_ok-reserve.ensures.items c.search.ensures.logs c.search.ensures.spends
 
 pub returns-in_err-reserve-clause-spends : goal.returns-in_err-reserve-clause-spends
 returns-in_err-reserve-clause-spends c =
     let a = c.args in
     let place : PartSpending = record { part = a.place.now.part; tally = a.place.now.tally; logs = c.reserve.new.self } in
-    let known = subst (λ (v : TheoryView). IsTheory (rules_alone a.self.book.now) v) (sym c.theory.view_is) c.requires.theory in
-    let asked = subst (λ (v : TheoryView). AreAsked (cell_sizes a.self.book.now.universe) v.components a.self.part a.self.targets.now) (sym c.theory.view_is) c.requires.asked in
-    subst (λ (v : TheoryView). IsSpentAlone a.self.book.now v.components a.self.part place) c.theory.view_is
-    (alone_blank c.kept_parts_are_searched.ensures a.self.book.now _ c.well_formed-2.ensures known a.self.part _ _ _ c.part-own.ensures.cells c.part-own.ensures.axioms c.part-own.ensures.variables a.self.targets.now asked c.none_is_contained_by_polarity.ensures a.place.now place c.requires.blank refl refl c.in_err-reserve.ensures.items)
+    spent_none c.kept_parts_are_searched.ensures c.none_is_contained_by_polarity.ensures a.self.book.now a.self.theory.now c.well_formed-2.ensures c.requires.theory a.self.part a.self.targets.now c.requires.asked a.place.now place c.requires.blank refl refl c.in_err-reserve.ensures.items
 
 pub returns-clause-limit : goal.returns-clause-limit
 returns-clause-limit c = c.search.ensures.spends.2.limit
@@ -67,23 +35,16 @@ returns-clause-limit c = c.search.ensures.spends.2.limit
 pub returns-in_err-entries-clause-spends : goal.returns-in_err-entries-clause-spends
 returns-in_err-entries-clause-spends c =
     let a = c.args in
-    let place : PartSpending = a.place.now in
-    let known = subst (λ (v : TheoryView). IsTheory (rules_alone a.self.book.now) v) (sym c.theory.view_is) c.requires.theory in
-    let asked = subst (λ (v : TheoryView). AreAsked (cell_sizes a.self.book.now.universe) v.components a.self.part a.self.targets.now) (sym c.theory.view_is) c.requires.asked in
-    subst (λ (v : TheoryView). IsSpentAlone a.self.book.now v.components a.self.part place) c.theory.view_is
-    (alone_blank c.kept_parts_are_searched.ensures a.self.book.now _ c.well_formed-2.ensures known a.self.part _ _ _ c.part-own.ensures.cells c.part-own.ensures.axioms c.part-own.ensures.variables a.self.targets.now asked c.none_is_contained_by_polarity.ensures a.place.now place c.requires.blank refl refl refl)
+    spent_none c.kept_parts_are_searched.ensures c.none_is_contained_by_polarity.ensures a.self.book.now a.self.theory.now c.well_formed-2.ensures c.requires.theory a.self.part a.self.targets.now c.requires.asked a.place.now a.place.now c.requires.blank refl refl refl
 
 pub returns-clause-found : goal.returns-clause-found
 returns-clause-found c =
     let a = c.args in
-    let all : work_between a.place.now.tally c.search.new.tally ≡ c.search.new.tally.learned + c.search.new.tally.calls = omega (arith, c.requires.blank.none_learned, c.requires.blank.no_calls) in
-    subst (λ (n : ℕ). OnOk c.search.result (Finds a.self.book.now n a.self.targets.now a.patch.now.rows c.search.new.patch.rows)) all c.search.ensures.found
+    let place : PartSpending = record { part = a.place.now.part; tally = c.search.new.tally; logs = c.search.new.logs } in
+    finds_targets a.self c.task-task.result c.task-task.ensures a.place.now place c.requires.blank refl c.search.result a.patch.now.rows c.search.new.patch.rows c.search.ensures.found
 
 pub returns-clause-bytes : goal.returns-clause-bytes
 returns-clause-bytes c =
     let a = c.args in
     let place : PartSpending = record { part = a.place.now.part; tally = c.search.new.tally; logs = c.search.new.logs } in
-    let known = subst (λ (v : TheoryView). IsTheory (rules_alone a.self.book.now) v) (sym c.theory.view_is) c.requires.theory in
-    subst (λ (v : TheoryView). OnOk c.search.result (patch_bytes c.search.new.patch ≤ patch_bytes a.patch.now + part_bytes v.components place)) c.theory.view_is
-    (on_ok_weaker c.search.result
-    (edit_bytes a.self.book.now _ known a.self.part _ _ c.part-own.ensures.axioms c.part-own.ensures.variables a.place.now place c.requires.blank refl (patch_bytes a.patch.now) (patch_bytes c.search.new.patch)) c.search.ensures.bytes)
+    finds_bytes a.self c.task-task.result c.task-task.ensures a.place.now place c.requires.blank refl c.search.result (patch_bytes a.patch.now) (patch_bytes c.search.new.patch) c.search.ensures.bytes
