@@ -1,5 +1,5 @@
 -- The search of one part whose rules are known.
-use Rattle.std.proofs.Common.{◌≡◌, ℕ, ◌+◌, ◌*◌, ◌<◌, ◌≤◌, ◌^◌, List, [], map, length, sum_by, get_or, All, Contains, Some, slice_get, refl, ap, sym, ◌∙◌, subst, arith}
+use Rattle.std.proofs.Common.{◌≡◌, ℕ, ◌+◌, ◌*◌, ◌<◌, ◌≤◌, ◌^◌, Bool, List, [], map, length, sum_by, get_or, All, Contains, Option, Some, slice_get, refl, ap, sym, ◌∙◌, subst, arith}
 use Rattle.pc_lits.specs.declared.literal.Var.{Var}
 use Rattle.pc_lits.specs.declared.tally.Tally.{Tally}
 use Rattle.pc_log.specs.Lines.{LogLine}
@@ -60,7 +60,8 @@ pub asked_within : (sheet : Sheet) (theory : TheoryView) → IsTheory (rules_alo
 asked_within sheet theory known i ts asked = at_within theory.searched.cells i asked.cells (ap (λ cs. slice_get cs i) known.searched.cells ∙ asked.at)
 
 module _ (searched : KeptPartsAreSearched) (sheet : Sheet) (theory : TheoryView) (formed : IsWellFormed sheet) (known : IsTheory (rules_alone sheet) theory) (i : ℕ) (cells : List CellId) (used : List ℕ) (own : List Var)
-    (at_cells : slice_get theory.searched.cells i ≡ Some cells) (at_used : slice_get theory.searched.axioms i ≡ Some used) (at_own : slice_get theory.searched.variables i ≡ Some own) where
+    (at_cells : slice_get theory.searched.cells i ≡ Some cells) (at_used : slice_get theory.searched.axioms i ≡ Some used) (at_own : slice_get theory.searched.variables i ≡ Some own)
+    (banned : List (Option Bool)) (at_banned : banned ≡ theory.searched.banned) where
   abbrev parts : AreSearchedParts (rules_alone sheet) theory.searched
   parts = searched_parts (rules_alone sheet) theory.components theory.searched known.components known.searched
 
@@ -74,10 +75,10 @@ module _ (searched : KeptPartsAreSearched) (sheet : Sheet) (theory : TheoryView)
   consistent = consistent_by sheet theory.base (base_here sheet theory.base known.base)
 
   abbrev pub problem : Problem
-  problem = record { axioms = theory.ground.clauses; used = used; own = own; banned = theory.searched.banned }
+  problem = record { axioms = theory.ground.clauses; used = used; own = own; banned = banned }
 
   is_problem : problem ≡ problem_of sheet used own theory.searched.banned
-  is_problem = let make : Grounded → Problem = λ g. record { axioms = g.clauses; used = used; own = own; banned = theory.searched.banned } in ap make ready.ground_is
+  is_problem = let make : Grounded → Problem = λ g. record { axioms = g.clauses; used = used; own = own; banned = banned } in ap make ready.ground_is ∙ ap (problem_of sheet used own) at_banned
 
   pub ground_is : theory.ground ≡ grounded sheet
   ground_is = ready.ground_is
@@ -86,7 +87,9 @@ module _ (searched : KeptPartsAreSearched) (sheet : Sheet) (theory : TheoryView)
   base_is = base_here sheet theory.base known.base
 
   pub problem_right : IsProblem theory.ground.variables problem
-  problem_right = problem_here sheet theory.ground used own theory.searched.banned ready.ground_is ((searched_at searched sheet theory.ground theory.searched ready i found.0 cells used own found.1).problem ready.few)
+  problem_right =
+      subst (λ bs. IsProblem theory.ground.variables (record { axioms = theory.ground.clauses; used = used; own = own; banned = bs })) (sym at_banned)
+      (problem_here sheet theory.ground used own theory.searched.banned ready.ground_is ((searched_at searched sheet theory.ground theory.searched ready i found.0 cells used own found.1).problem ready.few))
 
   part_right : (entries : List Entry) → entries ≡ entries_on (map number_of cells) sheet.entries → IsPartOf sheet found.0 cells entries problem
   part_right entries are = subst (IsPartOf sheet found.0 cells entries) (sym is_problem) (is_part searched sheet theory.ground theory.searched ready i found.0 cells used own found.1 entries are consistent)

@@ -1,5 +1,5 @@
 -- The search of one part with the solver of its first call.
-use Rattle.std.proofs.Common.{◌≡◌, ℕ, ◌+◌, ◌-◌, ◌*◌, ◌≤◌, ◌^◌, List, [], ◌∷◌, ◌++◌, map, length, sum_by, Contains, Some, slice_get, refl, ap, sym, ◌∙◌, subst, arith}
+use Rattle.std.proofs.Common.{◌≡◌, ℕ, ◌+◌, ◌-◌, ◌*◌, ◌≤◌, ◌^◌, Bool, List, [], ◌∷◌, ◌++◌, map, length, sum_by, Contains, Option, Some, slice_get, refl, ap, sym, ◌∙◌, subst, arith}
 use Rattle.std.proofs.lemmas.List.{length-append}
 use Rattle.pc_lemmas.proofs.Elements.{all_from}
 use Rattle.pc_lits.specs.declared.literal.Var.{Var}
@@ -47,7 +47,8 @@ popped logs [] log only one is = (refl, (let same : log ∷ [] ≡ only ∷ [] =
 popped logs (r ∷ rs) log only one is = absurd (omega (arith, ap length (sym one ∙ is), length-append rs (log ∷ [])))
 
 module _ (searched : KeptPartsAreSearched) (sheet : Sheet) (g : Grounded) (kept : Kept) (ready : IsReady sheet g kept) (base : List ValueId) (is_base : IsFitting sheet base) (i : ℕ) (cells : List CellId) (used : List ℕ) (own : List Var)
-    (at_cells : slice_get kept.cells i ≡ Some cells) (at_used : slice_get kept.axioms i ≡ Some used) (at_own : slice_get kept.variables i ≡ Some own) where
+    (at_cells : slice_get kept.cells i ≡ Some cells) (at_used : slice_get kept.axioms i ≡ Some used) (at_own : slice_get kept.variables i ≡ Some own)
+    (banned : List (Option Bool)) (at_banned : banned ≡ kept.banned) where
   abbrev pub theory : TheoryView
   theory = record { ground = g; components = ready.whole; searched = kept; base = base }
 
@@ -102,17 +103,17 @@ module _ (searched : KeptPartsAreSearched) (sheet : Sheet) (g : Grounded) (kept 
 
   -- the problem as the search is asked it
   abbrev pub given : Problem
-  given = record { axioms = g.clauses; used = used; own = own; banned = kept.banned }
+  given = record { axioms = g.clauses; used = used; own = own; banned = banned }
 
   pub part_here : (p : Part) (entries : List Entry) → IsPartNumbered (rules_alone sheet) i p → entries ≡ entries_on (map number_of cells) sheet.entries → IsPartOf sheet p cells entries given
-  part_here p entries numbered are = part_of searched sheet theory ready.formed known i cells used own at_cells at_used at_own p entries numbered are
+  part_here p entries numbered are = part_of searched sheet theory ready.formed known i cells used own at_cells at_used at_own banned at_banned p entries numbered are
 
   module _ (targets : List Target) (same : targets ≡ ts) where
     pub few_asked : length (cell_sizes sheet.universe) ≤ 4096 → length targets ≤ 2 ^ 21
-    few_asked few = subst (λ xs. length xs ≤ 2 ^ 21) (sym same) (few_targets searched sheet theory ready.formed known i cells used own at_cells at_used at_own ts asked few)
+    few_asked few = subst (λ xs. length xs ≤ 2 ^ 21) (sym same) (few_targets searched sheet theory ready.formed known i cells used own at_cells at_used at_own banned at_banned ts asked few)
 
     pub searched_asked : (entries : List Entry) → entries ≡ entries_on (map number_of cells) sheet.entries → AreSearchedOf sheet cells entries given targets
-    searched_asked entries are = subst (AreSearchedOf sheet cells entries given) (sym same) (searched_of searched sheet theory ready.formed known i cells used own at_cells at_used at_own ts asked entries are)
+    searched_asked entries are = subst (AreSearchedOf sheet cells entries given) (sym same) (searched_of searched sheet theory ready.formed known i cells used own at_cells at_used at_own banned at_banned ts asked entries are)
 
     -- what was spent, as the search says it; room was made in the logs
     pub moved_here : (before : PartSpending) (s : SuspendedView) (number : before.part ≡ i) (on : IsStarted sheet kept before s) (spent more : ℕ) (place : PartSpending) (rest room mid : List (List LogLine)) (log grown : List LogLine) (blank : Tally)
@@ -122,7 +123,7 @@ module _ (searched : KeptPartsAreSearched) (sheet : Sheet) (g : Grounded) (kept 
         → blank.placed ≡ before.tally.placed → blank.learned ≡ before.tally.learned → blank.calls ≡ before.tally.calls → more + before.tally.placed ≡ spent + place.tally.placed → IsMoved sheet kept spent before more place
     moved_here before s number on spent more place rest room mid log grown blank entries are is_before is_room is_after same_part added lawful spends no_placed no_learned no_calls sum =
         let here = part_here found.0 entries found.1.numbered are in
-        let is_given : given ≡ problem_of sheet used own kept.banned = let make : Grounded → Problem = λ x. record { axioms = x.clauses; used = used; own = own; banned = kept.banned } in ap make ready.ground_is in
+        let is_given : given ≡ problem_of sheet used own kept.banned = let make : Grounded → Problem = λ x. record { axioms = x.clauses; used = used; own = own; banned = banned } in ap make ready.ground_is ∙ ap (problem_of sheet used own) at_banned in
         let none : room ≡ [] = is_room ∙ (popped before.logs.items rest log on.only.log on.only.only is_before).0 in
         let logs : AddsLogs 2 (IsSearchLog (sheet_of sheet found.0) (problem_of sheet used own kept.banned)) [] mid =
         subst (λ ls. AddsLogs 2 (IsSearchLog (sheet_of sheet found.0) (problem_of sheet used own kept.banned)) ls mid) none (subst (λ q. AddsLogs 2 (IsSearchLog (sheet_of sheet found.0) q) room mid) is_given (added found.0 here))

@@ -1,5 +1,5 @@
 -- What a search of one part whose rules are known finds and spends.
-use Rattle.std.proofs.Common.{◌≡◌, ℕ, ◌+◌, ◌*◌, ◌≤◌, List, length, Result, OnOk, refl, sym, subst, arith}
+use Rattle.std.proofs.Common.{◌≡◌, ℕ, ◌+◌, ◌*◌, ◌≤◌, List, [], length, Result, OnOk, refl, sym, subst, arith}
 use Rattle.std.proofs.lemmas.Result.{on_ok_weaker}
 use Rattle.pc_sheet.specs.Sheet.{Sheet}
 use Rattle.pc_sheet.specs.Entailment.{cell_sizes}
@@ -41,7 +41,7 @@ spent_none searched none sheet theory formed known i ts asked before place blank
     let cells = within_at theory.searched.cells i below in
     let used = within_at theory.searched.axioms i (omega (arith, below, as_many_axioms sheet theory.searched parts)) in
     let own = within_at theory.searched.variables i (omega (arith, below, as_many_variables sheet theory.searched parts)) in
-    alone_blank searched sheet theory formed known i cells.0 used.0 own.0 cells.1 used.1 own.1 ts asked none before place blank number same_tally same_logs
+    alone_blank searched sheet theory formed known i cells.0 used.0 own.0 cells.1 used.1 own.1 theory.searched.banned refl ts asked none before place blank number same_tally same_logs
 
 module _ (t : PartTargets) (task : PartTask) (is : IsTaskOf t task) where
   abbrev theory : TheoryView
@@ -53,7 +53,7 @@ module _ (t : PartTargets) (task : PartTask) (is : IsTaskOf t task) where
   -- the targets are asked of the part's worlds
   pub asked_reasons : KeptPartsAreSearched → (worlds : List WorldView) → HasWorlds worlds t.book.now → AreAskedOf task.book.now task.entries.now (problem_in task) worlds task.targets.now
   asked_reasons searched worlds worlds_are =
-      asked_of searched task.book.now theory is.formed is.known t.part _ _ _ is.cells is.axioms is.variables task.targets.now is.asked task.entries.now worlds is.listable.entries (subst (HasWorlds worlds) (sym is.book) worlds_are)
+      asked_of searched task.book.now theory is.formed is.known t.part _ _ _ is.cells is.axioms is.variables _ is.banned task.targets.now is.asked task.entries.now worlds is.listable.entries (subst (HasWorlds worlds) (sym is.book) worlds_are)
 
   module _ (before place : PartSpending) (blank : IsBlankOn t.part before) (number : place.part ≡ before.part) where
     -- what is spent
@@ -65,13 +65,13 @@ module _ (t : PartTargets) (task : PartTask) (is : IsTaskOf t task) where
           → ((most : ℕ) × ((p : Part) → IsPartIn task p → AreFewWithTargets (sheet_of task.book.now p) (length task.targets.now) most)
           × SpendsOver (length task.part.variables.now) before.tally place.tally (marked_in mid) (marked_in place.logs.items) most) → IsSpentAlone t.book.now t.theory.now.components t.part place
       spent_searching mid same logs spends =
-          of_book (alone_reserved searched task.book.now theory is.formed is.known t.part _ _ _ is.cells is.axioms is.variables task.targets.now is.asked none before place blank number mid same task.entries.now is.listable.entries logs spends)
+          of_book (alone_reserved searched task.book.now theory is.formed is.known t.part _ _ _ is.cells is.axioms is.variables _ is.banned task.targets.now is.asked none before place blank number mid same task.entries.now is.listable.entries logs spends)
 
       pub spent_on_reasons : (worlds : List WorldView) → HasWorlds worlds t.book.now → AddsLogs 1 (IsSolverLog (problem_in task) []) before.logs.items place.logs.items
           → SpendsOver (length task.part.variables.now) before.tally place.tally (marked_in before.logs.items) (marked_in place.logs.items) (length task.targets.now * (length worlds * (length task.entries.now + 2)))
           → IsSpentAlone t.book.now t.theory.now.components t.part place
       spent_on_reasons worlds worlds_are logs spends =
-          of_book (alone_of_reasons searched task.book.now theory is.formed is.known t.part _ _ _ is.cells is.axioms is.variables task.targets.now is.asked none before place blank number task.entries.now worlds is.listable.entries
+          of_book (alone_of_reasons searched task.book.now theory is.formed is.known t.part _ _ _ is.cells is.axioms is.variables _ is.banned task.targets.now is.asked none before place blank number task.entries.now worlds is.listable.entries
           (subst (HasWorlds worlds) (sym is.book) worlds_are) logs spends)
 
     -- what is found

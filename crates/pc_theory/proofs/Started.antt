@@ -1,5 +1,5 @@
 -- The first call of a part.
-use Rattle.std.proofs.Common.{◌≡◌, ◌≢◌, ℕ, ◌+◌, ◌*◌, ◌<◌, ◌≤◌, inl, inr, Bool, List, [], ◌∷◌, ◌++◌, map, length, sum_by, get_or, All, Contains, None, Some, slice_get, refl, ap, sym, ◌∙◌, subst, arith}
+use Rattle.std.proofs.Common.{◌≡◌, ◌≢◌, ℕ, ◌+◌, ◌*◌, ◌<◌, ◌≤◌, inl, inr, Bool, List, [], ◌∷◌, ◌++◌, map, length, sum_by, get_or, All, Contains, Option, None, Some, slice_get, refl, ap, sym, ◌∙◌, subst, arith}
 use Rattle.std.proofs.lemmas.List.{length_push}
 use Rattle.std.proofs.lemmas.Option.{get_or_from_slice_get}
 use Rattle.std.proofs.lemmas.List.Elements.{All-nil, All-cons, All-append}
@@ -220,16 +220,20 @@ module _ (searched : KeptPartsAreSearched) (sheet : Sheet) (g : Grounded) (kept 
   of_sheet : IsProblem (variable_count sheet) (problem_of sheet used own kept.banned)
   of_sheet = (searched_at searched sheet g kept ready i at_part.0 cells used own at_part.1).problem ready.few
 
-  pub first_problem : IsProblem g.variables given
-  first_problem = problem_here sheet g used own kept.banned ready.ground_is of_sheet
+  pub first_problem : (banned : List (Option Bool)) → banned ≡ kept.banned → IsProblem g.variables (record { axioms = g.clauses; used = used; own = own; banned = banned })
+  first_problem banned same = subst (λ bs. IsProblem g.variables (record { axioms = g.clauses; used = used; own = own; banned = bs })) (sym same) (problem_here sheet g used own kept.banned ready.ground_is of_sheet)
 
   -- as the solver is given it
-  pub first_asked : (variables : ℕ) (axioms : List (List Lit)) → variables ≡ g.variables → axioms ≡ g.clauses → IsProblem variables (record { axioms = axioms; used = used; own = own; banned = kept.banned })
-  first_asked variables axioms same_variables same_axioms =
-      subst (λ n. IsProblem n (record { axioms = axioms; used = used; own = own; banned = kept.banned })) (sym same_variables) (subst (λ a. IsProblem g.variables (record { axioms = a; used = used; own = own; banned = kept.banned })) (sym same_axioms) first_problem)
+  pub first_asked : (variables : ℕ) (axioms : List (List Lit)) (banned : List (Option Bool)) → variables ≡ g.variables → axioms ≡ g.clauses → banned ≡ kept.banned → IsProblem variables (record { axioms = axioms; used = used; own = own; banned = banned })
+  first_asked variables axioms banned same_variables same_axioms same_banned =
+      subst (λ n. IsProblem n (record { axioms = axioms; used = used; own = own; banned = banned })) (sym same_variables)
+      (subst (λ a. IsProblem g.variables (record { axioms = a; used = used; own = own; banned = banned })) (sym same_axioms) (first_problem banned same_banned))
 
-  pub first_given : (axioms : List (List Lit)) (p : Problem) → axioms ≡ g.clauses → p ≡ record { axioms = axioms; used = used; own = own; banned = kept.banned } → p ≡ given
-  first_given axioms p same_axioms is = is ∙ (let make : List (List Lit) → Problem = λ a. record { axioms = a; used = used; own = own; banned = kept.banned } in ap make same_axioms)
+  pub first_given : (axioms : List (List Lit)) (banned : List (Option Bool)) (p : Problem) → axioms ≡ g.clauses → banned ≡ kept.banned → p ≡ record { axioms = axioms; used = used; own = own; banned = banned } → p ≡ given
+  first_given axioms banned p same_axioms same_banned is =
+      let of_axioms : List (List Lit) → Problem = λ a. record { axioms = a; used = used; own = own; banned = banned } in
+      let of_banned : List (Option Bool) → Problem = λ bs. record { axioms = g.clauses; used = used; own = own; banned = bs } in
+      is ∙ (ap of_axioms same_axioms ∙ ap of_banned same_banned)
 
   pub first_empty : OwnLinesAreNamed → (s : SolverView) (log : List LogLine) (last : StepId) → s.problem ≡ given → s.blocks ≡ [] → HasLog s log → last.0 < length log → IsOverNegated [] (clause_at_place s.problem.axioms log last.0) → IsEmptyAt sheet log last
   first_empty named s log last is none has stands over = empty_at named sheet used own kept.banned s log last of_sheet (problem_is sheet g used own kept.banned s.problem ready.ground_is is) none has stands over

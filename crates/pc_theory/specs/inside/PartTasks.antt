@@ -34,5 +34,6 @@ pub record IsTaskOf (t : PartTargets) (task : PartTask) : Type 0 where
   pub cells : slice_get t.theory.now.searched.cells t.part ≡ Some task.part.cells.now
   pub axioms : slice_get t.theory.now.searched.axioms t.part ≡ Some task.part.axioms.now
   pub variables : slice_get t.theory.now.searched.variables t.part ≡ Some task.part.variables.now
+  pub banned : task.part.banned.now ≡ t.theory.now.searched.banned
   pub part : (p : Part) → IsPartNumbered (rules_alone t.book.now) t.part p → IsPartIn task p
   pub listable : IsListable task

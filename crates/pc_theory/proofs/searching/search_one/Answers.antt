@@ -27,14 +27,14 @@ search_started-outcome-requires-clause-listable c =
     record {
       searchable = record {
         ground = c.requires.ready.ground_is;
-        problem = first_problem c.kept_parts_are_searched.ensures t.book.now t.ground.now t.components.now c.requires.ready a.place.now.part _ _ _ c.part-part.ensures.cells c.part-part.ensures.axioms c.part-part.ensures.variables;
-        few_targets = few_asked c.kept_parts_are_searched.ensures t.book.now t.ground.now t.components.now c.requires.ready a.fitted.base.now c.requires.base a.place.now.part _ _ _ c.part-part.ensures.cells c.part-part.ensures.axioms c.part-part.ensures.variables
+        problem = first_problem c.kept_parts_are_searched.ensures t.book.now t.ground.now t.components.now c.requires.ready a.place.now.part _ _ _ c.part-part.ensures.cells c.part-part.ensures.axioms c.part-part.ensures.variables _ c.part-part.ensures.banned;
+        few_targets = few_asked c.kept_parts_are_searched.ensures t.book.now t.ground.now t.components.now c.requires.ready a.fitted.base.now c.requires.base a.place.now.part _ _ _ c.part-part.ensures.cells c.part-part.ensures.axioms c.part-part.ensures.variables _ c.part-part.ensures.banned
             c.deref-2.result.now targets few;
         few_entries = omega (arith, ap length c.deref.ensures.value, c.in_ok-asked.ensures.entries.few);
       };
       base = c.requires.base;
       entries = entries;
-      searched = searched_asked c.kept_parts_are_searched.ensures t.book.now t.ground.now t.components.now c.requires.ready a.fitted.base.now c.requires.base a.place.now.part _ _ _ c.part-part.ensures.cells c.part-part.ensures.axioms c.part-part.ensures.variables
+      searched = searched_asked c.kept_parts_are_searched.ensures t.book.now t.ground.now t.components.now c.requires.ready a.fitted.base.now c.requires.base a.place.now.part _ _ _ c.part-part.ensures.cells c.part-part.ensures.axioms c.part-part.ensures.variables _ c.part-part.ensures.banned
           c.deref-2.result.now targets c.deref.result.now entries;
     }
 
@@ -42,7 +42,7 @@ pub returns-clause-worlds : goal.returns-clause-worlds
 returns-clause-worlds c p numbered =
     let a = c.args in
     c.search_started-outcome.ensures.worlds p
-    (part_here c.kept_parts_are_searched.ensures a.fitted.task.book.now a.fitted.task.ground.now a.fitted.task.components.now c.requires.ready a.fitted.base.now c.requires.base a.place.now.part _ _ _ c.part-part.ensures.cells c.part-part.ensures.axioms c.part-part.ensures.variables p
+    (part_here c.kept_parts_are_searched.ensures a.fitted.task.book.now a.fitted.task.ground.now a.fitted.task.components.now c.requires.ready a.fitted.base.now c.requires.base a.place.now.part _ _ _ c.part-part.ensures.cells c.part-part.ensures.axioms c.part-part.ensures.variables _ c.part-part.ensures.banned p
     c.deref.result.now numbered (c.deref.ensures.value ∙ c.in_ok-asked.ensures.entries.on _ c.part-part.ensures.cells))
 
 pub returns-clause-place : goal.returns-clause-place
@@ -53,7 +53,7 @@ returns-clause-place c =
     let more : ℕ = a.spent.now + (now.tally.placed - a.place.now.tally.placed) in
     let says = c.search_started-outcome.ensures in
     let moved : IsMoved a.fitted.task.book.now a.fitted.task.components.now a.spent.now a.place.now more place =
-    moved_here c.kept_parts_are_searched.ensures a.fitted.task.book.now a.fitted.task.ground.now a.fitted.task.components.now c.requires.ready a.fitted.base.now c.requires.base a.place.now.part _ _ _ c.part-part.ensures.cells c.part-part.ensures.axioms c.part-part.ensures.variables
+    moved_here c.kept_parts_are_searched.ensures a.fitted.task.book.now a.fitted.task.ground.now a.fitted.task.components.now c.requires.ready a.fitted.base.now c.requires.base a.place.now.part _ _ _ c.part-part.ensures.cells c.part-part.ensures.axioms c.part-part.ensures.variables _ c.part-part.ensures.banned
     c.deref-2.result.now (c.deref-2.ensures.value ∙ c.in_ok-asked.ensures.targets) a.place.now a.solver refl c.requires.started a.spent.now more place c.take_log.new.logs.items c.take_log.new.logs.items now.logs.items c.in_ok-log.log now.log _
     c.deref.result.now (c.deref.ensures.value ∙ c.in_ok-asked.ensures.entries.on _ c.part-part.ensures.cells) c.in_ok-log.ensures.taken refl c.in_ok-push.ensures.items refl says.logs says.log says.spends refl refl refl (omega (arith, says.spends.2.placed))
     in
@@ -68,7 +68,7 @@ returns-clause-stop c =
     let says = c.search_started-outcome.ensures in
     let sum : more + a.place.now.tally.placed ≡ a.spent.now + now.tally.placed = omega (arith, says.spends.2.placed) in
     let moved : IsMoved a.fitted.task.book.now a.fitted.task.components.now a.spent.now a.place.now more place =
-    moved_here c.kept_parts_are_searched.ensures a.fitted.task.book.now a.fitted.task.ground.now a.fitted.task.components.now c.requires.ready a.fitted.base.now c.requires.base a.place.now.part _ _ _ c.part-part.ensures.cells c.part-part.ensures.axioms c.part-part.ensures.variables
+    moved_here c.kept_parts_are_searched.ensures a.fitted.task.book.now a.fitted.task.ground.now a.fitted.task.components.now c.requires.ready a.fitted.base.now c.requires.base a.place.now.part _ _ _ c.part-part.ensures.cells c.part-part.ensures.axioms c.part-part.ensures.variables _ c.part-part.ensures.banned
     c.deref-2.result.now (c.deref-2.ensures.value ∙ c.in_ok-asked.ensures.targets) a.place.now a.solver refl c.requires.started a.spent.now more place c.take_log.new.logs.items c.take_log.new.logs.items now.logs.items c.in_ok-log.log now.log _
     c.deref.result.now (c.deref.ensures.value ∙ c.in_ok-asked.ensures.entries.on _ c.part-part.ensures.cells) c.in_ok-log.ensures.taken refl c.in_ok-push.ensures.items refl says.logs says.log says.spends refl refl refl sum
     in

@@ -1,8 +1,8 @@
-use Rattle.std.proofs.Common.{◌≡◌, Some, slice_get, arith, refl, sym, subst}
+use Rattle.std.proofs.Common.{◌≡◌, Some, slice_get, arith, refl, ap, sym, ◌∙◌, subst}
 use Rattle.pc_sheet.specs.Entailment.{cell_sizes}
 use Rattle.pc_theory.specs.inside.PartTasks.{AreEntriesOf}
 use Rattle.pc_theory.specs.Targets.{AreAsked}
-use Rattle.pc_theory.specs.Theories.{rules_alone, TheoryView, IsTheory}
+use Rattle.pc_theory.specs.Theories.{rules_alone, with_ground, TheoryView, IsTheory}
 use Rattle.pc_theory.proofs.Editing.{asked_within, ground_is, problem_right, base_is, few_targets, searched_of, part_of}
 use Rattle.pc_theory.proofs.edits.PartTargets.task.Goals as goal
 
@@ -29,21 +29,22 @@ returns c =
       book = refl;
       targets = refl;
       formed = formed;
-      known = subst (λ (v : TheoryView). IsTheory (rules_alone sheet) v) c.theory.view_is known;
+      known = subst (λ (v : TheoryView). IsTheory (rules_alone sheet) (with_ground c.theory.inside.ground v)) c.theory.view_is known;
       asked = c.requires.asked;
       cells = subst (λ (v : TheoryView). slice_get v.searched.cells a.self.part ≡ Some own.cells.now) c.theory.view_is at.cells;
       axioms = subst (λ (v : TheoryView). slice_get v.searched.axioms a.self.part ≡ Some own.axioms.now) c.theory.view_is at.axioms;
       variables = subst (λ (v : TheoryView). slice_get v.searched.variables a.self.part ≡ Some own.variables.now) c.theory.view_is at.variables;
-      part = λ p numbered. part_of searched sheet _ formed known a.self.part _ _ _ at.cells at.axioms at.variables p _ numbered entries;
+      banned = at.banned ∙ ap (λ (v : TheoryView). v.searched.banned) c.theory.view_is;
+      part = λ p numbered. part_of searched sheet _ formed known a.self.part _ _ _ at.cells at.axioms at.variables _ at.banned p _ numbered entries;
       listable = record {
         searchable = record {
-          ground = ground_is searched sheet _ formed known a.self.part _ _ _ at.cells at.axioms at.variables;
-          problem = problem_right searched sheet _ formed known a.self.part _ _ _ at.cells at.axioms at.variables;
-          few_targets = few_targets searched sheet _ formed known a.self.part _ _ _ at.cells at.axioms at.variables a.self.targets.now asked (omega (arith, c.few_cells.ensures));
+          ground = ground_is searched sheet _ formed known a.self.part _ _ _ at.cells at.axioms at.variables _ at.banned;
+          problem = problem_right searched sheet _ formed known a.self.part _ _ _ at.cells at.axioms at.variables _ at.banned;
+          few_targets = few_targets searched sheet _ formed known a.self.part _ _ _ at.cells at.axioms at.variables _ at.banned a.self.targets.now asked (omega (arith, c.few_cells.ensures));
           few_entries = these.few;
         };
-        base = base_is searched sheet _ formed known a.self.part _ _ _ at.cells at.axioms at.variables;
+        base = base_is searched sheet _ formed known a.self.part _ _ _ at.cells at.axioms at.variables _ at.banned;
         entries = entries;
-        searched = searched_of searched sheet _ formed known a.self.part _ _ _ at.cells at.axioms at.variables a.self.targets.now asked _ entries;
+        searched = searched_of searched sheet _ formed known a.self.part _ _ _ at.cells at.axioms at.variables _ at.banned a.self.targets.now asked _ entries;
       };
     }
