@@ -67,10 +67,8 @@ pub(crate) fn add_rule(
     ensures refused { IfErr result (IsAddCause state.old.book (rule_of rule) budget) }
     ensures kept { OnErr result (IsSame state.old state.new) }
 {
-    match with_new_rule(alloc, &mut state.book, rule) {
-        Ok(book) => replace(alloc, state, budget, book),
-        Err(refused) => Err(refused),
-    }
+    let book = with_new_rule(alloc, &mut state.book, rule)?;
+    replace(alloc, state, budget, book)
 }
 
 /// Drops the rule of that name.
