@@ -6,6 +6,7 @@
 #![tactic(auto)]
 
 mod change;
+mod choices;
 mod chosen;
 mod compaction;
 mod edit;

@@ -11,6 +11,7 @@ ghost use Rattle.pc_ask.specs.Asking.{AreReadSizes, AskSays, AskStops, IsPartSea
 ghost use Rattle.pc_repairs.specs.Searches.{IsWholeSearch};
 ghost use Rattle.pc_session.specs.inside.States.{IsKept};
 
+use crate::choices::{chosen_cells, chosen_sets};
 use crate::state::State;
 use pc_ask::{Answer, AskStop, Question, ask};
 use pc_books::{Assignment, Book};
@@ -57,13 +58,11 @@ impl Choices for Lent<'_> {
     }
 
     fn cells(&self, part: usize) -> &[CellId] {
-        let number = self.state.chosen.get(part);
-        self.state.theory.components().part(number).cells
+        chosen_cells(self.state, part)
     }
 
     fn sets(&self, part: usize) -> &Worlds {
-        let number = self.state.chosen.get(part);
-        &self.state.worlds[number]
+        chosen_sets(self.state, part)
     }
 }
 

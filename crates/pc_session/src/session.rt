@@ -27,6 +27,7 @@ ghost use Rattle.pc_session.specs.Views.{counts_of, none_spent, IsTallyOf};
 ghost use Rattle.pc_session.specs.declared.refused.EditRefused.TheVariants.{DuplicateRule, NoEntry, NoRule};
 ghost use Rattle.pc_theory.specs.Theories.{rules_alone};
 
+use crate::choices::{chosen_cells, chosen_sets};
 use crate::loading::load_state;
 use crate::questions::ask_lent;
 use crate::refused::{EditRefused, LoadRefused};
@@ -429,12 +430,10 @@ impl Choices for Session {
     }
 
     fn cells(&self, part: usize) -> &[CellId] {
-        let number = self.state.chosen.get(part);
-        self.state.theory.cells(&self.state.book, number)
+        chosen_cells(&self.state, part)
     }
 
     fn sets(&self, part: usize) -> &Worlds {
-        let number = self.state.chosen.get(part);
-        &self.state.worlds[number]
+        chosen_sets(&self.state, part)
     }
 }

@@ -2,32 +2,13 @@ use Rattle.std.proofs.Common.{◌<◌, length, sym, subst}
 use Rattle.pc_sheet.specs.Sheet.{Sheet}
 use Rattle.pc_world_list.specs.Choices.{AreCellsOf}
 use Rattle.pc_world_list.specs.Chosen.{chosen_parts}
-use Rattle.pc_theory.specs.Theories.{rules_alone, TheoryView}
-use Rattle.pc_theory.proofs.OfWhole.{all_searched}
-use Rattle.pc_theory.proofs.Parted.{part_is}
-use Rattle.pc_session.proofs.Choosing.{cells_lent, part_kept, place_within}
 use Rattle.pc_session.proofs.questions.LentChoices.cells.Goals as goal
 
-pub get-number-requires : goal.get-number-requires
-get-number-requires c =
-    let s = c.self.inside.state.now in
-    let lent = c.self.invariant in
-    let theory : TheoryView = record s.theory { ground = lent.0 } in
-    place_within s.book theory lent.1.state.known s.chosen lent.1.chosen c.args.part (subst (λ (b : Sheet). c.args.part < length (chosen_parts b)) (sym c.self.view_is) c.requires)
+pub chosen_cells-requires-clause-lent : goal.chosen_cells-requires-clause-lent
+chosen_cells-requires-clause-lent c = c.self.invariant
 
-pub part-requires : goal.part-requires
-part-requires c =
-    let s = c.self.inside.state.now in
-    let lent = c.self.invariant in
-    let theory : TheoryView = record s.theory { ground = lent.0 } in
-    rw c.components.ensures (part_kept s.book theory s.worlds.items s.cache.rows lent.1.state s.chosen lent.1.chosen c.args.part c.get-number.result c.get-number.ensures)
+pub chosen_cells-requires-clause-place : goal.chosen_cells-requires-clause-place
+chosen_cells-requires-clause-place c = subst (λ (b : Sheet). c.args.part < length (chosen_parts b)) (sym c.self.view_is) c.requires
 
 pub returns : goal.returns
-returns c =
-    let s = c.self.inside.state.now in
-    let lent = c.self.invariant in
-    let theory : TheoryView = record s.theory { ground = lent.0 } in
-    let are = all_searched (rules_alone s.book) s.theory.components lent.1.state.known.components in
-    let there = rw c.components.ensures at c.part.ensures.cells in
-    subst (λ (b : Sheet). AreCellsOf b c.args.part c.part.result.cells.now) c.self.view_is (cells_lent s.book theory s.worlds.items s.cache.rows lent.1.state s.chosen lent.1.chosen c.args.part c.get-number.result c.get-number.ensures c.part.result.cells.now
-    (λ p numbered. part_is s.book _ are c.get-number.result _ there p numbered))
+returns c = subst (λ (b : Sheet). AreCellsOf b c.args.part c.chosen_cells.result.now) c.self.view_is c.chosen_cells.ensures
