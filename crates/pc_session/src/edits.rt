@@ -20,6 +20,7 @@ use crate::edit::put_in_place;
 use crate::refused::EditRefused;
 use crate::searching::{Asked, ask, find};
 use crate::state::State;
+use pc_theory::PartTargets;
 use std::alloc::Global;
 
 // Makes the edit in the book, searches what it has asked, and puts that in place. Where it is refused nothing but the entries
@@ -29,7 +30,7 @@ fn make_searched(
     state: &mut State,
     budget: u64,
     change: Change,
-    mut asked: Asked,
+    asked: Asked,
 ) -> Result<(), EditRefused>
     requires state { IsState state.old }
     requires formed { IsWellFormed state.old.book }
@@ -49,8 +50,21 @@ fn make_searched(
         budget) }
     ensures kept { OnErr result (IsSameBeside state.old state.new) }
 {
-    make(change, &mut state.book, &mut asked.worlds)?;
-    let edit = find(alloc, state, budget, change, asked)?;
+    let Asked {
+        part,
+        worlds,
+        targets,
+    } = asked;
+    let mut worlds = worlds;
+    make(change, &mut state.book, &mut worlds)?;
+    let task = PartTargets {
+        alloc,
+        book: &state.book,
+        theory: &state.theory,
+        part,
+        targets: &targets,
+    };
+    let edit = find(task, change, worlds, &mut state.trails, budget)?;
     put_in_place(state, edit)?;
     Ok(())
 }

@@ -16,6 +16,7 @@ use crate::state::State;
 use pc_books::Book;
 use pc_cache::{Cache, Patch};
 use pc_reason::Refutation;
+use pc_solver::SpareTrails;
 use pc_theory::{Disproof, Fault, FoundBook, Theory, search_book};
 use std::alloc::{AllocError, Global};
 
@@ -83,6 +84,7 @@ pub(crate) fn load_state(alloc: Global, book: Book, budget: u64) -> Result<State
         ) => {
             let (cache, chosen) = kept_marked(alloc, &book, &theory, patch)?;
             let tally = spending.tally;
+            let trails = SpareTrails::new(alloc, theory.ground().variables());
             Ok(State {
                 book,
                 theory,
@@ -90,6 +92,7 @@ pub(crate) fn load_state(alloc: Global, book: Book, budget: u64) -> Result<State
                 chosen,
                 cache,
                 tally,
+                trails,
             })
         }
         Err(fault) => Err(refused_load(book, fault)),

@@ -24,7 +24,7 @@ use crate::state::State;
 use crate::tallies::blank_place;
 use pc_cache::Patch;
 use pc_sheet::{Entry, Target};
-use pc_solver::Stop;
+use pc_solver::{SpareTrails, Stop};
 use pc_theory::{PartSpending, PartTargets, alone};
 use pc_world_list::Worlds;
 use std::alloc::{AllocError, Global};
@@ -73,6 +73,7 @@ fn search(
     asked: PartTargets<'_>,
     added: Option<Entry>,
     left: Worlds,
+    trails: &mut SpareTrails,
     place: &mut PartSpending,
     patch: &mut Patch,
 ) -> Result<Worlds, Stop>
@@ -94,54 +95,47 @@ fn search(
         asked.entry.part place.new }
     ensures limit { place.new.tally.limit ≡ place.old.tally.limit }
     ensures stop { IfErr result (StopSays place.new.tally) }
+    ensures trails { trails.new ≡ trails.old }
 {
     match added {
-        Some(_) => asked.search_part(place, patch),
+        Some(_) => asked.search_part(trails, place, patch),
         None => {
-            asked.find_reasons(&left, place, patch)?;
+            asked.find_reasons(&left, trails, place, patch)?;
             Ok(left)
         }
     }
 }
 
-/// Searches what the edit has asked. The book has the edit, and the worlds that were copied have it.
+/// Searches the targets that an edit asks within the budget, in the part with the edit's cell. The book has the edit, and the
+/// worlds that are left of the part have it.
 pub(crate) fn find(
-    alloc: Global,
-    state: &State,
-    budget: u64,
+    asked: PartTargets<'_>,
     change: Change,
-    asked: Asked,
+    left: Worlds,
+    trails: &mut SpareTrails,
+    budget: u64,
 ) -> Result<Edit, EditRefused>
-    requires theory { IsTheory (rules_alone state.now.book) state.now.theory }
-    requires asked { AreAsked (cell_sizes state.now.book.universe) state.now.theory.components
-        asked.part asked.targets.items }
+    requires theory { IsTheory (rules_alone asked.book.now) asked.theory.now }
+    requires asked { AreAsked (cell_sizes asked.book.now.universe) asked.theory.now.components
+        asked.part asked.targets.now }
     requires few { asked.part ≤ most_cells }
-    requires part { (p : Part) × IsPartNumbered (rules_alone state.now.book) asked.part p ×
+    requires part { (p : Part) × IsPartNumbered (rules_alone asked.book.now) asked.part p ×
         Contains p.cells change.cell.0 }
     requires left { change.added ≡ None → (p : Part) →
-        IsPartNumbered (rules_alone state.now.book) asked.part p →
-        AreWorldsOf state.now.book p asked.worlds }
-    ensures edit { IfOk result (IsFoundOf state.now.book change.cell asked.part asked.targets.items
-        budget) }
+        IsPartNumbered (rules_alone asked.book.now) asked.part p →
+        AreWorldsOf asked.book.now p left }
+    ensures edit { IfOk result (IsFoundOf asked.entry.book.now change.cell asked.entry.part
+        asked.entry.targets.now budget) }
     ensures bytes { IfOk result (λ edit. patch_bytes edit.patch ≤
-        spent_bytes state.now.theory.components edit.spending) }
-    ensures refused { IfErr result (IsEntryCause state.now.book change.cell budget) }
+        spent_bytes asked.entry.theory.now.components edit.spending) }
+    ensures refused { IfErr result (IsEntryCause asked.entry.book.now change.cell budget) }
+    ensures trails { trails.new ≡ trails.old }
 {
-    let Asked {
-        part,
-        worlds: left,
-        targets,
-    } = asked;
+    let alloc = asked.alloc;
+    let part = asked.part;
     let mut place = blank_place(alloc, part, budget);
     let mut patch = Patch::new(alloc);
-    let task = PartTargets {
-        alloc,
-        book: &state.book,
-        theory: &state.theory,
-        part,
-        targets: &targets,
-    };
-    let outcome = search(task, change.added, left, &mut place, &mut patch);
+    let outcome = search(asked, change.added, left, trails, &mut place, &mut patch);
     let spending = alone(alloc, place)?;
     match outcome {
         Ok(worlds) => Ok(Edit {
@@ -150,6 +144,6 @@ pub(crate) fn find(
             patch,
             spending,
         }),
-        Err(stop) => Err(refused_by(alloc, stop, &state.book, spending)),
+        Err(stop) => Err(refused_by(alloc, stop, asked.book, spending)),
     }
 }

@@ -4,6 +4,7 @@ use crate::chosen::Chosen;
 use pc_books::Book;
 use pc_cache::Cache;
 use pc_lits::Tally;
+use pc_solver::SpareTrails;
 use pc_theory::Theory;
 use pc_world_list::Worlds;
 
@@ -17,4 +18,6 @@ pub(crate) struct State {
     pub(crate) chosen: Chosen,
     pub(crate) cache: Cache,
     pub(crate) tally: Tally,
+    /// Trails of earlier edits, which serve the next one.
+    pub(crate) trails: SpareTrails,
 }

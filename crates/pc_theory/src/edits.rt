@@ -15,6 +15,7 @@ ghost use Rattle.pc_theory.specs.Theories.{rules_alone, IsPartNumbered, IsTheory
 use crate::entries::entries_of;
 use crate::spending::PartSpending;
 use crate::theory::Theory;
+use crate::trails::{borrow, empty_one, empty_two, give_back};
 use pc_books::{Book, few_cells, well_formed};
 use pc_cache::Patch;
 use pc_kept::laws::{kept_parts_are_searched, none_is_contained_by_polarity};
@@ -73,8 +74,13 @@ impl<'a> PartTargets<'a> {
     }
 
     /// Lists the worlds of the part, and finds for each of the targets its least support, or that there is none. What is spent
-    /// goes to the place, which is blank.
-    pub fn search_part(self, place: &mut PartSpending, patch: &mut Patch) -> Result<Worlds, Stop>
+    /// goes to the place, which is blank. The spare trails serve the search as if they were new.
+    pub fn search_part(
+        self,
+        spare: &mut SpareTrails,
+        place: &mut PartSpending,
+        patch: &mut Patch,
+    ) -> Result<Worlds, Stop>
         requires theory { IsTheory (rules_alone self.book.now) self.theory.now }
         requires asked { AreAsked (cell_sizes self.book.now.universe) self.theory.now.components
             self.part self.targets.now }
@@ -91,6 +97,7 @@ impl<'a> PartTargets<'a> {
             self.entry.part place.new }
         ensures limit { place.new.tally.limit ≡ place.old.tally.limit }
         ensures stop { IfErr result (StopSays place.new.tally) }
+        ensures spare { spare.new ≡ spare.old }
     {
         kept_parts_are_searched();
         none_is_contained_by_polarity();
@@ -98,15 +105,19 @@ impl<'a> PartTargets<'a> {
         let entries = self.entries()?;
         place.logs.reserve(2)?;
         let task = self.task(&entries);
-        let mut trails = SpareTrails::new(self.alloc, task.ground.variables());
-        task.search(&mut trails, &mut place.logs, &mut place.tally, patch)
+        let mut trails = borrow(self.alloc, spare, task.ground.variables());
+        empty_two(&mut trails)?;
+        let outcome = task.search(&mut trails, &mut place.logs, &mut place.tally, patch);
+        give_back(spare, trails);
+        outcome
     }
 
     /// Finds for each of the targets its least support, or that there is none. The worlds are the part's. What is spent goes to
-    /// the place, which is blank.
+    /// the place, which is blank. The spare trails serve the search as if they were new.
     pub fn find_reasons(
         self,
         worlds: &Worlds,
+        spare: &mut SpareTrails,
         place: &mut PartSpending,
         patch: &mut Patch,
     ) -> Result<(), Stop>
@@ -125,19 +136,23 @@ impl<'a> PartTargets<'a> {
             self.entry.part place.new }
         ensures limit { place.new.tally.limit ≡ place.old.tally.limit }
         ensures stop { IfErr result (StopSays place.new.tally) }
+        ensures spare { spare.new ≡ spare.old }
     {
         kept_parts_are_searched();
         none_is_contained_by_polarity();
         well_formed(self.book);
         let entries = self.entries()?;
         let task = self.task(&entries);
-        let mut trails = SpareTrails::new(self.alloc, task.ground.variables());
-        task.find_reasons(
+        let mut trails = borrow(self.alloc, spare, task.ground.variables());
+        empty_one(&mut trails)?;
+        let outcome = task.find_reasons(
             worlds,
             &mut trails,
             &mut place.logs,
             &mut place.tally,
             patch,
-        )
+        );
+        give_back(spare, trails);
+        outcome
     }
 }

@@ -17,6 +17,7 @@ mod targets;
 mod task;
 mod theory;
 mod totals;
+mod trails;
 
 pub use book::{Disproof, Fault, FoundBook, search_book};
 pub use edits::PartTargets;

@@ -1,37 +1,32 @@
-use Rattle.std.proofs.Common.{◌+◌, ◌≤◌, List, ap, sym, ◌∙◌, subst}
+use Rattle.std.proofs.Common.{◌+◌, ◌≤◌, List, ap, refl, ◌∙◌}
 use Rattle.std.proofs.lemmas.Result.{IfOk-at_ok, IfErr-at_err, err_from_is_err_and}
 use Rattle.pc_cache.specs.Patches.{PatchView, patch_bytes}
 use Rattle.pc_cache.specs.Rows.{TargetRow}
 use Rattle.pc_search.specs.Found.{Finds}
 use Rattle.pc_search.specs.Parts.{AreWorldsOf}
-use Rattle.pc_sheet.specs.Entailment.{cell_sizes}
 use Rattle.pc_solver.specs.Spending.{StopSays}
 use Rattle.pc_theory.specs.KeptBytes.{part_bytes}
-use Rattle.pc_theory.specs.Targets.{AreAsked}
 use Rattle.pc_session.proofs.Making.{bytes_of_one, entry_refused, found_of, lawful}
 use Rattle.pc_session.proofs.searching.find.Goals as goal
-
-pub search-outcome-requires-clause-asked : goal.search-outcome-requires-clause-asked
-search-outcome-requires-clause-asked c = let s = c.args.state.now in subst (AreAsked (cell_sizes s.book.universe) s.theory.components c.args.asked.part) (sym c.deref.ensures.value) c.requires.asked
 
 pub returns-in-Ok-clause-edit : goal.returns-in-Ok-clause-edit
 returns-in-Ok-clause-edit c =
     let a = c.args in
-    let s = a.state.now in
+    let t = a.asked in
     let p = c.requires.part in
     let rows_of : PatchView → List TargetRow = λ v. v.rows in
-    found_of s.book s.theory a.change.cell c.requires.theory a.asked.part p.0 p.1 p.2 c.search-outcome.new.place c.in_ok-spending.spending a.budget c.in_ok-spending.ensures.spends c.search-outcome.ensures.spends
+    found_of t.book.now t.theory.now a.change.cell c.requires.theory t.part p.0 p.1 p.2 c.search-outcome.new.place c.in_ok-spending.spending a.budget c.in_ok-spending.ensures.spends c.search-outcome.ensures.spends
     c.in_ok-spending.ensures.tally (c.search-outcome.ensures.limit ∙ c.blank_place-place.ensures.limit)
-    c.in-Ok.worlds (λ q at. IfOk-at_ok (AreWorldsOf s.book q) c.in-Ok.is (c.search-outcome.ensures.worlds q at)) c.deref.result.now a.asked.targets.items c.deref.ensures.value c.new-patch.result.rows c.search-outcome.new.patch (ap rows_of c.new-patch.ensures)
-    (IfOk-at_ok (λ _. Finds s.book (c.search-outcome.new.place.tally.learned + c.search-outcome.new.place.tally.calls) c.deref.result.now c.new-patch.result.rows c.search-outcome.new.patch.rows) c.in-Ok.is c.search-outcome.ensures.found)
+    c.in-Ok.worlds (λ q at. IfOk-at_ok (AreWorldsOf t.book.now q) c.in-Ok.is (c.search-outcome.ensures.worlds q at)) t.targets.now t.targets.now refl c.new-patch.result.rows c.search-outcome.new.patch (ap rows_of c.new-patch.ensures)
+    (IfOk-at_ok (λ _. Finds t.book.now (c.search-outcome.new.place.tally.learned + c.search-outcome.new.place.tally.calls) t.targets.now c.new-patch.result.rows c.search-outcome.new.patch.rows) c.in-Ok.is c.search-outcome.ensures.found)
 
 pub returns-clause-refused : goal.returns-clause-refused
 returns-clause-refused c =
     let a = c.args in
-    let s = a.state.now in
+    let t = a.asked in
     let p = c.requires.part in
-    entry_refused s.book a.change.cell a.budget c.in-Err.stop c.search-outcome.new.place.tally c.in_ok-spending.spending c.refused_by.result c.refused_by.ensures (IfErr-at_err (StopSays c.search-outcome.new.place.tally) c.in-Err.is c.search-outcome.ensures.stop)
-    (lawful s.book s.theory a.change.cell c.requires.theory a.asked.part p.0 p.1 p.2 c.search-outcome.new.place c.in_ok-spending.spending a.budget c.in_ok-spending.ensures.spends c.search-outcome.ensures.spends
+    entry_refused t.book.now a.change.cell a.budget c.in-Err.stop c.search-outcome.new.place.tally c.in_ok-spending.spending c.refused_by.result c.refused_by.ensures (IfErr-at_err (StopSays c.search-outcome.new.place.tally) c.in-Err.is c.search-outcome.ensures.stop)
+    (lawful t.book.now t.theory.now a.change.cell c.requires.theory t.part p.0 p.1 p.2 c.search-outcome.new.place c.in_ok-spending.spending a.budget c.in_ok-spending.ensures.spends c.search-outcome.ensures.spends
     c.in_ok-spending.ensures.tally (c.search-outcome.ensures.limit ∙ c.blank_place-place.ensures.limit))
 
 pub returns-in_err-spending-clause-refused : goal.returns-in_err-spending-clause-refused
@@ -39,7 +34,7 @@ returns-in_err-spending-clause-refused c = let p = err_from_is_err_and c.from_re
 
 pub returns-in-Ok-clause-bytes : goal.returns-in-Ok-clause-bytes
 returns-in-Ok-clause-bytes c =
-    let kept = c.args.state.now.theory.components in
+    let kept = c.args.asked.theory.now.components in
     let o = c.search-outcome in
     bytes_of_one kept o.new.place c.in_ok-spending.spending c.new-patch.result o.new.patch c.in_ok-spending.ensures.parts c.new-patch.ensures
     (IfOk-at_ok (λ _. patch_bytes o.new.patch ≤ patch_bytes c.new-patch.result + part_bytes kept o.new.place) c.in-Ok.is o.ensures.bytes)
