@@ -28,6 +28,7 @@ use Rattle.pc_theory.specs.Reading.{HasPairs}
 use Rattle.pc_theory.specs.WholeSpendings.{all_variables}
 use Rattle.pc_world_list.specs.Worlds.{WorldView, AreExact}
 use Rattle.pc_repairs.specs.Searches.{whole_problem}
+use Rattle.pc_repairs.specs.declared.task.Numbers.{Numbers}
 use Rattle.pc_repairs.specs.inside.Tasks.{IsTask}
 use Rattle.pc_repairs.proofs.Asked.{is_number, entailed, own_assumed, shown_is}
 use Rattle.pc_repairs.proofs.Lacked.{is_maximal}
@@ -44,17 +45,17 @@ value_below u e is =
     let n = some_and (slice_get (cell_sizes u) e.cell.0) (λ m. e.value.0 < m) is in
     subst (λ (m : ℕ). e.value.0 < m) (sym (get_or_from_slice_get (cell_sizes u) e.cell.0 n.0 0 n.1)) n.2
 
-module _ (sheet : Sheet) (g : Grounded) (axioms : List ℕ) (variables : List Var) (cells : List CellId) (t : IsTask sheet g axioms variables cells) where
+module _ (sheet : Sheet) (g : Grounded) (numbers : Numbers) (t : IsTask sheet g numbers) where
   sizes_here : g.sizes ≡ cell_sizes sheet.universe
-  sizes_here = sizes_are sheet g axioms variables cells t
+  sizes_here = sizes_are sheet g numbers t
 
-  pub cell_there : (c : CellId) → c.0 < length (cell_sizes sheet.universe) → Contains cells c
+  pub cell_there : (c : CellId) → c.0 < length (cell_sizes sheet.universe) → Contains numbers.cells.items c
   cell_there c low =
-      let found = contains_mapped number_of cells c.0 (subst (λ ns. Contains ns c.0) (sym t.all.cells_are) (is_number (length (cell_sizes sheet.universe)) c.0 low)) in
+      let found = contains_mapped number_of numbers.cells.items c.0 (subst (λ ns. Contains ns c.0) (sym t.all.cells_are) (is_number (length (cell_sizes sheet.universe)) c.0 low)) in
       let make = λ (n : ℕ). let d : CellId = record { 0 = n } in d in
-      subst (Contains cells) (ap make found.2) found.1
+      subst (Contains numbers.cells.items) (ap make found.2) found.1
 
-  pub with_value : (c : CellId) (x : ValueId) → IsValueOfCell g.sizes c x → Contains cells c × IsValueOfCell (cell_sizes sheet.universe) c x
+  pub with_value : (c : CellId) (x : ValueId) → IsValueOfCell g.sizes c x → Contains numbers.cells.items c × IsValueOfCell (cell_sizes sheet.universe) c x
   with_value c x below =
       let own : IsValueOfCell (cell_sizes sheet.universe) c x = subst (λ ns. IsValueOfCell ns c x) sizes_here below in
       (cell_there c (in_range (cell_sizes sheet.universe) c.0 x.0 own), own)
@@ -74,11 +75,11 @@ module _ (sheet : Sheet) (g : Grounded) (axioms : List ℕ) (variables : List Va
       (all_from (λ (e : Entry). IsValueOfCell g.sizes e.cell e.value) w.entries (λ e there. entry_value e (sub_contained sheet.entries w.entries (is_maximal sheet sets exact w c).among e there)))
 
   -- a solver of the whole sheet has the pairs of all cells
-  pub has_pairs : WholeIsSearched → (s : SolverView) → s.problem ≡ whole_problem sheet → HasPairs g.sizes cells s
+  pub has_pairs : WholeIsSearched → (s : SolverView) → s.problem ≡ whole_problem sheet → HasPairs g.sizes numbers.cells.items s
   has_pairs whole s problem =
-      let h = searched_whole sheet g axioms variables cells t whole in
+      let h = searched_whole sheet g numbers t whole in
       record {
-        below = subst (λ (ns : List ℕ). All (λ c. c.0 < length ns) cells) (sym sizes_here) h.searched.cells_in;
+        below = subst (λ (ns : List ℕ). All (λ c. c.0 < length ns) numbers.cells.items) (sym sizes_here) h.searched.cells_in;
         own = λ c x there below.
             let own = h.searched.own_pairs c x there (subst (λ ns. IsValueOfCell ns c x) sizes_here below) in
             subst (λ ns. Contains s.problem.own (pair_var ns c x)) (sym sizes_here) (subst (λ p. Contains p.own (pair_var (cell_sizes sheet.universe) c x)) (sym problem) own);
@@ -86,24 +87,24 @@ module _ (sheet : Sheet) (g : Grounded) (axioms : List ℕ) (variables : List Va
 
 -- ---- what is asked
 
-module _ (whole : WholeIsSearched) (sheet : Sheet) (g : Grounded) (axioms : List ℕ) (variables : List Var) (cells : List CellId) (t : IsTask sheet g axioms variables cells) (set : List Entry) (target : Target) (holds : target.holds ≡ true)
+module _ (whole : WholeIsSearched) (sheet : Sheet) (g : Grounded) (numbers : Numbers) (t : IsTask sheet g numbers) (set : List Entry) (target : Target) (holds : target.holds ≡ true)
     (values : All (λ e. IsValueOfCell g.sizes e.cell e.value) set) (value : IsValueOfCell g.sizes target.cell target.value) (given : List Lit) (given_is : given ≡ map (entry_literal g.sizes) set ++ negated (target_literal g.sizes target) ∷ []) where
   sizes_of : g.sizes ≡ cell_sizes sheet.universe
-  sizes_of = sizes_are sheet g axioms variables cells t
+  sizes_of = sizes_are sheet g numbers t
 
   given_here : given ≡ map (entry_literal (cell_sizes sheet.universe)) set ++ negated (target_literal (cell_sizes sheet.universe) target) ∷ []
   given_here = given_is ∙ ap (λ ns. map (entry_literal ns) set ++ negated (target_literal ns target) ∷ []) sizes_of
 
-  on_cells : (e : Entry) → Contains set e → Contains cells e.cell × IsValueOfCell (cell_sizes sheet.universe) e.cell e.value
-  on_cells e c = with_value sheet g axioms variables cells t e.cell e.value (All-contains (λ (x : Entry). IsValueOfCell g.sizes x.cell x.value) set e values c)
+  on_cells : (e : Entry) → Contains set e → Contains numbers.cells.items e.cell × IsValueOfCell (cell_sizes sheet.universe) e.cell e.value
+  on_cells e c = with_value sheet g numbers t e.cell e.value (All-contains (λ (x : Entry). IsValueOfCell g.sizes x.cell x.value) set e values c)
 
-  on_target : Contains cells target.cell × IsValueOfCell (cell_sizes sheet.universe) target.cell target.value
-  on_target = with_value sheet g axioms variables cells t target.cell target.value value
+  on_target : Contains numbers.cells.items target.cell × IsValueOfCell (cell_sizes sheet.universe) target.cell target.value
+  on_target = with_value sheet g numbers t target.cell target.value value
 
   pub own_given : (s : SolverView) → s.problem ≡ whole_problem sheet → AreOwn s.problem.own given
   own_given s problem =
-      let h = searched_whole sheet g axioms variables cells t whole in
-      subst (λ p. AreOwn p.own given) (sym problem) (subst (AreOwn (all_variables sheet)) (sym given_here) (own_assumed sheet cells h set target holds on_cells on_target.0 on_target.1))
+      let h = searched_whole sheet g numbers t whole in
+      subst (λ p. AreOwn p.own given) (sym problem) (subst (AreOwn (all_variables sheet)) (sym given_here) (own_assumed sheet numbers.cells.items h set target holds on_cells on_target.0 on_target.1))
 
   module _ (s : SolverView) (problem : s.problem ≡ whole_problem sheet) (blocks : s.blocks ≡ []) where
     met_here : (v : Var → Bool) → Meets v (clauses_used s.problem) s.blocks given → Meets v (clauses_used (whole_problem sheet)) [] (map (entry_literal (cell_sizes sheet.universe)) set ++ negated (target_literal (cell_sizes sheet.universe) target) ∷ [])
@@ -113,10 +114,10 @@ module _ (whole : WholeIsSearched) (sheet : Sheet) (g : Grounded) (axioms : List
     met_back v m = subst (λ p. Meets v (clauses_used p) s.blocks given) (sym problem) (subst (λ bs. Meets v (clauses_used (whole_problem sheet)) bs given) (sym blocks) (subst (Meets v (clauses_used (whole_problem sheet)) []) (sym given_here) m))
 
     pub given_entails : ((v : Var → Bool) → ¬ Meets v (clauses_used s.problem) s.blocks given) → Entails sheet set target
-    given_entails none = entailed sheet cells (searched_whole sheet g axioms variables cells t whole) set target holds on_cells on_target.0 on_target.1 (λ v m. none v (met_back v m))
+    given_entails none = entailed sheet numbers.cells.items (searched_whole sheet g numbers t whole) set target holds on_cells on_target.0 on_target.1 (λ v m. none v (met_back v m))
 
     pub given_shows : Meets (truth_in s.trues) (clauses_used s.problem) s.blocks given → (b : List ValueId) → IsAssignment sheet.universe b
-        → ((a : List ValueId) → AreWithin g.sizes a → HasValues g.sizes (map number_of cells) (truth_in s.trues) a → AgreeAt (Contains (map number_of cells)) a b) → Shows sheet set b × (¬ HasTarget b target)
+        → ((a : List ValueId) → AreWithin g.sizes a → HasValues g.sizes (map number_of numbers.cells.items) (truth_in s.trues) a → AgreeAt (Contains (map number_of numbers.cells.items)) a b) → Shows sheet set b × (¬ HasTarget b target)
     given_shows m b assigns reads =
-        shown_is sheet cells (searched_whole sheet g axioms variables cells t whole) set target holds on_cells on_target.0 on_target.1 (truth_in s.trues) (met_here (truth_in s.trues) m) b assigns t.all.cells_are
-        (subst (λ ns. (a : List ValueId) → AreWithin ns a → HasValues ns (map number_of cells) (truth_in s.trues) a → AgreeAt (Contains (map number_of cells)) a b) sizes_of reads)
+        shown_is sheet numbers.cells.items (searched_whole sheet g numbers t whole) set target holds on_cells on_target.0 on_target.1 (truth_in s.trues) (met_here (truth_in s.trues) m) b assigns t.all.cells_are
+        (subst (λ ns. (a : List ValueId) → AreWithin ns a → HasValues ns (map number_of numbers.cells.items) (truth_in s.trues) a → AgreeAt (Contains (map number_of numbers.cells.items)) a b) sizes_of reads)

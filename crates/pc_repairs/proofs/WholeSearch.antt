@@ -13,7 +13,6 @@ use Rattle.pc_log.specs.Lines.{LogLine}
 use Rattle.pc_sheet.specs.Sheet.{Sheet}
 use Rattle.pc_sheet.specs.Entailment.{cell_sizes}
 use Rattle.pc_sheet.specs.MaximalSets.{IsMaximalSet}
-use Rattle.pc_sheet.specs.declared.ids.CellId.{CellId}
 use Rattle.pc_sheet.specs.declared.ids.Entry.{Entry}
 use Rattle.pc_lits.specs.Clauses.{IsOverNegated}
 use Rattle.pc_ground.specs.Ground.{clauses}
@@ -27,10 +26,11 @@ use Rattle.pc_solver.specs.InLog.{clause_on}
 use Rattle.pc_solver.specs.Solver.{Spends, Problem, SolverView, HasLog, IsProblem, IsLawfulLog, IsSolverLog}
 use Rattle.pc_solver.specs.Spending.{SpendsIn, marked}
 use Rattle.pc_solver.proofs.SpendingLemmas.{spends_none, spends_one, spends_on}
-use Rattle.pc_theory.specs.WholeSpendings.{all_axioms, all_variables, variable_of, IsWholeLog, IsWholeSpending}
+use Rattle.pc_theory.specs.WholeSpendings.{all_axioms, all_variables, variable_of, IsWholeLog}
 use Rattle.pc_components.specs.Blocks.{IsBlockOf}
 use Rattle.pc_repairs.specs.Searches.{whole_problem, IsRefutedAt, IsWholeSearch}
 use Rattle.pc_repairs.specs.inside.Asking.{IsAsked}
+use Rattle.pc_repairs.specs.declared.task.Numbers.{Numbers}
 use Rattle.pc_repairs.specs.inside.Tasks.{IsTask}
 
 -- ---- all variables
@@ -44,17 +44,17 @@ own_many sheet = length-map-range_with_len variable_of 0 (variable_count sheet)
 
 -- ---- the problem
 
-module _ (sheet : Sheet) (g : Grounded) (axioms : List ℕ) (variables : List Var) (cells : List CellId) (t : IsTask sheet g axioms variables cells) where
+module _ (sheet : Sheet) (g : Grounded) (numbers : Numbers) (t : IsTask sheet g numbers) where
   abbrev given : Problem
-  given = record { axioms = g.clauses; used = axioms; own = variables; banned = [] }
+  given = record { axioms = g.clauses; used = numbers.axioms.items; own = numbers.variables.items; banned = [] }
 
-  pub searched_whole : WholeIsSearched → AreSearchedBy sheet sheet cells (all_axioms sheet) (all_variables sheet) []
-  searched_whole whole = whole sheet t.formed cells (all_axioms sheet) (all_variables sheet) t.all.cells_are refl (numbers_back (range_with_len 0 (variable_count sheet)))
+  pub searched_whole : WholeIsSearched → AreSearchedBy sheet sheet numbers.cells.items (all_axioms sheet) (all_variables sheet) []
+  searched_whole whole = whole sheet t.formed numbers.cells.items (all_axioms sheet) (all_variables sheet) t.all.cells_are refl (numbers_back (range_with_len 0 (variable_count sheet)))
 
   pub given_is : given ≡ whole_problem sheet
   given_is =
-      let by_ground : Grounded → Problem = λ x. record { axioms = x.clauses; used = axioms; own = variables; banned = [] } in
-      let by_axioms : List ℕ → Problem = λ us. record { axioms = (grounded sheet).clauses; used = us; own = variables; banned = [] } in
+      let by_ground : Grounded → Problem = λ x. record { axioms = x.clauses; used = numbers.axioms.items; own = numbers.variables.items; banned = [] } in
+      let by_axioms : List ℕ → Problem = λ us. record { axioms = (grounded sheet).clauses; used = us; own = numbers.variables.items; banned = [] } in
       let by_variables : List Var → Problem = λ vs. record { axioms = (grounded sheet).clauses; used = all_axioms sheet; own = vs; banned = [] } in
       ap by_ground t.ground_is ∙ ap by_axioms t.all.axioms_are ∙ ap by_variables t.all.variables_are
 
@@ -66,14 +66,14 @@ module _ (sheet : Sheet) (g : Grounded) (axioms : List ℕ) (variables : List Va
       let many : g.variables ≡ variable_count sheet = ap (λ (x : Grounded). x.variables) t.ground_is in
       subst (λ (n : ℕ). IsProblem n given) (sym many) (subst (IsProblem (variable_count sheet)) (sym given_is) ((searched_whole whole).problem t.few))
 
-  pub asked_problem : WholeIsSearched → (store : List (List Lit)) → store ≡ g.clauses → (n : ℕ) → n ≡ g.variables → IsProblem n (record { axioms = store; used = axioms; own = variables; banned = [] })
+  pub asked_problem : WholeIsSearched → (store : List (List Lit)) → store ≡ g.clauses → (n : ℕ) → n ≡ g.variables → IsProblem n (record { axioms = store; used = numbers.axioms.items; own = numbers.variables.items; banned = [] })
   asked_problem whole store is n many =
-      let by_store : List (List Lit) → Problem = λ a. record { axioms = a; used = axioms; own = variables; banned = [] } in
+      let by_store : List (List Lit) → Problem = λ a. record { axioms = a; used = numbers.axioms.items; own = numbers.variables.items; banned = [] } in
       subst (λ (m : ℕ). IsProblem m (by_store store)) (sym many) (subst (λ a. IsProblem g.variables (by_store a)) (sym is) (is_problem whole))
 
-  pub asked_new : (store : List (List Lit)) → store ≡ g.clauses → (s : SolverView) → s.problem ≡ record { axioms = store; used = axioms; own = variables; banned = [] } → s.blocks ≡ [] → HasLog s [] → IsAsked sheet [] s []
+  pub asked_new : (store : List (List Lit)) → store ≡ g.clauses → (s : SolverView) → s.problem ≡ record { axioms = store; used = numbers.axioms.items; own = numbers.variables.items; banned = [] } → s.blocks ≡ [] → HasLog s [] → IsAsked sheet [] s []
   asked_new store is s problem none has =
-      let by_store : List (List Lit) → Problem = λ a. record { axioms = a; used = axioms; own = variables; banned = [] } in
+      let by_store : List (List Lit) → Problem = λ a. record { axioms = a; used = numbers.axioms.items; own = numbers.variables.items; banned = [] } in
       record { problem = problem ∙ (ap by_store is ∙ given_is); blocks_are = none; has = has }
 
 -- ---- logs

@@ -58,8 +58,7 @@ pub(crate) fn ask(
     log: &mut Log,
     tally: &mut Tally,
 ) -> Result<bool, Stop>
-    requires task { IsTask task.book.now task.ground.now task.axioms.now task.variables.now
-        task.cells.now }
+    requires task { IsTask task.book.now task.ground.now task.numbers.now }
     requires set { All (λ e. IsValueOfCell task.ground.now.sizes e.cell e.value) set.now }
     requires target { IsValueOfCell task.ground.now.sizes target.cell target.value }
     requires holds { target.holds ≡ true }
@@ -77,7 +76,7 @@ pub(crate) fn ask(
     let assumed = assumptions(task, set, target)?;
     match solver.solve(&assumed, log, tally) {
         Outcome::Sat => {
-            read_values(task.book, task.ground, task.cells, solver, shown);
+            read_values(task.book, task.ground, &task.numbers.cells, solver, shown);
             Ok(true)
         }
         Outcome::Unsat(_) => Ok(false),

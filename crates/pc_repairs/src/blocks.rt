@@ -39,8 +39,7 @@ fn is_next(set: &[Entry], next: usize, entry: Entry) -> bool
 
 // The clause of the entries that aren't in the set, whose entries stand in the order of the book's.
 fn block_of(task: WholeTask<'_>, set: &[Entry]) -> Result<Vec<Lit>, AllocError>
-    requires task { IsTask task.book.now task.ground.now task.axioms.now task.variables.now
-        task.cells.now }
+    requires task { IsTask task.book.now task.ground.now task.numbers.now }
     requires among { IsSublist task.book.now.entries set.now }
     ensures { IfOk result (λ block. block.items ≡ block_for task.entry.book.now set.now) }
 {
@@ -63,8 +62,7 @@ pub(crate) fn add_blocks(
     sets: &Worlds,
     solver: &mut Solver<'_>,
 ) -> Result<(), AllocError>
-    requires task { IsTask task.book.now task.ground.now task.axioms.now task.variables.now
-        task.cells.now }
+    requires task { IsTask task.book.now task.ground.now task.numbers.now }
     requires exact { AreExact task.book.now sets.now }
     requires asked { IsAsked task.book.now [] solver.old [] }
     ensures { OnOk result (IsAsked task.entry.book.now (blocks_for task.entry.book.now sets.now)

@@ -30,8 +30,7 @@ fn refute_blocked(
     log: &mut Log,
     tally: &mut Tally,
 ) -> Result<StepId, Stop>
-    requires task { IsTask task.book.now task.ground.now task.axioms.now task.variables.now
-        task.cells.now }
+    requires task { IsTask task.book.now task.ground.now task.numbers.now }
     requires exact { AreExact task.book.now sets.now }
     requires asked { IsAsked task.book.now [] solver.old [] }
     requires new_log { log.old ≡ [] }
@@ -61,8 +60,7 @@ fn refute_task(
     log: &mut Log,
     tally: &mut Tally,
 ) -> Result<StepId, Stop>
-    requires task { IsTask task.book.now task.ground.now task.axioms.now task.variables.now
-        task.cells.now }
+    requires task { IsTask task.book.now task.ground.now task.numbers.now }
     requires exact { AreExact task.book.now sets.now }
     requires new_log { log.old ≡ [] }
     requires counts { HasRoom 126 tally.old }
@@ -101,9 +99,7 @@ pub fn refute(
         alloc,
         book,
         ground,
-        axioms: &numbers.axioms,
-        variables: &numbers.variables,
-        cells: &numbers.cells,
+        numbers: &numbers,
     };
     refute_task(task, sets, log, tally)
 }

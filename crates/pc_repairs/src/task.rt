@@ -33,9 +33,7 @@ pub struct WholeTask<'g> {
     pub alloc: Global,
     pub book: &'g Book,
     pub ground: &'g Ground,
-    pub axioms: &'g [u32],
-    pub variables: &'g [Var],
-    pub cells: &'g [CellId],
+    pub numbers: &'g Numbers,
 }
 
 fn axioms_below(alloc: Global, count: usize) -> Result<Vec<u32>, AllocError>
@@ -75,8 +73,7 @@ impl Numbers {
     /// All that a book has.
     pub fn of(alloc: Global, book: &Book, ground: &Ground) -> Result<Numbers, AllocError>
         requires { ground.now ≡ grounded book.now }
-        ensures { IfOk result (λ n. IsTask book.now ground.now n.axioms.items n.variables.items
-            n.cells.items) }
+        ensures { IfOk result (IsTask book.now ground.now) }
     {
         well_formed(book);
         few_cells(book);
@@ -96,19 +93,18 @@ impl<'g> WholeTask<'g> {
     /// A solver over all of the book, which has no blocks and has derived nothing yet. The pairs are decided first,
     /// and none is to be shown true.
     pub fn solver(self) -> Result<Solver<'g>, AllocError>
-        requires { IsTask self.book.now self.ground.now self.axioms.now self.variables.now
-            self.cells.now }
+        requires { IsTask self.book.now self.ground.now self.numbers.now }
         ensures { IfOk result (λ s. IsAsked self.entry.book.now [] s []) }
     {
         whole_is_searched();
         let mut solver = Solver::new(
             self.alloc,
             self.ground.store(),
-            self.axioms,
-            self.variables,
+            &self.numbers.axioms,
+            &self.numbers.variables,
             self.ground.variables(),
         )?;
-        solver.prefer_first(count_pairs(self.book, self.cells));
+        solver.prefer_first(count_pairs(self.book, &self.numbers.cells));
         solver.show_nothing();
         Ok(solver)
     }

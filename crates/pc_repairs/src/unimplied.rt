@@ -56,8 +56,7 @@ fn add_lacking(
     log: &mut Log,
     tally: &mut Tally,
 ) -> Result<bool, Stop>
-    requires task { IsTask task.book.now task.ground.now task.axioms.now task.variables.now
-        task.cells.now }
+    requires task { IsTask task.book.now task.ground.now task.numbers.now }
     requires exact { AreExact task.book.now sets.now }
     requires place { place < length sets.now }
     requires target { IsTargetIn task.book.now.universe target }
@@ -102,8 +101,7 @@ fn add_all(
     log: &mut Log,
     tally: &mut Tally,
 ) -> Result<bool, Stop>
-    requires task { IsTask task.book.now task.ground.now task.axioms.now task.variables.now
-        task.cells.now }
+    requires task { IsTask task.book.now task.ground.now task.numbers.now }
     requires exact { AreExact task.book.now sets.now }
     requires target { IsTargetIn task.book.now.universe target }
     requires holds { target.holds ≡ true }
@@ -128,8 +126,7 @@ fn add_all(
 
 // A search of all of the book, which has found nothing.
 fn new_search<'g>(task: WholeTask<'g>) -> Result<Search<'g>, AllocError>
-    requires { IsTask task.book.now task.ground.now task.axioms.now task.variables.now
-        task.cells.now }
+    requires { IsTask task.book.now task.ground.now task.numbers.now }
     ensures asked { IfOk result (λ s. IsAsked task.entry.book.now [] s.solver []) }
     ensures shown { IfOk result (λ s. IsAssignment task.entry.book.now.universe s.shown) }
     ensures found { IfOk result (λ s. s.found ≡ []) }
@@ -151,8 +148,7 @@ fn lacking_by_search(
     log: &mut Log,
     tally: &mut Tally,
 ) -> Result<Option<Worlds>, Stop>
-    requires task { IsTask task.book.now task.ground.now task.axioms.now task.variables.now
-        task.cells.now }
+    requires task { IsTask task.book.now task.ground.now task.numbers.now }
     requires exact { AreExact task.book.now sets.now }
     requires target { IsTargetIn task.book.now.universe target }
     requires holds { target.holds ≡ true }
@@ -206,9 +202,7 @@ pub fn lacking(
         alloc,
         book,
         ground,
-        axioms: &numbers.axioms,
-        variables: &numbers.variables,
-        cells: &numbers.cells,
+        numbers: &numbers,
     };
     lacking_by_search(task, sets, target, log, tally)
 }

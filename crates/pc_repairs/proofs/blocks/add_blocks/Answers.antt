@@ -10,8 +10,8 @@ loop-place-init c = record { problem = c.requires.asked.problem; blocks = c.requ
 
 pub add_block-requires : goal.add_block-requires
 add_block-requires c =
-    own_made c.args.task.book.now c.args.task.cells.now
-    (searched_whole c.args.task.book.now c.args.task.ground.now c.args.task.axioms.now c.args.task.variables.now c.args.task.cells.now c.requires.task c.whole_is_searched.ensures)
+    own_made c.args.task.book.now c.args.task.numbers.now.cells.items
+    (searched_whole c.args.task.book.now c.args.task.ground.now c.args.task.numbers.now c.requires.task c.whole_is_searched.ensures)
     c.loop-place.solver _ _ c.loop-place.invariant.problem (c.deref.ensures.value ∙ c.in_ok-block.ensures)
 
 pub loop-place-preserved : goal.loop-place-preserved

@@ -40,5 +40,5 @@ returns c =
     let sizes = c.args.task.ground.now.sizes in
     let es = c.entries-entries.result.now in
     block_made c.args.task.book.now sizes es c.args.set.now c.loop-entry.block.items c.requires.task.formed
-    (sizes_are c.args.task.book.now c.args.task.ground.now c.args.task.axioms.now c.args.task.variables.now c.args.task.cells.now c.requires.task) c.entries-entries.ensures.items c.requires.among
+    (sizes_are c.args.task.book.now c.args.task.ground.now c.args.task.numbers.now c.requires.task) c.entries-entries.ensures.items c.requires.among
     (outside_done (entry_literal sizes) es c.args.set.now c.loop-entry.block.items (map (entry_literal sizes) (outside_by es c.args.set.now)) c.loop-entry.entry-index c.loop-entry.next c.loop-entry-test.false c.loop-entry.invariant)

@@ -19,8 +19,8 @@ returns-in-Unsat-clause-search c =
 
 pub unreachable-requires : goal.unreachable-requires
 unreachable-requires c =
-    no_sat c.consistent_is_in_maximal.ensures c.args.task.book.now c.args.task.cells.now
-    (searched_whole c.args.task.book.now c.args.task.ground.now c.args.task.axioms.now c.args.task.variables.now c.args.task.cells.now c.requires.task c.whole_is_searched.ensures)
+    no_sat c.consistent_is_in_maximal.ensures c.args.task.book.now c.args.task.numbers.now.cells.items
+    (searched_whole c.args.task.book.now c.args.task.ground.now c.args.task.numbers.now c.requires.task c.whole_is_searched.ensures)
     c.well_formed-2.ensures c.args.sets.now c.requires.exact c.solve.new.self (c.solve.ensures.problem ∙ c.in_ok-add_blocks.ensures.problem) (c.solve.ensures.blocks ∙ c.in_ok-add_blocks.ensures.blocks_are) c.in-Sat.ensures.answer
 
 pub returns-in-Spent-clause-search : goal.returns-in-Spent-clause-search

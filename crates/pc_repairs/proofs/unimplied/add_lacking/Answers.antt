@@ -12,9 +12,9 @@ returns-then-not-has_target-clause-spends c = none_spent c.args.task.book.now 1 
 
 pub ask-requires-clause-set : goal.ask-requires-clause-set
 ask-requires-clause-set c =
-    set_values c.args.task.book.now c.args.task.ground.now c.args.task.axioms.now c.args.task.variables.now c.args.task.cells.now c.requires.task c.args.sets.now c.requires.exact _
+    set_values c.args.task.book.now c.args.task.ground.now c.args.task.numbers.now c.requires.task c.args.sets.now c.requires.exact _
     (here_there c.args.task.book.now c.args.sets.now c.requires.exact c.args.target c.args.place c.requires.place) c.entries-set.result.now
     (c.entries-set.ensures.exact ∙ set_here c.args.task.book.now c.args.sets.now c.requires.exact c.args.target c.args.place c.requires.place)
 
 pub ask-requires-clause-target : goal.ask-requires-clause-target
-ask-requires-clause-target c = target_value c.args.task.book.now c.args.task.ground.now c.args.task.axioms.now c.args.task.variables.now c.args.task.cells.now c.requires.task c.args.target c.requires.target
+ask-requires-clause-target c = target_value c.args.task.book.now c.args.task.ground.now c.args.task.numbers.now c.requires.task c.args.target c.requires.target
