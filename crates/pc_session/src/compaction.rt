@@ -4,7 +4,7 @@
 //! lines count for 1,048,576 bytes more than twice what was left the last time or, where that was nothing, than twice what was
 //! put first (or than twice 16 for each line of each reason, where that is less). By the first it comes once for each 1,048,576
 //! bytes that were put since; by the last, where few reasons rest on many long lines, at each such edit. It then goes over the
-//! places of every row. The rows are counted only where all lines count for more than 1,048,576 bytes: below, nothing is due.
+//! places of every row. What both are compared with is kept, so that an edit at which nothing is due takes no time for it.
 ghost use Rattle.std.specs.Prelude.{◌≡◌, ◌<◌, ◌≤◌, ◌+◌, ◌*◌, OnErr, OnOk, nat_lt};
 ghost use Rattle.pc_session.specs.Arena.{compacted, IsLeft, IsLeftWhereDue};
 
