@@ -18,12 +18,15 @@ use Rattle.pc_axiom_names.specs.Listed.{NameLists}
 use Rattle.pc_parts.specs.Components.{parts_of}
 use Rattle.pc_components.specs.PartAxioms.{AreAxiomsOf}
 use Rattle.pc_components.specs.View.{Kept, number_of, cells_of_part, AreComponentsOf}
+use Rattle.pc_ground.proofs.Numbers.{have_their_places}
 use Rattle.pc_components.proofs.Placing.{item_first}
 use Rattle.pc_problem.proofs.Made.{literal_below}
 use Rattle.pc_kept.specs.ByPolarity.{AreKeptByPolarity}
 use Rattle.pc_kept.specs.Laws.{KeptByWhatIsStored}
+use Rattle.pc_kept.proofs.MarkedLemmas.{kept_within}
 use Rattle.pc_kept.specs.Stored.{AreKeptStored, AreUnnamedStored}
 use Rattle.pc_kept.specs.inside.Checks.{IsRoom}
+use Rattle.pc_kept.specs.inside.Signs.{IsStored}
 
 -- ---- sums
 
@@ -62,12 +65,29 @@ zip_turned R S T (x ∷ xs) [] zs f h g = absurd h
 zip_turned R S T (x ∷ xs) (y ∷ ys) [] f h g = absurd g
 zip_turned R S T (x ∷ xs) (y ∷ ys) (z ∷ zs) f h g = (f x y z h.0 g.0, zip_turned R S T xs ys zs f h.1 g.1)
 
+-- what each of the first list has goes on to the second
+pub zip_from : {X Y : Type 0} (R : X → Y → Type 0) (P : X → Type 0) (Q : Y → Type 0) (xs : List X) (ys : List Y) → AllZip R xs ys → ((x : X) → Contains xs x → P x) → ((x : X) (y : Y) → R x y → P x → Q y) → (y : Y) → Contains ys y → Q y
+zip_from R P Q [] [] h p f y has = absurd (omega (arith, has.1))
+zip_from R P Q [] (z ∷ ys) h p f y has = absurd h
+zip_from R P Q (x ∷ xs) [] h p f y has = absurd h
+zip_from R P Q (x ∷ xs) (z ∷ ys) h p f y has = elim (contains_cases z ys y has) [
+  | inl same ↦ subst Q same (f x z h.0 (p x (contains_first x xs)))
+  | inr later ↦ zip_from R P Q xs ys h.1 (λ w there. p w (contains_later x xs w there)) f y later
+]
+
 -- where each of the second list has a property too
 zip_also : {X Y : Type 0} (R : X → Y → Type 0) (P : Y → Type 0) (xs : List X) (ys : List Y) → AllZip R xs ys → ((y : Y) → Contains ys y → P y) → AllZip (λ x y. R x y × P y) xs ys
 zip_also R P [] [] h f = tt
 zip_also R P [] (y ∷ ys) h f = absurd h
 zip_also R P (x ∷ xs) [] h f = absurd h
 zip_also R P (x ∷ xs) (y ∷ ys) h f = ((h.0, f y (contains_first y ys)), zip_also R P xs ys h.1 (λ z has. f z (contains_later y ys z has)))
+
+-- what is kept of rows of numbers is as low as these
+pub rows_in : (pairs n : ℕ) (store : List (List Lit)) (names : NameLists) (banned : List (Option Bool)) (rows kept : List (List ℕ)) → AllZip (AreKeptStored pairs store names banned) rows kept → All (All (λ k. k < n)) rows
+    → All (All (λ k. k < n)) kept
+rows_in pairs n store names banned rows kept h low =
+    all_from (All (λ k. k < n)) kept
+    (zip_from (AreKeptStored pairs store names banned) (All (λ k. k < n)) (All (λ k. k < n)) rows kept h (λ row has. All-contains (All (λ k. k < n)) rows row low has) (kept_within pairs n store names banned))
 
 -- ---- one part more
 
@@ -98,6 +118,23 @@ module _ (sheet : Sheet) where
 
   pub many_names : length (names_of sheet).axioms ≡ length (clauses sheet)
   many_names = length-map (axioms sheet) name_of ∙ sym (length-map (axioms sheet) (clause_of_axiom sheet))
+
+  pub many_variables : length (names_of sheet).variables ≡ variable_count sheet
+  many_variables = (have_their_places sheet).count
+
+  -- what is stored of a sheet is of one sheet
+  pub stored_of : (store : List (List Lit)) (names : NameLists) → store ≡ clauses sheet → names ≡ names_of sheet → length store < 2 ^ 32 → IsStored store names
+  stored_of store names store_is names_are few = record {
+    not_many = few;
+    named = ap (λ (ns : NameLists). length ns.axioms) names_are ∙ many_names ∙ ap length (sym store_is);
+    within =
+        all_from (All (λ l. l.variable.0 < length names.variables)) store
+        (λ clause has. all_from (λ (l : Lit). l.variable.0 < length names.variables) clause
+        (λ l in_it.
+        let below = literal_below sheet clause l (subst (λ cs. Contains cs clause) store_is has) in_it in
+        let many = ap (λ (ns : NameLists). length ns.variables) names_are ∙ many_variables in
+        omega (arith, below, many)));
+  }
 
   module _ (whole : Kept) (are : AreComponentsOf sheet whole) where
     pub as_many : length whole.axioms ≡ length whole.cells

@@ -97,7 +97,7 @@ module _ (sheet : Sheet) where
       )
 
   -- the axiom with that name says what a variable there means only where that is the variable's symbol
-  own_symbol : (k : ℕ) (g : GroundAxiom) → slice_get (axioms sheet) k ≡ Some g → (x : Symbol) → Contains (variables sheet) x → IsOwnStored (clauses sheet) (names_of sheet) k (number sheet x) → meant_by g.name ≡ Some x
+  own_symbol : (k : ℕ) (g : GroundAxiom) → slice_get (axioms sheet) k ≡ Some g → (x : Symbol) → Contains (variables sheet) x → IsOwnStored (names_of sheet) k (number sheet x) → meant_by g.name ≡ Some x
   own_symbol k g at x x_in (a, a_at, s, means, s_at) =
       let name : g.name ≡ a = same_some (sym (slice_map name_of (axioms sheet) k g at) ∙ a_at) in
       let symbol : s ≡ x = same_some (sym s_at ∙ its_place sheet (λ z. false) x x_in) in
@@ -128,7 +128,7 @@ module _ (sheet : Sheet) where
       let m = contains_mapped (lit_of sheet) g.clause l (subst (λ c. Contains c l) same has) in
       let m_there = symbols_are_variables sheet g (slice_contains (axioms sheet) k g at) m.0 m.1 in
       let m_bans = subst (MakesTrue banned) (sym m.2) bans in
-      let m_own = own_symbol k g at m.0.what m_there (subst (IsOwnStored (clauses sheet) (names_of sheet) k) (ap (λ (q : Lit). q.variable.0) (sym m.2)) own) in
+      let m_own = own_symbol k g at m.0.what m_there (subst (IsOwnStored (names_of sheet) k) (ap (λ (q : Lit). q.variable.0) (sym m.2)) own) in
       (m.0, (m.1, m_own), m_bans, (unnamed banned kept h m.0 m_there m_bans).1)
 
 pub kept_by_what_is_stored : KeptByWhatIsStored

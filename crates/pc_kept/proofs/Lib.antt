@@ -2,6 +2,7 @@ pub mod ForcedTrue
 pub mod KeptFor
 pub mod NoneContained
 pub mod OneStep
+pub mod OneMore
 pub mod MarkedLemmas
 pub mod FromStored
 pub mod KeptSearched

@@ -1,5 +1,5 @@
 -- The numbers that are marked, and why they may be kept alone.
-use Rattle.std.proofs.Common.{◌≡◌, ℕ, zero, suc, ◌+◌, ◌<◌, ◌≤◌, inl, inr, Bool, true, false, cond, List, [], ◌∷◌, ◌++◌, append_assoc, Option, Some, drop, slice_get, slice_index_or, length, All, AllPairs, Contains, arith, ap, refl, sym, ◌∙◌, subst}
+use Rattle.std.proofs.Common.{◌≡◌, ℕ, zero, suc, ◌+◌, ◌<◌, ◌≤◌, inl, inr, Bool, true, false, cond, List, [], ◌∷◌, ◌++◌, append_assoc, Option, None, Some, drop, slice_get, slice_index_or, length, All, AllPairs, Contains, arith, ap, refl, sym, ◌∙◌, subst}
 use Rattle.std.proofs.lemmas.List.{get_or_default}
 use Rattle.std.proofs.lemmas.List.Elements.{All-contains}
 use Rattle.pc_lits.specs.declared.literal.Lit.{Lit}
@@ -7,8 +7,10 @@ use Rattle.pc_lemmas.proofs.Elements.{contains_first, contains_later, contains_c
 use Rattle.pc_axiom_names.specs.Listed.{NameLists}
 use Rattle.pc_components.proofs.PartFor.{contains_slice}
 use Rattle.pc_components.proofs.Placing.{item_first}
-use Rattle.pc_kept.specs.Stored.{AreMeaningsStored, AreKeptStored}
-use Rattle.pc_kept.specs.inside.Checks.{marked, AreRight, IsNamed, AreNamed, AreFine}
+use Rattle.pc_lits.specs.Values.{MakesTrue}
+use Rattle.pc_kept.specs.Stored.{AreMeaningsStored, IsLeftOutStored, AreKeptStored}
+use Rattle.pc_kept.specs.inside.Checks.{marked, AreRight, IsNamed, AreNamed, IsFine, AreFine}
+use Rattle.pc_kept.specs.inside.Signs.{MayAllGo}
 
 pub marked_step : (ks : List ℕ) (marks : List Bool) (i k : ℕ) (b : Bool) (before now all : List ℕ) → slice_get ks i ≡ Some k → slice_get marks i ≡ Some b → now ≡ before ++ cond b (k ∷ []) []
     → before ++ marked (drop i ks) (drop i marks) ≡ all → now ++ marked (drop (i + 1) ks) (drop (i + 1) marks) ≡ all
@@ -75,24 +77,67 @@ no_more_ordered (x ∷ xs) (y ∷ ys) low high h =
     ]) in
     omega (arith, rest)
 
+-- what is fine by values and marks that are right is left out
+fine_left : (pairs : ℕ) (store : List (List Lit)) (names : NameLists) (values constants named : List (Option Bool)) (kept : List ℕ)
+    → AreRight store kept values → AreNamed store kept named → ((meanings : List ℕ) × AreMeaningsStored names.axioms meanings × AreRight store meanings constants)
+    → (k : ℕ) → IsFine pairs store names.axioms values constants named k → IsLeftOutStored pairs store names kept k
+fine_left pairs store names values constants named kept (trues, forced, right) each_named (meanings, mean, (always, forced_too, right_too)) k may = record {
+  of_node = may.of_node;
+  why = λ clause at. elim (may.why clause at) [
+    | inl (l, has, holds) ↦ inl (l, has, (trues, forced, right l holds))
+    | inr (inr (l, has, high, holds, out)) ↦ inr (inr (l, has, high, λ (n, n_in, c', c'_at, m, m_in, same). out (subst (IsNamed named) same (each_named n n_in c' c'_at m m_in)), (meanings, mean, (always, forced_too, right_too l holds))))
+    | inr (inl none) ↦ inr (inl (λ l has high (n, n_in, c', c'_at, m, m_in, same). none l has high (subst (IsNamed named) same (each_named n n_in c' c'_at m m_in))))
+  ];
+}
+
 pub fine_kept : (pairs : ℕ) (store : List (List Lit)) (names : NameLists) (values constants named : List (Option Bool)) (used : List ℕ) (marks : List Bool) (kept : List ℕ) → kept ≡ marked used marks
     → AreRight store kept values → AreNamed store kept named → ((meanings : List ℕ) × AreMeaningsStored names.axioms meanings × AreRight store meanings constants)
     → AreFine pairs store names.axioms values constants named used marks → AreKeptStored pairs store names [] used kept
-fine_kept pairs store names values constants named used marks kept is (trues, forced, right) each_named (meanings, mean, (always, forced_too, right_too)) fine = record {
+fine_kept pairs store names values constants named used marks kept is right each_named meanings fine = record {
   among = λ k c. marked_in used marks k (subst (λ xs. Contains xs k) is c);
   each = λ k c. let j = contains_slice used k c in elim (fine j.0 k j.1) [
     | inl stays ↦ inl (subst (λ xs. Contains xs k) (sym is) (is_marked used marks j.0 k j.1 stays))
-    | inr may ↦ inr (inl (record {
-      of_node = may.of_node;
-      why = λ clause at. elim (may.why clause at) [
-        | inl (l, has, holds) ↦ inl (l, has, (trues, forced, right l holds))
-        | inr (inr (l, has, high, holds, out)) ↦ inr (inr (l, has, high, λ (n, n_in, c', c'_at, m, m_in, same). out (subst (IsNamed named) same (each_named n n_in c' c'_at m m_in)), (meanings, mean, (always, forced_too, right_too l holds))))
-        | inr (inl none) ↦ inr (inl (λ l has high (n, n_in, c', c'_at, m, m_in, same). none l has high (subst (IsNamed named) same (each_named n n_in c' c'_at m m_in))))
-      ];
-    }))
+    | inr may ↦ inr (inl (fine_left pairs store names values constants named kept right each_named meanings k may))
   ];
   order = λ order. subst (AllPairs (λ j k. j < k)) (sym is) (marked_order used marks order);
 }
+
+-- the same by polarity
+pub polar_kept : (pairs : ℕ) (store : List (List Lit)) (names : NameLists) (values constants named banned : List (Option Bool)) (used : List ℕ) (marks : List Bool) (kept : List ℕ) → kept ≡ marked used marks
+    → AreRight store kept values → AreNamed store kept named → ((meanings : List ℕ) × AreMeaningsStored names.axioms meanings × AreRight store meanings constants)
+    → MayAllGo pairs store names values constants named banned used marks → AreKeptStored pairs store names banned used kept
+polar_kept pairs store names values constants named banned used marks kept is right each_named meanings fine = record {
+  among = λ k c. marked_in used marks k (subst (λ xs. Contains xs k) is c);
+  each = λ k c. let j = contains_slice used k c in elim (fine j.0 k j.1) [
+    | inl stays ↦ inl (subst (λ xs. Contains xs k) (sym is) (is_marked used marks j.0 k j.1 stays))
+    | inr (inl out) ↦ inr (inr out)
+    | inr (inr may) ↦ inr (inl (fine_left pairs store names values constants named kept right each_named meanings k may))
+  ];
+  order = λ order. subst (AllPairs (λ j k. j < k)) (sym is) (marked_order used marks order);
+}
+
+-- and where more is banned
+pub more_banned : (pairs : ℕ) (store : List (List Lit)) (names : NameLists) (less more : List (Option Bool)) (used kept : List ℕ) → ((m : Lit) → MakesTrue less m → MakesTrue more m)
+    → AreKeptStored pairs store names less used kept → AreKeptStored pairs store names more used kept
+more_banned pairs store names less more used kept grows h = record {
+  among = h.among;
+  each = λ k c. elim (h.each k c) [
+    | inl stays ↦ inl stays
+    | inr (inl out) ↦ inr (inl out)
+    | inr (inr (clause, at, l, has, own, bans)) ↦ inr (inr (clause, at, l, has, own, grows l bans))
+  ];
+  order = h.order;
+}
+
+-- nothing is banned by no values
+pub none_banned : (m : Lit) (more : List (Option Bool)) → MakesTrue [] m → MakesTrue more m
+none_banned m more is = absurd (blank m.sign is)
+  where
+    blank : (b : Bool) → None ≡ Some b → ⊥
+    blank b e = absurd (cc)
+
+pub kept_within : (pairs n : ℕ) (store : List (List Lit)) (names : NameLists) (banned : List (Option Bool)) (used kept : List ℕ) → AreKeptStored pairs store names banned used kept → All (λ k. k < n) used → All (λ k. k < n) kept
+kept_within pairs n store names banned used kept h all = all_from (λ k. k < n) kept (λ k c. All-contains (λ j. j < n) used k all (h.among k c))
 
 pub all_kept : (pairs : ℕ) (store : List (List Lit)) (names : NameLists) (used kept : List ℕ) → kept ≡ used → AreKeptStored pairs store names [] used kept
 all_kept pairs store names used kept is = record {

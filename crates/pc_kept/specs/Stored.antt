@@ -15,18 +15,18 @@ use Rattle.pc_kept.specs.ByPolarity.{meant_by}
 abbrev pub AreMeaningsStored : List Axiom → List ℕ → Type 0
 AreMeaningsStored names numbers = (k : ℕ) (x : Axiom) → Contains numbers k → slice_get names k ≡ Some x → IsOfNode x
 
-module _ (store : List (List Lit)) (names : NameLists) where
-  -- the axiom says what that variable means
-  abbrev pub IsOwnStored : ℕ → ℕ → Type 0
-  IsOwnStored k x = (a : Axiom) × (slice_get names.axioms k ≡ Some a) × (s : Symbol) × (meant_by a ≡ Some s) × (slice_get names.variables x ≡ Some s)
+-- the axiom says what that variable means
+abbrev pub IsOwnStored : NameLists → ℕ → ℕ → Type 0
+IsOwnStored names k x = (a : Axiom) × (slice_get names.axioms k ≡ Some a) × (s : Symbol) × (meant_by a ≡ Some s) × (slice_get names.variables x ≡ Some s)
 
+module _ (store : List (List Lit)) (names : NameLists) where
   -- a kept axiom has the literal, and not as its own
   abbrev pub IsNamedStored : List ℕ → Lit → Type 0
-  IsNamedStored kept l = (k : ℕ) × (clause : List Lit) × Contains kept k × (slice_get store k ≡ Some clause) × Contains clause l × (¬ IsOwnStored k l.variable.0)
+  IsNamedStored kept l = (k : ℕ) × (clause : List Lit) × Contains kept k × (slice_get store k ≡ Some clause) × Contains clause l × (¬ IsOwnStored names k l.variable.0)
 
   -- the axiom's own literal is banned
   abbrev pub IsBannedOutStored : List (Option Bool) → ℕ → Type 0
-  IsBannedOutStored banned k = (clause : List Lit) × (slice_get store k ≡ Some clause) × (l : Lit) × Contains clause l × IsOwnStored k l.variable.0 × MakesTrue banned l
+  IsBannedOutStored banned k = (clause : List Lit) × (slice_get store k ≡ Some clause) × (l : Lit) × Contains clause l × IsOwnStored names k l.variable.0 × MakesTrue banned l
 
   -- banned is no literal of a pair, and none whose opposite a kept axiom names
   abbrev pub AreUnnamedStored : List (Option Bool) → List ℕ → Type 0

@@ -122,7 +122,7 @@ fn may_go(clause: &[Lit], pairs: u32, values: &Values, constants: &Values, named
 }
 
 /// Whether the axiom may be left out.
-fn is_fine(stored: Stored<'_>, constants: &Values, trial: &Trial, number: usize) -> bool
+pub(crate) fn is_fine(stored: Stored<'_>, constants: &Values, trial: &Trial, number: usize) -> bool
     requires values { IsRoom trial.now.values stored.store.now }
     requires constants { IsRoom constants.now stored.store.now }
     requires named { IsRoom trial.now.named stored.store.now }

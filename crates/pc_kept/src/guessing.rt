@@ -22,7 +22,12 @@ fn force_once(clause: &[Lit], place: usize, values: &mut Values, reasons: &mut V
 }
 
 /// Goes over all clauses, back and on.
-fn force_twice(store: &ClauseStore, used: &[usize], values: &mut Values, reasons: &mut Vec<usize>)
+pub(crate) fn force_twice(
+    store: &ClauseStore,
+    used: &[usize],
+    values: &mut Values,
+    reasons: &mut Vec<usize>,
+)
     requires room { IsRoom values.old store.now }
     requires within { All (λ k. k < length store.now) used.now }
     ensures room { length values.new ≡ length values.old }

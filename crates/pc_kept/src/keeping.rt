@@ -12,7 +12,7 @@ use pc_lits::{ClauseStore, Values};
 use std::alloc::{AllocError, Global};
 
 /// What these clauses force, and what they name.
-fn look_at(store: &ClauseStore, kept: &[usize], values: &mut Values, named: &mut Values)
+pub(crate) fn look_at(store: &ClauseStore, kept: &[usize], values: &mut Values, named: &mut Values)
     requires values { IsRoom values.old store.now }
     requires named { IsRoom named.old store.now }
     requires within { All (λ k. k < length store.now) kept.now }
@@ -118,6 +118,9 @@ pub(crate) fn kept_axioms(
     requires within { All (λ k. k < length stored.store.now) used.now }
     ensures kept { IfOk result (λ kept. AreKeptStored stored.entry.pairs stored.entry.store.now
         stored.entry.names.now [] used.now kept.items) }
+    ensures right { OnOk result ((meanings : List ℕ) ×
+        AreMeaningsStored stored.entry.names.now.axioms meanings ×
+        AreRight stored.entry.store.now meanings constants.new) }
     ensures values { length trial.new.values ≡ length trial.old.values }
     ensures constants { length constants.new ≡ length constants.old }
     ensures named { length trial.new.named ≡ length trial.old.named }
