@@ -27,6 +27,7 @@ unlike_parts = record {
   axioms = (0 ∷ 1 ∷ []) ∷ (0 ∷ 2 ∷ 3 ∷ []) ∷ [];
   variables = (record { 0 = 0 } ∷ record { 0 = 1 } ∷ []) ∷ (record { 0 = 2 } ∷ []) ∷ [];
   numbers = [];
+  banned = [];
 }
 
 -- so many clauses were learned and calls made for the part of that number
