@@ -42,6 +42,7 @@ use Rattle.pc_solver.specs.InLog.{clause_on}
 use Rattle.pc_solver.specs.New.{IsLearnedAt}
 use Rattle.pc_solver.specs.Solver.{AreOwn, HasLog, IsLawfulLog, IsProblem, IsSolverLog, Problem, SolverView, Spends, clauses_used}
 use Rattle.pc_solver.specs.Spending.{Basis, GoesOnFor, SpendsIn}
+use Rattle.pc_solver.proofs.BannedLemmas.{lone_anyway}
 use Rattle.pc_solver.proofs.SpendingLemmas.{spends_none, spends_on, spends_one}
 use Rattle.pc_support.proofs.AskingLemmas.{same_basis}
 use Rattle.pc_theory.specs.WholeSpendings.{all_axioms, all_variables, variable_of}
@@ -104,6 +105,7 @@ module _ (parts : PartsAreSearched) (book : Sheet) (formed : IsWellFormed book) 
         used_in = used_in;
         own_in = own_below;
         over_own = all_from (λ n. IsOverOwn own (slice_index_or (clauses book) n [])) used (λ n c. ((used_are n).0 c).1);
+        lone = lone_anyway (clauses book) used;
       }
 
       -- the part's axioms are used
