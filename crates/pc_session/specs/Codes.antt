@@ -66,9 +66,10 @@ coded_var = code_by ℕ coded_ℕ (λ v. v.0) (λ n. record { 0 = n }) (λ _. re
 
 abbrev coded_components : Coded Kept
 coded_components =
-    code_by (List (List CellId) × (List (List ℕ) × (List (List Var) × List ℕ)))
-    (coded× (coded_list (coded_list coded_cell)) (coded× (coded_list (coded_list coded_ℕ)) (coded× (coded_list (coded_list coded_var)) (coded_list coded_ℕ))))
-    (λ k. (k.cells, (k.axioms, (k.variables, k.numbers)))) (λ p. record { cells = p.0; axioms = p.1.0; variables = p.1.1.0; numbers = p.1.1.1 }) (λ _. refl)
+    code_by (List (List CellId) × (List (List ℕ) × (List (List Var) × (List ℕ × List (Option Bool)))))
+    (coded× (coded_list (coded_list coded_cell)) (coded× (coded_list (coded_list coded_ℕ)) (coded× (coded_list (coded_list coded_var)) (coded× (coded_list coded_ℕ) (coded_list (coded_option coded_bool))))))
+    (λ k. (k.cells, (k.axioms, (k.variables, (k.numbers, k.banned)))))
+    (λ p. record { cells = p.0; axioms = p.1.0; variables = p.1.1.0; numbers = p.1.1.1.0; banned = p.1.1.1.1 }) (λ _. refl)
 
 abbrev pub coded_counts : Coded Counts
 coded_counts =
