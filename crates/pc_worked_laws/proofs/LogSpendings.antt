@@ -111,7 +111,7 @@ variables_of_whole : AreVariablesOf (clauses rules) all_axioms (map variable_num
 variables_of_whole = record { exact = λ x. (λ c. used_variable x (there_below 5 x c), λ u. below_there 5 x (variable_used x u)); order = in_order 5 }
 
 abbrev kept : Kept
-kept = record { cells = ((record { 0 = 0 }) ∷ (record { 0 = 1 }) ∷ []) ∷ []; axioms = all_axioms ∷ []; variables = all_variables ∷ []; numbers = 0 ∷ 0 ∷ [] }
+kept = record { cells = ((record { 0 = 0 }) ∷ (record { 0 = 1 }) ∷ []) ∷ []; axioms = all_axioms ∷ []; variables = all_variables ∷ []; numbers = 0 ∷ 0 ∷ []; banned = [] }
 
 numbered_cells : (c : ℕ) → c < 2 → (i : ℕ) × (slice_get kept.numbers c ≡ Some i) × IsInPart rules c i
 numbered_cells zero less = (0, refl, (whole, refl, (0, omega arith, refl)))
@@ -125,6 +125,7 @@ components = record {
   variables = (variables_of_whole, tt);
   many_numbers = refl;
   numbers = numbered_cells;
+  banned = refl;
 }
 
 -- ---- the lawful spending

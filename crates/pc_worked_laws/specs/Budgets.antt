@@ -19,6 +19,7 @@ two_kept = record {
   axioms = (0 ∷ 1 ∷ []) ∷ (2 ∷ 3 ∷ []) ∷ [];
   variables = ((plus 0).variable ∷ (plus 1).variable ∷ []) ∷ ((plus 2).variable ∷ (plus 3).variable ∷ []) ∷ [];
   numbers = 0 ∷ 1 ∷ [];
+  banned = [];
 }
 
 pub record WorkedPartBudgets : Type 0 where

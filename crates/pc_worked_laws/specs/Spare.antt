@@ -97,7 +97,7 @@ pub record WorkedReasons : Type 0 where
 
 -- the first two cells are a part, and the third is one
 abbrev pub two_parts : Kept
-two_parts = record { cells = (cell_of 0 ∷ cell_of 1 ∷ []) ∷ (cell_of 2 ∷ []) ∷ []; axioms = []; variables = []; numbers = [] }
+two_parts = record { cells = (cell_of 0 ∷ cell_of 1 ∷ []) ∷ (cell_of 2 ∷ []) ∷ []; axioms = []; variables = []; numbers = []; banned = [] }
 
 -- that the second cell, and that the third, has its first value
 abbrev pub second_red : Target
