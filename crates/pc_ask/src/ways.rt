@@ -3,13 +3,12 @@
 //! The ways are numbered, the first part's sets slowest, and the assignment of a way is laid out from its number alone. So going
 //! over them takes the room of one assignment, however many there are. Numbers have 64 bits; nothing comes to the end of them.
 ghost use Rattle.std.specs.Prelude.{◌≡◌, ◌*◌, ◌<◌, All, IfOk, Some, length, map, min, slice_get};
-ghost use Rattle.pc_repairs.specs.inside.Joining.{IsSized, joined_by, laid_over, many_sets};
+ghost use Rattle.pc_repairs.specs.inside.Joining.{IsSized, joined_by, many_sets};
 ghost use Rattle.pc_sheet.specs.Sizes.{product};
 ghost use Rattle.pc_ask.specs.inside.Ways.{most_tried};
 
 use pc_books::Assignment;
-use pc_repairs::PartSets;
-use pc_sheet::{CellId, ValueId};
+use pc_repairs::{PartSets, lay};
 use std::alloc::{AllocError, Global};
 
 /// The most ways that are numbered.
@@ -30,18 +29,6 @@ pub(crate) fn count_ways(parts: &[PartSets<'_>]) -> usize
         count = times(count, part.sets.len());
     }
     count
-}
-
-// These cells take their values from another assignment.
-fn lay(values: &mut Vec<ValueId>, cells: &[CellId], own: &Assignment)
-    requires cells { All (λ c. c.0 < length own.now) cells.now }
-    requires long { length values.old.items ≡ length own.now }
-    ensures { values.new.items ≡ laid_over values.old.items cells.now own.now }
-{
-    for cell in cells {
-        let place = usize::from(cell.0);
-        values[place] = own.values()[place];
-    }
 }
 
 /// The assignment of the way of that number: the parts' cells take their values from the sets that are chosen, and the others

@@ -46,6 +46,18 @@ fn count_choices(parts: &[PartSets<'_>]) -> usize
     count
 }
 
+/// These cells take their values from another assignment.
+pub fn lay(values: &mut Vec<ValueId>, cells: &[CellId], own: &Assignment)
+    requires cells { All (λ c. c.0 < length own.now) cells.now }
+    requires long { length values.old.items ≡ length own.now }
+    ensures { values.new.items ≡ laid_over values.old.items cells.now own.now }
+{
+    for cell in cells {
+        let place = usize::from(cell.0);
+        values[place] = own.values()[place];
+    }
+}
+
 // The values, where these cells take theirs from another assignment.
 fn laid_over(
     alloc: Global,
@@ -53,15 +65,12 @@ fn laid_over(
     cells: &[CellId],
     own: &Assignment,
 ) -> Result<Assignment, AllocError>
-    requires cells { All (λ c. c.0 < length values.now) cells.now }
-    requires long { length own.now ≡ length values.now }
+    requires cells { All (λ c. c.0 < length own.now) cells.now }
+    requires long { length values.now ≡ length own.now }
     ensures { IfOk result (λ laid. laid ≡ laid_over values.now cells.now own.now) }
 {
     let mut laid = Vec::from_slice(alloc, values.values())?;
-    for cell in cells {
-        let place = usize::from(cell.0);
-        laid[place] = own.values()[place];
-    }
+    lay(&mut laid, cells, own);
     Ok(Assignment::new(laid))
 }
 
@@ -124,8 +133,8 @@ fn join_parts(
     Ok(all)
 }
 
-/// Whether the assignment has the entry.
-pub fn is_had(values: &Assignment, entry: Entry) -> bool
+// Whether the assignment has the entry.
+fn is_had(values: &Assignment, entry: Entry) -> bool
     ensures { result ≡ is_had values.now entry }
 {
     match values.values().get(usize::from(entry.cell.0)) {
@@ -142,13 +151,11 @@ pub fn had_by(
 ) -> Result<Vec<Entry>, AllocError>
     ensures { IfOk result (λ had. had.items ≡ had_by entries.now values.now) }
 {
-    let mut had = Vec::new(alloc);
-    for entry in entries {
-        if is_had(values, *entry) {
-            had.push(*entry)?;
-        }
-    }
-    Ok(had)
+    entries
+        .iter()
+        .copied()
+        .filter(|entry| is_had(values, *entry))
+        .collect(alloc)
 }
 
 // Each assignment with the entries that it has.

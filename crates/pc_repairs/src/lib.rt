@@ -23,7 +23,7 @@ pub use listing::{ListFault, Listing, list};
 
 // Sets of parts, joined to those of the whole book
 
-pub use joining::{MOST_SETS, had_by, is_had, whole};
+pub use joining::{MOST_SETS, had_by, lay, whole};
 pub use part_sets::{PartSets, sets_by_part};
 
 // Certificates: that there are no more sets, and of what these don't imply

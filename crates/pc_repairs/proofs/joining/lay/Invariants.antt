@@ -1,6 +1,6 @@
 use Rattle.std.proofs.Common.{◌≡◌, drop, length}
 use Rattle.pc_repairs.specs.inside.Joining.{laid_over}
-use Rattle.pc_ask.proofs.ways.lay.Given as goal
+use Rattle.pc_repairs.proofs.joining.lay.Given as goal
 
 abbrev pub invariant-loop-cell : goal.invariant-loop-cell
 invariant-loop-cell l = record {
