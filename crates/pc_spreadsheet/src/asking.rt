@@ -57,10 +57,7 @@ fn denying(alloc: Global, book: &Book, tree: &FormulaTree) -> Result<Rule, SortF
         IsDenialRule book.now (formula_of tree.now) s)
         (IsFaultOf (IsRuleFault book.now (not (formula_of tree.now)) no_test)) }
 {
-    let formula = match check_formula(alloc, book, tree) {
-        Ok(formula) => formula,
-        Err(fault) => return Err(fault),
-    };
+    let formula = check_formula(alloc, book, tree)?;
     if book.rules().len() >= MOST_RULES {
         return Err(SortFault::Limit(Limited::Rules));
     }
