@@ -27,7 +27,7 @@ use Rattle.pc_repairs.specs.ListedSheet.{IsListed}
 use Rattle.pc_repairs.specs.declared.listing.ListFault.{ListFault}
 use Rattle.pc_repairs.specs.declared.listing.ListFault.TheVariants.{Memory}
 use Rattle.pc_writer.specs.Writes.{Writes}
-use Rattle.pc_spreadsheet.specs.declared.text.Text.{Text}
+use Rattle.pc_display.specs.declared.text.Text.{Text}
 use Rattle.pc_repairs.specs.Searches.{IsWholeSearch}
 use Rattle.pc_repairs.specs.Whole.{AreAllSets}
 use Rattle.pc_session.specs.Views.{SessionView}
@@ -161,8 +161,8 @@ abbrev listing_done : Unit {0} → Result (Unit {0}) ListFault
 listing_done u = Ok u
 
 -- what is listed into an empty text is all that it has
-pub appended : (sheet : Sheet) (before after : Text) (u : Unit {0}) → before.bytes.items ≡ []
-    → (listing_done u ≢ Err Memory → (text : List ℕ) × IsListed sheet text × Writes (λ (t : Text). Some t.bytes.items) (λ (t : Text). t.faults) before after (listing_done u) text) → IsListed sheet after.bytes.items
+pub appended : {faults : Text → ℕ} (sheet : Sheet) (before after : Text) (u : Unit {0}) → before.bytes.items ≡ []
+    → (listing_done u ≢ Err Memory → (text : List ℕ) × IsListed sheet text × Writes (λ (t : Text). Some t.bytes.items) faults before after (listing_done u) text) → IsListed sheet after.bytes.items
 appended sheet before after u none told =
     let found = told (λ fails. absurd (cc fails)) in
     let all : after.bytes.items ≡ before.bytes.items ++ found.0 = found.2.bytes in

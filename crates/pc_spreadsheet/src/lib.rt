@@ -18,7 +18,6 @@ mod repairs;
 mod spending;
 mod spreadsheet;
 mod summary;
-mod text;
 
 // Reading sheets and answering lines
 

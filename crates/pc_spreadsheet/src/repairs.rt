@@ -13,8 +13,8 @@ ghost use Rattle.pc_spreadsheet.specs.inside.Repairs.{Doubts, HasSpent, ListsRep
 use crate::page::Page;
 use crate::refusal::refuse;
 use crate::spending::{Told, note_whole};
-use crate::text::Text;
 use pc_books::Book;
+use pc_display::Text;
 use pc_ground::Ground;
 use pc_lits::Tally;
 use pc_log::Log;
