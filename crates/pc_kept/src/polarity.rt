@@ -24,11 +24,11 @@ fn is_same(left: &NodePath, right: &NodePath) -> bool
 }
 
 /// Whether the axiom of that name says what the node means.
-fn is_meant(axiom: AxiomRef<'_>, path: &NodePath) -> bool
+fn is_meant(name: AxiomRef<'_>, path: &NodePath) -> bool
     ensures { OnTrue result
-        (meant_by (axiom_shown axiom.entry) ≡ Some (node path.now.rule path.now.steps.items)) }
+        (meant_by (axiom_shown name.entry) ≡ Some (node path.now.rule path.now.steps.items)) }
 {
-    match axiom {
+    match name {
         AxiomRef::Any(_) => false,
         AxiomRef::One(_, _, _) => false,
         AxiomRef::Rule(_) => false,

@@ -1,4 +1,3 @@
-use Rattle.std.proofs.Common.{sym, subst}
 use Rattle.std.proofs.lemmas.Result.{err_from_is_err_and}
 use Rattle.pc_theory.proofs.Books.{base_fits, stop_halts}
 use Rattle.pc_theory.proofs.book.list_parts.Goals as goal

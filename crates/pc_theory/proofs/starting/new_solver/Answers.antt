@@ -1,4 +1,4 @@
-use Rattle.std.proofs.Common.{◌≡◌, [], ◌∙◌, ap, sym, subst}
+use Rattle.std.proofs.Common.{[], ◌∙◌, ap, sym, subst}
 use Rattle.pc_solver.specs.Solver.{SolverView, HasLog}
 use Rattle.pc_theory.proofs.Started.{first_asked, first_given}
 use Rattle.pc_theory.proofs.starting.new_solver.Goals as goal
