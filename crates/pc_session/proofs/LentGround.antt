@@ -24,4 +24,5 @@ parts_known sheet kept are = record {
   variables = are.variables;
   many_numbers = are.many_numbers;
   numbers = are.numbers;
+  banned = are.banned;
 }

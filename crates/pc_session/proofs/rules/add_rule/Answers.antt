@@ -5,6 +5,7 @@ use Rattle.pc_sheet.specs.Views.{rule_of}
 use Rattle.pc_session.specs.inside.Loaded.{IsLoaded}
 use Rattle.pc_session.specs.inside.States.{IsSame}
 use Rattle.pc_session.specs.Rules.{IsAddCause, IsRuleCause}
+use Rattle.pc_session.specs.declared.refused.EditRefused.{EditRefused}
 use Rattle.pc_session.specs.declared.refused.EditRefused.TheVariants.{DuplicateRule}
 use Rattle.pc_session.proofs.RuleEdits.{add_cause_of}
 use Rattle.pc_session.proofs.Viewing.{on_err, same_err, same_itself}
@@ -20,7 +21,7 @@ returns-in_err-book-clause-refused c = let p = err_from_is_err_and c.from_residu
 
 pub returns-in_err-book-clause-duplicate : goal.returns-in_err-book-clause-duplicate
 returns-in_err-book-clause-duplicate c not_new =
-    let p = err_from_is_err_and c.from_residual.result c.from_residual.ensures.1 in rw (p.1, p.2) (same_err c.in_err-book.field-0 DuplicateRule (c.in_err-book.ensures.duplicate not_new))
+    let p = err_from_is_err_and c.from_residual.result c.from_residual.ensures.1 in rw (p.1, p.2) (same_err {E = EditRefused} _ DuplicateRule (c.in_err-book.ensures.duplicate not_new))
 
 pub returns-clause-kept : goal.returns-clause-kept
 returns-clause-kept c =

@@ -20,8 +20,8 @@ returns-in-Ok-clause-edit c =
     c.in-Ok.worlds (λ q at. IfOk-at_ok (AreWorldsOf t.book.now q) c.in-Ok.is (c.search-outcome.ensures.worlds q at)) t.targets.now t.targets.now refl c.new-patch.result.rows c.search-outcome.new.patch (ap rows_of c.new-patch.ensures)
     (IfOk-at_ok (λ _. Finds t.book.now (c.search-outcome.new.place.tally.learned + c.search-outcome.new.place.tally.calls) t.targets.now c.new-patch.result.rows c.search-outcome.new.patch.rows) c.in-Ok.is c.search-outcome.ensures.found)
 
-pub returns-clause-refused : goal.returns-clause-refused
-returns-clause-refused c =
+pub returns-in-Err-clause-refused : goal.returns-in-Err-clause-refused
+returns-in-Err-clause-refused c =
     let a = c.args in
     let t = a.asked in
     let p = c.requires.part in
