@@ -19,7 +19,7 @@ use Rattle.pc_session.specs.inside.Taken.{takes}
 use Rattle.pc_session.specs.declared.state.State.{State}
 use Rattle.pc_session.specs.declared.taken.Taken.{Taken}
 use Rattle.pc_session.specs.declared.taken.Taken.TheVariants as taken
-use Rattle.pc_session.proofs.Resting.{cell_of}
+use Rattle.pc_theory.proofs.OwnParts.{cell_of}
 use Rattle.pc_session.proofs.TakenEntries.{beside, formed_left}
 use Rattle.pc_session.proofs.Viewing.{same_compacted}
 

@@ -1,6 +1,5 @@
 -- Which parts have entries, as marks.
-use Rattle.std.proofs.Common.{◌≡◌, ◌≢◌, ℕ, zero, suc, ◌+◌, ◌<◌, ◌==◌, inl, inr, Bool, true, false, cond, List, [], ◌∷◌, ◌++◌, filter, map, length, get_or, set, take, replicate, Contains, Some, slice_get, arith, eq-eqb, eqb-true, ap, refl, sym, ◌∙◌, subst}
-use Rattle.std.proofs.lemmas.Bool.{cases_Bool, false≢true}
+use Rattle.std.proofs.Common.{◌≡◌, ◌≢◌, ℕ, zero, suc, ◌+◌, ◌<◌, Bool, true, false, cond, List, [], ◌∷◌, ◌++◌, filter, map, length, get_or, set, take, replicate, Contains, Some, slice_get, arith, ap, refl, sym, ◌∙◌, subst}
 use Rattle.std.proofs.lemmas.List.{length-map, length-take-le, append-nil, take_more}
 use Rattle.std.proofs.lemmas.List.Elements.{filter-append, Contains-push}
 use Rattle.pc_sheet.specs.Sheet.{Sheet}
@@ -85,17 +84,6 @@ not_kept f es e is = filter-append f es (e ∷ []) ∙ (ap (λ b. filter f es ++
 -- ---- the marks of a sheet's parts
 
 module _ (sheet : Sheet) (theory : TheoryView) (known : IsTheory (rules_alone sheet) theory) where
-  -- whether an entry is on a part's cells, by the number of its own part
-  pub on_by_number : (e : Entry) (own : ℕ) (q : Part) → IsPartNumbered (rules_alone sheet) own q → Contains q.cells e.cell.0 → (part : ℕ) (p : Part) → IsPartNumbered (rules_alone sheet) part p → (own == part) ≡ is_on p.cells e
-  on_by_number e own q at_q has part p at_p = elim (cases_Bool (own == part)) [
-    | inl is ↦
-        let here : q ≡ p = same_some (sym at_q ∙ (ap (slice_get (parts_of (rules_alone sheet))) (eqb-true own part is) ∙ at_p)) in
-        is ∙ sym (contains_among p.cells e.cell.0 (subst (λ (o : Part). Contains o.cells e.cell.0) here has))
-    | inr other ↦
-        let apart : own ≢ part = λ is. false≢true (sym other ∙ eq-eqb own part is) in
-        other ∙ sym (lacks_among p.cells e.cell.0 (apart_at sheet theory known own part q p at_q at_p apart e.cell.0 has))
-  ]
-
   pub many_marks : (marks : List Bool) → AreChosen sheet marks → length marks ≡ length (parts_of (rules_alone sheet))
   many_marks marks are = ap length are ∙ length-map (parts_of sheet) (has_entries sheet)
 

@@ -22,12 +22,13 @@ use Rattle.pc_theory.specs.Theories.{rules_alone, TheoryView, IsTheory, IsPartNu
 use Rattle.pc_theory.specs.Spendings.{IsSpendingOf}
 use Rattle.pc_lemmas.proofs.Elements.{contains_first, contains_later, contains_map, contains_mapped}
 use Rattle.pc_lemmas.proofs.Options.{same_some}
-use Rattle.pc_theory.proofs.Lists.{at_contained, at_within, place_of, zip_at, zip_from, zip_length}
-use Rattle.pc_session.proofs.Places.{at_get, get_at, get_set_other, get_set_same, set_length}
+use Rattle.pc_theory.proofs.Lists.{at_contained, place_of, zip_at, zip_from, zip_length}
+use Rattle.pc_session.proofs.Places.{get_at, get_set_other, get_set_same, set_length}
 use Rattle.pc_theory.proofs.OfRules.{division_here, base_here, consistent_by}
 use Rattle.pc_theory.proofs.OfWhole.{all_searched}
+use Rattle.pc_theory.proofs.OwnParts.{apart_at as parts_apart}
 use Rattle.pc_theory.proofs.Parted.{as_many, part_is, part_there, number_within}
-use Rattle.std.proofs.lemmas.Bool.{cases_eq, cases_lt}
+use Rattle.std.proofs.lemmas.Bool.{cases_eq}
 use Rattle.pc_session.specs.Views.{counts_of, IsTallyOf}
 use Rattle.pc_session.specs.inside.Sessions.{HavePlaces, IsSession}
 use Rattle.pc_session.specs.inside.Edits.{after, AreChanges, IsMade}
@@ -38,16 +39,7 @@ use Rattle.pc_session.specs.declared.edit.Edit.{Edit}
 
 -- parts at different places are apart
 pub apart_at : (sheet : Sheet) (theory : TheoryView) → IsTheory (rules_alone sheet) theory → (i j : ℕ) (p q : Part) → IsPartNumbered (rules_alone sheet) i p → IsPartNumbered (rules_alone sheet) j q → i ≢ j → (c : ℕ) → Contains p.cells c → ¬ Contains q.cells c
-apart_at sheet theory known i j p q at_p at_q other c on off = elim (cases_lt i j) [
-  | inl less ↦ by i j p q at_p at_q less on off
-  | inr not_less ↦ by j i q p at_q at_p (omega (arith, not_less, other)) off on
-]
-  where
-    by : (i j : ℕ) (p q : Part) → IsPartNumbered (rules_alone sheet) i p → IsPartNumbered (rules_alone sheet) j q → i < j → Contains p.cells c → Contains q.cells c → ⊥
-    by i j p q at_p at_q less on off =
-        let parts = parts_of (rules_alone sheet) in
-        let P : Part → Type 0 = λ x. Contains x.cells c in
-        known.division.apart i j p less (at_within parts j q at_q) c (subst P (sym (at_get parts i p p at_p)) on) (subst P (sym (at_get parts j q p at_q)) off)
+apart_at sheet theory known = parts_apart (parts_of (rules_alone sheet)) known.division.apart
 
 -- the worlds of a part without the cell stay
 worlds_stay : (sheet : Sheet) (c : CellId) (gone : Entry → Bool) (added : List Entry) (p : Part) (ws : List WorldView) → IsEditOf c gone added → ¬ Contains p.cells c.0 → AreWorldsOf sheet p ws → AreWorldsOf (edited sheet gone added) p ws

@@ -1,8 +1,8 @@
 -- Whether some reason rests on an entry that is taken away.
-use Rattle.std.proofs.Common.{◌≡◌, ℕ, ◌<◌, ◌↔◌, inl, inr, Bool, true, false, cond, List, [], ◌∷◌, map, length, Contains, IsTrue, Option, None, Some, slice_get, IsSomeAnd, refl, ap, sym, ◌∙◌, subst}
+use Rattle.std.proofs.Common.{◌≡◌, ℕ, ◌<◌, ◌↔◌, inl, inr, Bool, true, false, cond, List, [], ◌∷◌, map, length, Contains, IsTrue, Option, None, Some, refl, ap, sym, ◌∙◌, subst}
 use Rattle.std.specs.List.{list_any}
 use Rattle.std.proofs.lemmas.Bool.{false≢true}
-use Rattle.pc_sheet.specs.Sheet.{Universe, Sheet}
+use Rattle.pc_sheet.specs.Sheet.{Sheet}
 use Rattle.pc_sheet.specs.Entailment.{cell_sizes}
 use Rattle.pc_sheet.specs.WellFormed.{IsWellFormed, IsEntryOf}
 use Rattle.pc_sheet.specs.declared.ids.CellId.{CellId}
@@ -20,9 +20,10 @@ use Rattle.pc_cache.specs.Rows.{TargetRow, HasRowOf, row_of}
 use Rattle.pc_theory.specs.Targets.{targets_on}
 use Rattle.pc_theory.specs.Theories.{rules_alone, TheoryView, IsTheory, IsPartNumbered}
 use Rattle.pc_lemmas.proofs.Elements.{contains_mapped}
-use Rattle.pc_theory.proofs.Lists.{all_in, among, at_contained, at_within}
+use Rattle.pc_theory.proofs.Lists.{all_in, among, at_contained}
 use Rattle.pc_theory.proofs.OfRules.{division_here, base_here, consistent_by}
 use Rattle.pc_theory.proofs.OnCells.{target_on}
+use Rattle.pc_theory.proofs.OwnParts.{cell_of}
 use Rattle.pc_theory.proofs.Changes.{compared}
 use Rattle.pc_session.specs.Answers.{AreSpare, AreUnused}
 use Rattle.pc_session.specs.inside.Sessions.{HavePlaces}
@@ -30,13 +31,6 @@ use Rattle.pc_session.specs.inside.Stale.{is_stale}
 use Rattle.pc_session.proofs.TakenEntries.{formed_left, found_some, none_of, some_not_none}
 
 -- ---- cells of entries
-
-pub cell_of : (u : Universe) (e : Entry) → IsEntryOf u e → e.cell.0 < length (cell_sizes u)
-cell_of u e is = by (slice_get (cell_sizes u) e.cell.0) refl is
-  where
-    by : (o : Option ℕ) → slice_get (cell_sizes u) e.cell.0 ≡ o → IsSomeAnd o (λ n. e.value.0 < n) → e.cell.0 < length (cell_sizes u)
-    by None at h = absurd h
-    by (Some n) at h = at_within (cell_sizes u) e.cell.0 n at
 
 -- a cell of which some entry is taken away is one of the book's
 pub taken_cell : (sheet : Sheet) (c : CellId) (gone : Entry → Bool) → IsWellFormed sheet → IsTakenOf c gone → list_any gone sheet.entries ≡ true → c.0 < length (cell_sizes sheet.universe)

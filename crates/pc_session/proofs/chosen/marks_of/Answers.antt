@@ -8,7 +8,7 @@ use Rattle.pc_theory.proofs.OfWhole.{all_searched}
 use Rattle.pc_theory.proofs.Parted.{as_many}
 use Rattle.pc_session.specs.inside.Chosen.{AreChosen}
 use Rattle.pc_session.proofs.Choosing.{mark_more, none_marked}
-use Rattle.pc_session.proofs.Resting.{cell_of}
+use Rattle.pc_theory.proofs.OwnParts.{cell_of}
 use Rattle.pc_session.proofs.chosen.marks_of.Goals as goal
 
 pub loop-entry-init : goal.loop-entry-init

@@ -5,7 +5,7 @@ use Rattle.pc_sheet.specs.declared.ids.Entry.{Entry}
 use Rattle.pc_books.specs.Edits.{is_rival}
 use Rattle.pc_session.specs.declared.taken.Taken.TheVariants as taken
 use Rattle.pc_session.proofs.Changed.{entering_new, taking_some}
-use Rattle.pc_session.proofs.Resting.{cell_of}
+use Rattle.pc_theory.proofs.OwnParts.{cell_of}
 use Rattle.pc_session.proofs.TakenEntries.{alone_by, alone_none, lacks_by}
 use Rattle.pc_session.proofs.entering.enter.Goals as goal
 
