@@ -80,8 +80,12 @@ fn are_below(own: &[Var], variables: u32) -> bool
 // Whether a solver takes these.
 fn fit(store: &ClauseStore, used: &[u32], own: &[Var], variables: u32) -> bool
     ensures { IsTrue result →
-        IsProblem variables (record { axioms = store.now; used = used.now; own = own.now;
-        banned = [] }) }
+        IsProblem variables (record {
+          axioms = store.now;
+          used = used.now;
+          own = own.now;
+          banned = [];
+        }) }
 {
     store.len() <= 1_000_000
         && are_places(used, store)
